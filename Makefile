@@ -1,0 +1,19 @@
+# `make run`: prove and build what is needed, and run the opening script on the built program.
+# `make test`: all proofs, wrong bodies, tests and stored runs. Its last line is 'N passed, M failed'.
+# `make bench`: commands a second of the built program, beside Python's json over the same lines.
+PROGRAM := crates/estserve/out/estserve
+SCRIPT := crates/estserve/stdin
+
+.PHONY: run build test bench
+
+run:
+	@cd crates/estserve && rt run -- script < stdin
+
+build:
+	@cd crates/estserve && rt run -- script < /dev/null
+
+test:
+	rt ci
+
+bench: build
+	python3 bench/commands.py $(PROGRAM)
