@@ -1,0 +1,6 @@
+-- A mask as the set of its bits.
+use Rattle.std.specs.Prelude.{ℕ, Bool, nat_eq, ◌/◌, ◌%◌, ◌^◌}
+
+-- whether bit n of the mask x is set
+unfoldable pub bits : ℕ → ℕ → Bool
+bits x n = nat_eq (x / 2 ^ n % 2) 1
