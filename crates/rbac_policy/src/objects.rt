@@ -1,0 +1,110 @@
+//! What may be done, and on what.
+ghost use Rattle.std.specs.Prelude.{◌≡◌, ◌<◌, ◌==◌, nat_lt, Some, None, if◌then◌else◌};
+ghost use Rattle.rbac_policy.specs.Objects.{operation_number, same_operation, same_object};
+
+use est_kernel::identifier::Identifier;
+use std::marker::Model;
+
+/// What a permission allows to do.
+#[derive(Clone, Copy, PartialEq, Eq, Debug)]
+pub enum Operation {
+    Offer,
+    Observe,
+    Step,
+    Load,
+    Administer,
+    Audit,
+}
+
+/// How many slots there are.
+pub const SLOTS: u8 = 16;
+
+/// The number of a slot, 0 to 15. A contract sees the number.
+#[derive(Clone, Copy, PartialEq, Eq, Debug)]
+pub struct SlotNumber {
+    number: u8,
+}
+
+impl Model for SlotNumber {
+    ghost use Rattle.std.specs.Prelude.{ℕ, ◌<◌};
+
+    ghost Value = { ℕ };
+
+    ghost view = { λ s. s.number };
+
+    ghost invariant = { λ s. s.number < 16 };
+
+    ghost inverse = { λ n. record { number = n } };
+}
+
+/// What a permission is for: the policy, a slot, or a signal of the module in a slot.
+#[derive(Clone, Copy, PartialEq, Eq, Debug)]
+pub enum Object {
+    Policy,
+    Slot(SlotNumber),
+    Signal(SlotNumber, Identifier),
+}
+
+impl Operation {
+    fn number(&self) -> u8
+        ensures { result ≡ operation_number self.now }
+    {
+        match self {
+            Operation::Offer => 0,
+            Operation::Observe => 1,
+            Operation::Step => 2,
+            Operation::Load => 3,
+            Operation::Administer => 4,
+            Operation::Audit => 5,
+        }
+    }
+
+    /// Whether the two are one.
+    pub fn is(&self, other: &Operation) -> bool
+        ensures { result ≡ same_operation self.now other.now }
+    {
+        self.number() == other.number()
+    }
+}
+
+impl SlotNumber {
+    /// The slot of this number, if there is one.
+    pub fn new(number: u8) -> Option<SlotNumber>
+        ensures { result ≡ (if nat_lt number 16 then Some number else None) }
+    {
+        if number < SLOTS {
+            Some(SlotNumber { number })
+        } else {
+            None
+        }
+    }
+
+    /// Its number, 0 to 15.
+    pub fn number(&self) -> u8
+        ensures same { result ≡ self.now }
+        ensures below { result < 16 }
+    {
+        self.number
+    }
+
+    /// Whether the two are one.
+    pub fn is(&self, other: &SlotNumber) -> bool
+        ensures { result ≡ (self.now == other.now) }
+    {
+        self.number == other.number
+    }
+}
+
+impl Object {
+    /// Whether the two are one.
+    pub fn is(&self, other: &Object) -> bool
+        ensures { result ≡ same_object self.now other.now }
+    {
+        match (self, other) {
+            (Object::Policy, Object::Policy) => true,
+            (Object::Slot(a), Object::Slot(b)) => a.is(b),
+            (Object::Signal(a, s), Object::Signal(b, t)) => a.is(b) && s.is(t),
+            _ => false,
+        }
+    }
+}
