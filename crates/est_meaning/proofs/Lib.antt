@@ -1,0 +1,4 @@
+pub mod CodeSets
+pub mod Monotony
+pub mod MustRules
+pub mod Uniqueness

@@ -1,0 +1,5 @@
+use Rattle.est_meaning.proofs.Uniqueness.{unique}
+use Rattle.est_meaning.proofs.laws.one_reaction_at_most.Goals as goal
+
+pub returns : goal.returns
+returns c = unique

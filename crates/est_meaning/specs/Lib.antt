@@ -1,0 +1,10 @@
+pub mod Signals
+pub mod Status
+pub mod MustCan
+pub mod Rules
+pub mod Rounds
+pub mod Reaction
+pub mod Knowledge
+pub mod Laws
+pub mod StartCodes
+pub mod States

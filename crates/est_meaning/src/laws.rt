@@ -1,0 +1,18 @@
+//! The laws of the meaning. Each function does nothing: its contract is the law.
+
+ghost use Rattle.est_meaning.specs.Laws.{DecidedByMust, Unique, MonotoneLaw};
+
+/// Where Must has no code there is no reaction, and where it has one, the reaction is Must's: so an engine may judge by Must alone.
+pub fn decided_by_must()
+    ensures { DecidedByMust }
+{}
+
+/// A term reacts in one way at most: what a step shows does not depend on how it was found.
+pub fn one_reaction_at_most()
+    ensures { Unique }
+{}
+
+/// More knowledge never takes back what was decided.
+pub fn knowledge_is_monotone()
+    ensures { MonotoneLaw }
+{}

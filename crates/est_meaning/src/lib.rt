@@ -1,0 +1,4 @@
+//! The meaning of kernel terms.
+#![tactic(auto)]
+
+pub mod laws;
