@@ -6,3 +6,4 @@
 pub mod commands;
 pub mod names;
 pub mod objects;
+pub mod texts;

@@ -1,0 +1,122 @@
+//! Names, operations and objects as text, and back.
+ghost use Rattle.std.specs.Prelude.{◌≡◌, ◌↔◌, option_map, Some, None, if◌then◌else◌};
+ghost use Rattle.rbac_policy.specs.Names.{is_name};
+ghost use Rattle.rbac_policy.specs.Texts.{operation_text, object_text, IsObject, operation_of, object_of, slot_at};
+ghost use Rattle.rbac_policy.specs.declared.objects.Operation.{Operation};
+ghost use Rattle.rbac_policy.specs.declared.objects.Object.{Object};
+
+use crate::names::Name;
+use crate::objects::{Object, Operation, SlotNumber};
+use est_kernel::identifier::Identifier;
+
+impl Name {
+    /// The name that a text is, if it is one.
+    pub fn from_text(text: &str) -> Option<Name>
+        ensures { result ≡ (if is_name text.now then Some text.now else None) }
+    {
+        Name::from_bytes(text.as_bytes())
+    }
+}
+
+impl Operation {
+    /// The operation of this name, if there is one.
+    #[tactic(auto, unfolding(crate::specs::Texts::operation_of))]
+    pub fn from_text(text: &str) -> Option<Operation>
+        ensures value { result ≡ operation_of text.now }
+        ensures exact { (operation : Operation) → (result ≡ Some operation) ↔ (text.now ≡ operation_text operation) }
+    {
+        match text {
+            "offer" => Some(Operation::Offer),
+            "observe" => Some(Operation::Observe),
+            "step" => Some(Operation::Step),
+            "load" => Some(Operation::Load),
+            "administer" => Some(Operation::Administer),
+            "audit" => Some(Operation::Audit),
+            _ => None,
+        }
+    }
+
+    /// Its name.
+    pub fn text(&self) -> &'static str
+        ensures { result.now ≡ operation_text self.now }
+    {
+        match self {
+            Operation::Offer => "offer",
+            Operation::Observe => "observe",
+            Operation::Step => "step",
+            Operation::Load => "load",
+            Operation::Administer => "administer",
+            Operation::Audit => "audit",
+        }
+    }
+}
+
+/// The number of a slot at the front of a text, and what follows it. The longest match is taken.
+#[tactic(auto, unfolding(crate::specs::Texts::slot_at))]
+fn slot_at(text: &[u8]) -> Option<(SlotNumber, &[u8])>
+    ensures { option_map (λ found. (found.0, found.1.now)) result ≡ slot_at text.now }
+{
+    match text {
+        [b'1', unit @ b'0'..=b'5', rest @ ..] => Some((
+            SlotNumber::new(10 + (*unit - b'0'))?,
+            rest,
+        )),
+        [unit @ b'0'..=b'9', rest @ ..] => Some((SlotNumber::new(*unit - b'0')?, rest)),
+        _ => None,
+    }
+}
+
+/// The object of a text: a slot at its front, and after a full stop a signal's name.
+#[tactic(auto, unfolding(crate::specs::Texts::object_of))]
+fn object_of(text: &str) -> Option<Object>
+    ensures { result ≡ object_of text.now }
+{
+    if text == "policy" {
+        return Some(Object::Policy);
+    }
+    let Some((slot, rest)) = slot_at(text.as_bytes()) else {
+        return None;
+    };
+    match rest {
+        [] => Some(Object::Slot(slot)),
+        [b'.', signal @ ..] => Some(Object::Signal(slot, Identifier::from_bytes(signal)?)),
+        _ => None,
+    }
+}
+
+impl Object {
+    /// The object of this text, if there is one: `policy`, a slot from `0` to `15` without leading zeros, or a slot, a full stop and an
+    /// identifier.
+    pub fn from_text(text: &str) -> Option<Object>
+        ensures value { result ≡ object_of text.now }
+        ensures exact { (object : Object) → (result ≡ Some object) ↔ (IsObject object × (text.now ≡ object_text object)) }
+    {
+        object_of(text)
+    }
+}
+
+#[cfg(test)]
+mod tests {
+    use super::*;
+    use std::test::Fail;
+
+    #[test]
+    fn texts(rt: HostRuntime) -> Result<(), Fail> {
+        for operation in ["offer", "observe", "step", "load", "administer", "audit"] {
+            let text = Operation::from_text(operation).map(|found| found.text());
+            assert!(rt; text == Some(operation), "{operation}");
+        }
+        for object in ["policy", "0", "9", "10", "15", "0.O", "15.await", "1.tick"] {
+            assert!(rt; Object::from_text(object).is_some(), "{object}");
+        }
+        for text in [
+            "", "Policy", "00", "16", "20", "1.", "01.O", "16.O", "1.2", "0.O-1", "0.O.P", " 0",
+            "0 ", "-1",
+        ] {
+            assert!(rt; Object::from_text(text).is_none(), "{text}");
+        }
+        assert!(rt; Name::from_text("root-1_A").is_some());
+        assert!(rt; Name::from_text("").is_none());
+        Ok(())
+    }
+}
