@@ -83,6 +83,15 @@ impl Identifier {
         &self.bytes[..self.count as usize]
     }
 
+    /// Its text.
+    pub fn as_str(&self) -> &str
+        ensures same { result.now ≡ self.now }
+        ensures identifier { IsTrue (is_identifier self.now) }
+    {
+        let text = &self.bytes[..self.count as usize];
+        std::str::from_utf8(text).unwrap()
+    }
+
     /// Whether the two are one.
     pub fn is(&self, other: &Identifier) -> bool
         ensures { result ≡ bytes_eq self.now other.now }

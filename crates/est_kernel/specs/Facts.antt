@@ -1,0 +1,65 @@
+-- Facts of a kernel have one proof each, so that they can be kept in it.
+use Rattle.std.specs.Prelude.{ℕ, List, ◌+◌}
+use mathlib.Core.Bool.{Bool-set}
+use Rattle.std.proofs.Math.Nat.{ℕ_set}
+use Rattle.std.specs.Coded.{Unit-prop, le_prop, ×_prop}
+use Rattle.est_kernel.specs.Term.{Name, outer, inner, Query, tick, of, Term, nothing, pause, emit, present, suspend, held, seq, loop, par, trap, exit, signal}
+use Rattle.est_kernel.specs.Scope.{IsVisible, IsAsked, IsEmitted, IsClosed}
+use Rattle.est_kernel.specs.StartCodes.{IsLoopSafe}
+use Rattle.est_kernel.specs.View.{IsNumbered}
+use Rattle.est_kernel.specs.declared.interface.Declaration.{Declaration}
+use Rattle.est_kernel.specs.declared.statement.Statement.{Statement}
+use Rattle.est_kernel.specs.declared.statement.Statement.TheVariants.{Nothing, Pause, Emit, Present', Suspend', Seq', Loop', Par', Trap', Exit, Local' as Binder'}
+
+pub IsNumbered-prop : (s : Statement) → IsProp (IsNumbered s)
+IsNumbered-prop Nothing = Unit-prop
+IsNumbered-prop (Pause n) = Unit-prop
+IsNumbered-prop (Emit s) = Unit-prop
+IsNumbered-prop (Present' t x p y q) = hlevel (Bool-set, IsNumbered-prop p, IsNumbered-prop q)
+IsNumbered-prop (Suspend' t x p) = IsNumbered-prop p
+IsNumbered-prop (Seq' x p y q) = hlevel (Bool-set, IsNumbered-prop p, IsNumbered-prop q)
+IsNumbered-prop (Loop' x p) = IsNumbered-prop p
+IsNumbered-prop (Par' x p y q) = hlevel (Bool-set, IsNumbered-prop p, IsNumbered-prop q)
+IsNumbered-prop (Trap' x p) = IsNumbered-prop p
+IsNumbered-prop (Exit k) = Unit-prop
+IsNumbered-prop (Binder' s x p) = IsNumbered-prop p
+
+pub IsLoopSafe-prop : (t : Term) → IsProp (IsLoopSafe t)
+IsLoopSafe-prop nothing = Unit-prop
+IsLoopSafe-prop pause = Unit-prop
+IsLoopSafe-prop (emit s) = Unit-prop
+IsLoopSafe-prop (present s p q) = hlevel (IsLoopSafe-prop p, IsLoopSafe-prop q)
+IsLoopSafe-prop (suspend s p) = IsLoopSafe-prop p
+IsLoopSafe-prop (held s p) = IsLoopSafe-prop p
+IsLoopSafe-prop (seq p q) = hlevel (IsLoopSafe-prop p, IsLoopSafe-prop q)
+IsLoopSafe-prop (loop p) = hlevel (Bool-set, IsLoopSafe-prop p)
+IsLoopSafe-prop (par p q) = hlevel (IsLoopSafe-prop p, IsLoopSafe-prop q)
+IsLoopSafe-prop (trap p) = IsLoopSafe-prop p
+IsLoopSafe-prop (exit k) = Unit-prop
+IsLoopSafe-prop (signal s p) = IsLoopSafe-prop p
+
+IsVisible-prop : (i : List Declaration) (n : ℕ) (s : Name) → IsProp (IsVisible i n s)
+IsVisible-prop i n (outer m) = le_prop
+IsVisible-prop i n (inner m) = le_prop
+
+IsAsked-prop : (i : List Declaration) (n : ℕ) (s : Query) → IsProp (IsAsked i n s)
+IsAsked-prop i n tick = Unit-prop
+IsAsked-prop i n (of s) = IsVisible-prop i n s
+
+IsEmitted-prop : (i : List Declaration) (n : ℕ) (s : Name) → IsProp (IsEmitted i n s)
+IsEmitted-prop i n (outer m) = hlevel Bool-set
+IsEmitted-prop i n (inner m) = le_prop
+
+pub IsClosed-prop : (i : List Declaration) (m n : ℕ) (t : Term) → IsProp (IsClosed i m n t)
+IsClosed-prop i m n nothing = Unit-prop
+IsClosed-prop i m n pause = Unit-prop
+IsClosed-prop i m n (emit s) = IsEmitted-prop i n s
+IsClosed-prop i m n (present s p q) = hlevel (IsAsked-prop i n s, IsClosed-prop i m n p, IsClosed-prop i m n q)
+IsClosed-prop i m n (suspend s p) = hlevel (IsAsked-prop i n s, IsClosed-prop i m n p)
+IsClosed-prop i m n (held s p) = hlevel (IsAsked-prop i n s, IsClosed-prop i m n p)
+IsClosed-prop i m n (seq p q) = hlevel (IsClosed-prop i m n p, IsClosed-prop i m n q)
+IsClosed-prop i m n (loop p) = IsClosed-prop i m n p
+IsClosed-prop i m n (par p q) = hlevel (IsClosed-prop i m n p, IsClosed-prop i m n q)
+IsClosed-prop i m n (trap p) = IsClosed-prop i (m + 1) n p
+IsClosed-prop i m n (exit k) = le_prop
+IsClosed-prop i m n (signal s p) = ×_prop (ℕ_set _ _) (IsClosed-prop i m (n + 1) p)

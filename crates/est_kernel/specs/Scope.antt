@@ -1,0 +1,35 @@
+-- Terms in which each name has its binder.
+use Rattle.std.specs.Prelude.{◌≡◌, ℕ, ◌+◌, ◌<◌, List, length, true}
+use Rattle.est_kernel.specs.Term.{Name, outer, inner, Query, tick, of, Term, nothing, pause, emit, present, suspend, held, seq, loop, par, trap, exit, signal}
+use Rattle.est_kernel.specs.Interfaces.{outputs_of}
+use Rattle.est_kernel.specs.declared.interface.Declaration.{Declaration}
+
+-- a signal of the interface, or one of the local signals round it, which are numbered from the outermost
+abbrev pub IsVisible : List Declaration → ℕ → Name → Type 0
+IsVisible interface locals (outer n) = n < length interface
+IsVisible interface locals (inner n) = n < locals
+
+abbrev pub IsAsked : List Declaration → ℕ → Query → Type 0
+IsAsked interface locals tick = Unit {0}
+IsAsked interface locals (of s) = IsVisible interface locals s
+
+-- what may be emitted: an output, or a local signal
+abbrev pub IsEmitted : List Declaration → ℕ → Name → Type 0
+IsEmitted interface locals (outer n) = outputs_of interface n ≡ true
+IsEmitted interface locals (inner n) = n < locals
+
+-- each signal is of the interface or of a binder round it, no input is emitted, each exit has its trap,
+-- and a local signal's number is the number of local signals round its binder
+abbrev pub IsClosed : List Declaration → (traps locals : ℕ) → Term → Type 0
+IsClosed i traps locals nothing = Unit {0}
+IsClosed i traps locals pause = Unit {0}
+IsClosed i traps locals (emit s) = IsEmitted i locals s
+IsClosed i traps locals (present s p q) = IsAsked i locals s × IsClosed i traps locals p × IsClosed i traps locals q
+IsClosed i traps locals (suspend s p) = IsAsked i locals s × IsClosed i traps locals p
+IsClosed i traps locals (held s p) = IsAsked i locals s × IsClosed i traps locals p
+IsClosed i traps locals (seq p q) = IsClosed i traps locals p × IsClosed i traps locals q
+IsClosed i traps locals (loop p) = IsClosed i traps locals p
+IsClosed i traps locals (par p q) = IsClosed i traps locals p × IsClosed i traps locals q
+IsClosed i traps locals (trap p) = IsClosed i (traps + 1) locals p
+IsClosed i traps locals (exit k) = k < traps
+IsClosed i traps locals (signal s p) = (s ≡ locals) × IsClosed i traps (locals + 1) p

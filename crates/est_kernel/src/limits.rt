@@ -1,0 +1,136 @@
+//! How large a kernel may be: its statements, and the nesting of its loops, traps and local signals.
+
+ghost use Rattle.std.specs.Prelude.{◌≡◌, ◌+◌, ◌≤◌, ◌<◌, MatchOption};
+ghost use Rattle.est_kernel.specs.View.{term_of};
+ghost use Rattle.est_kernel.specs.Limits.{statement_count, loop_depth, trap_depth, local_depth, limit_passed};
+
+use crate::statement::Statement;
+
+/// The most statements of a kernel.
+pub const MOST_STATEMENTS: u16 = 2048;
+/// The most loops in one another.
+pub const MOST_LOOPS: u16 = 16;
+/// The most traps in one another.
+pub const MOST_TRAPS: u16 = 16;
+/// The most local signals in one another.
+pub const MOST_LOCALS: u16 = 6;
+
+/// What a kernel has too many of.
+#[derive(Clone, Copy, PartialEq, Eq, Debug)]
+pub enum Limit {
+    Statements,
+    Loops,
+    Traps,
+    Locals,
+}
+
+/// How deep the binders and the loops of a statement lie in one another.
+#[derive(Clone, Copy)]
+struct Depths {
+    loops: u16,
+    traps: u16,
+    locals: u16,
+}
+
+impl Depths {
+    ghost use Rattle.std.specs.Prelude.{max};
+
+    const NONE: Depths = Depths {
+        loops: 0,
+        traps: 0,
+        locals: 0,
+    };
+
+    fn larger(self, other: Depths) -> Depths
+        ensures loops { result.loops ≡ max self.loops other.loops }
+        ensures traps { result.traps ≡ max self.traps other.traps }
+        ensures locals { result.locals ≡ max self.locals other.locals }
+    {
+        Depths {
+            loops: self.loops.max(other.loops),
+            traps: self.traps.max(other.traps),
+            locals: self.locals.max(other.locals),
+        }
+    }
+}
+
+/// How deep loops, traps and local signals lie in one another.
+#[tactic(auto, using(crate::proofs::Counts::loops_are_statements, crate::proofs::Counts::traps_are_statements, crate::proofs::Counts::locals_are_statements))]
+fn nesting_of(s: &Statement) -> Depths
+    requires { statement_count (term_of s.now) ≤ MOST_STATEMENTS }
+    ensures loops { result.loops ≡ loop_depth (term_of s.now) }
+    ensures traps { result.traps ≡ trap_depth (term_of s.now) }
+    ensures locals { result.locals ≡ local_depth (term_of s.now) }
+{
+    match s {
+        Statement::Nothing | Statement::Pause(_) | Statement::Emit(_) | Statement::Exit(_) => {
+            Depths::NONE
+        }
+        Statement::Present(_, p, q) | Statement::Seq(p, q) | Statement::Par(p, q) => {
+            nesting_of(p).larger(nesting_of(q))
+        }
+        Statement::Suspend(_, p) => nesting_of(p),
+        Statement::Loop(p) => {
+            let inner = nesting_of(p);
+            Depths {
+                loops: inner.loops + 1,
+                ..inner
+            }
+        }
+        Statement::Trap(p) => {
+            let inner = nesting_of(p);
+            Depths {
+                traps: inner.traps + 1,
+                ..inner
+            }
+        }
+        Statement::Local(_, p) => {
+            let inner = nesting_of(p);
+            Depths {
+                locals: inner.locals + 1,
+                ..inner
+            }
+        }
+    }
+}
+
+/// What is left of a room for statements, if they fit.
+fn room_after(s: &Statement, room: u16) -> Option<u16>
+    ensures { MatchOption result (room < statement_count (term_of s.now)) (λ r. r + statement_count (term_of s.now) ≡ room) }
+{
+    if room == 0 {
+        return None;
+    }
+    let room = room - 1;
+    match s {
+        Statement::Nothing | Statement::Pause(_) | Statement::Emit(_) | Statement::Exit(_) => {
+            Some(room)
+        }
+        Statement::Present(_, p, q) | Statement::Seq(p, q) | Statement::Par(p, q) => {
+            room_after(q, room_after(p, room)?)
+        }
+        Statement::Suspend(_, p)
+        | Statement::Loop(p)
+        | Statement::Trap(p)
+        | Statement::Local(_, p) => room_after(p, room),
+    }
+}
+
+/// The first limit that a statement passes.
+pub fn limit_passed(s: &Statement) -> Option<Limit>
+    ensures { result ≡ limit_passed (term_of s.now) }
+{
+    if room_after(s, MOST_STATEMENTS).is_none() {
+        return Some(Limit::Statements);
+    }
+    let depths = nesting_of(s);
+    if depths.loops > MOST_LOOPS {
+        Some(Limit::Loops)
+    } else if depths.traps > MOST_TRAPS {
+        Some(Limit::Traps)
+    } else if depths.locals > MOST_LOCALS {
+        Some(Limit::Locals)
+    } else {
+        None
+    }
+}
