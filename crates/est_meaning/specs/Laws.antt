@@ -1,5 +1,5 @@
 -- The laws of the meaning, as they are promised by the functions of the module of laws.
-use Rattle.std.specs.Prelude.{◌≡◌, ℕ, true}
+use Rattle.std.specs.Prelude.{◌≡◌, ℕ, Bool, true}
 use Rattle.est_kernel.specs.Term.{Term}
 use Rattle.est_kernel.specs.Codes.{code}
 use Rattle.est_meaning.specs.Signals.{Signals}
@@ -8,6 +8,10 @@ use Rattle.est_meaning.specs.MustCan.{Acts, Mode, sure, maybe, must, can}
 use Rattle.est_meaning.specs.StartCodes.{IsLoopSafe}
 use Rattle.est_meaning.specs.Rules.{Gives}
 use Rattle.est_meaning.specs.Knowledge.{KnowsLess, IsWithin}
+use Rattle.est_meaning.specs.States.{HasPausedAt, IsState, state_term}
+use Rattle.est_kernel.specs.View.{term_at, IsNumbered}
+use Rattle.est_kernel.specs.declared.statement.Statement.{Statement}
+use Rattle.est_kernel.specs.declared.state.State.{State}
 
 -- these signals and this code alone
 abbrev pub just : Signals → ℕ → Acts
@@ -41,3 +45,13 @@ pub record MonotoneLaw : Type 0 where
   pub can_shrinks : (t : Term) (m : Mode) (e f : Env) → KnowsLess e f → IsWithin (can t m f) (can t m e)
   pub must_in_can : (t : Term) (e : Env) → IsWithin (must t e) (can t sure e)
   pub sure_in_maybe : (t : Term) (e : Env) → IsWithin (can t sure e) (can t maybe e)
+
+-- pauses of s that stand for u
+pub record StandsAt (s : Statement) (u : Term) : Type 0 where
+  pub pauses : ℕ → Bool
+  pub paused : HasPausedAt s pauses
+  pub term : term_at s pauses ≡ u
+
+-- one bit for each pause is enough: wherever the term of a state pauses, some pauses of the statement stand for what is left
+abbrev pub StateBits : Type 0
+StateBits = (s : Statement) → IsNumbered s → (x : State) → IsState s x → (e : Env) (o : Signals) (u : Term) → Gives (state_term s x) e o 1 u → StandsAt s u

@@ -8,3 +8,4 @@ pub mod Knowledge
 pub mod Laws
 pub mod StartCodes
 pub mod States
+pub mod Steps

@@ -1,6 +1,6 @@
 //! The laws of the meaning. Each function does nothing: its contract is the law.
 
-ghost use Rattle.est_meaning.specs.Laws.{DecidedByMust, Unique, MonotoneLaw};
+ghost use Rattle.est_meaning.specs.Laws.{DecidedByMust, Unique, MonotoneLaw, StateBits};
 
 /// Where Must has no code there is no reaction, and where it has one, the reaction is Must's: so an engine may judge by Must alone.
 pub fn decided_by_must()
@@ -15,4 +15,9 @@ pub fn one_reaction_at_most()
 /// More knowledge never takes back what was decided.
 pub fn knowledge_is_monotone()
     ensures { MonotoneLaw }
+{}
+
+/// A state of fixed size is enough: what a kernel that pauses has left to do is always some set of its own pauses.
+pub fn pauses_are_enough()
+    ensures { StateBits }
 {}
