@@ -1,3 +1,5 @@
 pub mod Filled
 pub mod Packed
 pub mod ObjectTexts
+pub mod Walking
+pub mod Ascii

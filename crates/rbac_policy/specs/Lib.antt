@@ -1,3 +1,11 @@
 pub mod Names
 pub mod Objects
 pub mod Texts
+pub mod Entries
+pub mod Order
+pub mod Limits
+pub mod Facts
+pub mod Opening
+pub mod Fits
+pub mod Tables
+pub mod Change

@@ -1,9 +1,13 @@
 //! The policy of role-based access control: what a list of accepted entries says, and the fixed tables that stand for it.
 //!
-//! `names`, `objects` and `commands` are plain data of fixed size.
+//! `names`, `objects` and `commands` are plain data of fixed size. `policy` takes in entries, in tables of fixed size and without memory.
 #![tactic(auto)]
 
+pub mod closure;
 pub mod commands;
 pub mod names;
 pub mod objects;
 pub mod texts;
+pub mod policy;
+pub mod rows;
+mod tables;

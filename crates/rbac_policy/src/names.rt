@@ -77,6 +77,15 @@ impl Name {
         &self.bytes[..self.count as usize]
     }
 
+    /// Its text.
+    pub fn as_str(&self) -> &str
+        ensures same { result.now ≡ self.now }
+        ensures name { IsTrue (is_name self.now) }
+    {
+        let text = &self.bytes[..self.count as usize];
+        std::str::from_utf8(text).unwrap()
+    }
+
     /// Whether the two are one.
     pub fn is(&self, other: &Name) -> bool
         ensures { result ≡ bytes_eq self.now other.now }

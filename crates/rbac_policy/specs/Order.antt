@@ -1,0 +1,46 @@
+-- The order that inheritance edges make (ANSI INCITS 359-2004, general role hierarchies), also on roles that are named by their places in a table.
+use Rattle.std.specs.Prelude.{◌≡◌, ℕ, zero, suc, ◌<◌, ◌^◌, ◌==◌, List, slice_index, if◌then◌else◌}
+use Rattle.std.specs.Int.{bit_at}
+use Rattle.std.specs.Int.RustNames.{bit_or}
+
+-- a chain of edges, possibly empty, leads from the first to the second
+pub data Chain {A : Type 0} (Edge : A → A → Type 0) : A → A → Type 0 where
+  stay : {a : A} → Chain Edge a a
+  step : {a b c : A} → Edge a b → Chain Edge b c → Chain Edge a c
+
+-- a mask has the place
+abbrev pub Has : ℕ → ℕ → Type 0
+Has mask place = bit_at mask place ≡ 1
+
+-- the row of the senior has the junior
+abbrev pub IsRowEdge : List ℕ → ℕ → ℕ → Type 0
+IsRowEdge juniors senior junior = (senior < 32) × Has (slice_index juniors senior) junior
+
+-- the place is in the mask, or below one that is
+pub record IsBelowSome (juniors : List ℕ) (mask place : ℕ) : Type 0 where
+  pub top : ℕ
+  pub within : Has mask top
+  pub chain : Chain (IsRowEdge juniors) top place
+
+-- a place is in both masks
+abbrev pub Meets : ℕ → ℕ → Type 0
+Meets a b = (place : ℕ) × Has a place × Has b place
+
+-- the mask, and the juniors of those of its places that are under `many`
+abbrev pub with_rows : ℕ → List ℕ → ℕ → ℕ
+with_rows zero juniors mask = mask
+with_rows (suc many) juniors mask =
+    if bit_at mask many == 1 then bit_or (with_rows many juniors mask) (slice_index juniors many) else with_rows many juniors mask
+
+-- the mask, and the juniors of all of its places
+unfoldable pub widened : List ℕ → ℕ → ℕ
+widened juniors mask = with_rows 32 juniors mask
+
+-- the mask, widened this many times
+unfoldable pub widened_often : ℕ → List ℕ → ℕ → ℕ
+widened_often zero juniors mask = mask
+widened_often (suc many) juniors mask = widened juniors (widened_often many juniors mask)
+
+-- the mask, and all that lies below one of its places: it is widened as often as there are masks, so that nothing is left to add
+unfoldable pub below : List ℕ → ℕ → ℕ
+below juniors mask = widened_often (2 ^ 32) juniors mask

@@ -1,0 +1,114 @@
+-- What each step on a table leaves, as it is computed.
+use Rattle.std.specs.Prelude.{◌≡◌, ℕ, ◌*◌, ◌^◌, ◌%◌, Bool, false, List, [], ◌∷◌, Option, Some, None, if◌then◌else◌, position, slice_set, slice_get, is_none, map, fold, ◌==◌, ◌&&◌}
+use Rattle.std.specs.Int.RustNames.{bit_or}
+use Rattle.std.specs.Int.Bits.{bit_and}
+use Rattle.std.specs.Int.{bit_not, w32}
+use Rattle.std.specs.Str.{bytes_eq}
+use Rattle.std.specs.List.{list_any}
+use Rattle.rbac_policy.specs.declared.objects.Operation.{Operation}
+use Rattle.rbac_policy.specs.declared.objects.Object.{Object}
+use Rattle.rbac_policy.specs.declared.rows.User.{User}
+use Rattle.rbac_policy.specs.declared.rows.Grant.{Grant}
+use Rattle.rbac_policy.specs.declared.rows.Session.{Session}
+use Rattle.rbac_policy.specs.Names.{Text}
+use Rattle.rbac_policy.specs.Objects.{same_operation, same_object}
+use Rattle.rbac_policy.specs.Order.{below}
+
+-- the slot holds the value
+abbrev pub At : {X : Type 0} → List (Option X) → ℕ → X → Type 0
+At slots place x = slice_get slots place ≡ Some (Some x)
+
+-- the slot has this user
+abbrev pub user_is : Text → Option User → Bool
+user_is name None = false
+user_is name (Some user) = bytes_eq user.name name
+
+-- the slot has this role
+abbrev pub role_is : Text → Option Text → Bool
+role_is name None = false
+role_is name (Some role) = bytes_eq role name
+
+-- where the role stands
+abbrev pub place_of : Text → List (Option Text) → Option ℕ
+place_of name roles = position (role_is name) roles
+
+-- the mask with the bit of this place
+abbrev pub with_bit : ℕ → ℕ → ℕ
+with_bit mask place = bit_or mask (1 * 2 ^ place % 2 ^ 32)
+
+-- the value in the place, if there is one
+abbrev pub put_at : {X : Type 0} → X → List (Option X) → Option ℕ → List (Option X)
+put_at x slots None = slots
+put_at x slots (Some place) = slice_set slots place (Some x)
+
+-- the value in the first free slot
+abbrev pub put_free : {X : Type 0} → X → List (Option X) → List (Option X)
+put_free x slots = put_at x slots (position is_none slots)
+
+-- the user of this name has the role at this place, too
+abbrev pub user_given : Text → ℕ → Option User → Option User
+user_given name place None = None
+user_given name place (Some user) = if bytes_eq user.name name then Some (record { name = user.name; roles = with_bit user.roles place }) else Some user
+
+-- the mask of the first slot with this user
+abbrev pub roles_of : Text → List (Option User) → ℕ
+roles_of name [] = 0
+roles_of name (None ∷ slots) = roles_of name slots
+roles_of name (Some user ∷ slots) = if bytes_eq user.name name then user.roles else roles_of name slots
+
+-- the slot has this pair
+abbrev pub grant_is : Operation → Object → Option Grant → Bool
+grant_is operation object None = false
+grant_is operation object (Some grant) = same_operation grant.operation operation && same_object grant.object object
+
+-- the row of this pair has the role at this place, too
+abbrev pub grant_given : Operation → Object → ℕ → Option Grant → Option Grant
+grant_given operation object place None = None
+grant_given operation object place (Some grant) =
+    if same_operation grant.operation operation && same_object grant.object object
+    then Some (record { operation = grant.operation; object = grant.object; roles = with_bit grant.roles place })
+    else Some grant
+
+-- the pair is granted to the role at this place, in its row or in the first free slot
+abbrev pub grants_given : Operation → Object → ℕ → List (Option Grant) → List (Option Grant)
+grants_given operation object place grants =
+    if list_any (grant_is operation object) grants
+    then map (grant_given operation object place) grants
+    else put_free (record { operation = operation; object = object; roles = with_bit 0 place }) grants
+
+-- each active role is one that is assigned to the user, or below one
+abbrev pub has_only_authorized : List (Option User) → List ℕ → Session → Bool
+has_only_authorized users juniors session = bit_and session.active (bit_not w32 (below juniors (roles_of session.user users))) == 0
+
+-- the session, if it has only authorized roles
+abbrev pub session_kept : List (Option User) → List ℕ → Option Session → Option Session
+session_kept users juniors None = None
+session_kept users juniors (Some session) = if has_only_authorized users juniors session then Some session else None
+
+-- the session, if it has another number
+abbrev pub session_without : ℕ → Option Session → Option Session
+session_without number None = None
+session_without number (Some session) = if session.number == number then None else Some session
+
+-- the mask with the place, if there is one
+abbrev pub with_place : ℕ → Option ℕ → ℕ
+with_place mask None = mask
+with_place mask (Some place) = with_bit mask place
+
+-- the mask with the places of the listed roles
+abbrev pub mask_of : List (Option Text) → List Text → ℕ
+mask_of roles names = fold (λ mask name. with_place mask (place_of name roles)) 0 names
+
+-- the first value that passes
+abbrev pub first_of : {X : Type 0} → (X → Bool) → List (Option X) → Option X
+first_of test [] = None
+first_of test (None ∷ slots) = first_of test slots
+first_of test (Some x ∷ slots) = if test x then Some x else first_of test slots
+
+-- the session of this number
+abbrev pub session_of : ℕ → List (Option Session) → Option Session
+session_of number sessions = first_of (λ x. x.number == number) sessions
+
+-- the row of this pair
+abbrev pub grant_of : Operation → Object → List (Option Grant) → Option Grant
+grant_of operation object grants = first_of (λ x. same_operation x.operation operation && same_object x.object object) grants

@@ -1,0 +1,91 @@
+//! The policy, and what each entry makes of it.
+ghost use Rattle.std.specs.Prelude.{◌≡◌};
+ghost use Rattle.rbac_policy.specs.Change.{absorbed, assigned, changed, granted, logged_in, logged_out};
+
+use crate::closure::ROLES;
+use crate::commands::{AdminCommand, Entry, SessionId};
+use crate::names::{Name, RoleNames};
+use crate::objects::{Object, Operation};
+use crate::rows::{DsdSet, Grant, Session, User};
+use crate::tables::{
+    GRANTS, SESSIONS, SETS, USERS, end_session, end_unauthorized, give_grant, give_role, mask_of, place_of, put_role, put_session, put_user,
+};
+
+/// What a list of accepted entries says, in tables of fixed size. It takes no memory.
+#[derive(Clone, Copy)]
+pub struct Policy {
+    pub(crate) version: u64,
+    pub(crate) logins: u16,
+    pub(crate) users: [Option<User>; USERS],
+    pub(crate) roles: [Option<Name>; ROLES],
+    pub(crate) juniors: [u32; ROLES],
+    pub(crate) grants: [Option<Grant>; GRANTS],
+    pub(crate) sessions: [Option<Session>; SESSIONS],
+    pub(crate) sets: [Option<DsdSet>; SETS],
+}
+
+impl Policy {
+    fn assign(&mut self, user: &Name, role: &Name)
+        ensures { self.new ≡ assigned user.now role.now self.old }
+    {
+        if let Some(place) = place_of(&self.roles, role) {
+            give_role(&mut self.users, user, place as u32);
+        }
+    }
+
+    fn grant(&mut self, role: &Name, operation: &Operation, object: &Object)
+        ensures { self.new ≡ granted role.now operation.now object.now self.old }
+    {
+        if let Some(place) = place_of(&self.roles, role) {
+            give_grant(&mut self.grants, operation, object, place as u32);
+        }
+    }
+
+    fn log_in(&mut self, user: &Name, roles: &RoleNames)
+        ensures { self.new ≡ logged_in user.now roles.now self.old }
+    {
+        self.logins = self.logins.wrapping_add(1);
+        let active = mask_of(&self.roles, roles);
+        let session = Session {
+            number: SessionId::new(self.logins),
+            user: *user,
+            active,
+        };
+        put_session(&mut self.sessions, session);
+    }
+
+    fn log_out(&mut self, session: Option<SessionId>)
+        ensures { self.new ≡ logged_out session self.old }
+    {
+        if let Some(number) = session {
+            end_session(&mut self.sessions, number);
+        }
+    }
+
+    fn change(&mut self, entry: &Entry)
+        ensures { self.new ≡ changed self.old entry.now }
+    {
+        match &entry.command {
+            AdminCommand::AddUser { user } => put_user(&mut self.users, User { name: *user, roles: 0 }),
+            AdminCommand::AddRole { role } => put_role(&mut self.roles, *role),
+            AdminCommand::AssignUser { user, role } => self.assign(user, role),
+            AdminCommand::GrantPermission { role, operation, object } => self.grant(role, operation, object),
+            AdminCommand::CreateSession { user, roles } => self.log_in(user, roles),
+            AdminCommand::DeleteSession => self.log_out(entry.session),
+            _ => {}
+        }
+    }
+
+    /// Takes the entry in, whether it was accepted or not.
+    ///
+    /// The tables follow AddUser, AddRole, AssignUser, GrantPermission, CreateSession and DeleteSession so far; of another command only
+    /// the version counts.
+    #[tactic(auto, unfolding(crate::specs::Change::absorbed))]
+    pub fn absorb(&mut self, entry: &Entry)
+        ensures exact { self.new ≡ absorbed self.old entry.now }
+    {
+        self.change(entry);
+        self.version = self.version.wrapping_add(1);
+        end_unauthorized(&mut self.sessions, &self.users, &self.juniors);
+    }
+}

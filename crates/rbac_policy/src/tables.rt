@@ -1,0 +1,306 @@
+//! Steps on one table.
+ghost use Rattle.std.specs.Prelude.{◌≡◌, ◌<◌, ◌==◌, ◌&&◌, IfSome, map, position, is_none};
+ghost use Rattle.std.specs.List.{list_any};
+ghost use Rattle.std.specs.Option.{ForSome};
+ghost use Rattle.rbac_policy.specs.Tables.{first_of, grant_given, grant_is, grant_of, grants_given, has_only_authorized, mask_of, place_of, put_free, role_is, roles_of, session_of, session_kept, session_without, user_given, user_is, with_bit, with_place};
+
+use crate::closure::{ROLES, below};
+use crate::commands::SessionId;
+use crate::names::{Name, RoleNames};
+use crate::objects::{Object, Operation};
+use crate::rows::{Grant, Session, User};
+
+/// Places in the table of users.
+pub const USERS: usize = 64;
+
+/// Places in the table of granted pairs of an operation and an object.
+pub const GRANTS: usize = 256;
+
+/// Places in the table of live sessions.
+pub const SESSIONS: usize = 64;
+
+/// Places in the table of separation sets.
+pub const SETS: usize = 16;
+
+fn user_is(slot: &Option<User>, name: &Name) -> bool
+    ensures { result ≡ user_is name.now slot.now }
+{
+    match slot {
+        Some(user) => user.name.is(name),
+        None => false,
+    }
+}
+
+fn role_is(slot: &Option<Name>, name: &Name) -> bool
+    ensures { result ≡ role_is name.now slot.now }
+{
+    match slot {
+        Some(role) => role.is(name),
+        None => false,
+    }
+}
+
+/// Whether there is such a user.
+pub fn has_user(users: &[Option<User>; USERS], name: &Name) -> bool
+    ensures { result ≡ list_any (user_is name.now) users.now }
+{
+    users.iter().any(|slot| user_is(slot, name))
+}
+
+/// The place of the role.
+pub fn place_of(roles: &[Option<Name>; ROLES], name: &Name) -> Option<usize>
+    ensures place { result ≡ place_of name.now roles.now }
+    ensures below { IfSome result (λ p. p < 32) }
+{
+    roles.iter().position(|slot| role_is(slot, name))
+}
+
+/// The mask with the bit of this place.
+pub fn with_bit(mask: u32, place: u32) -> u32
+    requires { place < 32 }
+    ensures { result ≡ with_bit mask place }
+{
+    mask | 1 << place
+}
+
+/// The first free place for a user.
+pub fn free_user(users: &[Option<User>; USERS]) -> Option<usize>
+    ensures { result ≡ position is_none users.now }
+{
+    users.iter().position(|slot| slot.is_none())
+}
+
+/// Puts the user into the first free place, if there is one.
+pub fn put_user(users: &mut [Option<User>; USERS], user: User)
+    ensures { users.new ≡ put_free user users.old }
+{
+    if let Some(place) = free_user(users) {
+        users[place] = Some(user);
+    }
+}
+
+/// The first free place for a role.
+pub fn free_role(roles: &[Option<Name>; ROLES]) -> Option<usize>
+    ensures { result ≡ position is_none roles.now }
+{
+    roles.iter().position(|slot| slot.is_none())
+}
+
+/// Puts the role into the first free place, if there is one.
+pub fn put_role(roles: &mut [Option<Name>; ROLES], role: Name)
+    ensures { roles.new ≡ put_free role roles.old }
+{
+    if let Some(place) = free_role(roles) {
+        roles[place] = Some(role);
+    }
+}
+
+fn user_given(slot: &Option<User>, name: &Name, place: u32) -> Option<User>
+    requires { place < 32 }
+    ensures { result ≡ user_given name.now place slot.now }
+{
+    match slot {
+        Some(user) if user.name.is(name) => Some(User {
+            name: user.name,
+            roles: with_bit(user.roles, place),
+        }),
+        _ => *slot,
+    }
+}
+
+/// Assigns the role at this place to the user.
+pub fn give_role(users: &mut [Option<User>; USERS], name: &Name, place: u32)
+    requires { place < 32 }
+    ensures { users.new ≡ map (user_given name.now place) users.old }
+{
+    for at in 0..USERS {
+        users[at] = user_given(&users[at], name, place);
+    }
+}
+
+/// The mask of the roles that are assigned to the user.
+pub fn roles_of(users: &[Option<User>; USERS], name: &Name) -> u32
+    ensures { result ≡ roles_of name.now users.now }
+{
+    for slot in users {
+        if let Some(user) = slot {
+            if user.name.is(name) {
+                return user.roles;
+            }
+        }
+    }
+    0
+}
+
+fn grant_is(slot: &Option<Grant>, operation: &Operation, object: &Object) -> bool
+    ensures { result ≡ grant_is operation.now object.now slot.now }
+{
+    match slot {
+        Some(grant) => grant.operation.is(operation) && grant.object.is(object),
+        None => false,
+    }
+}
+
+/// Whether the pair has a row.
+pub fn has_grant(grants: &[Option<Grant>; GRANTS], operation: &Operation, object: &Object) -> bool
+    ensures { result ≡ list_any (grant_is operation.now object.now) grants.now }
+{
+    grants.iter().any(|slot| grant_is(slot, operation, object))
+}
+
+/// The first free place for a granted pair.
+pub fn free_grant(grants: &[Option<Grant>; GRANTS]) -> Option<usize>
+    ensures { result ≡ position is_none grants.now }
+{
+    grants.iter().position(|slot| slot.is_none())
+}
+
+fn grant_given(slot: &Option<Grant>, operation: &Operation, object: &Object, place: u32) -> Option<Grant>
+    requires { place < 32 }
+    ensures { result ≡ grant_given operation.now object.now place slot.now }
+{
+    match slot {
+        Some(grant) if grant.operation.is(operation) && grant.object.is(object) => Some(Grant {
+            operation: grant.operation,
+            object: grant.object,
+            roles: with_bit(grant.roles, place),
+        }),
+        _ => *slot,
+    }
+}
+
+fn widen_grants(grants: &mut [Option<Grant>; GRANTS], operation: &Operation, object: &Object, place: u32)
+    requires { place < 32 }
+    ensures { grants.new ≡ map (grant_given operation.now object.now place) grants.old }
+{
+    for at in 0..GRANTS {
+        grants[at] = grant_given(&grants[at], operation, object, place);
+    }
+}
+
+/// Grants the pair to the role at this place: in the row of the pair, or else in the first free place, if there is one.
+pub fn give_grant(grants: &mut [Option<Grant>; GRANTS], operation: &Operation, object: &Object, place: u32)
+    requires { place < 32 }
+    ensures { grants.new ≡ grants_given operation.now object.now place grants.old }
+{
+    if has_grant(grants, operation, object) {
+        widen_grants(grants, operation, object, place);
+    } else if let Some(at) = free_grant(grants) {
+        grants[at] = Some(Grant {
+            operation: *operation,
+            object: *object,
+            roles: with_bit(0, place),
+        });
+    }
+}
+
+/// The row of the pair.
+pub fn grant_of(grants: &[Option<Grant>; GRANTS], operation: &Operation, object: &Object) -> Option<Grant>
+    ensures { result ≡ grant_of operation.now object.now grants.now }
+{
+    for slot in grants {
+        if let Some(grant) = slot {
+            if grant.operation.is(operation) && grant.object.is(object) {
+                return Some(*grant);
+            }
+        }
+    }
+    None
+}
+
+/// Whether each role that is active in the session is assigned to its user, or lies below one that is.
+fn has_only_authorized(session: &Session, users: &[Option<User>; USERS], juniors: &[u32; ROLES]) -> bool
+    ensures { result ≡ has_only_authorized users.now juniors.now session.now }
+{
+    let authorized = below(juniors, roles_of(users, &session.user));
+    session.active & !authorized == 0
+}
+
+fn session_kept(slot: &Option<Session>, users: &[Option<User>; USERS], juniors: &[u32; ROLES]) -> Option<Session>
+    ensures { result ≡ session_kept users.now juniors.now slot.now }
+{
+    match slot {
+        Some(session) if has_only_authorized(session, users, juniors) => Some(*session),
+        _ => None,
+    }
+}
+
+/// Ends each session in which a role is active that its user is not authorized for.
+pub fn end_unauthorized(sessions: &mut [Option<Session>; SESSIONS], users: &[Option<User>; USERS], juniors: &[u32; ROLES])
+    ensures { sessions.new ≡ map (session_kept users.now juniors.now) sessions.old }
+{
+    for at in 0..SESSIONS {
+        sessions[at] = session_kept(&sessions[at], users, juniors);
+    }
+}
+
+/// The first free place for a session.
+pub fn free_session(sessions: &[Option<Session>; SESSIONS]) -> Option<usize>
+    ensures { result ≡ position is_none sessions.now }
+{
+    sessions.iter().position(|slot| slot.is_none())
+}
+
+/// Puts the session into the first free place, if there is one.
+pub fn put_session(sessions: &mut [Option<Session>; SESSIONS], session: Session)
+    ensures { sessions.new ≡ put_free session sessions.old }
+{
+    if let Some(place) = free_session(sessions) {
+        sessions[place] = Some(session);
+    }
+}
+
+fn session_without(slot: &Option<Session>, number: SessionId) -> Option<Session>
+    ensures { result ≡ session_without number slot.now }
+{
+    match slot {
+        Some(session) if session.number.is(&number) => None,
+        _ => *slot,
+    }
+}
+
+/// Ends the session of this number.
+pub fn end_session(sessions: &mut [Option<Session>; SESSIONS], number: SessionId)
+    ensures { sessions.new ≡ map (session_without number) sessions.old }
+{
+    for at in 0..SESSIONS {
+        sessions[at] = session_without(&sessions[at], number);
+    }
+}
+
+/// The session of this number.
+pub fn session_of(sessions: &[Option<Session>; SESSIONS], number: SessionId) -> Option<Session>
+    ensures { result ≡ session_of number sessions.now }
+{
+    for slot in sessions {
+        if let Some(session) = slot {
+            if session.number.is(&number) {
+                return Some(*session);
+            }
+        }
+    }
+    None
+}
+
+fn with_place(mask: u32, place: Option<usize>) -> u32
+    requires { ForSome place (λ p. p < 32) }
+    ensures { result ≡ with_place mask place }
+{
+    match place {
+        Some(place) => with_bit(mask, place as u32),
+        None => mask,
+    }
+}
+
+/// The mask of the listed roles.
+pub fn mask_of(roles: &[Option<Name>; ROLES], listed: &RoleNames) -> u32
+    ensures { result ≡ mask_of roles.now listed.now }
+{
+    let mut mask = 0;
+    for at in 0..listed.len() {
+        if let Some(name) = listed.get(at) {
+            mask = with_place(mask, place_of(roles, &name));
+        }
+    }
+    mask
+}
