@@ -1,5 +1,5 @@
 -- Masks of places, bit by bit, and how a mask is widened until nothing is left to add.
-use Rattle.std.proofs.Common.{◌≡◌, ℕ, zero, suc, ◌+◌, ◌<◌, ◌≤◌, ◌⊎◌, ◌↔◌, List, inl, inr, arith, ap, sym, ◌∙◌, subst, refl, cond, ◌^◌}
+use Rattle.std.proofs.Common.{◌≡◌, ℕ, zero, suc, ◌<◌, ◌≤◌, ◌⊎◌, List, inl, inr, arith, ap, sym, ◌∙◌, subst, refl, cond, ◌^◌}
 use Rattle.std.specs.Int.{bit_at, trailing_zeros, w32}
 use Rattle.std.specs.Int.Bits.{bit_or, bit_and}
 use Rattle.std.specs.Prelude.{slice_index, ◌==◌}
@@ -62,20 +62,20 @@ module _ (juniors : List ℕ) (mask : ℕ) where
   rows_sound (suc n) few p h =
       let rest = rows_sound n (omega arith) in
       row (λ m. (p : ℕ) → Has m p → IsBelowSome juniors mask p) n
-        (λ top p h. elim (or_cases _ _ p h) [
-          inl x ↦ rest p x
+      (λ top p h. elim (or_cases _ _ p h) [
+        | inl x ↦ rest p x
         | inr x ↦ record { top = n; within = top; chain = step (omega arith, x) stay }
-        ])
-        rest p h
+      ])
+      rest p h
 
   rows_join : (n senior : ℕ) → senior < n → Has mask senior → (j : ℕ) → Has (slice_index juniors senior) j → Has (with_rows n juniors mask) j
   rows_join zero senior low h j e = absurd (omega arith)
   rows_join (suc n) senior low h j e = elim (cases_lt senior n) [
-        inl l ↦ let rest = rows_join n senior l h j e in row (λ m. Has m j) n (λ _. or_left _ _ j rest) rest
-      | inr l ↦
-          let same : senior ≡ n = omega arith in
-          subst (λ m. Has m j) (sym (rows_in n (subst (Has mask) same h))) (or_right _ _ j (subst (λ k. Has (slice_index juniors k) j) same e))
-      ]
+    | inl l ↦ let rest = rows_join n senior l h j e in row (λ m. Has m j) n (λ _. or_left _ _ j rest) rest
+    | inr l ↦
+        let same : senior ≡ n = omega arith in
+        subst (λ m. Has m j) (sym (rows_in n (subst (Has mask) same h))) (or_right _ _ j (subst (λ k. Has (slice_index juniors k) j) same e))
+  ]
 
   rows_grow : (n : ℕ) → mask ≤ with_rows n juniors mask
   rows_grow zero = omega arith
@@ -129,12 +129,12 @@ module _ (juniors : List ℕ) (mask : ℕ) where
   grows_or_ends (suc n) =
       let found = widened_often n juniors mask in
       elim (grows_or_ends n) [
-        inl e ↦ inl (ap (widened juniors) e)
-      | inr g ↦ elim (cases_eq (widened juniors found) found) [
-          inl e ↦ inl (ap (widened juniors) e)
-        | inr ne ↦ inr (elim (cases_lt found (widened juniors found)) [
-            inl l ↦ omega arith
-          | inr l ↦ absurd (ne (omega (arith, widened_grows juniors found)))
+        | inl e ↦ inl (ap (widened juniors) e)
+        | inr g ↦ elim (cases_eq (widened juniors found) found) [
+          | inl e ↦ inl (ap (widened juniors) e)
+          | inr ne ↦ inr (elim (cases_lt found (widened juniors found)) [
+            | inl l ↦ omega arith
+            | inr l ↦ absurd (ne (omega (arith, widened_grows juniors found)))
           ])
         ]
       ]
@@ -144,11 +144,11 @@ module _ (juniors : List ℕ) (mask : ℕ) where
   unfolding widened_often
   ended k zero e few = ap (λ m. widened_often m juniors mask) (let z : 0 ≡ k = omega arith in z)
   ended k (suc n) e few = elim (cases_eq k (suc n)) [
-        inl same ↦ ap (λ m. widened_often m juniors mask) (sym same)
-      | inr ne ↦
-          let less : k ≤ n = elim (cases_lt n k) [ inl l ↦ absurd (ne (omega arith)) | inr l ↦ l ] in
-          ap (widened juniors) (ended k n e less) ∙ e
-      ]
+    | inl same ↦ ap (λ m. widened_often m juniors mask) (sym same)
+    | inr ne ↦
+        let less : k ≤ n = elim (cases_lt n k) [ inl l ↦ absurd (ne (omega arith)) | inr l ↦ l ] in
+        ap (widened juniors) (ended k n e less) ∙ e
+  ]
 
 -- after some passes
 pub record Walked (juniors : List ℕ) (mask found : ℕ) : Type 0 where
@@ -165,9 +165,9 @@ unfolding widened_often
 walk_goes_on juniors mask found w differs = record {
   passes = suc w.passes;
   few = elim (cases_lt found (widened juniors found)) [
-      inl l ↦ omega (arith, w.few)
+    | inl l ↦ omega (arith, w.few)
     | inr l ↦ absurd (differs (omega (arith, widened_grows juniors found)))
-    ];
+  ];
   is = ap (widened juniors) w.is;
 }
 

@@ -7,7 +7,7 @@ pub mod closure;
 pub mod commands;
 pub mod names;
 pub mod objects;
-pub mod texts;
 pub mod policy;
 pub mod rows;
 mod tables;
+pub mod texts;

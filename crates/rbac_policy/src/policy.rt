@@ -8,7 +8,8 @@ use crate::names::{Name, RoleNames};
 use crate::objects::{Object, Operation};
 use crate::rows::{DsdSet, Grant, Session, User};
 use crate::tables::{
-    GRANTS, SESSIONS, SETS, USERS, end_session, end_unauthorized, give_grant, give_role, mask_of, place_of, put_role, put_session, put_user,
+    GRANTS, SESSIONS, SETS, USERS, end_session, end_unauthorized, give_grant, give_role, mask_of,
+    place_of, put_role, put_session, put_user,
 };
 
 /// What a list of accepted entries says, in tables of fixed size. It takes no memory.
@@ -66,10 +67,20 @@ impl Policy {
         ensures { self.new ≡ changed self.old entry.now }
     {
         match &entry.command {
-            AdminCommand::AddUser { user } => put_user(&mut self.users, User { name: *user, roles: 0 }),
+            AdminCommand::AddUser { user } => put_user(
+                &mut self.users,
+                User {
+                    name: *user,
+                    roles: 0,
+                },
+            ),
             AdminCommand::AddRole { role } => put_role(&mut self.roles, *role),
             AdminCommand::AssignUser { user, role } => self.assign(user, role),
-            AdminCommand::GrantPermission { role, operation, object } => self.grant(role, operation, object),
+            AdminCommand::GrantPermission {
+                role,
+                operation,
+                object,
+            } => self.grant(role, operation, object),
             AdminCommand::CreateSession { user, roles } => self.log_in(user, roles),
             AdminCommand::DeleteSession => self.log_out(entry.session),
             _ => {}

@@ -155,7 +155,12 @@ pub fn free_grant(grants: &[Option<Grant>; GRANTS]) -> Option<usize>
     grants.iter().position(|slot| slot.is_none())
 }
 
-fn grant_given(slot: &Option<Grant>, operation: &Operation, object: &Object, place: u32) -> Option<Grant>
+fn grant_given(
+    slot: &Option<Grant>,
+    operation: &Operation,
+    object: &Object,
+    place: u32,
+) -> Option<Grant>
     requires { place < 32 }
     ensures { result ≡ grant_given operation.now object.now place slot.now }
 {
@@ -169,7 +174,12 @@ fn grant_given(slot: &Option<Grant>, operation: &Operation, object: &Object, pla
     }
 }
 
-fn widen_grants(grants: &mut [Option<Grant>; GRANTS], operation: &Operation, object: &Object, place: u32)
+fn widen_grants(
+    grants: &mut [Option<Grant>; GRANTS],
+    operation: &Operation,
+    object: &Object,
+    place: u32,
+)
     requires { place < 32 }
     ensures { grants.new ≡ map (grant_given operation.now object.now place) grants.old }
 {
@@ -179,7 +189,12 @@ fn widen_grants(grants: &mut [Option<Grant>; GRANTS], operation: &Operation, obj
 }
 
 /// Grants the pair to the role at this place: in the row of the pair, or else in the first free place, if there is one.
-pub fn give_grant(grants: &mut [Option<Grant>; GRANTS], operation: &Operation, object: &Object, place: u32)
+pub fn give_grant(
+    grants: &mut [Option<Grant>; GRANTS],
+    operation: &Operation,
+    object: &Object,
+    place: u32,
+)
     requires { place < 32 }
     ensures { grants.new ≡ grants_given operation.now object.now place grants.old }
 {
@@ -195,7 +210,11 @@ pub fn give_grant(grants: &mut [Option<Grant>; GRANTS], operation: &Operation, o
 }
 
 /// The row of the pair.
-pub fn grant_of(grants: &[Option<Grant>; GRANTS], operation: &Operation, object: &Object) -> Option<Grant>
+pub fn grant_of(
+    grants: &[Option<Grant>; GRANTS],
+    operation: &Operation,
+    object: &Object,
+) -> Option<Grant>
     ensures { result ≡ grant_of operation.now object.now grants.now }
 {
     for slot in grants {
@@ -209,14 +228,22 @@ pub fn grant_of(grants: &[Option<Grant>; GRANTS], operation: &Operation, object:
 }
 
 /// Whether each role that is active in the session is assigned to its user, or lies below one that is.
-fn has_only_authorized(session: &Session, users: &[Option<User>; USERS], juniors: &[u32; ROLES]) -> bool
+fn has_only_authorized(
+    session: &Session,
+    users: &[Option<User>; USERS],
+    juniors: &[u32; ROLES],
+) -> bool
     ensures { result ≡ has_only_authorized users.now juniors.now session.now }
 {
     let authorized = below(juniors, roles_of(users, &session.user));
     session.active & !authorized == 0
 }
 
-fn session_kept(slot: &Option<Session>, users: &[Option<User>; USERS], juniors: &[u32; ROLES]) -> Option<Session>
+fn session_kept(
+    slot: &Option<Session>,
+    users: &[Option<User>; USERS],
+    juniors: &[u32; ROLES],
+) -> Option<Session>
     ensures { result ≡ session_kept users.now juniors.now slot.now }
 {
     match slot {
@@ -226,7 +253,11 @@ fn session_kept(slot: &Option<Session>, users: &[Option<User>; USERS], juniors: 
 }
 
 /// Ends each session in which a role is active that its user is not authorized for.
-pub fn end_unauthorized(sessions: &mut [Option<Session>; SESSIONS], users: &[Option<User>; USERS], juniors: &[u32; ROLES])
+pub fn end_unauthorized(
+    sessions: &mut [Option<Session>; SESSIONS],
+    users: &[Option<User>; USERS],
+    juniors: &[u32; ROLES],
+)
     ensures { sessions.new ≡ map (session_kept users.now juniors.now) sessions.old }
 {
     for at in 0..SESSIONS {

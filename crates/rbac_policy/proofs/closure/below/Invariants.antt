@@ -1,4 +1,4 @@
-use Rattle.std.proofs.Common.{ℕ, ◌-◌, ◌^◌}
+use Rattle.std.proofs.Common.{◌-◌, ◌^◌}
 use Rattle.rbac_policy.proofs.Walking.{Walked}
 use Rattle.rbac_policy.proofs.closure.below.Given as goal
 
