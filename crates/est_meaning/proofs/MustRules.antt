@@ -7,7 +7,7 @@ use Rattle.est_kernel.specs.Codes.{Codes, no_codes, code, either_code, but_zero,
 use Rattle.est_meaning.specs.Signals.{Signals, no_signals, only, union, without}
 use Rattle.est_meaning.specs.Status.{Status, on, off, unknown, Env, status_of, with_local, verdict, by_status}
 use Rattle.est_meaning.specs.MustCan.{Acts, no_acts, ends, must_then, sure, must, can, status_within, env_within}
-use Rattle.est_meaning.specs.StartCodes.{start_codes, IsLoopSafe}
+use Rattle.est_kernel.specs.StartCodes.{start_codes, IsLoopSafe}
 use Rattle.est_meaning.specs.Rules.{Gives, rest_of, outside, takes_first, takes_second, held_on, held_off, goes_on, ends_then}
 use Rattle.est_meaning.specs.Laws.{just, HasRule}
 use Rattle.est_meaning.proofs.CodeSets.{both_true, code_at, code_zero, max_of_codes, down_code, later_code, up_to_found, max_mono, down_mono, code_true, none_true}

@@ -5,7 +5,7 @@ use Rattle.est_kernel.specs.Codes.{code}
 use Rattle.est_meaning.specs.Signals.{Signals}
 use Rattle.est_meaning.specs.Status.{Env}
 use Rattle.est_meaning.specs.MustCan.{Acts, Mode, sure, maybe, must, can}
-use Rattle.est_meaning.specs.StartCodes.{IsLoopSafe}
+use Rattle.est_kernel.specs.StartCodes.{IsLoopSafe}
 use Rattle.est_meaning.specs.Rules.{Gives}
 use Rattle.est_meaning.specs.Knowledge.{KnowsLess, IsWithin}
 use Rattle.est_meaning.specs.States.{HasPausedAt, IsState, state_term}

@@ -6,6 +6,5 @@ pub mod Rounds
 pub mod Reaction
 pub mod Knowledge
 pub mod Laws
-pub mod StartCodes
 pub mod States
 pub mod Steps

@@ -1,22 +1,24 @@
 -- What an engine answers for a kernel, a state of it and the inputs of an instant.
-use Rattle.std.specs.Prelude.{◌≡◌, ℕ, true, false}
+use Rattle.std.specs.Prelude.{◌≡◌, ℕ, length}
 use Rattle.est_kernel.specs.Bits.{bits}
+use Rattle.est_kernel.specs.Interfaces.{inputs_of, outputs_of}
 use Rattle.est_kernel.specs.declared.kernel.Kernel.{Kernel}
 use Rattle.est_kernel.specs.declared.state.State.{State}
 use Rattle.est_kernel.specs.declared.state.Inputs.{Inputs}
 use Rattle.est_kernel.specs.declared.state.Outcome.{Outcome}
 use Rattle.est_kernel.specs.declared.state.Stuck.{Stuck}
+use Rattle.est_meaning.specs.Knowledge.{IsIn}
 use Rattle.est_meaning.specs.Rounds.{Judged}
 use Rattle.est_meaning.specs.Reaction.{Reacts, CannotReact, is_undecided}
 use Rattle.est_meaning.specs.States.{IsState, state_term}
 
 -- the signals that the rounds judge for a kernel: its outputs
 abbrev pub judged_of : Kernel → Judged
-judged_of k = record { places = 64; has = bits k.outputs }
+judged_of k = record { places = length k.interface; has = outputs_of k.interface }
 
--- no signal in the mask is an output of the kernel
+-- each signal in the mask is an input of the kernel
 abbrev pub AreInputs : Kernel → Inputs → Type 0
-AreInputs k i = (n : ℕ) → bits i.signals n ≡ true → bits k.outputs n ≡ false
+AreInputs k i = IsIn (bits i.signals) (inputs_of k.interface)
 
 -- the outcome is the reaction of the term that the state stands for: its outputs are those emitted, and its next state stands for the next term
 pub record IsReaction (k : Kernel) (x : State) (i : Inputs) (o : Outcome) : Type 0 where
