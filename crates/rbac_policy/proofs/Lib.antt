@@ -1,5 +1,14 @@
+pub mod Ascii
 pub mod Filled
 pub mod Packed
 pub mod ObjectTexts
 pub mod Walking
-pub mod Ascii
+pub mod Steps
+pub mod Lives
+pub mod Order
+pub mod Slots
+pub mod Equality
+pub mod Masks
+pub mod Sweep
+pub mod Ended
+pub mod Untouched

@@ -9,3 +9,4 @@ pub mod Opening
 pub mod Fits
 pub mod Tables
 pub mod Change
+pub mod StandsFor

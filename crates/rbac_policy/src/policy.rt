@@ -1,5 +1,8 @@
 //! The policy, and what each entry makes of it.
-ghost use Rattle.std.specs.Prelude.{◌≡◌};
+ghost use Rattle.std.specs.Prelude.{◌≡◌, ◌++◌, ◌∷◌, [], List, length};
+ghost use Rattle.rbac_policy.specs.declared.commands.Entry.{Entry};
+ghost use Rattle.rbac_policy.specs.Fits.{Fits};
+ghost use Rattle.rbac_policy.specs.StandsFor.{StandsFor};
 ghost use Rattle.rbac_policy.specs.Change.{absorbed, assigned, changed, granted, logged_in, logged_out};
 
 use crate::closure::ROLES;
@@ -98,5 +101,12 @@ impl Policy {
         self.change(entry);
         self.version = self.version.wrapping_add(1);
         end_unauthorized(&mut self.sessions, &self.users, &self.juniors);
+    }
+
+    /// How many entries it took in.
+    pub fn version(&self) -> u64
+        ensures { (entries : List Entry) → StandsFor self.now entries → result ≡ length entries }
+    {
+        self.version
     }
 }
