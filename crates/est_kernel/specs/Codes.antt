@@ -2,9 +2,11 @@
 -- (Berry, The Constructive Semantics of Pure Esterel, the behaviour rules)
 use Rattle.std.specs.Prelude.{ℕ, zero, suc, Bool, false, ◌&&◌, ◌||◌, nat_eq}
 
+-- a set of completion codes
 abbrev pub Codes : Type 0
 Codes = ℕ → Bool
 
+-- no code
 unfoldable pub no_codes : Codes
 no_codes k = false
 

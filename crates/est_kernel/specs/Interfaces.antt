@@ -1,4 +1,4 @@
--- Interfaces as lists of declarations.
+-- Interfaces as lists of declarations (The Esterel v5 Language Primer, interface declarations).
 use Rattle.std.specs.Prelude.{ℕ, zero, suc, List, [], ◌∷◌, Bool, true, false}
 use Rattle.std.specs.List.{IsDistinct}
 use Rattle.std.specs.Str.{bytes_eq}
@@ -6,6 +6,7 @@ use Rattle.est_kernel.specs.declared.interface.Kind.{Kind}
 use Rattle.est_kernel.specs.declared.interface.Kind.TheVariants.{Input, Output}
 use Rattle.est_kernel.specs.declared.interface.Declaration.{Declaration}
 
+-- whether the two are one
 abbrev pub same_kind : Kind → Kind → Bool
 same_kind Input Input = true
 same_kind Output Output = true
@@ -18,9 +19,11 @@ declares kind [] n = false
 declares kind (d ∷ ds) zero = same_kind d.kind kind
 declares kind (d ∷ ds) (suc n) = declares kind ds n
 
+-- the places of the inputs
 abbrev pub inputs_of : List Declaration → ℕ → Bool
 inputs_of ds = declares Input ds
 
+-- the places of the outputs
 abbrev pub outputs_of : List Declaration → ℕ → Bool
 outputs_of ds = declares Output ds
 

@@ -1,4 +1,4 @@
--- How large a term is, and the limit that it passes.
+-- How large a term is, and the limit that it passes (this project's own limits).
 use Rattle.std.specs.Prelude.{ℕ, ◌+◌, max, nat_lt, Option, Some, None, if◌then◌else◌}
 use Rattle.est_kernel.specs.Term.{Term, nothing, pause, emit, present, suspend, held, seq, loop, par, trap, exit, signal}
 use Rattle.est_kernel.specs.declared.limits.Limit.{Limit}

@@ -1,4 +1,4 @@
--- Terms in which each name has its binder.
+-- Terms in which each name has its binder (this project's own form of closed terms).
 use Rattle.std.specs.Prelude.{◌≡◌, ℕ, ◌+◌, ◌<◌, List, length, true}
 use Rattle.est_kernel.specs.Term.{Name, outer, inner, Query, tick, of, Term, nothing, pause, emit, present, suspend, held, seq, loop, par, trap, exit, signal}
 use Rattle.est_kernel.specs.Interfaces.{outputs_of}
@@ -9,6 +9,7 @@ abbrev pub IsVisible : List Declaration → ℕ → Name → Type 0
 IsVisible interface locals (outer n) = n < length interface
 IsVisible interface locals (inner n) = n < locals
 
+-- what may be asked: `tick`, or a visible signal
 abbrev pub IsAsked : List Declaration → ℕ → Query → Type 0
 IsAsked interface locals tick = Unit {0}
 IsAsked interface locals (of s) = IsVisible interface locals s

@@ -20,19 +20,21 @@ pub fn single(n: u8) -> u64
     1 << n
 }
 
+/// The numbers of both sets.
 pub fn either(a: u64, b: u64) -> u64
     ensures { bits result ≡ either_code (bits a) (bits b) }
 {
     a | b
 }
 
+/// The numbers of a set but 0.
 pub fn without_zero(a: u64) -> u64
     ensures { bits result ≡ but_zero (bits a) }
 {
     a >> 1 << 1
 }
 
-/// The codes outside a trap.
+/// What is left of a set of codes outside a trap: 0 and 2 become 0, 1 stays, larger ones fall by 1.
 pub fn lowered(a: u64) -> u64
     ensures { bits result ≡ down (bits a) }
 {

@@ -1,0 +1,180 @@
+//! Interfaces and kernels at the edges of their limits.
+
+ghost use Rattle.std.specs.Prelude.{IfOk, ℕ, List, ◌<◌};
+ghost use Rattle.est_kernel.specs.Scope.{IsClosed};
+ghost use Rattle.est_kernel.specs.View.{term_of};
+ghost use Rattle.est_kernel.specs.declared.interface.Declaration.{Declaration};
+
+use crate::identifier::Identifier;
+use crate::interface::{Declaration, Interface, Kind};
+use crate::kernel::{Kernel, LoadFault};
+use crate::limits::Limit;
+use crate::statement::{LocalSignal, PauseIndex, Statement, TrapIndex};
+use std::alloc::{AllocError, Global};
+use std::process::Abort;
+use std::test::Fail;
+
+fn pause() -> Statement
+    ensures closed { (i : List Declaration) (traps locals : ℕ) → IsClosed i traps locals (term_of result) }
+{
+    Statement::Pause(PauseIndex { index: 0 })
+}
+
+/// Pauses before a statement, each of two nodes more.
+fn after_pauses(alloc: Global, last: Statement, count: u16) -> Result<Statement, AllocError>
+    requires { (i : List Declaration) → IsClosed i 0 0 (term_of last) }
+    ensures { IfOk result (λ s. (i : List Declaration) → IsClosed i 0 0 (term_of s)) }
+{
+    let mut whole = last;
+    'grow: for _ in 0..count {
+        whole = Statement::Seq(Box::new(alloc, pause())?, Box::new(alloc, whole)?);
+    }
+    Ok(whole)
+}
+
+/// Loops in one another, round a pause.
+fn loops(alloc: Global, depth: u8) -> Result<Statement, AllocError>
+    ensures { IfOk result (λ s. (i : List Declaration) → IsClosed i 0 0 (term_of s)) }
+{
+    let mut whole = pause();
+    'grow: for _ in 0..depth {
+        whole = Statement::Loop(Box::new(alloc, whole)?);
+    }
+    Ok(whole)
+}
+
+/// Traps in one another, round a pause.
+fn traps(alloc: Global, depth: u8) -> Result<Statement, AllocError>
+    ensures { IfOk result (λ s. (i : List Declaration) → IsClosed i 0 0 (term_of s)) }
+{
+    let mut whole = pause();
+    'grow: for _ in 0..depth {
+        whole = Statement::Trap(Box::new(alloc, whole)?);
+    }
+    Ok(whole)
+}
+
+/// Local signals in one another, round a pause.
+fn locals(alloc: Global, depth: u8) -> Result<Statement, AllocError>
+    requires { depth < 64 }
+    ensures { IfOk result (λ s. (i : List Declaration) → IsClosed i 0 0 (term_of s)) }
+{
+    let mut whole = pause();
+    let mut around = depth;
+    'grow: while around > 0 {
+        around -= 1;
+        whole = Statement::Local(LocalSignal { index: around }, Box::new(alloc, whole)?);
+    }
+    Ok(whole)
+}
+
+fn fault(alloc: Global, root: Statement) -> Option<LoadFault>
+    requires { (i : List Declaration) → IsClosed i 0 0 (term_of root) }
+{
+    Kernel::build(Interface::new(alloc), root).err()
+}
+
+#[test]
+fn limits(rt: HostRuntime) -> Result<(), Fail> {
+    let alloc = rt.alloc();
+    let looped = Statement::Loop(Box::new(alloc, pause())?);
+    assert_eq!(rt;
+        fault(alloc, after_pauses(alloc, looped, 1023)?),
+        None,
+        "2,048 statements"
+    );
+    assert_eq!(rt;
+        fault(alloc, after_pauses(alloc, pause(), 1024)?),
+        Some(LoadFault::TooLarge(Limit::Statements)),
+        "2,049 statements"
+    );
+    assert_eq!(rt; fault(alloc, loops(alloc, 16)?), None);
+    assert_eq!(rt;
+        fault(alloc, loops(alloc, 17)?),
+        Some(LoadFault::TooLarge(Limit::Loops))
+    );
+    assert_eq!(rt; fault(alloc, traps(alloc, 16)?), None);
+    assert_eq!(rt;
+        fault(alloc, traps(alloc, 17)?),
+        Some(LoadFault::TooLarge(Limit::Traps))
+    );
+    assert_eq!(rt; fault(alloc, locals(alloc, 6)?), None);
+    assert_eq!(rt;
+        fault(alloc, locals(alloc, 7)?),
+        Some(LoadFault::TooLarge(Limit::Locals))
+    );
+    Ok(())
+}
+
+#[test]
+fn instant_loops(rt: HostRuntime) -> Result<(), Fail> {
+    let alloc = rt.alloc();
+    let empty = Statement::Loop(Box::new(alloc, Statement::Nothing)?);
+    assert_eq!(rt; fault(alloc, empty), Some(LoadFault::InstantLoop));
+    let left = Statement::Exit(TrapIndex { index: 0 });
+    let body = Statement::Seq(Box::new(alloc, pause())?, Box::new(alloc, left)?);
+    let slow = Statement::Trap(Box::new(alloc, body)?);
+    assert_eq!(rt; fault(alloc, Statement::Loop(Box::new(alloc, slow)?)), None);
+    let left = Statement::Exit(TrapIndex { index: 0 });
+    let quick = Statement::Trap(Box::new(alloc, left)?);
+    assert_eq!(rt;
+        fault(alloc, Statement::Loop(Box::new(alloc, quick)?)),
+        Some(LoadFault::InstantLoop),
+        "a trap that is left at once"
+    );
+    Ok(())
+}
+
+fn identifier(rt: &impl Abort, text: &str) -> Identifier {
+    Identifier::from_text(text).expect(rt, "an identifier")
+}
+
+#[test]
+fn identifiers(rt: HostRuntime) {
+    assert_eq!(rt; identifier(&rt, "A_1z").as_str(), "A_1z");
+    for text in ["", "1A", "_A", "A-B", "A.B", "\u{e4}"] {
+        assert_eq!(rt; Identifier::from_text(text), None, "{text}");
+    }
+    let longest = "abcdefghijklmnopqrstuvwxyzabcdefghijklmnopqrstuv";
+    assert_eq!(rt; identifier(&rt, longest).as_bytes().len(), 48);
+    assert_eq!(rt;
+        Identifier::from_text("abcdefghijklmnopqrstuvwxyzabcdefghijklmnopqrstuvw"),
+        None
+    );
+}
+
+#[test]
+fn interfaces(rt: HostRuntime) -> Result<(), Fail> {
+    let mut interface = Interface::new(rt.alloc());
+    let input = Declaration {
+        name: identifier(&rt, "I"),
+        kind: Kind::Input,
+    };
+    let output = Declaration {
+        name: identifier(&rt, "O"),
+        kind: Kind::Output,
+    };
+    assert!(rt; !interface.is_full() && !interface.has(&input.name));
+    interface.declare(input)?;
+    assert!(rt; !interface.is_full() && !interface.has(&output.name));
+    interface.declare(output)?;
+    assert_eq!(rt; interface.len(), 2);
+    assert_eq!(rt; interface.inputs(), 0b01);
+    assert_eq!(rt; interface.outputs(), 0b10);
+    let found = interface.find(&output.name).expect(&rt, "O is declared");
+    assert_eq!(rt; found.index, 1);
+    assert_eq!(rt; interface.get(found), output);
+    assert!(rt; interface.find(&identifier(&rt, "P")).is_none());
+    Ok(())
+}
+
+#[test]
+fn kernels(rt: HostRuntime) -> Result<(), Fail> {
+    let alloc = rt.alloc();
+    let kernel = Kernel::build(Interface::new(alloc), pause())
+        .ok()
+        .expect(&rt, "a kernel");
+    assert!(rt; kernel.interface().is_empty());
+    assert!(rt; matches!(kernel.root(), Statement::Pause(_)));
+    Ok(())
+}
