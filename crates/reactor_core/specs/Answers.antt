@@ -1,0 +1,123 @@
+-- What a reactor answers: the reply to each command on a journal, and the journal afterwards.
+use Rattle.std.specs.Prelude.{◌≡◌, ◌⊎◌, ℕ, ◌-◌, ◌<◌, ◌≤◌, true, false, List, [], ◌∷◌, ◌++◌, length, Some, None, Result, MatchResult, slice_get, bit_or, bit_and}
+use Rattle.est_kernel.specs.Term.{Term}
+use Rattle.est_kernel.specs.Interfaces.{declares}
+use Rattle.est_kernel.specs.declared.interface.Declaration.{Declaration}
+use Rattle.est_kernel.specs.declared.interface.Kind.{Kind}
+use Rattle.est_kernel.specs.declared.interface.Kind.TheVariants.{Input, Output}
+use Rattle.est_kernel.specs.declared.kernel.Kernel.{Kernel}
+use Rattle.est_kernel.specs.Bits.{bits}
+use Rattle.reactor_core.specs.declared.entry.Stamp.{Stamp}
+use Rattle.reactor_core.specs.declared.entry.Instant.{Instant}
+use Rattle.reactor_core.specs.declared.entry.Action.TheVariants.{Load, Offer, Step}
+use Rattle.reactor_core.specs.declared.entry.SlotEntry.{SlotEntry}
+use Rattle.reactor_core.specs.declared.refusal.Refusal.{Refusal}
+use Rattle.reactor_core.specs.declared.refusal.Refusal.TheVariants.{UnknownSignal, NotInput, AlreadyOffered, NoInstant, JournalFull, Stuck, Lexical, Syntax, UnknownModule, UnknownName, DuplicateName, EmitInput, InstantLoop, TooLarge, Memory}
+use Rattle.reactor_core.specs.declared.reactor.Shown.{Shown}
+use Rattle.reactor_core.specs.Reacting.{ReactsWith, HasReaction, IsStuck}
+use Rattle.reactor_core.specs.Meaning.{entry, instant, Running, running_of, place_of, Leaves}
+
+-- the journal may take another entry
+abbrev pub HasRoom : List SlotEntry → Type 0
+HasRoom journal = length journal < 65536
+
+-- the journal has as many entries as it may have
+abbrev pub IsFull : List SlotEntry → Type 0
+IsFull journal = 65536 ≤ length journal
+
+-- the signal of this name stands at this place of the interface, with this kind
+pub record IsSignal (interface : List Declaration) (name : List ℕ) (place : ℕ) (kind : Kind) : Type 0 where
+  pub there : place_of interface name ≡ Some place
+  pub kind_is : declares kind interface place ≡ true
+
+-- the name is that of an input that is not pending
+pub record CanOffer (r : Running) (name : List ℕ) : Type 0 where
+  pub place : ℕ
+  pub input : IsSignal r.kernel.interface name place Input
+  pub new : bits r.pending place ≡ false
+
+-- why no further entry is added
+abbrev pub RefusesEntry : List SlotEntry → Refusal → Type 0
+RefusesEntry journal JournalFull = IsFull journal
+RefusesEntry journal Memory = HasRoom journal
+RefusesEntry journal _ = ⊥
+
+-- why a name can't be offered: no signal has it, it is an output's, or its signal is pending
+abbrev pub RefusesName : List Declaration → (pending : ℕ) → List ℕ → Refusal → Type 0
+RefusesName interface pending name UnknownSignal = place_of interface name ≡ None
+RefusesName interface pending name NotInput = (place : ℕ) × IsSignal interface name place Output
+RefusesName interface pending name AlreadyOffered =
+    (place : ℕ) × IsSignal interface name place Input × (bits pending place ≡ true)
+RefusesName interface pending name _ = ⊥
+
+-- why an offer of the name is refused: by its name, or else by the journal
+abbrev pub RefusesOffer : List SlotEntry → Running → List ℕ → Refusal → Type 0
+RefusesOffer journal r name e =
+    RefusesName r.kernel.interface r.pending name e ⊎ (CanOffer r name × RefusesEntry journal e)
+
+-- the answer to an offer of the name, and the journal afterwards
+abbrev pub OfferAnswer : (before : List SlotEntry) → Stamp → List ℕ → Result (Unit {0}) Refusal → (after : List SlotEntry) → Type 0
+OfferAnswer before stamp name answer after =
+    (r : Running) × (running_of before ≡ Some r)
+    × MatchResult answer
+    (λ _. CanOffer r name × HasRoom before × (after ≡ before ++ entry stamp (Offer name) ∷ []))
+    (λ e. RefusesOffer before r name e × (after ≡ before))
+
+-- why a step of the term is refused: it has no reaction, or else by the journal
+abbrev pub RefusesStep : List SlotEntry → Running → Term → Refusal → Type 0
+RefusesStep journal r term (Stuck undecided) = IsStuck r.kernel term r.pending undecided
+RefusesStep journal r term e = HasReaction r.kernel term r.pending × RefusesEntry journal e
+
+-- the answer to a step, and the journal afterwards
+abbrev pub StepAnswer : (before : List SlotEntry) → Stamp → Result (Unit {0}) Refusal → (after : List SlotEntry) → Type 0
+StepAnswer before stamp answer after =
+    (r : Running) × (term : Term) × (running_of before ≡ Some r) × Leaves before term
+    × MatchResult answer
+    (λ _. HasRoom before × ((outputs : ℕ) × (next : Term) × ReactsWith r.kernel term r.pending outputs next
+    × (after ≡ before ++ entry stamp (Step (instant r.pending outputs)) ∷ [])))
+    (λ e. RefusesStep before r term e × (after ≡ before))
+
+-- what is wrong with a module text, or with its size
+abbrev pub IsTextFault : Refusal → Type 0
+IsTextFault (Lexical place) = Unit {0}
+IsTextFault (Syntax place) = Unit {0}
+IsTextFault (UnknownModule name) = Unit {0}
+IsTextFault (UnknownName name) = Unit {0}
+IsTextFault (DuplicateName name) = Unit {0}
+IsTextFault (EmitInput name) = Unit {0}
+IsTextFault InstantLoop = Unit {0}
+IsTextFault (TooLarge limit) = Unit {0}
+IsTextFault _ = ⊥
+
+-- a fault of the text, or want of memory
+abbrev pub IsReadFault : Refusal → Type 0
+IsReadFault Memory = Unit {0}
+IsReadFault e = IsTextFault e
+
+-- why a load is refused: by the text, or for want of memory, or else by the journal
+abbrev pub RefusesLoad : List SlotEntry → Refusal → Type 0
+RefusesLoad journal e = IsReadFault e ⊎ RefusesEntry journal e
+
+-- the answer to a load of the text's module of this name: the reactor, with the journal afterwards, or the refusal and the journal
+abbrev pub LoadAnswer : (before : List SlotEntry) → Stamp → (main text : List ℕ) → Result (List SlotEntry) (Refusal × List SlotEntry) → Type 0
+LoadAnswer before stamp main text answer =
+    MatchResult answer
+    (λ after. HasRoom before
+    × ((kernel : Kernel) × (after ≡ before ++ entry stamp (Load (record { main = main; text = text; kernel = kernel })) ∷ [])))
+    (λ refused. RefusesLoad before refused.0 × (refused.1 ≡ before))
+
+-- the n-th instant since the load
+abbrev pub IsInstant : Running → ℕ → Instant → Type 0
+IsInstant r n i = (0 < n) × (slice_get r.instants (n - 1) ≡ Some i)
+
+-- what is present of an instant, within the mask
+abbrev pub shown_of : Instant → (mask : ℕ) → Shown
+shown_of i mask = record { mask = mask; present = bit_and (bit_or i.inputs i.outputs) mask }
+
+-- the answer to a look at the n-th instant: NoInstant exactly where there is none
+abbrev pub ShownAnswer : (journal : List SlotEntry) → (n mask : ℕ) → Result Shown Refusal → Type 0
+ShownAnswer journal n mask answer =
+    (r : Running) × (running_of journal ≡ Some r)
+    × MatchResult answer
+    (λ s. (i : Instant) × IsInstant r n i × (s ≡ shown_of i mask))
+    (λ e. (e ≡ NoInstant) × ((n ≡ 0) ⊎ (length r.instants < n)))

@@ -1,0 +1,4 @@
+pub mod Reacting
+pub mod Meaning
+pub mod Standing
+pub mod Answers

@@ -1,0 +1,41 @@
+//! The entries of a slot's journal.
+use crate::text::Text;
+use est_kernel::identifier::Identifier;
+use est_kernel::kernel::Kernel;
+
+/// The policy version at which a command was judged, and the number of the session that gave it.
+#[derive(Clone, Copy, PartialEq, Eq, Debug)]
+pub struct Stamp {
+    pub version: u64,
+    pub session: u16,
+}
+
+/// One instant: its present inputs and outputs, as masks over the interface in the order of declaration.
+#[derive(Clone, Copy, PartialEq, Eq, Debug)]
+pub struct Instant {
+    pub inputs: u64,
+    pub outputs: u64,
+}
+
+/// An accepted load: the name of the main module, the text, and the kernel that was read from it.
+#[derive(Drop)]
+pub struct Load {
+    pub main: Identifier,
+    pub text: Text,
+    pub kernel: Kernel,
+}
+
+/// What was accepted.
+#[derive(Drop)]
+pub enum Action {
+    Load(Load),
+    Offer(Identifier),
+    Step(Instant),
+}
+
+/// One entry of a journal.
+#[derive(Drop)]
+pub struct SlotEntry {
+    pub stamp: Stamp,
+    pub action: Action,
+}

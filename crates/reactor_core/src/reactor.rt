@@ -1,0 +1,276 @@
+//! A running module with its journal.
+ghost use Rattle.std.specs.Prelude.{◌≡◌, ◌⊎◌, ◌<◌, ◌-◌, ◌^◌, ◌++◌, ◌∷◌, [], length, bit_or, Some, MatchResult, MatchOption, ℕ, true, false, slice_get};
+ghost use Rattle.est_kernel.specs.Bits.{bits};
+ghost use Rattle.est_kernel.specs.declared.interface.Kind.TheVariants.{Input};
+ghost use Rattle.est_kernel.specs.Term.{Term};
+ghost use Rattle.reactor_core.specs.declared.entry.Load.{Load as LoadEntry};
+ghost use Rattle.est_meaning.specs.States.{IsState};
+ghost use Rattle.est_rounds.specs.Contract.{AreInputs, IsReaction, HasNoReaction};
+ghost use Rattle.reactor_core.specs.Meaning.{Running, running_of, entry};
+ghost use Rattle.reactor_core.specs.Standing.{LoadsAt, IsRunning};
+ghost use Rattle.reactor_core.specs.Answers.{OfferAnswer, StepAnswer, ShownAnswer, HasRoom, RefusesEntry, RefusesName, IsSignal};
+
+use crate::entry::{Action, Instant, Load, SlotEntry, Stamp};
+use crate::journal::{JOURNAL_ENTRIES, Journal};
+use crate::refusal::Refusal;
+use est_kernel::identifier::Identifier;
+use est_kernel::interface::{Interface, Kind};
+use est_kernel::kernel::Kernel;
+use est_kernel::mask;
+use est_kernel::state::{Inputs, Outcome, State, Stuck};
+use est_kernel::statement::InterfaceSignal;
+use est_rounds::engine::Engine;
+use std::alloc::Global;
+use std::marker::Model;
+
+/// What is shown of an instant: the signals that were asked for, and those of them that were present, as masks over the
+/// interface in the order of declaration.
+#[derive(Clone, Copy, PartialEq, Eq, Debug)]
+pub struct Shown {
+    pub mask: u64,
+    pub present: u64,
+}
+
+/// A journal whose last load runs. A contract sees the list of the journal's entries.
+#[derive(Drop)]
+pub struct Reactor {
+    journal: Journal,
+    loaded: usize,
+    state: State,
+    pending: u64,
+    instants: Vec<Instant>,
+}
+
+impl Model for Reactor {
+    ghost use Rattle.std.specs.Prelude.{List};
+    ghost use Rattle.std.specs.Coded.{codes};
+    ghost use Rattle.reactor_core.specs.contracts.entry.SlotEntry as entry;
+    ghost use Rattle.reactor_core.specs.declared.entry.SlotEntry.{SlotEntry};
+
+    ghost Value = { List SlotEntry };
+
+    ghost coded = { Prim.hlevel (codes, entry.the_row.coded) };
+
+    ghost use Rattle.reactor_core.specs.Standing.{IsRunning};
+
+    ghost view = { λ r. r.journal };
+
+    ghost invariant = { λ r. IsRunning r.journal r.loaded r.state r.pending r.instants.items };
+}
+
+/// The kernel of the load at this place.
+fn kernel_at(journal: &Journal, place: usize) -> &Kernel
+    requires { (l : LoadEntry) × LoadsAt journal.now place l }
+    ensures { (l : LoadEntry) → LoadsAt journal.now place l → result.now ≡ l.kernel }
+{
+    match &journal.entries()[place].action {
+        Action::Load(load) => &load.kernel,
+        _ => unreachable!(),
+    }
+}
+
+/// The reaction of the load at this place, in this state, to the pending inputs.
+fn reaction<E: Engine>(
+    engine: &mut E,
+    journal: &Journal,
+    place: usize,
+    state: &State,
+    pending: u64,
+) -> Result<Outcome, Stuck>
+    requires { (l : LoadEntry) × LoadsAt journal.now place l × IsState l.kernel.root state.now
+        × AreInputs l.kernel (record { signals = pending }) × E.is_for engine.old l.kernel }
+    ensures { (l : LoadEntry) → LoadsAt journal.now place l
+        → MatchResult result (IsReaction l.kernel state.now (record { signals = pending })) (HasNoReaction l.kernel state.now (record { signals = pending })) }
+{
+    let kernel = kernel_at(journal, place);
+    let inputs = Inputs { signals: pending };
+    engine.react(kernel, state, &inputs)
+}
+
+/// The input of this name, where it can be offered.
+fn offered_signal(
+    interface: &Interface,
+    pending: u64,
+    name: &Identifier,
+) -> Result<InterfaceSignal, Refusal>
+    ensures { MatchResult result
+        (λ s. IsSignal interface.now name.now s.index Input × (bits pending s.index ≡ false))
+        (λ e. RefusesName interface.now pending name.now e) }
+{
+    let Some(signal) = interface.find(name) else {
+        return Err(Refusal::UnknownSignal);
+    };
+    if interface.kind(signal) == Kind::Output {
+        return Err(Refusal::NotInput);
+    }
+    if mask::has(pending, signal.index) {
+        return Err(Refusal::AlreadyOffered);
+    }
+    Ok(signal)
+}
+
+/// The mask with this signal.
+fn with_signal(mask: u64, signal: InterfaceSignal) -> u64
+    ensures { result ≡ bit_or mask (2 ^ signal.index) }
+{
+    mask | 1 << signal.index
+}
+
+/// The n-th instant, counted from 1.
+fn instant_at(instants: &[Instant], n: u64) -> Option<Instant>
+    ensures { MatchOption result ((n ≡ 0) ⊎ (length instants.now < n)) (λ i. (0 < n) × (slice_get instants.now (n - 1) ≡ Some i)) }
+{
+    if n == 0 || n > instants.len() as u64 {
+        return None;
+    }
+    Some(instants[(n - 1) as usize])
+}
+
+/// Adds a step's entry and its instant, or refuses it as JournalFull or Memory and leaves both as they are.
+fn append_step(
+    journal: &mut Journal,
+    instants: &mut Vec<Instant>,
+    stamp: Stamp,
+    instant: Instant,
+) -> Result<(), Refusal>
+    ensures { MatchResult result
+        (λ _. HasRoom journal.old × (journal.new ≡ journal.old ++ entry stamp (Action.Step instant) ∷ [])
+        × (instants.new.items ≡ instants.old.items ++ instant ∷ []))
+        (λ e. RefusesEntry journal.old e × (journal.new ≡ journal.old) × (instants.new.items ≡ instants.old.items)) }
+{
+    if journal.is_full() {
+        return Err(Refusal::JournalFull);
+    }
+    if instants.reserve(1).is_err() {
+        return Err(Refusal::Memory);
+    }
+    let entry = SlotEntry {
+        stamp,
+        action: Action::Step(instant),
+    };
+    journal.append(entry)?;
+    instants.push_reserved(instant);
+    Ok(())
+}
+
+impl Reactor {
+    /// The interface of the module that runs.
+    pub fn interface(&self) -> &Interface
+        ensures { (r : Running) × (running_of self.now ≡ Some r) × (result.now ≡ r.kernel.interface) }
+    {
+        kernel_at(&self.journal, self.loaded).interface()
+    }
+
+    /// The journal, whose last load runs.
+    pub fn journal(&self) -> &Journal
+        ensures same { result.now ≡ self.now }
+        ensures running { (r : Running) × (running_of self.now ≡ Some r) }
+    {
+        &self.journal
+    }
+
+    /// The journal alone. It adds no entry and takes no memory.
+    pub fn into_journal(self) -> Journal
+        ensures { result ≡ self }
+    {
+        self.journal
+    }
+
+    /// How many instants there were since the load.
+    pub fn instants(&self) -> usize
+        ensures { (r : Running) × (running_of self.now ≡ Some r) × (result ≡ length r.instants) }
+    {
+        self.instants.len()
+    }
+
+    /// The inputs that are offered and not yet taken by a step, as a mask over the interface in the order of declaration.
+    pub fn pending(&self) -> u64
+        ensures { (r : Running) × (running_of self.now ≡ Some r) × (result ≡ r.pending) }
+    {
+        self.pending
+    }
+
+    /// The reactor of a kernel that was read from a text's module `main`: it has not begun, and its journal has the
+    /// load's entry. A refusal, JournalFull or Memory, gives the journal back as it was.
+    pub fn begin(
+        alloc: Global,
+        journal: Journal,
+        stamp: Stamp,
+        load: Load,
+    ) -> Result<Reactor, (Refusal, Journal)>
+        ensures { MatchResult result
+            (λ r. HasRoom journal × (r ≡ journal ++ entry stamp (Action.Load load) ∷ []))
+            (λ refused. RefusesEntry journal refused.0 × (refused.1 ≡ journal)) }
+    {
+        let mut journal = journal;
+        let loaded = journal.len();
+        let entry = SlotEntry {
+            stamp,
+            action: Action::Load(load),
+        };
+        match journal.append(entry) {
+            Ok(()) => Ok(Reactor {
+                journal,
+                loaded,
+                state: State::Fresh,
+                pending: 0,
+                instants: Vec::new(alloc),
+            }),
+            Err(refusal) => Err((refusal, journal)),
+        }
+    }
+
+    /// Makes an input pending.
+    pub fn offer(&mut self, stamp: Stamp, name: &Identifier) -> Result<(), Refusal>
+        ensures { OfferAnswer self.old stamp name.now result self.new }
+    {
+        let interface = kernel_at(&self.journal, self.loaded).interface();
+        let signal = offered_signal(interface, self.pending, name)?;
+        let entry = SlotEntry {
+            stamp,
+            action: Action::Offer(*name),
+        };
+        self.journal.append(entry)?;
+        self.pending = with_signal(self.pending, signal);
+        Ok(())
+    }
+
+    /// Makes the pending inputs the next instant's, by this engine.
+    pub fn step_by<E: Engine>(&mut self, engine: &mut E, stamp: Stamp) -> Result<(), Refusal>
+        requires { (r : Running) → running_of self.old ≡ Some r → E.is_for engine.old r.kernel }
+        ensures { StepAnswer self.old stamp result self.new }
+    {
+        match reaction(
+            engine,
+            &self.journal,
+            self.loaded,
+            &self.state,
+            self.pending,
+        ) {
+            Ok(outcome) => {
+                let instant = Instant {
+                    inputs: self.pending,
+                    outputs: outcome.outputs,
+                };
+                append_step(&mut self.journal, &mut self.instants, stamp, instant)?;
+                self.state = outcome.next;
+                self.pending = 0;
+                Ok(())
+            }
+            Err(stuck) => Err(Refusal::Stuck(stuck.undecided)),
+        }
+    }
+
+    /// What was present in the n-th instant since the load, within the mask. It takes no memory.
+    pub fn shown(&self, n: u64, mask: u64) -> Result<Shown, Refusal>
+        ensures { ShownAnswer self.now n mask result }
+    {
+        match instant_at(self.instants.as_slice(), n) {
+            Some(instant) => Ok(Shown {
+                mask,
+                present: (instant.inputs | instant.outputs) & mask,
+            }),
+            None => Err(Refusal::NoInstant),
+        }
+    }
+}
