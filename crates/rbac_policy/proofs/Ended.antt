@@ -7,7 +7,7 @@ use Rattle.rbac_policy.specs.declared.commands.Entry.{Entry}
 use Rattle.rbac_policy.specs.declared.rows.User.{User}
 use Rattle.rbac_policy.specs.declared.rows.Session.{Session}
 use Rattle.rbac_policy.specs.Entries.{logins}
-use Rattle.rbac_policy.specs.Facts.{IsActive, IsAuthorized, Lives}
+use Rattle.rbac_policy.specs.Facts.{IsActive, IsAuthorized}
 use Rattle.rbac_policy.specs.Names.{Text}
 use Rattle.rbac_policy.specs.Tables.{At, roles_of, session_kept}
 use Rattle.rbac_policy.specs.StandsFor.{Holds, InMask, IsNamed, IsKeyed, UsersStand, RolesStand, SessionsStand}
@@ -54,10 +54,10 @@ module _ (before roles : List (Option Text)) (keeps : (p : ℕ) (r : Text) → A
   all = record {
     exist = λ s u. (
       λ lives.
-        let after = lives_after L e s u lives in
-        let h = (un.exist s u).0 after.0 in
-        let x = h.value in
-        let only : HasOnlyBelow users juniors x = λ p bit.
+          let after = lives_after L e s u lives in
+          let h = (un.exist s u).0 after.0 in
+          let x = h.value in
+          let only : HasOnlyBelow users juniors x = λ p bit.
           let named = un.named h.at x h.there p bit in
           let r = named.0 in
           let active = (un.active h.at x h.there r).1 (record { place = p; there = named.1; bit = bit }) in
@@ -65,25 +65,27 @@ module _ (before roles : List (Option Text)) (keeps : (p : ℕ) (r : Text) → A
           let b = authorized_below roles juniors users (L ++ e ∷ []) rs us u r a in
           let same : b.0 ≡ p = un.unique b.0 p r (keeps b.0 r b.1) named.1 in
           subst (λ n. IsBelowSome juniors (roles_of n users) p) (sym h.fact.1) (subst (IsBelowSome juniors (roles_of u users)) same b.2)
-        in record { at = h.at; value = x; there = sw.stays h.at x h.there only; fact = h.fact },
+          in record { at = h.at; value = x; there = sw.stays h.at x h.there only; fact = h.fact },
       λ h.
-        let x = h.value in
-        let l = sw.left h.at x h.there in
-        let remains = (un.exist s u).1 (record { at = h.at; value = x; there = l.0; fact = h.fact }) in
-        lives_before L e s u remains (λ r active.
+          let x = h.value in
+          let l = sw.left h.at x h.there in
+          let remains = (un.exist s u).1 (record { at = h.at; value = x; there = l.0; fact = h.fact }) in
+          lives_before L e s u remains (λ r active.
           let m = (un.active h.at x l.0 r).0 (subst (λ n. IsActive (L ++ e ∷ []) n r) (sym h.fact.0) active) in
           let named = still h.at x h.there m.place m.bit in
           let same = one_role before m.place named.0 r (keeps m.place named.0 named.1) m.there in
           let a = below_authorized roles juniors users (L ++ e ∷ []) rs us x.user named.0 m.place named.1 (l.1 m.place m.bit) in
-          subst (λ n. IsAuthorized (L ++ e ∷ []) n r) h.fact.1 (subst (IsAuthorized (L ++ e ∷ []) x.user) same a)));
+          subst (λ n. IsAuthorized (L ++ e ∷ []) n r) h.fact.1 (subst (IsAuthorized (L ++ e ∷ []) x.user) same a)),
+    );
     active = λ at x there r.
-      let l = sw.left at x there in
-      (λ active.
-        let m = (un.active at x l.0 r).0 active in
-        let named = still at x there m.place m.bit in
-        let same = one_role before m.place named.0 r (keeps m.place named.0 named.1) m.there in
-        record { place = m.place; there = subst (At roles m.place) same named.1; bit = m.bit },
-       λ m. (un.active at x l.0 r).1 (record { place = m.place; there = keeps m.place r m.there; bit = m.bit }));
+        let l = sw.left at x there in (
+          λ active.
+              let m = (un.active at x l.0 r).0 active in
+              let named = still at x there m.place m.bit in
+              let same = one_role before m.place named.0 r (keeps m.place named.0 named.1) m.there in
+              record { place = m.place; there = subst (At roles m.place) same named.1; bit = m.bit },
+          λ m. (un.active at x l.0 r).1 (record { place = m.place; there = keeps m.place r m.there; bit = m.bit }),
+        );
     named = still;
     numbers = λ at x there. un.numbers at x (sw.left at x there).0;
     made = un.made;

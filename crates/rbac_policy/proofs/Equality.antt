@@ -1,6 +1,5 @@
 -- What the tests of operations and objects say.
-use Rattle.std.proofs.Common.{◌≡◌, ℕ, zero, suc, ◌⊎◌, Bool, true, false, ◌&&◌, Decides, sym, ◌∙◌, ap, refl}
-use Rattle.std.specs.Str.{bytes_eq}
+use Rattle.std.proofs.Common.{◌≡◌, ℕ, zero, suc, Bool, true, false, ◌&&◌, Decides, sym, ◌∙◌, ap, refl}
 use Rattle.std.proofs.lemmas.Slice.Eq.{bytes_eq-Decides}
 use Rattle.std.proofs.lemmas.Bool.{false≢true}
 use Rattle.std.proofs.lemmas.Bool.Decides.{Decides-eqb}
@@ -29,8 +28,9 @@ numbered-number Audit = refl
 
 pub operations : (a b : Operation) → Decides (same_operation a b) (a ≡ b)
 operations a b = (
-    λ t. sym (numbered-number a) ∙ ap numbered ((Decides-eqb (operation_number a) (operation_number b)).0 t) ∙ numbered-number b,
-    λ e. (Decides-eqb (operation_number a) (operation_number b)).1 (ap operation_number e))
+  λ t. sym (numbered-number a) ∙ ap numbered ((Decides-eqb (operation_number a) (operation_number b)).0 t) ∙ numbered-number b,
+  λ e. (Decides-eqb (operation_number a) (operation_number b)).1 (ap operation_number e),
+)
 
 pub both : (a b : Bool) (P Q : Type 0) → Decides a P → Decides b Q → Decides (a && b) (P × Q)
 both true true P Q p q = (λ _. (p.0 refl, q.0 refl), λ _. refl)

@@ -12,3 +12,13 @@ pub mod Masks
 pub mod Sweep
 pub mod Ended
 pub mod Untouched
+pub mod Granting
+pub mod Listed
+pub mod Assigning
+pub mod Naming
+pub mod Sessions
+pub mod Limits
+pub mod Asking
+pub mod Adding
+pub mod Absorbing
+pub mod Beginning

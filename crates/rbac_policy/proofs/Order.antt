@@ -1,19 +1,18 @@
 -- The order of the entries' edges is that of the rows' places.
 use Rattle.std.proofs.lemmas.Bool.{false≢true}
 use Rattle.std.proofs.lemmas.Nat.Bits.{bit_at-zero}
-use Rattle.std.proofs.Common.{◌≡◌, ℕ, zero, suc, [], ◌∷◌, cond, ◌+◌, ◌<◌, ◌≤◌, ◌⊎◌, ◌↔◌, List, length, inl, inr, arith, sym, ◌∙◌, ap, refl, subst, true, false, Bool}
-use Rattle.std.specs.Prelude.{slice_get, slice_index, Some, None, Option}
+use Rattle.std.proofs.Common.{◌≡◌, ℕ, zero, suc, [], ◌∷◌, cond, ◌⊎◌, List, inl, inr, arith, sym, ◌∙◌, ap, refl, subst, true, false, Bool}
+use Rattle.std.specs.Prelude.{Some, None, Option}
 use Rattle.std.specs.Str.{bytes_eq}
 use Rattle.std.proofs.lemmas.Slice.Eq.{bytes_eq-Decides}
 use Rattle.std.proofs.lemmas.Option.{slice_get_within, same_Some}
 use Rattle.rbac_policy.specs.Order.{Has, Chain, stay, step, IsBelowSome, IsRowEdge}
-
 use Rattle.rbac_policy.specs.declared.commands.Entry.{Entry}
 use Rattle.rbac_policy.specs.declared.rows.User.{User}
-use Rattle.rbac_policy.specs.Facts.{IsUser, IsRole, IsAssigned, IsEdge, IsAtOrBelow, IsAuthorized}
+use Rattle.rbac_policy.specs.Facts.{IsAssigned, IsEdge, IsAuthorized}
 use Rattle.rbac_policy.specs.Names.{Text}
 use Rattle.rbac_policy.specs.Tables.{At, roles_of}
-use Rattle.rbac_policy.specs.StandsFor.{Holds, InMask, IsNamed, UsersStand, RolesStand}
+use Rattle.rbac_policy.specs.StandsFor.{UsersStand, RolesStand}
 
 -- one place has one role
 pub one_role : (roles : List (Option Text)) (p : ℕ) (a b : Text) → At roles p a → At roles p b → a ≡ b
@@ -24,18 +23,18 @@ module _ (roles : List (Option Text)) (juniors : List ℕ) (L : List Entry) (sta
   pub chain_down : {a b : Text} → Chain (IsEdge L) a b → (p : ℕ) → At roles p a → (q : ℕ) × At roles q b × Chain (IsRowEdge juniors) p q
   chain_down stay p there = (p, there, stay)
   chain_down (step e more) p there =
-    let m = (stand.edges p _ there _).0 e in
-    let rest = chain_down more m.place m.there in
-    (rest.0, rest.1, step (omega (arith, slice_get_within roles p _ there, stand.places), m.bit) rest.2)
+      let m = (stand.edges p _ there _).0 e in
+      let rest = chain_down more m.place m.there in
+      (rest.0, rest.1, step (omega (arith, slice_get_within roles p _ there, stand.places), m.bit) rest.2)
 
   -- and the other way round
   pub chain_up : {p q : ℕ} → Chain (IsRowEdge juniors) p q → (a : Text) → At roles p a → (b : Text) × At roles q b × Chain (IsEdge L) a b
   chain_up stay a there = (a, there, stay)
   chain_up (step {a = p} {b = m} e more) a there =
-    let named = stand.named p m e.1 in
-    let edge = (stand.edges p a there named.0).1 (record { place = m; there = named.1; bit = e.1 }) in
-    let rest = chain_up more named.0 named.1 in
-    (rest.0, rest.1, step edge rest.2)
+      let named = stand.named p m e.1 in
+      let edge = (stand.edges p a there named.0).1 (record { place = m; there = named.1; bit = e.1 }) in
+      let rest = chain_up more named.0 named.1 in
+      (rest.0, rest.1, step edge rest.2)
 
 -- what `roles_of` finds: the mask of a slot with the user, or nothing where no slot has it
 pub record FoundUser (u : Text) (users : List (Option User)) : Type 0 where
@@ -51,9 +50,9 @@ pub record NoUser (u : Text) (users : List (Option User)) : Type 0 where
 
 later : (u : Text) (slot : Option User) (slots : List (Option User)) → roles_of u (slot ∷ slots) ≡ roles_of u slots → ((x : User) → slot ≡ Some x → x.name ≡ u → ⊥) → FoundUser u slots ⊎ NoUser u slots → FoundUser u (slot ∷ slots) ⊎ NoUser u (slot ∷ slots)
 later u slot slots e other h = elim h [
-      inl f ↦ inl (record { at = suc f.at; user = f.user; there = f.there; name = f.name; mask = e ∙ f.mask })
-    | inr n ↦ inr (record { absent = absent_at n.absent; mask = e ∙ n.mask })
-    ] where
+  | inl f ↦ inl (record { at = suc f.at; user = f.user; there = f.there; name = f.name; mask = e ∙ f.mask })
+  | inr n ↦ inr (record { absent = absent_at n.absent; mask = e ∙ n.mask })
+] where
   absent_at : ((at : ℕ) (x : User) → At slots at x → x.name ≡ u → ⊥) → (at : ℕ) (x : User) → At (slot ∷ slots) at x → x.name ≡ u → ⊥
   absent_at no_later zero x there = other x (same_Some slot (Some x) there)
   absent_at no_later (suc at) x there = no_later at x there
@@ -71,18 +70,18 @@ find_user u (Some x ∷ slots) = found_at (find_user u slots) (bytes_eq x.name u
 module _ (roles : List (Option Text)) (juniors : List ℕ) (users : List (Option User)) (L : List Entry) (rs : RolesStand roles juniors L) (us : UsersStand roles users L) where
   pub authorized_below : (u r : Text) → IsAuthorized L u r → (p : ℕ) × At roles p r × IsBelowSome juniors (roles_of u users) p
   authorized_below u r a = elim (find_user u users) [
-      inl f ↦
+    | inl f ↦
         let mine = (us.assigned f.at f.user f.there a.by).0 (subst (λ n. IsAssigned L n a.by) (sym f.name) a.assigned) in
         let down = chain_down roles juniors L rs a.order mine.place mine.there in
         (down.0, down.1, record { top = mine.place; within = subst (λ m. Has m mine.place) (sym f.mask) mine.bit; chain = down.2 })
     | inr n ↦
         let h = (us.exist u).0 (us.only_users u a.by a.assigned) in
         absurd (n.absent h.at h.value h.there h.fact)
-    ]
+  ]
 
   pub below_authorized : (u r : Text) (p : ℕ) → At roles p r → IsBelowSome juniors (roles_of u users) p → IsAuthorized L u r
   below_authorized u r p there b = elim (find_user u users) [
-      inl f ↦
+    | inl f ↦
         let bit = subst (λ m. Has m b.top) f.mask b.within in
         let named = us.named f.at f.user f.there b.top bit in
         let up = chain_up roles juniors L rs b.chain named.0 named.1 in
@@ -94,14 +93,14 @@ module _ (roles : List (Option Text)) (juniors : List ℕ) (users : List (Option
           order = subst (Chain (IsEdge L) named.0) same up.2;
         }
     | inr n ↦ absurd (omega (arith, subst (λ m. Has m b.top) n.mask b.within, bit_at-zero b.top))
-    ]
+  ]
 
   -- what lies in or below a user's mask has a name
   pub below_named : (u : Text) (p : ℕ) → IsBelowSome juniors (roles_of u users) p → (r : Text) × At roles p r
   below_named u p b = elim (find_user u users) [
-      inl f ↦
+    | inl f ↦
         let named = us.named f.at f.user f.there b.top (subst (λ m. Has m b.top) f.mask b.within) in
         let up = chain_up roles juniors L rs b.chain named.0 named.1 in
         (up.0, up.1)
     | inr n ↦ absurd (omega (arith, subst (λ m. Has m b.top) n.mask b.within, bit_at-zero b.top))
-    ]
+  ]

@@ -1,15 +1,14 @@
 -- Slots after a map or a write, free slots, and masks with one more place.
-use Rattle.std.proofs.Common.{◌≡◌, ℕ, zero, suc, ◌+◌, ◌<◌, ◌≤◌, ◌⊎◌, ◌↔◌, List, [], ◌∷◌, length, map, set, inl, inr, arith, sym, ◌∙◌, ap, refl, subst, true, false, Bool}
+use Rattle.std.proofs.Common.{◌≡◌, ℕ, zero, suc, ◌<◌, ◌⊎◌, ◌↔◌, List, [], ◌∷◌, length, map, set, inl, inr, arith, sym, ◌∙◌, ap, refl, subst, true}
 use Rattle.std.specs.Prelude.{slice_get, Option, Some, None, option_map, position, is_none}
-use Rattle.std.specs.Int.{bit_at, w32}
-use Rattle.std.proofs.lemmas.Bool.{cases_eq, cases_lt, false≢true}
+use Rattle.std.specs.Int.{w32}
+use Rattle.std.proofs.lemmas.Bool.{cases_eq, false≢true}
 use Rattle.std.proofs.lemmas.Nat.Bits.{bit_at_set_same, bit_at_set_other, bit_at-zero}
-use Rattle.std.proofs.lemmas.Option.{slice_get-map, slice_get_within, same_Some, slice_get-get_or}
+use Rattle.std.proofs.lemmas.Option.{slice_get-map, same_Some, slice_get-get_or}
 use Rattle.std.proofs.lemmas.List.Quantifiers.{position-Some}
-use Rattle.rbac_policy.specs.Order.{Has}
 use Rattle.rbac_policy.specs.Names.{Text}
 use Rattle.rbac_policy.specs.Tables.{At, with_bit}
-use Rattle.rbac_policy.specs.StandsFor.{Holds, InMask, IsNamed}
+use Rattle.rbac_policy.specs.StandsFor.{InMask, IsNamed}
 use Rattle.rbac_policy.proofs.Order.{one_role}
 
 pub get_set_same : {X : Type 0} (xs : List X) (i : ℕ) (y : X) → i < length xs → slice_get (set xs i y) i ≡ Some y
@@ -43,9 +42,9 @@ map_at f slots at x y there gives = slice_get-map f slots at ∙ ap (option_map 
 -- a filled slot after a write is the new value, or was there
 pub written : {X : Type 0} (slots : List (Option X)) (i at : ℕ) (new y : X) → i < length slots → At (set slots i (Some new)) at y → ((at ≡ i) × (new ≡ y)) ⊎ At slots at y
 written slots i at new y within there = elim (cases_eq at i) [
-      inl e ↦ inl (e, cc (get_set_same slots i (Some new) within, subst (λ k. slice_get (set slots i (Some new)) k ≡ Some (Some y)) e there))
-    | inr ne ↦ inr (sym (get_set_other slots i at (Some new) ne) ∙ there)
-    ]
+  | inl e ↦ inl (e, cc (get_set_same slots i (Some new) within, subst (λ k. slice_get (set slots i (Some new)) k ≡ Some (Some y)) e there))
+  | inr ne ↦ inr (sym (get_set_other slots i at (Some new) ne) ∙ there)
+]
 
 -- the first free slot
 pub record Free {X : Type 0} (slots : List (Option X)) (i : ℕ) : Type 0 where
@@ -64,23 +63,24 @@ free slots i h =
 module _ (roles : List (Option Text)) (unique : (p q : ℕ) (r : Text) → At roles p r → At roles q r → p ≡ q) (p0 : ℕ) (r0 : Text) (there : At roles p0 r0) (low : p0 < 32) where
   pub in_with_bit : (m : ℕ) (r : Text) → InMask roles (with_bit m p0) r ↔ ((r0 ≡ r) ⊎ InMask roles m r)
   in_with_bit m r = (
-      λ i. elim (cases_eq i.place p0) [
-        inl e ↦ inl (one_role roles p0 r0 r there (subst (λ k. At roles k r) e i.there))
+    λ i. elim (cases_eq i.place p0) [
+      | inl e ↦ inl (one_role roles p0 r0 r there (subst (λ k. At roles k r) e i.there))
       | inr ne ↦ inr (record { place = i.place; there = i.there; bit = sym (bit_at_set_other w32 m p0 low i.place ne) ∙ i.bit })
-      ],
-      λ h. elim h [
-        inl e ↦ record { place = p0; there = subst (At roles p0) e there; bit = bit_at_set_same w32 m p0 low }
+    ],
+    λ h. elim h [
+      | inl e ↦ record { place = p0; there = subst (At roles p0) e there; bit = bit_at_set_same w32 m p0 low }
       | inr i ↦ elim (cases_eq i.place p0) [
-          inl e ↦ record { place = p0; there = subst (λ k. At roles k r) e i.there; bit = bit_at_set_same w32 m p0 low }
+        | inl e ↦ record { place = p0; there = subst (λ k. At roles k r) e i.there; bit = bit_at_set_same w32 m p0 low }
         | inr ne ↦ record { place = i.place; there = i.there; bit = bit_at_set_other w32 m p0 low i.place ne ∙ i.bit }
-        ]
-      ])
+      ]
+    ],
+  )
 
   pub named_with_bit : (m : ℕ) → IsNamed roles m → IsNamed roles (with_bit m p0)
   named_with_bit m n = λ p bit. elim (cases_eq p p0) [
-        inl e ↦ (r0, subst (λ k. At roles k r0) (sym e) there)
-      | inr ne ↦ n p (sym (bit_at_set_other w32 m p0 low p ne) ∙ bit)
-      ]
+    | inl e ↦ (r0, subst (λ k. At roles k r0) (sym e) there)
+    | inr ne ↦ n p (sym (bit_at_set_other w32 m p0 low p ne) ∙ bit)
+  ]
 
 pub none_in_zero : (roles : List (Option Text)) (r : Text) → InMask roles 0 r → ⊥
 none_in_zero roles r i = omega (arith, i.bit, bit_at-zero i.place)

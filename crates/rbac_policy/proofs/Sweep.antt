@@ -1,9 +1,8 @@
 -- The sweep through the slots of sessions, which empties those that have a role for which their user is not authorized.
-use Rattle.std.proofs.Common.{◌≡◌, ℕ, ◌^◌, ◌<◌, ◌↔◌, List, length, map, cond, sym, ◌∙◌, ap, subst, refl, true, false, Bool}
-use Rattle.std.specs.Prelude.{Option, Some, None, ◌==◌}
+use Rattle.std.proofs.Common.{◌≡◌, ℕ, ◌^◌, ◌<◌, List, length, map, cond, sym, ◌∙◌, ap, subst, refl, true, false, Bool}
+use Rattle.std.specs.Prelude.{Option, Some, None}
 use Rattle.std.specs.Int.{bit_not, w32}
 use Rattle.std.specs.Int.Bits.{bit_and}
-use Rattle.std.proofs.lemmas.Bool.{false≢true}
 use Rattle.std.proofs.lemmas.Bool.Decides.{Decides-eqb}
 use Rattle.std.proofs.lemmas.Option.{same_Some}
 use Rattle.std.proofs.lemmas.List.{length-map}
@@ -31,13 +30,13 @@ module _ (users : List (Option User)) (juniors : List ℕ) (sessions : List (Opt
   passes at x there t p bit =
       let all = below juniors (roles_of x.user users) in
       below_sound juniors (roles_of x.user users) p
-        (inside_from_test x.active all (low at x there) (few x) ((Decides-eqb (bit_and x.active (bit_not w32 all)) 0).0 t) p bit)
+      (inside_from_test x.active all (low at x there) (few x) ((Decides-eqb (bit_and x.active (bit_not w32 all)) 0).0 t) p bit)
 
   passes_by : (at : ℕ) (x : Session) → At sessions at x → HasOnlyBelow users juniors x → has_only_authorized users juniors x ≡ true
   passes_by at x there only =
       let all = below juniors (roles_of x.user users) in
       (Decides-eqb (bit_and x.active (bit_not w32 all)) 0).1
-        (test_from_inside x.active all (low at x there) (few x) (λ p bit. below_all juniors (roles_of x.user users) (few x) p (only p bit)))
+      (test_from_inside x.active all (low at x there) (few x) (λ p bit. below_all juniors (roles_of x.user users) (few x) p (only p bit)))
 
   kept_from : (x y : Session) → session_kept users juniors (Some x) ≡ Some y → (x ≡ y) × (has_only_authorized users juniors x ≡ true)
   kept_from x y gives = by_test (has_only_authorized users juniors x) refl where
@@ -49,9 +48,9 @@ module _ (users : List (Option User)) (juniors : List ℕ) (sessions : List (Opt
   swept_sessions = record {
     same = length-map sessions (session_kept users juniors);
     left = λ at y there.
-      let m = mapped (session_kept users juniors) sessions at y refl there in
-      let k = kept_from m.value y m.gives in
-      let before = subst (At sessions at) k.0 m.there in
-      (before, passes at y before (subst (λ z. has_only_authorized users juniors z ≡ true) k.0 k.1));
+        let m = mapped (session_kept users juniors) sessions at y refl there in
+        let k = kept_from m.value y m.gives in
+        let before = subst (At sessions at) k.0 m.there in
+        (before, passes at y before (subst (λ z. has_only_authorized users juniors z ≡ true) k.0 k.1));
     stays = λ at x there only. map_at (session_kept users juniors) sessions at x x there (ap (λ b. cond b (Some x) None) (passes_by at x there only));
   }

@@ -1,6 +1,6 @@
 -- What a command leaves alone.
 use Rattle.std.proofs.Common.{◌≡◌, ℕ, ◌+◌, ◌≤◌, ◌⊎◌, ◌↔◌, Bool, true, false, List, [], ◌∷◌, ◌++◌, length, inl, inr, sym, ◌∙◌, ap, subst, refl, cond, add-zero}
-use Rattle.std.specs.Prelude.{Option, Some, count_by}
+use Rattle.std.specs.Prelude.{Option}
 use Rattle.std.proofs.lemmas.Bool.{false≢true}
 use Rattle.std.proofs.lemmas.List.Sums.{fold_push}
 use Rattle.rbac_policy.specs.declared.objects.Operation.{Operation}
@@ -13,12 +13,12 @@ use Rattle.rbac_policy.specs.declared.rows.Grant.{Grant}
 use Rattle.rbac_policy.specs.declared.rows.Session.{Session}
 use Rattle.rbac_policy.specs.declared.rows.DsdSet.{DsdSet}
 use Rattle.rbac_policy.specs.Entries.{InForce, logins, is_login}
-use Rattle.rbac_policy.specs.Facts.{IsUser, IsRole, IsSet, IsAssigned, IsGranted, IsEdge, IsActive, Lives, Ends}
+use Rattle.rbac_policy.specs.Facts.{IsUser, IsRole, IsAssigned, IsGranted, IsEdge, IsActive, Lives}
 use Rattle.rbac_policy.specs.Tables.{At}
-use Rattle.rbac_policy.specs.StandsFor.{Holds, InMask, IsNamed, UsersStand, RolesStand, GrantsStand, SessionsStand, SetsStand}
+use Rattle.rbac_policy.specs.StandsFor.{UsersStand, RolesStand, GrantsStand, SessionsStand, SetsStand}
 use Rattle.rbac_policy.specs.Names.{Text}
 use Rattle.rbac_policy.proofs.Steps.{in_force_push}
-use Rattle.rbac_policy.proofs.Lives.{Made, Remains}
+use Rattle.rbac_policy.proofs.Lives.{Remains}
 use Rattle.rbac_policy.proofs.Ended.{Unswept}
 
 pub through : {A B C : Type 0} → A ↔ B → B ↔ C → A ↔ C
@@ -27,8 +27,9 @@ through f g = (λ a. g.0 (f.0 a), λ c. f.1 (g.1 c))
 -- an entry that neither makes nor undoes a fact leaves it
 pub untouched : (M : List Entry → Entry → Type 0) (U : Entry → Type 0) (L : List Entry) (e : Entry) → (M L e → ⊥) → (U e → ⊥) → InForce M U (L ++ e ∷ []) ↔ InForce M U L
 untouched M U L e m u = (
-    λ s. elim ((in_force_push M U L e).0 s) [ inl h ↦ absurd (m h) | inr h ↦ h.0 ],
-    λ s. (in_force_push M U L e).1 (inr (s, u)))
+  λ s. elim ((in_force_push M U L e).0 s) [ inl h ↦ absurd (m h) | inr h ↦ h.0 ],
+  λ s. (in_force_push M U L e).1 (inr (s, u)),
+)
 
 abbrev pub touches_users : AdminCommand → Bool
 touches_users (AddUser a) = true
@@ -72,7 +73,7 @@ untouched_users roles users L e no_touch s =
     let out = λ (c : AdminCommand) (t : touches_users c ≡ true) (h : e.command ≡ c). not_by touches_users e.command c no_touch t h in
     let user : (u : Text) → IsUser (L ++ e ∷ []) u ↔ IsUser L u = λ u. untouched _ _ L e (λ h. out (AddUser u) refl h) (λ h. out (DeleteUser u) refl h) in
     let given : (u r : Text) → IsAssigned (L ++ e ∷ []) u r ↔ IsAssigned L u r = λ u r. untouched _ _ L e (λ h. out (AssignUser u r) refl h)
-        (λ h. elim h [ inl a ↦ out (DeassignUser u r) refl a | inr b ↦ elim b [ inl x ↦ out (DeleteUser u) refl x | inr y ↦ out (DeleteRole r) refl y ] ]) in
+    (λ h. elim h [ inl a ↦ out (DeassignUser u r) refl a | inr b ↦ elim b [ inl x ↦ out (DeleteUser u) refl x | inr y ↦ out (DeleteRole r) refl y ] ]) in
     record {
       exist = λ u. through (user u) (s.exist u);
       assigned = λ at x there r. through (given x.name r) (s.assigned at x there r);
@@ -87,7 +88,7 @@ untouched_roles roles juniors L e no_touch s =
     let out = λ (c : AdminCommand) (t : touches_roles c ≡ true) (h : e.command ≡ c). not_by touches_roles e.command c no_touch t h in
     let role : (r : Text) → IsRole (L ++ e ∷ []) r ↔ IsRole L r = λ r. untouched _ _ L e (λ h. out (AddRole r) refl h) (λ h. out (DeleteRole r) refl h) in
     let edge : (a b : Text) → IsEdge (L ++ e ∷ []) a b ↔ IsEdge L a b = λ a b. untouched _ _ L e (λ h. out (AddInheritance a b) refl h)
-        (λ h. elim h [ inl x ↦ out (DeleteInheritance a b) refl x | inr y ↦ elim y [ inl x ↦ out (DeleteRole a) refl x | inr z ↦ out (DeleteRole b) refl z ] ]) in
+    (λ h. elim h [ inl x ↦ out (DeleteInheritance a b) refl x | inr y ↦ elim y [ inl x ↦ out (DeleteRole a) refl x | inr z ↦ out (DeleteRole b) refl z ] ]) in
     record {
       exist = λ r. through (role r) (s.exist r);
       unique = s.unique;
@@ -102,7 +103,7 @@ pub untouched_grants : (roles : List (Option Text)) (grants : List (Option Grant
 untouched_grants roles grants L e no_touch s =
     let out = λ (c : AdminCommand) (t : touches_grants c ≡ true) (h : e.command ≡ c). not_by touches_grants e.command c no_touch t h in
     let given : (r : Text) (op : Operation) (ob : Object) → IsGranted (L ++ e ∷ []) r op ob ↔ IsGranted L r op ob = λ r op ob. untouched (λ before x. x.command ≡ GrantPermission r op ob) (λ x. (x.command ≡ RevokePermission r op ob) ⊎ (x.command ≡ DeleteRole r)) L e (λ h. out (GrantPermission r op ob) refl h)
-        (λ h. elim h [ inl x ↦ out (RevokePermission r op ob) refl x | inr y ↦ out (DeleteRole r) refl y ]) in
+    (λ h. elim h [ inl x ↦ out (RevokePermission r op ob) refl x | inr y ↦ out (DeleteRole r) refl y ]) in
     record {
       granted = λ at x there r. through (given r x.operation x.object) (s.granted at x there r);
       only_pairs = λ r op ob h. s.only_pairs r op ob ((given r op ob).0 h);
@@ -115,9 +116,9 @@ untouched_grants roles grants L e no_touch s =
 pub untouched_sets : (sets : List (Option DsdSet)) (L : List Entry) (e : Entry) → touches_sets e.command ≡ false → SetsStand sets L → SetsStand sets (L ++ e ∷ [])
 untouched_sets sets L e no_touch s = record {
   none = λ place name count roles h. elim ((in_force_push _ _ L e).0 h) [
-      inl m ↦ not_by touches_sets e.command (CreateDsdSet name count roles) no_touch refl m.1
+    | inl m ↦ not_by touches_sets e.command (CreateDsdSet name count roles) no_touch refl m.1
     | inr k ↦ s.none place name count roles k.0
-    ];
+  ];
   empty = s.empty;
   places = s.places;
 }
@@ -132,11 +133,12 @@ pub untouched_sessions : (roles : List (Option Text)) (sessions : List (Option S
 untouched_sessions roles sessions L e no_touch count unique many s =
     let out = λ (c : AdminCommand) (t : touches_sessions c ≡ true) (h : e.command ≡ c). not_by touches_sessions e.command c no_touch t h in
     let active : (n : ℕ) (r : Text) → IsActive (L ++ e ∷ []) n r ↔ IsActive L n r = λ n r. untouched _ _ L e
-        (λ h. elim h [ inl x ↦ out (CreateSession x.user x.roles) refl x.creates.login | inr y ↦ out (AddActiveRole r) refl y.1 ])
-        (λ h. out (DropActiveRole r) refl h.1) in
+    (λ h. elim h [ inl x ↦ out (CreateSession x.user x.roles) refl x.creates.login | inr y ↦ out (AddActiveRole r) refl y.1 ])
+    (λ h. out (DropActiveRole r) refl h.1) in
     let lives : (n : ℕ) (u : Text) → Remains L e n u ↔ Lives L n u = λ n u. (
-        λ h. elim h [ inl m ↦ absurd (out (CreateSession u m.roles) refl m.creates.login) | inr l ↦ l.0 ],
-        λ l. inr (l, λ h. elim h [ inl x ↦ out DeleteSession refl x.1 | inr y ↦ out (DeleteUser u) refl y ])) in
+      λ h. elim h [ inl m ↦ absurd (out (CreateSession u m.roles) refl m.creates.login) | inr l ↦ l.0 ],
+      λ l. inr (l, λ h. elim h [ inl x ↦ out DeleteSession refl x.1 | inr y ↦ out (DeleteUser u) refl y ]),
+    ) in
     record {
       exist = λ n u. through (lives n u) (s.exist n u);
       active = λ at x there r. through (active x.number r) (s.active at x there r);

@@ -1,5 +1,5 @@
 -- When the tables of a policy say what a list of accepted entries says.
-use Rattle.std.specs.Prelude.{◌≡◌, ℕ, ◌≤◌, ◌<◌, ◌^◌, ◌↔◌, List, Option, Some, None, slice_get, length, slice_index}
+use Rattle.std.specs.Prelude.{◌≡◌, ℕ, ◌≤◌, ◌↔◌, List, Option, Some, None, slice_get, length, slice_index}
 use Rattle.rbac_policy.specs.declared.objects.Operation.{Operation}
 use Rattle.rbac_policy.specs.declared.objects.Object.{Object}
 use Rattle.rbac_policy.specs.declared.commands.Entry.{Entry}

@@ -7,6 +7,7 @@ pub mod closure;
 pub mod commands;
 pub mod names;
 pub mod objects;
+pub mod opening;
 pub mod policy;
 pub mod rows;
 mod tables;

@@ -1,5 +1,5 @@
 //! Names of users, roles and separation sets, and lists of role names, in fixed space.
-ghost use Rattle.std.specs.Prelude.{◌≡◌, ◌<◌, ◌≤◌, ◌↔◌, ◌++◌, ◌∷◌, [], length, slice_get, IsTrue, Some, None, if◌then◌else◌};
+ghost use Rattle.std.specs.Prelude.{◌≡◌, ◌<◌, ◌≤◌, ◌↔◌, ◌++◌, ◌∷◌, [], codes, length, slice_get, IsTrue, Some, None, if◌then◌else◌};
 ghost use Rattle.std.specs.List.{list_all};
 ghost use Rattle.std.specs.Str.{bytes_eq};
 ghost use Rattle.rbac_policy.specs.Names.{is_name, is_name_byte};
@@ -68,6 +68,16 @@ impl Name {
             bytes,
             count: text.len() as u8,
         })
+    }
+
+    /// The name `root`, of the first user and of its role.
+    pub fn root() -> Name
+        ensures { result ≡ codes "root" }
+    {
+        Name {
+            bytes: *b"root\0\0\0\0\0\0\0\0\0\0\0\0\0\0\0\0\0\0\0\0",
+            count: 4,
+        }
     }
 
     /// Its bytes, 1 to 24, all of them ASCII.

@@ -1,18 +1,21 @@
 //! The policy, and what each entry makes of it.
-ghost use Rattle.std.specs.Prelude.{◌≡◌, ◌++◌, ◌∷◌, [], List, length};
+ghost use Rattle.std.specs.Prelude.{◌≡◌, ◌↔◌, ◌++◌, ◌∷◌, [], List, length, IsTrue};
 ghost use Rattle.rbac_policy.specs.declared.commands.Entry.{Entry};
+ghost use Rattle.rbac_policy.specs.Facts.{May};
 ghost use Rattle.rbac_policy.specs.Fits.{Fits};
+ghost use Rattle.rbac_policy.specs.Opening.{opening_entries};
 ghost use Rattle.rbac_policy.specs.StandsFor.{StandsFor};
 ghost use Rattle.rbac_policy.specs.Change.{absorbed, assigned, changed, granted, logged_in, logged_out};
 
-use crate::closure::ROLES;
+use crate::closure::{ROLES, below, meets};
 use crate::commands::{AdminCommand, Entry, SessionId};
 use crate::names::{Name, RoleNames};
 use crate::objects::{Object, Operation};
+use crate::opening::opening_entries;
 use crate::rows::{DsdSet, Grant, Session, User};
 use crate::tables::{
-    GRANTS, SESSIONS, SETS, USERS, end_session, end_unauthorized, give_grant, give_role, mask_of,
-    place_of, put_role, put_session, put_user,
+    GRANTS, SESSIONS, SETS, USERS, end_session, end_unauthorized, give_grant, give_role, grant_of,
+    mask_of, place_of, put_role, put_session, put_user, session_of,
 };
 
 /// What a list of accepted entries says, in tables of fixed size. It takes no memory.
@@ -29,6 +32,35 @@ pub struct Policy {
 }
 
 impl Policy {
+    // The policy that has taken in no entry.
+    fn empty() -> Policy
+        ensures { StandsFor result [] }
+    {
+        Policy {
+            version: 0,
+            logins: 0,
+            users: [None; USERS],
+            roles: [None; ROLES],
+            juniors: [0; ROLES],
+            grants: [None; GRANTS],
+            sessions: [None; SESSIONS],
+            sets: [None; SETS],
+        }
+    }
+
+    /// The policy that a server opens with: the user `root`, who may administer it.
+    pub fn opening() -> Policy
+        ensures { StandsFor result opening_entries }
+    {
+        let [user, role, assignment, permission] = opening_entries();
+        let mut policy = Policy::empty();
+        policy.absorb(&user);
+        policy.absorb(&role);
+        policy.absorb(&assignment);
+        policy.absorb(&permission);
+        policy
+    }
+
     fn assign(&mut self, user: &Name, role: &Name)
         ensures { self.new ≡ assigned user.now role.now self.old }
     {
@@ -90,17 +122,39 @@ impl Policy {
         }
     }
 
-    /// Takes the entry in, whether it was accepted or not.
-    ///
-    /// The tables follow AddUser, AddRole, AssignUser, GrantPermission, CreateSession and DeleteSession so far; of another command only
-    /// the version counts.
     #[tactic(auto, unfolding(crate::specs::Change::absorbed))]
-    pub fn absorb(&mut self, entry: &Entry)
-        ensures exact { self.new ≡ absorbed self.old entry.now }
+    fn take_in(&mut self, entry: &Entry)
+        ensures { self.new ≡ absorbed self.old entry.now }
     {
         self.change(entry);
         self.version = self.version.wrapping_add(1);
         end_unauthorized(&mut self.sessions, &self.users, &self.juniors);
+    }
+
+    /// Takes the entry in, whether it was accepted or not: what it leaves depends on the tables and the entry alone.
+    ///
+    /// The tables follow AddUser, AddRole, AssignUser, GrantPermission, CreateSession and DeleteSession so far; of another command only
+    /// the version counts.
+    pub fn absorb(&mut self, entry: &Entry)
+        ensures exact { self.new ≡ absorbed self.old entry.now }
+        ensures stands { (entries : List Entry) → StandsFor self.old entries → Fits entries entry.now
+            → StandsFor self.new (entries ++ entry.now ∷ []) }
+    {
+        self.take_in(entry);
+    }
+
+    /// Whether the session may do the operation on the object.
+    pub fn may(&self, session: SessionId, operation: &Operation, object: &Object) -> bool
+        ensures { (entries : List Entry) → StandsFor self.now entries
+            → (IsTrue result ↔ May entries session operation.now object.now) }
+    {
+        match session_of(&self.sessions, session) {
+            Some(found) => match grant_of(&self.grants, operation, object) {
+                Some(grant) => meets(below(&self.juniors, found.active), grant.roles),
+                None => false,
+            },
+            None => false,
+        }
     }
 
     /// How many entries it took in.

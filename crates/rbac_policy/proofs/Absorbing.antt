@@ -1,0 +1,196 @@
+-- A policy that stands for a list, and takes in an entry that fits, stands for the longer list.
+use Rattle.std.proofs.Common.{◌≡◌, ℕ, ◌+◌, ◌<◌, ◌%◌, ◌^◌, ◌⊎◌, List, [], ◌∷◌, ◌++◌, length, map, set, inl, inr, arith, sym, ◌∙◌, ap, refl, subst, true, false, Bool}
+use Rattle.std.specs.Prelude.{Option, Some, None, Contains, position, is_none}
+use Rattle.std.specs.List.{list_any}
+use Rattle.std.proofs.lemmas.Bool.{false≢true}
+use Rattle.std.proofs.lemmas.List.{length_push, length-set}
+use Rattle.std.proofs.lemmas.Option.{slice_get_within}
+use Rattle.rbac_policy.specs.declared.objects.Operation.{Operation}
+use Rattle.rbac_policy.specs.declared.objects.Object.{Object}
+use Rattle.rbac_policy.specs.declared.commands.AdminCommand.{AdminCommand}
+use Rattle.rbac_policy.specs.declared.commands.AdminCommand.TheVariants.{AddUser, DeleteUser, AddRole, DeleteRole, AssignUser, DeassignUser, GrantPermission, RevokePermission, AddInheritance, DeleteInheritance, CreateDsdSet, DeleteDsdSet, CreateSession, DeleteSession, AddActiveRole, DropActiveRole}
+use Rattle.rbac_policy.specs.declared.commands.Entry.{Entry}
+use Rattle.rbac_policy.specs.declared.rows.User.{User}
+use Rattle.rbac_policy.specs.declared.rows.Session.{Session}
+use Rattle.rbac_policy.specs.declared.policy.Policy.{Policy}
+use Rattle.rbac_policy.specs.Names.{Text}
+use Rattle.rbac_policy.specs.Entries.{logins}
+use Rattle.rbac_policy.specs.Facts.{IsUser, IsRole, IsPairGranted, IsLive}
+use Rattle.rbac_policy.specs.Limits.{HasAtLeast}
+use Rattle.rbac_policy.specs.Tables.{At, put_at, mask_of, session_without, grant_is}
+use Rattle.rbac_policy.specs.Change.{absorbed, swept, changed, assigned_at, granted_at}
+use Rattle.rbac_policy.specs.Fits.{Fits, FitsCommand, FitsAddUser, FitsAddRole, FitsAssignUser, FitsGrantPermission, FitsCreateSession}
+use Rattle.rbac_policy.specs.StandsFor.{StandsFor, UsersStand, RolesStand, GrantsStand, SetsStand}
+use Rattle.rbac_policy.proofs.Ended.{Unswept, swept_stand}
+use Rattle.rbac_policy.proofs.Untouched.{untouched_users, untouched_roles, untouched_grants, untouched_sessions, untouched_sets, logins_push, logins_other}
+use Rattle.rbac_policy.proofs.Slots.{free}
+use Rattle.rbac_policy.proofs.Equality.{operations, objects, both}
+use Rattle.rbac_policy.proofs.Limits.{room, keeps_users, keeps_roles, keeps_grants, keeps_sessions, pair_of}
+use Rattle.rbac_policy.proofs.Listed.{Placed, placed}
+use Rattle.rbac_policy.proofs.Adding.{adding}
+use Rattle.rbac_policy.proofs.Assigning.{assigning}
+use Rattle.rbac_policy.proofs.Naming.{added_mask, added_named, added_role, unique_added, renamed_users, renamed_grants, renamed_sessions}
+use Rattle.rbac_policy.proofs.Granting.{granting, passes_any}
+use Rattle.rbac_policy.proofs.Sessions.{login_unswept, logout_unswept}
+
+-- the parts of the changed policy, and the sweep, make the whole
+assemble : (target : Policy) (L : List Entry) (e : Entry) → target.version ≡ length L → length L + 1 < 2 ^ 64 → target.logins ≡ logins (L ++ e ∷ [])
+    → UsersStand target.roles target.users (L ++ e ∷ []) → RolesStand target.roles target.juniors (L ++ e ∷ []) → GrantsStand target.roles target.grants (L ++ e ∷ [])
+    → Unswept target.roles target.sessions L e → SetsStand target.sets (L ++ e ∷ []) → StandsFor (swept target) (L ++ e ∷ [])
+assemble target L e version few count us rs gs un ss = record {
+  version = omega (arith, version, few, length_push L e);
+  logins = count;
+  users = us;
+  roles = rs;
+  grants = gs;
+  sessions = swept_stand target.roles target.roles (λ q r t. t) target.juniors target.users target.sessions L e rs us un;
+  sets = ss;
+}
+
+-- the role that is a role has a place
+role_place : (p : Policy) (L : List Entry) (role : Text) → StandsFor p L → IsRole L role → Placed p.roles role
+role_place p L role st is =
+    let h = (st.roles.exist role).0 is in
+    placed p.roles h.at role (subst (At p.roles h.at) h.fact h.there)
+
+add_user : (p : Policy) (L : List Entry) (s : Option ℕ) (user : Text) → StandsFor p L → length L + 1 < 2 ^ 64 → FitsAddUser L user
+    → StandsFor (swept (changed p (record { session = s; command = AddUser user }))) (L ++ record { session = s; command = AddUser user } ∷ [])
+add_user p L s user st few fits =
+    let e : Entry = record { session = s; command = AddUser user } in
+    let the_new : User = record { name = user; roles = 0 } in
+    let place = room (λ (x : User). x.name) p.users (IsUser L) 64 (keeps_users p.roles p.users L st.users) st.users.places fits.room in
+    let i = place.0 in
+    let target : Policy = record p { users = set p.users i (Some the_new) } in
+    let is : changed p e ≡ target = ap (λ (o : Option ℕ). let z : Policy = record p { users = put_at the_new p.users o } in z) place.1 in
+    subst (λ (t : Policy). StandsFor (swept t) (L ++ e ∷ [])) (sym is) (assemble target L e st.version few
+    (st.logins ∙ sym (logins_other L e refl))
+    (adding p.roles p.users L s user st.users fits.absent i (free p.users i place.1))
+    (untouched_roles p.roles p.juniors L e refl st.roles)
+    (untouched_grants p.roles p.grants L e refl st.grants)
+    (untouched_sessions p.roles p.sessions L e refl (logins_other L e refl) st.roles.unique st.roles.places st.sessions)
+    (untouched_sets p.sets L e refl st.sets))
+
+add_role : (p : Policy) (L : List Entry) (s : Option ℕ) (role : Text) → StandsFor p L → length L + 1 < 2 ^ 64 → FitsAddRole L role
+    → StandsFor (swept (changed p (record { session = s; command = AddRole role }))) (L ++ record { session = s; command = AddRole role } ∷ [])
+add_role p L s role st few fits =
+    let e : Entry = record { session = s; command = AddRole role } in
+    let place = room (λ (x : Text). x) p.roles (IsRole L) 32 (keeps_roles p.roles p.juniors L st.roles) st.roles.places fits.room in
+    let i = place.0 in
+    let fr = free p.roles i place.1 in
+    let before = p.roles in
+    let after = set p.roles i (Some role) in
+    let same = added_mask before role i fr in
+    let named = added_named before role i fr in
+    let target : Policy = record p { roles = after } in
+    let is : changed p e ≡ target = ap (λ (o : Option ℕ). let z : Policy = record p { roles = put_at role p.roles o } in z) place.1 in
+    subst (λ (t : Policy). StandsFor (swept t) (L ++ e ∷ [])) (sym is) (assemble target L e st.version few
+    (st.logins ∙ sym (logins_other L e refl))
+    (renamed_users before after p.users (L ++ e ∷ []) same named (untouched_users before p.users L e refl st.users))
+    (added_role before p.juniors L s role st.roles fits.absent i fr)
+    (renamed_grants before after p.grants (L ++ e ∷ []) same named (untouched_grants before p.grants L e refl st.grants))
+    (renamed_sessions before after p.sessions L e same named (unique_added before p.juniors L s role st.roles fits.absent i fr) (length-set before i (Some role) ∙ st.roles.places)
+    (untouched_sessions before p.sessions L e refl (logins_other L e refl) st.roles.unique st.roles.places st.sessions))
+    (untouched_sets p.sets L e refl st.sets))
+
+assign : (p : Policy) (L : List Entry) (s : Option ℕ) (user role : Text) → StandsFor p L → length L + 1 < 2 ^ 64 → FitsAssignUser L user role
+    → StandsFor (swept (changed p (record { session = s; command = AssignUser user role }))) (L ++ record { session = s; command = AssignUser user role } ∷ [])
+assign p L s user role st few fits =
+    let e : Entry = record { session = s; command = AssignUser user role } in
+    let q = role_place p L role st fits.is_role in
+    let low : q.place < 32 = omega (arith, slice_get_within p.roles q.place (Some role) q.there, st.roles.places) in
+    let is : changed p e ≡ assigned_at (Some q.place) user p = ap (λ o. assigned_at o user p) q.found in
+    subst (λ (t : Policy). StandsFor (swept t) (L ++ e ∷ [])) (sym is) (assemble (assigned_at (Some q.place) user p) L e st.version few
+    (st.logins ∙ sym (logins_other L e refl))
+    (assigning p.roles st.roles.unique q.place role q.there low p.users L s user st.users fits.is_user)
+    (untouched_roles p.roles p.juniors L e refl st.roles)
+    (untouched_grants p.roles p.grants L e refl st.grants)
+    (untouched_sessions p.roles p.sessions L e refl (logins_other L e refl) st.roles.unique st.roles.places st.sessions)
+    (untouched_sets p.sets L e refl st.sets))
+
+-- the pair has a row, or there is a free one
+row_or_room : (p : Policy) (L : List Entry) (op : Operation) (ob : Object) → StandsFor p L → ((IsPairGranted L op ob → ⊥) → HasAtLeast {A = Operation × Object} 256 (λ pair. IsPairGranted L pair.0 pair.1) → ⊥)
+    → (list_any (grant_is op ob) p.grants ≡ true) ⊎ ((i : ℕ) × (position is_none p.grants ≡ Some i))
+row_or_room p L op ob st few = by_test (list_any (grant_is op ob) p.grants) refl where
+  by_test : (b : Bool) → list_any (grant_is op ob) p.grants ≡ b → (list_any (grant_is op ob) p.grants ≡ true) ⊎ ((i : ℕ) × (position is_none p.grants ≡ Some i))
+  by_test true e = inl e
+  by_test false e = inr (room pair_of p.grants (λ pair. IsPairGranted L pair.0 pair.1) 256 (keeps_grants p.roles p.grants L st.grants) st.grants.places (few (λ g.
+      let h = st.grants.only_pairs g.0 op ob g.1 in
+      false≢true (sym e ∙ passes_any (grant_is op ob) p.grants h.at (Some h.value) h.there ((both _ _ _ _ (operations h.value.operation op) (objects h.value.object ob)).1 h.fact)))))
+
+grant : (p : Policy) (L : List Entry) (s : Option ℕ) (role : Text) (op : Operation) (ob : Object) → StandsFor p L → length L + 1 < 2 ^ 64 → FitsGrantPermission L role op ob
+    → StandsFor (swept (changed p (record { session = s; command = GrantPermission role op ob }))) (L ++ record { session = s; command = GrantPermission role op ob } ∷ [])
+grant p L s role op ob st few fits =
+    let e : Entry = record { session = s; command = GrantPermission role op ob } in
+    let q = role_place p L role st fits.is_role in
+    let low : q.place < 32 = omega (arith, slice_get_within p.roles q.place (Some role) q.there, st.roles.places) in
+    let is : changed p e ≡ granted_at (Some q.place) op ob p = ap (λ o. granted_at o op ob p) q.found in
+    subst (λ (t : Policy). StandsFor (swept t) (L ++ e ∷ [])) (sym is) (assemble (granted_at (Some q.place) op ob p) L e st.version few
+    (st.logins ∙ sym (logins_other L e refl))
+    (untouched_users p.roles p.users L e refl st.users)
+    (untouched_roles p.roles p.juniors L e refl st.roles)
+    (granting p.roles st.roles.unique q.place role q.there low p.grants L s op ob st.grants (row_or_room p L op ob st fits.room))
+    (untouched_sessions p.roles p.sessions L e refl (logins_other L e refl) st.roles.unique st.roles.places st.sessions)
+    (untouched_sets p.sets L e refl st.sets))
+
+login : (p : Policy) (L : List Entry) (user : Text) (listed : List Text) → StandsFor p L → length L + 1 < 2 ^ 64 → FitsCreateSession L None listed
+    → StandsFor (swept (changed p (record { session = None; command = CreateSession user listed }))) (L ++ record { session = None; command = CreateSession user listed } ∷ [])
+login p L user listed st few fits =
+    let e : Entry = record { session = None; command = CreateSession user listed } in
+    let number : (p.logins + 1) % 2 ^ 16 ≡ logins L + 1 = omega (arith, st.logins, fits.numbers) in
+    let place = room (λ (x : Session). x.number) p.sessions (IsLive L) 64 (keeps_sessions p.roles p.sessions L st.sessions) st.sessions.places fits.room in
+    let i = place.0 in
+    let fr = free p.sessions i place.1 in
+    let known : (r : Text) → Contains listed r → (q : ℕ) × At p.roles q r = λ r c. let h = (st.roles.exist r).0 (fits.are_roles r c) in (h.at, subst (At p.roles h.at) h.fact h.there) in
+    let session = λ (n : ℕ). let z : Session = record { number = n; user = user; active = mask_of p.roles listed } in z in
+    let target : Policy = record p { logins = logins L + 1; sessions = set p.sessions i (Some (session (logins L + 1))) } in
+    let is : changed p e ≡ target =
+    ap (λ (n : ℕ). let z : Policy = record p { logins = n; sessions = put_at (session n) p.sessions (position is_none p.sessions) } in z) number
+    ∙ ap (λ (o : Option ℕ). let z : Policy = record p { logins = logins L + 1; sessions = put_at (session (logins L + 1)) p.sessions o } in z) place.1 in
+    subst (λ (t : Policy). StandsFor (swept t) (L ++ e ∷ [])) (sym is) (assemble target L e st.version few
+    (sym (logins_push L e))
+    (untouched_users p.roles p.users L e refl st.users)
+    (untouched_roles p.roles p.juniors L e refl st.roles)
+    (untouched_grants p.roles p.grants L e refl st.grants)
+    (login_unswept p.roles st.roles.unique st.roles.places p.sessions L st.sessions user listed known i fr)
+    (untouched_sets p.sets L e refl st.sets))
+
+logout : (p : Policy) (L : List Entry) (k : ℕ) → StandsFor p L → length L + 1 < 2 ^ 64
+    → StandsFor (swept (changed p (record { session = Some k; command = DeleteSession }))) (L ++ record { session = Some k; command = DeleteSession } ∷ [])
+logout p L k st few =
+    let e : Entry = record { session = Some k; command = DeleteSession } in
+    let target : Policy = record p { sessions = map (session_without k) p.sessions } in
+    assemble target L e st.version few
+    (st.logins ∙ sym (logins_other L e refl))
+    (untouched_users p.roles p.users L e refl st.users)
+    (untouched_roles p.roles p.juniors L e refl st.roles)
+    (untouched_grants p.roles p.grants L e refl st.grants)
+    (logout_unswept p.roles st.roles.unique st.roles.places p.sessions L st.sessions k)
+    (untouched_sets p.sets L e refl st.sets)
+
+by_command : (p : Policy) (L : List Entry) (s : Option ℕ) (c : AdminCommand) → StandsFor p L → length L + 1 < 2 ^ 64 → FitsCommand c s L
+    → StandsFor (swept (changed p (record { session = s; command = c }))) (L ++ record { session = s; command = c } ∷ [])
+by_command p L s (AddUser user) st few fits = add_user p L s user st few fits
+by_command p L s (AddRole role) st few fits = add_role p L s role st few fits
+by_command p L s (AssignUser user role) st few fits = assign p L s user role st few fits
+by_command p L s (GrantPermission role op ob) st few fits = grant p L s role op ob st few fits
+by_command p L s (CreateSession user roles) st few fits =
+    let P : Option ℕ → Type 0 = λ o. FitsCreateSession L o roles → StandsFor (swept (changed p (record { session = o; command = CreateSession user roles }))) (L ++ record { session = o; command = CreateSession user roles } ∷ []) in
+    subst P (sym fits.by_none) (λ f. login p L user roles st few f) fits
+by_command p L s DeleteSession st few fits =
+    let P : Option ℕ → Type 0 = λ o. StandsFor (swept (changed p (record { session = o; command = DeleteSession }))) (L ++ record { session = o; command = DeleteSession } ∷ []) in
+    subst P (sym fits.given) (logout p L fits.number st few)
+by_command p L s (DeleteUser a) st few fits = absurd fits
+by_command p L s (DeleteRole a) st few fits = absurd fits
+by_command p L s (DeassignUser a b) st few fits = absurd fits
+by_command p L s (RevokePermission a b c) st few fits = absurd fits
+by_command p L s (AddInheritance a b) st few fits = absurd fits
+by_command p L s (DeleteInheritance a b) st few fits = absurd fits
+by_command p L s (CreateDsdSet a b c) st few fits = absurd fits
+by_command p L s (DeleteDsdSet a) st few fits = absurd fits
+by_command p L s (AddActiveRole a) st few fits = absurd fits
+by_command p L s (DropActiveRole a) st few fits = absurd fits
+
+-- the law
+pub stands_after : (p : Policy) (L : List Entry) (e : Entry) → StandsFor p L → Fits L e → StandsFor (absorbed p e) (L ++ e ∷ [])
+unfolding absorbed
+stands_after p L e st fits = by_command p L e.session e.command st fits.few fits.command
