@@ -61,7 +61,7 @@ impl Journal {
     }
 
     /// Adds an entry at its end, or refuses it as JournalFull or Memory and stays as it is.
-    pub fn append(&mut self, entry: SlotEntry) -> Result<(), Refusal>
+    pub(crate) fn append(&mut self, entry: SlotEntry) -> Result<(), Refusal>
         ensures { MatchResult result
             (λ _. HasRoom self.old × (self.new ≡ self.old ++ entry ∷ []))
             (λ e. RefusesEntry self.old e × (self.new ≡ self.old)) }

@@ -9,6 +9,7 @@
 
 pub mod entry;
 pub mod journal;
+pub mod laws;
 pub mod reactor;
 pub mod refusal;
 pub mod text;

@@ -177,10 +177,10 @@ impl Reactor {
     }
 
     /// How many instants there were since the load.
-    pub fn instants(&self) -> usize
+    pub fn instants(&self) -> u64
         ensures { (r : Running) × (running_of self.now ≡ Some r) × (result ≡ length r.instants) }
     {
-        self.instants.len()
+        self.instants.len() as u64
     }
 
     /// The inputs that are offered and not yet taken by a step, as a mask over the interface in the order of declaration.
@@ -192,7 +192,7 @@ impl Reactor {
 
     /// The reactor of a kernel that was read from a text's module `main`: it has not begun, and its journal has the
     /// load's entry. A refusal, JournalFull or Memory, gives the journal back as it was.
-    pub fn begin(
+    pub(crate) fn begin(
         alloc: Global,
         journal: Journal,
         stamp: Stamp,
@@ -236,7 +236,7 @@ impl Reactor {
     }
 
     /// Makes the pending inputs the next instant's, by this engine.
-    pub fn step_by<E: Engine>(&mut self, engine: &mut E, stamp: Stamp) -> Result<(), Refusal>
+    pub(crate) fn step_by<E: Engine>(&mut self, engine: &mut E, stamp: Stamp) -> Result<(), Refusal>
         requires { (r : Running) → running_of self.old ≡ Some r → E.is_for engine.old r.kernel }
         ensures { StepAnswer self.old stamp result self.new }
     {
