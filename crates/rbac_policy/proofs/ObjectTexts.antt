@@ -1,4 +1,4 @@
--- The texts of objects: each object is read from its text, and from no other.
+-- The texts of objects and operations: each is read from its text, and from no other.
 use Rattle.std.proofs.Common.{◌≡◌, ◌∙◌, ◌↔◌, ◌<◌, ◌≤◌, ◌+◌, ◌-◌, ◌++◌, ℕ, zero, suc, List, [], ◌∷◌, codes, Bool, true, false, ◌&&◌, ◌==◌, cond, Option, Some, None, option_and_then, bytes_eq, refl, sym, ap, subst, arith, nat_le, ◌⊎◌, inl, inr}
 use Rattle.std.specs.Prelude.{decimal}
 use Rattle.std.specs.Fmt.{digits}
@@ -8,7 +8,9 @@ use Rattle.std.proofs.lemmas.Grind.{common_steps}
 use Rattle.std.proofs.lemmas.Option.{same_Some}
 use Rattle.std.proofs.lemmas.Slice.Eq.{bytes_eq-Decides}
 use Rattle.est_kernel.specs.Identifiers.{is_identifier}
-use Rattle.rbac_policy.specs.Texts.{object_text, IsObject, object_of, object_in, slot_at, units_slot_at}
+use Rattle.rbac_policy.specs.Texts.{operation_text, operation_of, object_text, IsObject, object_of, object_in, slot_at, units_slot_at}
+use Rattle.rbac_policy.specs.declared.objects.Operation.{Operation}
+use Rattle.rbac_policy.specs.declared.objects.Operation.TheVariants as operation
 use Rattle.rbac_policy.specs.declared.objects.Object.{Object}
 use Rattle.rbac_policy.specs.declared.objects.Object.TheVariants as object
 
@@ -165,3 +167,32 @@ object_of-exact text o = (
   (λ (e : object_of text ≡ Some o). let r = object_of_is text o e in (r.is, r.text_is)),
   (λ (r : IsObject o × (text ≡ object_text o)). ap object_of r.1 ∙ object_of-object_text o r.0),
 )
+
+-- operations
+
+-- the text is that of this operation, or what the rest of the choice says holds
+pick : (text : List ℕ) (one : Operation) (others : Option Operation) (o : Operation) → cond (bytes_eq text (operation_text one)) (Some one) others ≡ Some o → (others ≡ Some o → text ≡ operation_text o) → text ≡ operation_text o
+pick text one others o h later =
+    elim (either (bytes_eq text (operation_text one)) (Some one) others o h) [
+      | inl this ↦ (bytes_eq-Decides text (operation_text one)).0 this.0 ∙ ap operation_text (same_Some _ _ this.1)
+      | inr other ↦ later other
+    ]
+
+operation_of_is : (text : List ℕ) (o : Operation) → operation_of text ≡ Some o → text ≡ operation_text o
+unfolding operation_of
+operation_of_is text o h =
+    pick text operation.Offer _ o h (λ h. pick text operation.Observe _ o h (λ h. pick text operation.Step _ o h (λ h.
+    pick text operation.Load _ o h (λ h. pick text operation.Administer _ o h (λ h. pick text operation.Audit _ o h (λ h. cc))))))
+
+operation_of-operation_text : (o : Operation) → operation_of (operation_text o) ≡ Some o
+unfolding operation_of
+operation_of-operation_text operation.Offer = refl
+operation_of-operation_text operation.Observe = refl
+operation_of-operation_text operation.Step = refl
+operation_of-operation_text operation.Load = refl
+operation_of-operation_text operation.Administer = refl
+operation_of-operation_text operation.Audit = refl
+
+-- a text is read as the operation whose name it is, and only as that
+pub operation_of-exact : (text : List ℕ) (o : Operation) → (operation_of text ≡ Some o) ↔ (text ≡ operation_text o)
+operation_of-exact text o = (operation_of_is text o, (λ (e : text ≡ operation_text o). ap operation_of e ∙ operation_of-operation_text o))

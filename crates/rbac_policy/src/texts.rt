@@ -1,5 +1,5 @@
 //! Names, operations and objects as text, and back.
-ghost use Rattle.std.specs.Prelude.{◌≡◌, ◌↔◌, option_map, Some, None, if◌then◌else◌};
+ghost use Rattle.std.specs.Prelude.{◌≡◌, ◌↔◌, option_map, Some, None, if◌then◌else◌, IfOk, string_bytes};
 ghost use Rattle.rbac_policy.specs.Names.{is_name};
 ghost use Rattle.rbac_policy.specs.Texts.{operation_text, object_text, IsObject, operation_of, object_of, slot_at};
 ghost use Rattle.rbac_policy.specs.declared.objects.Operation.{Operation};
@@ -8,6 +8,7 @@ ghost use Rattle.rbac_policy.specs.declared.objects.Object.{Object};
 use crate::names::Name;
 use crate::objects::{Object, Operation, SlotNumber};
 use est_kernel::identifier::Identifier;
+use std::alloc::{AllocError, Global};
 
 impl Name {
     /// The name that a text is, if it is one.
@@ -18,22 +19,29 @@ impl Name {
     }
 }
 
+/// The operation of a text.
+#[tactic(auto, unfolding(crate::specs::Texts::operation_of))]
+fn operation_of(text: &str) -> Option<Operation>
+    ensures { result ≡ operation_of text.now }
+{
+    match text {
+        "offer" => Some(Operation::Offer),
+        "observe" => Some(Operation::Observe),
+        "step" => Some(Operation::Step),
+        "load" => Some(Operation::Load),
+        "administer" => Some(Operation::Administer),
+        "audit" => Some(Operation::Audit),
+        _ => None,
+    }
+}
+
 impl Operation {
     /// The operation of this name, if there is one.
-    #[tactic(auto, unfolding(crate::specs::Texts::operation_of))]
     pub fn from_text(text: &str) -> Option<Operation>
         ensures value { result ≡ operation_of text.now }
         ensures exact { (operation : Operation) → (result ≡ Some operation) ↔ (text.now ≡ operation_text operation) }
     {
-        match text {
-            "offer" => Some(Operation::Offer),
-            "observe" => Some(Operation::Observe),
-            "step" => Some(Operation::Step),
-            "load" => Some(Operation::Load),
-            "administer" => Some(Operation::Administer),
-            "audit" => Some(Operation::Audit),
-            _ => None,
-        }
+        operation_of(text)
     }
 
     /// Its name.
@@ -93,6 +101,21 @@ impl Object {
     {
         object_of(text)
     }
+
+    /// Its text, or the error where memory was refused.
+    pub fn text(&self, alloc: Global) -> Result<String, AllocError>
+        ensures { IfOk result (λ text. string_bytes text ≡ object_text self.now) }
+    {
+        match self {
+            Object::Policy => String::from_str(alloc, "policy"),
+            Object::Slot(slot) => format!(in alloc; "{}", slot.number()),
+            Object::Signal(slot, signal) => format!(in alloc;
+                "{}.{}",
+                slot.number(),
+                signal.as_str()
+            ),
+        }
+    }
 }
 
 #[cfg(test)]
@@ -107,7 +130,10 @@ mod tests {
             assert!(rt; text == Some(operation), "{operation}");
         }
         for object in ["policy", "0", "9", "10", "15", "0.O", "15.await", "1.tick"] {
-            assert!(rt; Object::from_text(object).is_some(), "{object}");
+            let Some(found) = Object::from_text(object) else {
+                return Err(Fail::new("an object's text is read"));
+            };
+            assert!(rt; found.text(rt.alloc())?.as_str() == object, "{object}");
         }
         for text in [
             "", "Policy", "00", "16", "20", "1.", "01.O", "16.O", "1.2", "0.O-1", "0.O.P", " 0",
