@@ -1,0 +1,187 @@
+//! Replies, and the lists of signals that they and refusals carry.
+ghost use Rattle.std.specs.Prelude.{◌≡◌, ◌++◌, ◌∷◌, [], IfOk, OnErr};
+ghost use Rattle.access_core.specs.Replies.{word_of};
+
+use crate::refusal::Refusal;
+use est_kernel::identifier::Identifier;
+use rbac_policy::commands::SessionId;
+use std::alloc::{AllocError, Global};
+use std::marker::Model;
+
+/// Names of signals, in declaration order. A contract sees the list of them.
+#[derive(Drop)]
+pub struct SignalNames {
+    names: Vec<Identifier>,
+}
+
+impl Model for SignalNames {
+    ghost use Rattle.std.specs.Prelude.{List, ℕ};
+
+    ghost Value = { List (List ℕ) };
+
+    ghost view = { λ s. s.names.items };
+}
+
+impl SignalNames {
+    /// No signals. It takes no memory.
+    pub fn new(alloc: Global) -> SignalNames
+        ensures { result ≡ [] }
+    {
+        SignalNames {
+            names: Vec::new(alloc),
+        }
+    }
+
+    /// Adds a signal at the end. An error, where memory was refused, leaves the list as it was.
+    pub fn push(&mut self, name: Identifier) -> Result<(), AllocError>
+        ensures ok { IfOk result (λ _. self.new ≡ self.old ++ name ∷ []) }
+        ensures err { OnErr result (self.new ≡ self.old) }
+    {
+        self.names.push(name)?;
+        Ok(())
+    }
+
+    /// The names, in their order.
+    pub fn as_slice(&self) -> &[Identifier]
+        ensures { result.now ≡ self.now }
+    {
+        self.names.as_slice()
+    }
+}
+
+/// A signal that is shown, and whether it is present.
+#[derive(Clone, Copy, PartialEq, Eq, Debug)]
+pub struct ShownSignal {
+    pub name: Identifier,
+    pub present: bool,
+}
+
+/// The signals that are shown of an instant, in declaration order. A contract sees the list of them.
+#[derive(Drop)]
+pub struct ShownSignals {
+    signals: Vec<ShownSignal>,
+}
+
+impl Model for ShownSignals {
+    ghost use Rattle.std.specs.Prelude.{List};
+    ghost use Rattle.access_core.specs.declared.reply.ShownSignal.{ShownSignal};
+
+    ghost Value = { List ShownSignal };
+
+    ghost view = { λ s. s.signals.items };
+}
+
+impl ShownSignals {
+    /// No signals. It takes no memory.
+    pub fn new(alloc: Global) -> ShownSignals
+        ensures { result ≡ [] }
+    {
+        ShownSignals {
+            signals: Vec::new(alloc),
+        }
+    }
+
+    /// Adds a signal at the end. An error, where memory was refused, leaves the list as it was.
+    pub fn push(&mut self, signal: ShownSignal) -> Result<(), AllocError>
+        ensures ok { IfOk result (λ _. self.new ≡ self.old ++ signal ∷ []) }
+        ensures err { OnErr result (self.new ≡ self.old) }
+    {
+        self.signals.push(signal)?;
+        Ok(())
+    }
+
+    /// The signals, in their order.
+    pub fn as_slice(&self) -> &[ShownSignal]
+        ensures { result.now ≡ self.now }
+    {
+        self.signals.as_slice()
+    }
+}
+
+/// The policy commands that are answered by the new version alone: all but the login.
+#[derive(Clone, Copy, PartialEq, Eq, Debug)]
+pub enum Change {
+    AddUser,
+    DeleteUser,
+    AddRole,
+    DeleteRole,
+    AssignUser,
+    DeassignUser,
+    GrantPermission,
+    RevokePermission,
+    AddInheritance,
+    DeleteInheritance,
+    CreateDsdSet,
+    DeleteDsdSet,
+    DeleteSession,
+    AddActiveRole,
+    DropActiveRole,
+}
+
+impl Change {
+    /// The word by which a line asks for the command, and by which its reply names it.
+    pub fn word(&self) -> &'static str
+        ensures { result.now ≡ word_of self.now }
+    {
+        match self {
+            Change::AddUser => "adduser",
+            Change::DeleteUser => "deluser",
+            Change::AddRole => "addrole",
+            Change::DeleteRole => "delrole",
+            Change::AssignUser => "assign",
+            Change::DeassignUser => "deassign",
+            Change::GrantPermission => "grant",
+            Change::RevokePermission => "revoke",
+            Change::AddInheritance => "inherit",
+            Change::DeleteInheritance => "disinherit",
+            Change::CreateDsdSet => "dsd",
+            Change::DeleteDsdSet => "undsd",
+            Change::DeleteSession => "logout",
+            Change::AddActiveRole => "activate",
+            Change::DropActiveRole => "drop",
+        }
+    }
+}
+
+/// The answer to a request. Versions are lengths of the policy list; places in a journal and instants are counted from 1.
+#[derive(Drop)]
+pub enum Reply {
+    /// The command was refused, and nothing is changed.
+    Refused(Refusal),
+    /// A session was made; the version is that with its entry.
+    Login {
+        session: SessionId,
+        version: u64,
+    },
+    /// The policy was changed; the version is that with the new entry.
+    Changed {
+        change: Change,
+        version: u64,
+    },
+    /// A module was loaded, at this place of the slot's journal, judged at this version.
+    Load {
+        place: u64,
+        version: u64,
+    },
+    /// A signal was offered, at this place of the slot's journal, judged at this version.
+    Offer {
+        place: u64,
+        version: u64,
+    },
+    /// This instant was run, at this place of the slot's journal, judged at this version.
+    Step {
+        instant: u64,
+        place: u64,
+        version: u64,
+    },
+    /// What may be seen of this instant, judged at this version.
+    Look {
+        instant: u64,
+        signals: ShownSignals,
+        version: u64,
+    },
+    /// Whether the session may do what was asked.
+    Check {
+        allowed: bool,
+    },
+}
