@@ -5,3 +5,4 @@ pub mod MustRules
 pub mod NextStates
 pub mod Stepping
 pub mod Uniqueness
+pub mod Settled

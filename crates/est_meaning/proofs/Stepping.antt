@@ -1,5 +1,5 @@
 -- Steps of a statement from those of its parts.
-use Rattle.std.proofs.Common.{◌≡◌, ◌≢◌, ℕ, zero, suc, Bool, true, false, not, ◌&&◌, ◌||◌, cond, nat_eq, max, refl, ap, sym, ◌∙◌, subst, arith, Option, Some, None, IfSome, IfNone}
+use Rattle.std.proofs.Common.{inl, inr, ◌≡◌, ◌≢◌, ℕ, zero, suc, Bool, true, false, not, ◌&&◌, ◌||◌, cond, nat_eq, max, refl, ap, sym, ◌∙◌, subst, arith, Option, Some, None, IfSome, IfNone}
 use Rattle.est_kernel.specs.View.{term_of, term_at, is_live, has_pause, IsNumbered, IsExclusive, AreApart, query_of}
 use Rattle.est_kernel.specs.Term.{Term, nothing, present, held, seq, loop, par}
 use Rattle.est_kernel.specs.declared.statement.Statement.{Statement}
@@ -8,7 +8,7 @@ use Rattle.est_meaning.specs.Signals.{Signals, no_signals, union}
 use Rattle.est_meaning.specs.Status.{Env, on, off, status_of}
 use Rattle.est_meaning.specs.Rules.{Gives, HasNoRule, rest_of, takes_first, takes_second, held_on, goes_on, ends_then}
 use Rattle.est_meaning.proofs.Uniqueness.{unique}
-use Rattle.std.proofs.lemmas.Bool.{ne_eqb, or_parts}
+use Rattle.std.proofs.lemmas.Bool.{cases_eq, ne_eqb, or_parts}
 use Rattle.est_meaning.specs.Steps.{StepsTo}
 use Rattle.est_meaning.proofs.Agree.{Agree, live_same, at_same, exclusive_same, dead_exclusive, apart_left, apart_right, cleared_dead}
 
@@ -229,3 +229,13 @@ stays_held {s = s} {p = p} {n = n} b m d live excl f =
 
 pub idle : (p : Statement) (e : Env) (n : ℕ → Bool) → is_live p n ≡ false → StepsTo p nothing e no_signals 0 n
 idle p e n dead = record { gives = record { signals = refl; code = refl; rest = refl }; live = dead; exclusive = dead_exclusive p n dead }
+
+-- both sides, where the pauses of the whole are kept just where it pauses
+pub par_settles : {a b : _} {p q : Statement} {t u : Term} {e : Env} {o o' : Signals} {i j : ℕ} {n m : ℕ → Bool}
+    → StepsTo p t e o i n → StepsTo q u e o' j n → (max i j ≡ 1 → (x : ℕ) → m x ≡ n x)
+    → (max i j ≢ 1 → is_live p m ≡ false) → (max i j ≢ 1 → is_live q m ≡ false)
+    → StepsTo (Par' a p b q) (par t u) e (union o o') (max i j) m
+par_settles {p = p} {q = q} {i = i} {j = j} {n = n} {m = m} h g kept left right = elim (cases_eq (max i j) 1) [
+  | inl one ↦ par_pauses one (steps_same p _ _ _ _ n m (λ x _. sym (kept one x)) h) (steps_same q _ _ _ _ n m (λ x _. sym (kept one x)) g)
+  | inr d ↦ par_ends d h g (left d) (right d)
+]

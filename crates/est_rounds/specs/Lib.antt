@@ -1,1 +1,3 @@
 pub mod Contract
+pub mod Steps
+pub mod Views

@@ -1,7 +1,15 @@
 //! Reactions of kernels.
 //!
 //! `Engine` says what a reaction engine promises: an outcome exactly where the constructive semantics has a reaction,
-//! and else exactly the undecided outputs.
+//! and else exactly the undecided outputs. `Rounds` keeps that promise for every kernel and takes no memory.
 #![tactic(auto)]
 
+mod acts;
 pub mod engine;
+mod judged;
+mod resume;
+mod resume_step;
+pub mod rounds;
+mod signal_set;
+mod start;
+mod step;

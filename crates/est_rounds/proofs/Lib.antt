@@ -1,0 +1,4 @@
+pub mod Known
+pub mod Reacting
+pub mod Resuming
+pub mod SignalSets

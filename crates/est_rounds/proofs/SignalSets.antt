@@ -1,0 +1,58 @@
+-- Sets of signals by their masks.
+use Rattle.std.proofs.Common.{◌≡◌, ◌≢◌, ℕ, Bool, true, false, not, ◌&&◌, cond, refl, ap, sym, ◌∙◌, inl, inr}
+use Rattle.std.proofs.lemmas.Bool.{eq-eqb, ne_eqb, cases_eq}
+use mathlib.Core.Path.{fun_ext}
+use Rattle.est_kernel.specs.Term.{outer, inner}
+use Rattle.est_kernel.specs.Codes.{code, no_codes}
+use Rattle.est_meaning.specs.Signals.{Signals, no_signals, only, without, same_name}
+use Rattle.est_meaning.specs.Status.{verdict, with_local}
+use Rattle.est_kernel.specs.Bits.{bits}
+use Rattle.est_rounds.specs.Views.{set_of, env_of, with_member}
+use Rattle.est_kernel.proofs.Masks.{bits_zero}
+use Rattle.est_rounds.specs.declared.signal_set.SignalSet.{SignalSet}
+
+pub no_signals_set : set_of (record { interface = 0; local = 0 }) ≡ no_signals
+unfolding set_of no_signals
+no_signals_set = fun_ext (elim [ outer n ↦ bits_zero n | inner n ↦ bits_zero n ])
+
+pub zero_codes : bits 0 ≡ no_codes
+unfolding no_codes
+zero_codes = fun_ext (λ n. bits_zero n)
+
+pub only_outer : (m k : ℕ) → bits m ≡ code k → set_of (record { interface = m; local = 0 }) ≡ only (outer k)
+unfolding set_of only code
+only_outer m k e = fun_ext (elim [ outer n ↦ ap (λ f. f n) e | inner n ↦ bits_zero n ])
+
+pub only_inner : (m k : ℕ) → bits m ≡ code k → set_of (record { interface = 0; local = m }) ≡ only (inner k)
+unfolding set_of only code
+only_inner m k e = fun_ext (elim [ outer n ↦ bits_zero n | inner n ↦ ap (λ f. f n) e ])
+
+-- a mask of local signals with one bit set as said
+pub with_member_set : (i l m k : ℕ) (b : Bool) → bits m k ≡ b → ((n : ℕ) → n ≢ k → bits m n ≡ bits l n)
+    → set_of (record { interface = i; local = m }) ≡ with_member (set_of (record { interface = i; local = l })) k b
+unfolding set_of with_member
+with_member_set i l m k b same other = fun_ext (elim [
+  | outer n ↦ refl
+  | inner n ↦ elim (cases_eq k n) [
+    | inl e ↦ rw (eq-eqb k n e) (ap (bits m) (sym e) ∙ same)
+    | inr d ↦ rw (ne_eqb k n d) (other n (λ e. d (sym e)))
+  ]
+])
+
+pub without_is : (a : Signals) (k : ℕ) → with_member a k false ≡ without k a
+unfolding with_member without
+without_is a k = fun_ext (λ t. go (same_name (inner k) t) (a t))
+  where
+    go : (b c : Bool) → cond b false c ≡ (not b && c)
+    go true c = refl
+    go false c = refl
+
+pub set_env : (p q p' q' : SignalSet) (k : ℕ) (b c : Bool)
+    → set_of p' ≡ with_member (set_of p) k b → set_of q' ≡ with_member (set_of q) k c
+    → env_of (record { present = p'; possible = q' }) ≡ with_local (env_of (record { present = p; possible = q })) k (verdict b c)
+unfolding env_of with_local with_member
+set_env p q p' q' k b c e f = fun_ext (λ t. ap (λ g. verdict (g t) (set_of q' t)) e ∙ (ap (λ g. verdict (cond (same_name (inner k) t) b (set_of p t)) (g t)) f ∙ go (same_name (inner k) t) b c (set_of p t) (set_of q t)))
+  where
+    go : (t b c x y : Bool) → verdict (cond t b x) (cond t c y) ≡ cond t (verdict b c) (verdict x y)
+    go true b c x y = refl
+    go false b c x y = refl

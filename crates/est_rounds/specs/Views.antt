@@ -1,0 +1,41 @@
+-- What the values of the code stand for.
+use Rattle.std.specs.Prelude.{ℕ, Bool, cond}
+use Rattle.est_kernel.specs.Bits.{bits}
+use Rattle.est_kernel.specs.Term.{outer, inner}
+use Rattle.est_meaning.specs.Signals.{Signals, same_name}
+use Rattle.est_meaning.specs.Status as meaning
+use Rattle.est_meaning.specs.MustCan as must_can
+use Rattle.est_rounds.specs.declared.signal_set.SignalSet.{SignalSet}
+use Rattle.est_rounds.specs.declared.signal_set.Env.{Env}
+use Rattle.est_rounds.specs.declared.signal_set.Status.{Status}
+use Rattle.est_rounds.specs.declared.signal_set.Status.TheVariants.{Present, Absent, Unknown}
+use Rattle.est_meaning.specs.Rounds.{Judged}
+use Rattle.est_rounds.specs.declared.acts.Acts.{Acts}
+use Rattle.est_rounds.specs.declared.judged.JudgedSignals.{JudgedSignals}
+
+-- two masks as a set of signals
+unfoldable pub set_of : SignalSet → Signals
+set_of s (outer n) = bits s.interface n
+set_of s (inner n) = bits s.local n
+
+-- the set with this local signal in it, or not
+unfoldable pub with_member : Signals → ℕ → Bool → Signals
+with_member a s is_in t = cond (same_name (inner s) t) is_in (a t)
+
+-- what is present and what is possible, as an environment
+unfoldable pub env_of : Env → meaning.Env
+env_of e s = meaning.verdict (set_of e.present s) (set_of e.possible s)
+
+-- a status of the code
+abbrev pub status_is : Status → meaning.Status
+status_is Present = meaning.on
+status_is Absent = meaning.off
+status_is Unknown = meaning.unknown
+
+-- signals and codes
+abbrev pub acts_of : Acts → must_can.Acts
+acts_of a = record { signals = set_of a.signals; codes = bits a.codes }
+
+-- the signals that are judged
+abbrev pub judged_is : JudgedSignals → Judged
+judged_is j = record { places = j.places; has = bits j.signals }

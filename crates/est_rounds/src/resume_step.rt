@@ -1,0 +1,201 @@
+//! The step of a statement that goes on from its pauses.
+
+ghost use Rattle.std.specs.Prelude.{◌≡◌, ℕ, true, false, cond};
+ghost use Rattle.est_kernel.specs.View.{is_live, has_pause, IsNumbered, IsExclusive};
+ghost use Rattle.est_kernel.specs.Pauses.{pauses_of};
+ghost use Rattle.est_rounds.specs.Views.{env_of};
+ghost use Rattle.est_rounds.specs.Steps.{IsResumed};
+
+use crate::resume::resume_sure;
+use crate::signal_set::{self, Env, Status};
+use crate::step::{Step, both, out_of_trap, quiet, start_step};
+use est_kernel::pause_set::PauseSet;
+use est_kernel::statement::Statement;
+
+/// What a statement does that goes on from its pauses.
+#[derive(Clone, Copy)]
+pub enum Resumed {
+    /// It has no pause in the set.
+    Asleep,
+    /// The rules give it no step.
+    Stuck,
+    /// It takes this step.
+    Moved(Step),
+}
+
+/// Whether a pause of the statement is in the set.
+fn has_live(s: &Statement, pauses: &PauseSet) -> bool
+    ensures { result ≡ is_live s.now (pauses_of pauses.now) }
+{
+    match s {
+        Statement::Nothing => false,
+        Statement::Pause(n) => pauses.has(*n),
+        Statement::Emit(_) => false,
+        Statement::Present(_, p, q) => has_live(p, pauses) || has_live(q, pauses),
+        Statement::Suspend(_, p) => has_live(p, pauses),
+        Statement::Seq(p, q) => has_live(p, pauses) || has_live(q, pauses),
+        Statement::Loop(p) => has_live(p, pauses),
+        Statement::Par(p, q) => has_live(p, pauses) || has_live(q, pauses),
+        Statement::Trap(p) => has_live(p, pauses),
+        Statement::Exit(_) => false,
+        Statement::Local(_, p) => has_live(p, pauses),
+    }
+}
+
+/// Takes the pauses of a statement over from one set into another.
+fn keep(s: &Statement, pauses: &PauseSet, next: &mut PauseSet)
+    ensures { (i : ℕ) → pauses_of next.new i ≡ cond (has_pause s.now i) (pauses_of pauses.now i) (pauses_of next.old i) }
+{
+    match s {
+        Statement::Nothing => {}
+        Statement::Pause(n) => {
+            if pauses.has(*n) {
+                next.insert(*n);
+            } else {
+                next.remove(*n);
+            }
+        }
+        Statement::Emit(_) => {}
+        Statement::Present(_, p, q) => {
+            keep(p, pauses, next);
+            keep(q, pauses, next);
+        }
+        Statement::Suspend(_, p) => keep(p, pauses, next),
+        Statement::Seq(p, q) => {
+            keep(p, pauses, next);
+            keep(q, pauses, next);
+        }
+        Statement::Loop(p) => keep(p, pauses, next),
+        Statement::Par(p, q) => {
+            keep(p, pauses, next);
+            keep(q, pauses, next);
+        }
+        Statement::Trap(p) => keep(p, pauses, next),
+        Statement::Exit(_) => {}
+        Statement::Local(_, p) => keep(p, pauses, next),
+    }
+}
+
+/// What a statement does from its pauses. Where it moves, the pauses at which it then stands are put into `next`.
+pub fn resume_step(s: &Statement, pauses: &PauseSet, env: &Env, next: &mut PauseSet) -> Resumed
+    requires numbered { IsNumbered s.now }
+    requires exclusive { IsExclusive s.now (pauses_of pauses.now) }
+    requires clear { is_live s.now (pauses_of next.old) ≡ false }
+    ensures resumed { IsResumed result s.now (pauses_of pauses.now) (env_of env.now) (pauses_of next.new) }
+    ensures others { (i : ℕ) → has_pause s.now i ≡ false → pauses_of next.new i ≡ pauses_of next.old i }
+{
+    match s {
+        Statement::Nothing => Resumed::Asleep,
+        Statement::Pause(n) => {
+            if pauses.has(*n) {
+                Resumed::Moved(quiet(0))
+            } else {
+                Resumed::Asleep
+            }
+        }
+        Statement::Emit(_) => Resumed::Asleep,
+        Statement::Present(_, p, q) => match resume_step(p, pauses, env, next) {
+            Resumed::Asleep => resume_step(q, pauses, env, next),
+            Resumed::Stuck => Resumed::Stuck,
+            Resumed::Moved(step) => Resumed::Moved(step),
+        },
+        Statement::Suspend(t, p) => match signal_set::answer_to(env, *t) {
+            Status::Absent => resume_step(p, pauses, env, next),
+            Status::Present => {
+                if has_live(p, pauses) {
+                    keep(p, pauses, next);
+                    Resumed::Moved(quiet(1))
+                } else {
+                    Resumed::Asleep
+                }
+            }
+            Status::Unknown => {
+                if has_live(p, pauses) {
+                    Resumed::Stuck
+                } else {
+                    Resumed::Asleep
+                }
+            }
+        },
+        Statement::Seq(p, q) => match resume_step(p, pauses, env, next) {
+            Resumed::Asleep => resume_step(q, pauses, env, next),
+            Resumed::Stuck => Resumed::Stuck,
+            Resumed::Moved(first) => {
+                if first.code != 0 {
+                    return Resumed::Moved(first);
+                }
+                match start_step(q, env, next) {
+                    None => Resumed::Stuck,
+                    Some(second) => Resumed::Moved(Step {
+                        signals: signal_set::union_of(first.signals, second.signals),
+                        code: second.code,
+                    }),
+                }
+            }
+        },
+        Statement::Loop(p) => match resume_step(p, pauses, env, next) {
+            Resumed::Asleep => Resumed::Asleep,
+            Resumed::Stuck => Resumed::Stuck,
+            Resumed::Moved(first) => {
+                if first.code != 0 {
+                    return Resumed::Moved(first);
+                }
+                match start_step(p, env, next) {
+                    None => Resumed::Stuck,
+                    Some(again) => {
+                        if again.code == 0 {
+                            return Resumed::Stuck;
+                        }
+                        Resumed::Moved(Step {
+                            signals: signal_set::union_of(first.signals, again.signals),
+                            code: again.code,
+                        })
+                    }
+                }
+            }
+        },
+        Statement::Par(p, q) => match resume_step(p, pauses, env, next) {
+            Resumed::Stuck => Resumed::Stuck,
+            Resumed::Asleep => match resume_step(q, pauses, env, next) {
+                Resumed::Asleep => Resumed::Asleep,
+                Resumed::Stuck => Resumed::Stuck,
+                Resumed::Moved(right) => Resumed::Moved(both(p, q, quiet(0), right, next)),
+            },
+            Resumed::Moved(left) => match resume_step(q, pauses, env, next) {
+                Resumed::Asleep => Resumed::Moved(both(p, q, left, quiet(0), next)),
+                Resumed::Stuck => Resumed::Stuck,
+                Resumed::Moved(right) => Resumed::Moved(both(p, q, left, right, next)),
+            },
+        },
+        Statement::Trap(p) => match resume_step(p, pauses, env, next) {
+            Resumed::Asleep => Resumed::Asleep,
+            Resumed::Stuck => Resumed::Stuck,
+            Resumed::Moved(step) => Resumed::Moved(Step {
+                signals: step.signals,
+                code: out_of_trap(step.code),
+            }),
+        },
+        Statement::Exit(_) => Resumed::Asleep,
+        Statement::Local(s, p) => {
+            let open = signal_set::set_local(env, *s, false, true);
+            let first = match resume_sure(p, pauses, &open) {
+                None => return Resumed::Asleep,
+                Some(first) => first,
+            };
+            let present = signal_set::has_local(first.must.signals, *s);
+            let possible = signal_set::has_local(first.can.signals, *s);
+            if possible && !present {
+                return Resumed::Stuck;
+            }
+            let known = signal_set::set_local(env, *s, present, possible);
+            match resume_step(p, pauses, &known, next) {
+                Resumed::Asleep => Resumed::Asleep,
+                Resumed::Stuck => Resumed::Stuck,
+                Resumed::Moved(step) => Resumed::Moved(Step {
+                    signals: signal_set::all_but(*s, step.signals),
+                    code: step.code,
+                }),
+            }
+        }
+    }
+}

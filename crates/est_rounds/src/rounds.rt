@@ -1,0 +1,184 @@
+//! Reactions by rounds over the outputs.
+
+ghost use Rattle.std.specs.Prelude.{◌≡◌, ◌≤◌, length, IfSome, IfNone, ℕ, false, cond};
+ghost use Rattle.est_kernel.specs.Bits.{bits};
+ghost use Rattle.est_kernel.specs.Pauses.{pauses_of};
+ghost use Rattle.est_kernel.specs.View.{has_pause, is_live};
+ghost use Rattle.est_meaning.specs.MustCan.{must, can, sure};
+ghost use Rattle.est_meaning.specs.Rounds.{first_env, round, how_many, last_env};
+ghost use Rattle.est_meaning.specs.Rules.{HasNoRule};
+ghost use Rattle.est_meaning.specs.States.{IsState, state_term};
+ghost use Rattle.est_meaning.specs.Steps.{StepsTo};
+ghost use Rattle.est_rounds.specs.Contract.{judged_of};
+ghost use Rattle.est_rounds.specs.Views.{set_of, env_of, acts_of, judged_is};
+
+use crate::acts::{Acts, Judged};
+use crate::engine::Engine;
+use crate::judged::JudgedSignals;
+use crate::resume::resume_sure;
+use crate::resume_step::{Resumed, resume_step};
+use crate::signal_set::{Env, SignalSet};
+use crate::start::start_sure;
+use crate::step::{Step, quiet, start_step};
+use est_kernel::kernel::Kernel;
+use est_kernel::mask;
+use est_kernel::pause_set::PauseSet;
+use est_kernel::state::{Inputs, Outcome, State, Stuck};
+
+/// The signals that are judged for a kernel: its outputs.
+fn judged_signals(kernel: &Kernel) -> JudgedSignals
+    ensures { judged_is result ≡ judged_of kernel.now }
+{
+    let interface = kernel.interface();
+    JudgedSignals {
+        places: interface.len() as u8,
+        signals: interface.outputs(),
+    }
+}
+
+/// How many signals are judged.
+fn judged_count(judged: JudgedSignals) -> u8
+    ensures { result ≡ how_many (bits judged.signals) judged.places }
+{
+    let mut count = 0;
+    for n in 0..judged.places {
+        if mask::has(judged.signals, n) {
+            count += 1;
+        }
+    }
+    count
+}
+
+/// What is known before the first round.
+fn first_known(judged: JudgedSignals, inputs: u64) -> Env
+    ensures { env_of result ≡ first_env (judged_is judged) (bits inputs) }
+{
+    Env {
+        present: SignalSet {
+            interface: mask::minus(inputs, judged.signals),
+            local: 0,
+        },
+        possible: SignalSet {
+            interface: mask::either(judged.signals, inputs),
+            local: 0,
+        },
+    }
+}
+
+/// What a kernel must do and can do from this state.
+fn judge(kernel: &Kernel, state: &State, env: &Env) -> Judged
+    requires { IsState kernel.now.root state.now }
+    ensures must { acts_of result.must ≡ must (state_term kernel.now.root state.now) (env_of env.now) }
+    ensures can { acts_of result.can ≡ can (state_term kernel.now.root state.now) sure (env_of env.now) }
+{
+    match state {
+        State::Fresh => start_sure(kernel.root(), env),
+        State::Done => Judged::exactly(Acts::ending(0)),
+        State::Paused(pauses) => match resume_sure(kernel.root(), pauses, env) {
+            Some(judged) => judged,
+            None => Judged::exactly(Acts::ending(0)),
+        },
+    }
+}
+
+/// The members of a mask that are not judged, with those that are judged and in the other.
+fn judged_again(judged: JudgedSignals, before: u64, now: u64) -> u64
+    ensures { (n : ℕ) → bits result n ≡ cond (bits judged.signals n) (bits now n) (bits before n) }
+{
+    mask::either(
+        mask::minus(before, judged.signals),
+        mask::common(judged.signals, now),
+    )
+}
+
+/// What is known after one more round.
+fn next_known(kernel: &Kernel, state: &State, judged: JudgedSignals, env: &Env) -> Env
+    requires { IsState kernel.now.root state.now }
+    ensures { env_of result ≡ round (judged_is judged) (state_term kernel.now.root state.now) (env_of env.now) }
+{
+    let acts = judge(kernel, state, env);
+    Env {
+        present: SignalSet {
+            interface: judged_again(judged, env.present.interface, acts.must.signals.interface),
+            local: env.present.local,
+        },
+        possible: SignalSet {
+            interface: judged_again(judged, env.possible.interface, acts.can.signals.interface),
+            local: env.possible.local,
+        },
+    }
+}
+
+/// What is known after the last round. A round that changes nothing is the last that is run.
+fn last_known(kernel: &Kernel, state: &State, judged: JudgedSignals, inputs: u64) -> Env
+    requires { IsState kernel.now.root state.now }
+    ensures { env_of result ≡ last_env (judged_is judged) (bits inputs) (state_term kernel.now.root state.now) }
+{
+    let mut env = first_known(judged, inputs);
+    for i in 0..judged_count(judged) {
+        let next = next_known(kernel, state, judged, &env);
+        if next == env {
+            return env;
+        }
+        env = next;
+    }
+    env
+}
+
+/// The step of a kernel from this state, if the rules give one. The pauses at which it then stands are put into `next`.
+fn step_of(kernel: &Kernel, state: &State, env: &Env, next: &mut PauseSet) -> Option<Step>
+    requires state { IsState kernel.now.root state.now }
+    requires clear { is_live kernel.now.root (pauses_of next.old) ≡ false }
+    ensures some { IfSome result (λ r. StepsTo kernel.now.root (state_term kernel.now.root state.now) (env_of env.now) (set_of r.signals) r.code (pauses_of next.new)) }
+    ensures none { IfNone result (HasNoRule (state_term kernel.now.root state.now) (env_of env.now)) }
+    ensures others { (i : ℕ) → has_pause kernel.now.root i ≡ false → pauses_of next.new i ≡ pauses_of next.old i }
+{
+    match state {
+        State::Fresh => start_step(kernel.root(), env, next),
+        State::Done => Some(quiet(0)),
+        State::Paused(pauses) => match resume_step(kernel.root(), pauses, env, next) {
+            Resumed::Moved(step) => Some(step),
+            Resumed::Stuck => None,
+            Resumed::Asleep => None,
+        },
+    }
+}
+
+/// The engine that judges all outputs in rounds, each over the whole kernel.
+///
+/// A round's work grows with each nesting of local signals, at most six deep, and else with the kernel's size.
+#[derive(Clone, Copy)]
+pub struct Rounds {}
+
+impl Rounds {
+    /// The engine, for every kernel. It takes no memory.
+    pub fn new() -> Self {
+        Rounds {}
+    }
+}
+
+impl Engine for Rounds {
+    ghost is_for = { λ _ _. Unit {0} };
+
+    fn react(&mut self, kernel: &Kernel, state: &State, inputs: &Inputs) -> Result<Outcome, Stuck> {
+        let judged = judged_signals(kernel);
+        let env = last_known(kernel, state, judged, inputs.signals);
+        let mut next = PauseSet::new();
+        match step_of(kernel, state, &env, &mut next) {
+            Some(step) => Ok(Outcome {
+                outputs: step.signals.interface,
+                next: if step.code == 1 {
+                    State::Paused(next)
+                } else {
+                    State::Done
+                },
+            }),
+            None => Err(Stuck {
+                undecided: mask::minus(
+                    mask::common(judged.signals, env.possible.interface),
+                    env.present.interface,
+                ),
+            }),
+        }
+    }
+}

@@ -1,0 +1,140 @@
+//! Sets of signals as masks, and what is known of each signal.
+
+ghost use Rattle.std.specs.Prelude.{◌≡◌};
+ghost use Rattle.est_kernel.specs.Term.{inner};
+ghost use Rattle.est_kernel.specs.View.{name_of, query_of};
+ghost use Rattle.est_meaning.specs.Signals.{no_signals, only, union, without};
+ghost use Rattle.est_meaning.specs.Status.{verdict, status_of, with_local};
+ghost use Rattle.est_rounds.specs.Views.{set_of, env_of, status_is, with_member};
+
+use est_kernel::mask;
+use est_kernel::statement::{LocalSignal, Signal, Test};
+
+/// A set of signals.
+#[derive(Clone, Copy, PartialEq, Eq)]
+pub struct SignalSet {
+    /// Signals of the interface, a bit for each, in declaration order.
+    pub interface: u64,
+    /// Local signals, a bit for the number of each.
+    pub local: u64,
+}
+
+/// The empty set.
+pub fn no_signal() -> SignalSet
+    ensures { set_of result ≡ no_signals }
+{
+    SignalSet {
+        interface: 0,
+        local: 0,
+    }
+}
+
+/// The set of this signal alone.
+pub fn only_signal(s: Signal) -> SignalSet
+    ensures { set_of result ≡ only (name_of s) }
+{
+    match s {
+        Signal::Interface(s) => SignalSet {
+            interface: mask::single(s.index),
+            local: 0,
+        },
+        Signal::Local(s) => SignalSet {
+            interface: 0,
+            local: mask::single(s.index),
+        },
+    }
+}
+
+/// The members of either set.
+pub fn union_of(a: SignalSet, b: SignalSet) -> SignalSet
+    ensures { set_of result ≡ union (set_of a) (set_of b) }
+{
+    SignalSet {
+        interface: mask::either(a.interface, b.interface),
+        local: mask::either(a.local, b.local),
+    }
+}
+
+/// The members but this local signal.
+pub fn all_but(s: LocalSignal, a: SignalSet) -> SignalSet
+    ensures { set_of result ≡ without s.index (set_of a) }
+{
+    SignalSet {
+        interface: a.interface,
+        local: mask::without(a.local, s.index),
+    }
+}
+
+/// Whether the local signal is a member.
+pub fn has_local(a: SignalSet, s: LocalSignal) -> bool
+    ensures { result ≡ set_of a (inner s.index) }
+{
+    mask::has(a.local, s.index)
+}
+
+/// Whether the signal is a member.
+pub fn has_signal(a: SignalSet, s: Signal) -> bool
+    ensures { result ≡ set_of a (name_of s) }
+{
+    match s {
+        Signal::Interface(s) => mask::has(a.interface, s.index),
+        Signal::Local(s) => mask::has(a.local, s.index),
+    }
+}
+
+/// What is known of a signal.
+#[derive(Clone, Copy, PartialEq, Eq)]
+pub enum Status {
+    Present,
+    Absent,
+    Unknown,
+}
+
+/// What is known of each signal: those that are present, and those that may be.
+#[derive(Clone, Copy, PartialEq, Eq)]
+pub struct Env {
+    pub present: SignalSet,
+    pub possible: SignalSet,
+}
+
+/// What is known of that which a test asks.
+pub fn answer_to(env: &Env, test: Test) -> Status
+    ensures { status_is result ≡ status_of (env_of env.now) (query_of test) }
+{
+    match test {
+        Test::Tick => Status::Present,
+        Test::Status(s) => {
+            if has_signal(env.present, s) {
+                Status::Present
+            } else if has_signal(env.possible, s) {
+                Status::Unknown
+            } else {
+                Status::Absent
+            }
+        }
+    }
+}
+
+/// The environment in which the local signal is as it was decided.
+pub fn set_local(env: &Env, s: LocalSignal, present: bool, possible: bool) -> Env
+    ensures { env_of result ≡ with_local (env_of env.now) s.index (verdict present possible) }
+{
+    Env {
+        present: put_local(env.present, s, present),
+        possible: put_local(env.possible, s, possible),
+    }
+}
+
+/// The set with this local signal in it, or not.
+fn put_local(a: SignalSet, s: LocalSignal, is_in: bool) -> SignalSet
+    ensures { set_of result ≡ with_member (set_of a) s.index is_in }
+{
+    SignalSet {
+        interface: a.interface,
+        local: if is_in {
+            mask::with(a.local, s.index)
+        } else {
+            mask::without(a.local, s.index)
+        },
+    }
+}
