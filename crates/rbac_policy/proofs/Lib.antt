@@ -22,3 +22,4 @@ pub mod Asking
 pub mod Adding
 pub mod Absorbing
 pub mod Beginning
+pub mod Reading

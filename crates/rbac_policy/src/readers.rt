@@ -1,0 +1,93 @@
+//! What a policy says of users, roles, permissions and sessions: what it is asked before a policy command is accepted.
+ghost use Rattle.std.specs.Prelude.{◌↔◌, List, IsTrue};
+ghost use Rattle.rbac_policy.specs.declared.commands.Entry.{Entry};
+ghost use Rattle.rbac_policy.specs.Facts.{IsUser, IsRole, IsGranted, IsPairGranted, IsAuthorized, IsLive};
+ghost use Rattle.rbac_policy.specs.Fits.{NumbersExhausted, SessionsFull, PermissionsFull};
+ghost use Rattle.rbac_policy.specs.StandsFor.{StandsFor};
+
+use crate::closure::{below, has};
+use crate::commands::SessionId;
+use crate::names::Name;
+use crate::objects::{Object, Operation};
+use crate::policy::Policy;
+use crate::tables::{free_grant, free_session, grant_of, has_user, place_of, roles_of, session_of};
+
+impl Policy {
+    /// Whether the session lives.
+    pub fn lives(&self, session: SessionId) -> bool
+        ensures { (entries : List Entry) → StandsFor self.now entries → (IsTrue result ↔ IsLive entries session) }
+    {
+        session_of(&self.sessions, session).is_some()
+    }
+
+    /// Whether there is such a user.
+    pub fn is_user(&self, user: &Name) -> bool
+        ensures { (entries : List Entry) → StandsFor self.now entries → (IsTrue result ↔ IsUser entries user.now) }
+    {
+        has_user(&self.users, user)
+    }
+
+    /// Whether there is such a role.
+    pub fn is_role(&self, role: &Name) -> bool
+        ensures { (entries : List Entry) → StandsFor self.now entries → (IsTrue result ↔ IsRole entries role.now) }
+    {
+        place_of(&self.roles, role).is_some()
+    }
+
+    /// Whether the role itself has the permission.
+    pub fn is_granted(&self, role: &Name, operation: &Operation, object: &Object) -> bool
+        ensures { (entries : List Entry) → StandsFor self.now entries
+            → (IsTrue result ↔ IsGranted entries role.now operation.now object.now) }
+    {
+        match grant_of(&self.grants, operation, object) {
+            Some(grant) => match place_of(&self.roles, role) {
+                Some(place) => has(grant.roles, place as u32),
+                None => false,
+            },
+            None => false,
+        }
+    }
+
+    /// Whether some role itself has the permission.
+    pub fn is_pair_granted(&self, operation: &Operation, object: &Object) -> bool
+        ensures { (entries : List Entry) → StandsFor self.now entries
+            → (IsTrue result ↔ IsPairGranted entries operation.now object.now) }
+    {
+        grant_of(&self.grants, operation, object).is_some()
+    }
+
+    /// Whether a role at or above this one is assigned to the user.
+    pub fn is_authorized(&self, user: &Name, role: &Name) -> bool
+        ensures { (entries : List Entry) → StandsFor self.now entries
+            → (IsTrue result ↔ IsAuthorized entries user.now role.now) }
+    {
+        match place_of(&self.roles, role) {
+            Some(place) => has(
+                below(&self.juniors, roles_of(&self.users, user)),
+                place as u32,
+            ),
+            None => false,
+        }
+    }
+
+    /// Whether all session numbers were given.
+    pub fn are_numbers_exhausted(&self) -> bool
+        ensures { (entries : List Entry) → StandsFor self.now entries → (IsTrue result ↔ NumbersExhausted entries) }
+    {
+        self.logins == u16::MAX
+    }
+
+    /// Whether as many sessions live as there is room for.
+    pub fn are_sessions_full(&self) -> bool
+        ensures { (entries : List Entry) → StandsFor self.now entries → (IsTrue result ↔ SessionsFull entries) }
+    {
+        free_session(&self.sessions).is_none()
+    }
+
+    /// Whether as many pairs of an operation and an object as there is room for are granted to some role.
+    pub fn are_permissions_full(&self) -> bool
+        ensures { (entries : List Entry) → StandsFor self.now entries → (IsTrue result ↔ PermissionsFull entries) }
+    {
+        free_grant(&self.grants).is_none()
+    }
+}
