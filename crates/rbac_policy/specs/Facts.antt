@@ -10,11 +10,11 @@ use Rattle.rbac_policy.specs.Entries.{InForce, logins}
 use Rattle.rbac_policy.specs.Order.{Chain}
 use Rattle.rbac_policy.specs.Limits.{HasAtLeast}
 
--- the user was added, and not deleted since
+-- the user was added, and not deleted since (USERS of the standard)
 abbrev pub IsUser : List Entry → Text → Type 0
 IsUser entries user = InForce (λ before e. e.command ≡ AddUser user) (λ e. e.command ≡ DeleteUser user) entries
 
--- the role was added, and not deleted since
+-- the role was added, and not deleted since (ROLES)
 abbrev pub IsRole : List Entry → Text → Type 0
 IsRole entries role = InForce (λ before e. e.command ≡ AddRole role) (λ e. e.command ≡ DeleteRole role) entries
 
@@ -27,7 +27,7 @@ IsSet entries place set count roles =
 abbrev pub Unassigns : Text → Text → Entry → Type 0
 Unassigns user role e = (e.command ≡ DeassignUser user role) ⊎ (e.command ≡ DeleteUser user) ⊎ (e.command ≡ DeleteRole role)
 
--- the user has the role, not through other roles
+-- the user has the role, not through other roles (user assignment)
 abbrev pub IsAssigned : List Entry → Text → Text → Type 0
 IsAssigned entries user role = InForce (λ before e. e.command ≡ AssignUser user role) (Unassigns user role) entries
 
@@ -35,7 +35,7 @@ IsAssigned entries user role = InForce (λ before e. e.command ≡ AssignUser us
 abbrev pub Revokes : Text → Operation → Object → Entry → Type 0
 Revokes role op object e = (e.command ≡ RevokePermission role op object) ⊎ (e.command ≡ DeleteRole role)
 
--- the role itself has the permission
+-- the role itself has the permission (permission assignment)
 abbrev pub IsGranted : List Entry → Text → Operation → Object → Type 0
 IsGranted entries role op object = InForce (λ before e. e.command ≡ GrantPermission role op object) (Revokes role op object) entries
 
@@ -48,11 +48,11 @@ abbrev pub Disinherits : Text → Text → Entry → Type 0
 Disinherits senior junior e =
     (e.command ≡ DeleteInheritance senior junior) ⊎ (e.command ≡ DeleteRole senior) ⊎ (e.command ≡ DeleteRole junior)
 
--- an edge leads from the senior to the junior
+-- an edge leads from the senior to the junior (AddInheritance; this project keeps the pairs as they were given)
 abbrev pub IsEdge : List Entry → Text → Text → Type 0
 IsEdge entries senior junior = InForce (λ before e. e.command ≡ AddInheritance senior junior) (Disinherits senior junior) entries
 
--- the entry makes the session of this number: the n-th that makes one makes number n
+-- the entry makes the session of this number: the n-th that makes one makes number n, so that no number is used again
 pub record Creates (session : ℕ) (user : Text) (roles : List Text) (before : List Entry) (e : Entry) : Type 0 where
   pub login : e.command ≡ CreateSession user roles
   pub number : session ≡ logins before + 1
@@ -72,16 +72,16 @@ TakesUp session role e = (e.session ≡ Some session) × (e.command ≡ AddActiv
 abbrev pub LaysDown : ℕ → Text → Entry → Type 0
 LaysDown session role e = (e.session ≡ Some session) × (e.command ≡ DropActiveRole role)
 
--- the role was given to the session when it was made, or taken up by it, and not laid down since
+-- the role was given to the session when it was made, or taken up by it, and not laid down since (session_roles)
 abbrev pub IsActive : List Entry → ℕ → Text → Type 0
 IsActive entries session role =
     InForce (λ before e. CreatesWith session role before e ⊎ TakesUp session role e) (LaysDown session role) entries
 
--- a chain of edges, possibly empty, leads from the senior to the junior
+-- a chain of edges, possibly empty, leads from the senior to the junior (the inheritance relation)
 abbrev pub IsAtOrBelow : List Entry → Text → Text → Type 0
 IsAtOrBelow entries junior senior = Chain (IsEdge entries) senior junior
 
--- a role at or above this one is assigned to the user
+-- a role at or above this one is assigned to the user (authorized_users)
 pub record IsAuthorized (entries : List Entry) (user role : Text) : Type 0 where
   pub exists : IsRole entries role
   pub by : Text
@@ -97,6 +97,7 @@ abbrev pub Ends : ℕ → Text → Entry → Type 0
 Ends session user e = ((e.session ≡ Some session) × (e.command ≡ DeleteSession)) ⊎ (e.command ≡ DeleteUser user)
 
 -- the session was made for the user and not ended since, and at each time since it had only roles for which the user was authorized
+-- (this project's form: the command that takes the authorization away ends the session)
 pub record Lives (entries : List Entry) (session : ℕ) (user : Text) : Type 0 where
   pub at : ℕ
   pub entry : Entry
@@ -110,7 +111,7 @@ pub record Lives (entries : List Entry) (session : ℕ) (user : Text) : Type 0 w
 abbrev pub IsLive : List Entry → ℕ → Type 0
 IsLive entries session = (user : Text) × Lives entries session user
 
--- the session lives, and a role at or below one that is active in it has the permission
+-- the session lives, and a role at or below one that is active in it has the permission (CheckAccess)
 pub record May (entries : List Entry) (session : ℕ) (op : Operation) (object : Object) : Type 0 where
   pub user : Text
   pub lives : Lives entries session user

@@ -164,3 +164,44 @@ impl Policy {
         self.version
     }
 }
+
+#[cfg(test)]
+mod tests {
+    use super::*;
+
+    fn entry(session: Option<SessionId>, command: AdminCommand) -> Entry {
+        Entry { session, command }
+    }
+
+    #[test]
+    fn opening_story(rt: HostRuntime) {
+        let root = Name::root();
+        let mut roles = RoleNames::new();
+        assert!(rt; roles.is_empty());
+        roles.push(root);
+        let session = SessionId::new(1);
+        let mut policy = Policy::opening();
+        assert_eq!(rt; policy.version(), 4);
+        assert!(rt; !policy.may(session, &Operation::Administer, &Object::Policy));
+
+        policy.absorb(&entry(None, AdminCommand::CreateSession { user: root, roles }));
+        assert!(rt; policy.may(session, &Operation::Administer, &Object::Policy));
+        assert!(rt; !policy.may(session, &Operation::Audit, &Object::Policy));
+        assert!(rt; !policy.may(SessionId::new(2), &Operation::Administer, &Object::Policy));
+
+        let object = Object::from_text("0").unwrap_or(Object::Policy);
+        let grant = AdminCommand::GrantPermission {
+            role: root,
+            operation: Operation::Load,
+            object,
+        };
+        assert!(rt; !policy.may(session, &Operation::Load, &object));
+        policy.absorb(&entry(Some(session), grant));
+        assert!(rt; policy.may(session, &Operation::Load, &object));
+        assert!(rt; !policy.may(session, &Operation::Step, &object));
+
+        policy.absorb(&entry(Some(session), AdminCommand::DeleteSession));
+        assert!(rt; !policy.may(session, &Operation::Administer, &Object::Policy));
+        assert_eq!(rt; policy.version(), 7);
+    }
+}
