@@ -4,13 +4,13 @@
 //! answer what is asked of a policy before a policy command is accepted.
 #![tactic(auto)]
 
-pub mod closure;
+mod closure;
 pub mod commands;
 pub mod names;
 pub mod objects;
 pub mod opening;
 pub mod policy;
 pub mod readers;
-pub mod rows;
+mod rows;
 mod tables;
 pub mod texts;
