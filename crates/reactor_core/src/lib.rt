@@ -11,5 +11,6 @@ pub mod entry;
 pub mod journal;
 pub mod laws;
 pub mod reactor;
+pub mod reader;
 pub mod refusal;
 pub mod text;

@@ -1,0 +1,74 @@
+//! From the text of one module to its interface and its body.
+//!
+//! The text is cut into tokens (`lexer`), the tokens are read as a tree with names (`parser`, `tree`), the names and
+//! sizes are checked (`checks`, `size`), and the tree is put into kernel statements (`translation`). Each step runs
+//! over the whole text before the next begins, so a lexical fault anywhere is answered before any other.
+//!
+//! Recursion is bounded whatever the text: the parser opens at most `NESTING` units in one another and reads the units
+//! of a sequence in a loop, and only a tree of at most `MOST_STATEMENTS` statements is turned into nested boxes.
+
+ghost use Rattle.std.specs.Prelude.{IfOk};
+ghost use Rattle.est_kernel.specs.Scope.{IsClosed};
+ghost use Rattle.est_kernel.specs.View.{term_of};
+
+mod checks;
+mod cursor;
+pub mod fault;
+mod keyword;
+mod lexer;
+mod names;
+mod parser;
+mod piece;
+mod place;
+mod scan;
+mod size;
+mod token;
+mod translation;
+mod tree;
+
+use crate::reader::checks::check;
+use crate::reader::fault::ReadFault;
+use crate::reader::lexer::{LexicalFault, lex};
+use crate::reader::parser::{SyntaxFault, parse};
+use crate::reader::place::{front, place_after};
+use crate::reader::translation::{interface_of, statement_of};
+use crate::refusal::Limit;
+use est_kernel::identifier::Identifier;
+use est_kernel::interface::Interface;
+use est_kernel::statement::Statement;
+use std::alloc::Global;
+
+/// The fault of a text that has no tokens.
+fn lexical_fault(text: &str, fault: LexicalFault) -> ReadFault {
+    match fault {
+        LexicalFault::NoToken(start) => ReadFault::Lexical(place_after(front(text, start))),
+        LexicalFault::Memory => ReadFault::Memory,
+    }
+}
+
+/// The fault of a text whose tokens are no module.
+fn syntax_fault(text: &str, fault: SyntaxFault) -> ReadFault {
+    let start = match fault {
+        SyntaxFault::Unexpected { start } => start,
+        SyntaxFault::Ended => text.len(),
+        SyntaxFault::Nesting => return ReadFault::TooLarge(Limit::Nesting),
+        SyntaxFault::Memory => return ReadFault::Memory,
+    };
+    ReadFault::Syntax(place_after(front(text, start)))
+}
+
+/// Reads the text of one module, whose name is that of the main module.
+pub fn read_module(
+    alloc: Global,
+    main: &Identifier,
+    text: &str,
+) -> Result<(Interface, Statement), ReadFault>
+    ensures { IfOk result (λ p. IsClosed p.0 0 0 (term_of p.1)) }
+{
+    let tokens = lex(alloc, text).map_err(|fault| lexical_fault(text, fault))?;
+    let module = parse(alloc, &tokens).map_err(|fault| syntax_fault(text, fault))?;
+    check(alloc, main, &module)?;
+    let interface = interface_of(alloc, &module.declarations)?;
+    let root = statement_of(alloc, &interface, &module.body)?;
+    Ok((interface, root))
+}
