@@ -1,6 +1,7 @@
 //! The policy, and what each entry makes of it.
 ghost use Rattle.std.specs.Prelude.{◌≡◌, ◌↔◌, ◌++◌, ◌∷◌, [], List, length, IsTrue};
 ghost use Rattle.rbac_policy.specs.declared.commands.Entry.{Entry};
+ghost use Rattle.rbac_policy.specs.Entries.{logins};
 ghost use Rattle.rbac_policy.specs.Facts.{May};
 ghost use Rattle.rbac_policy.specs.Fits.{Fits};
 ghost use Rattle.rbac_policy.specs.Opening.{opening_entries};
@@ -163,6 +164,13 @@ impl Policy {
     {
         self.version
     }
+
+    /// How many sessions were ever made, which is the number of the last one.
+    pub fn logins(&self) -> u16
+        ensures { (entries : List Entry) → StandsFor self.now entries → result ≡ logins entries }
+    {
+        self.logins
+    }
 }
 
 #[cfg(test)]
@@ -203,5 +211,6 @@ mod tests {
         policy.absorb(&entry(Some(session), AdminCommand::DeleteSession));
         assert!(rt; !policy.may(session, &Operation::Administer, &Object::Policy));
         assert_eq!(rt; policy.version(), 7);
+        assert_eq!(rt; policy.logins(), 1);
     }
 }
