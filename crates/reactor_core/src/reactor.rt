@@ -20,6 +20,7 @@ use est_kernel::mask;
 use est_kernel::state::{Inputs, Outcome, State, Stuck};
 use est_kernel::statement::InterfaceSignal;
 use est_rounds::engine::Engine;
+use est_rounds::rounds::Rounds;
 use std::alloc::Global;
 use std::marker::Model;
 
@@ -235,8 +236,16 @@ impl Reactor {
         Ok(())
     }
 
+    /// Makes the pending inputs the next instant's: its outputs are those of the constructive reaction. Where there is no
+    /// reaction it is refused as Stuck, with the undecided outputs, and the inputs stay pending.
+    pub fn step(&mut self, stamp: Stamp) -> Result<(), Refusal>
+        ensures { StepAnswer self.old stamp result self.new }
+    {
+        self.step_by(&mut Rounds::new(), stamp)
+    }
+
     /// Makes the pending inputs the next instant's, by this engine.
-    pub(crate) fn step_by<E: Engine>(&mut self, engine: &mut E, stamp: Stamp) -> Result<(), Refusal>
+    fn step_by<E: Engine>(&mut self, engine: &mut E, stamp: Stamp) -> Result<(), Refusal>
         requires { (r : Running) → running_of self.old ≡ Some r → E.is_for engine.old r.kernel }
         ensures { StepAnswer self.old stamp result self.new }
     {
