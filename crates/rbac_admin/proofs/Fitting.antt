@@ -1,0 +1,101 @@
+-- An entry that the policy step accepts is one that the policy can take in.
+use Rattle.std.proofs.Common.{◌≡◌, ℕ, zero, suc, ◌+◌, ◌<◌, ◌^◌, ◌↔◌, List, [], ◌∷◌, ◌++◌, length, true, false, Bool, IsTrue, rules, inl, inr, arith, sym, ◌∙◌, ap, refl, subst}
+use Rattle.std.specs.Prelude.{Option, Some, None, Ok, is_some}
+use Rattle.std.proofs.lemmas.Bool.{cases_lt}
+use Rattle.std.proofs.lemmas.Option.{slice_get-get_or}
+use Rattle.rbac_policy.specs.declared.policy.Policy.{Policy}
+use Rattle.rbac_policy.specs.declared.commands.AdminCommand.{AdminCommand}
+use Rattle.rbac_policy.specs.declared.commands.AdminCommand.TheVariants.{AddUser, DeleteUser, AddRole, DeleteRole, AssignUser, DeassignUser, GrantPermission, RevokePermission, AddInheritance, DeleteInheritance, CreateDsdSet, DeleteDsdSet, CreateSession, DeleteSession, AddActiveRole, DropActiveRole}
+use Rattle.rbac_policy.specs.declared.commands.Entry.{Entry}
+use Rattle.rbac_policy.specs.Names.{Text}
+use Rattle.rbac_policy.specs.Entries.{logins}
+use Rattle.rbac_policy.specs.Facts.{IsRole}
+use Rattle.rbac_policy.specs.Tables.{place_of}
+use Rattle.rbac_policy.specs.Fits.{Fits, FitsCommand}
+use Rattle.rbac_policy.specs.StandsFor.{StandsFor}
+use Rattle.rbac_policy.specs.Change.{absorbed}
+use Rattle.rbac_policy.proofs.Asking.{role_test}
+use Rattle.rbac_policy.proofs.Absorbing.{stands_after}
+use Rattle.rbac_admin.specs.Rules.{FirstListed}
+use Rattle.rbac_admin.specs.Conditions.{HasSession}
+use Rattle.rbac_admin.specs.PolicyStep.{PolicyStep, entry_of, is_decided}
+use Rattle.rbac_admin.proofs.Accepted.{passed, accepted_entry}
+use Rattle.rbac_admin.proofs.Listing.{NoneBefore, none_at_first, none_further, first_here}
+
+-- where no name is the first with the property, none has it
+none_anywhere : (P : List Text → Text → Type 0) (names : List Text) → ((name : Text) → FirstListed P names name → ⊥) → (place : ℕ) → NoneBefore P names place
+none_anywhere P names none zero = none_at_first P names
+none_anywhere P names none (suc place) =
+    let before = none_anywhere P names none place in
+    let further = none_further P names place before (λ name there has. none name (first_here P names place name before there has)) in
+    record { none = λ k name low. further.none k name (omega arith) }
+
+-- the test of a role decides it
+role_unless : (p : Policy) (L : List Entry) → StandsFor p L → (r : Text) → ((IsRole L r → ⊥) → ⊥) → IsRole L r
+role_unless p L st r not_not = by_test (is_some (place_of r p.roles)) (role_test p L st r (is_some (place_of r p.roles)) refl) where
+  by_test : (b : Bool) → (IsTrue b ↔ IsRole L r) → IsRole L r
+  by_test true test = test.0 (search rules)
+  by_test false test = absurd (not_not (λ h. absurd (search (rules, test.1 h))))
+
+given_unless : (L : List Entry) (session : Option ℕ) → ((HasSession L session → ⊥) → ⊥) → (number : ℕ) × (session ≡ Some number)
+given_unless L (Some number) not_not = (number, refl)
+given_unless L None not_not = absurd (not_not (λ h. (let given = h.1.given in cc)))
+
+module _ (p : Policy) (L : List Entry) (st : StandsFor p L) where
+  fits_command : (session : Option ℕ) (command : AdminCommand) (e : Entry) → is_decided command ≡ true → PolicyStep L session command (Ok e)
+      → FitsCommand (entry_of session command).command (entry_of session command).session L
+  fits_command session (GrantPermission role operation object) e decided h =
+      let a = passed e h in
+      let b = passed e a.then in
+      let c = passed e b.then in
+      let d = passed e c.then in
+      let f = passed e d.then in
+      record {
+        is_role = role_unless p L st role (λ no. c.silent _ (refl, no));
+        room = λ new full. f.silent _ (refl, record { new = new; full = full });
+      }
+  fits_command session (CreateSession user roles) e decided h =
+      let a = passed e h in
+      let b = passed e a.then in
+      let c = passed e b.then in
+      let d = passed e c.then in
+      let f = passed e d.then in
+      let g = passed e f.then in
+      let i = passed e g.then in
+      let unknown = none_anywhere (λ before role. IsRole L role → ⊥) roles (λ name first. c.silent _ (name, refl, first)) in
+      record {
+        by_none = refl;
+        are_roles = λ role listed. role_unless p L st role
+            ((unknown (suc listed.0)).none listed.0 role (omega arith) (slice_get-get_or roles listed.0 role listed.1 ∙ ap Some listed.2));
+        room = λ full. i.silent _ (refl, full);
+        numbers = elim (cases_lt (logins L) 65535) [ inl low ↦ low | inr high ↦ absurd (a.silent _ (refl, high)) ];
+      }
+  fits_command session DeleteSession e decided h =
+      let a = passed e h in
+      let n = given_unless L session (λ no. a.silent _ (refl, no)) in
+      record { number = n.0; given = n.1 }
+  fits_command session (AddUser user) e decided h = cc
+  fits_command session (DeleteUser user) e decided h = cc
+  fits_command session (AddRole role) e decided h = cc
+  fits_command session (DeleteRole role) e decided h = cc
+  fits_command session (AssignUser user role) e decided h = cc
+  fits_command session (DeassignUser user role) e decided h = cc
+  fits_command session (RevokePermission role operation object) e decided h = cc
+  fits_command session (AddInheritance senior junior) e decided h = cc
+  fits_command session (DeleteInheritance senior junior) e decided h = cc
+  fits_command session (CreateDsdSet set count roles) e decided h = cc
+  fits_command session (DeleteDsdSet set) e decided h = cc
+  fits_command session (AddActiveRole role) e decided h = cc
+  fits_command session (DropActiveRole role) e decided h = cc
+
+  -- an accepted entry fits
+  pub accepted_fits : (session : Option ℕ) (command : AdminCommand) (e : Entry) → length L + 1 < 2 ^ 64 → is_decided command ≡ true → PolicyStep L session command (Ok e) → Fits L e
+  accepted_fits session command e few decided h =
+      let is = accepted_entry L session command e h in
+      let Fitting : Entry → Type 0 = λ x. FitsCommand x.command x.session L in
+      record { few = few; command = subst Fitting (sym is) (fits_command session command e decided h) }
+
+  -- the policy that has taken it in stands for the longer list
+  pub accepted_stands : (session : Option ℕ) (command : AdminCommand) (e : Entry) → length L + 1 < 2 ^ 64 → is_decided command ≡ true → PolicyStep L session command (Ok e)
+      → StandsFor (absorbed p e) (L ++ e ∷ [])
+  accepted_stands session command e few decided h = stands_after p L e st (accepted_fits session command e few decided h)

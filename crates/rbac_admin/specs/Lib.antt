@@ -1,0 +1,4 @@
+pub mod Rules
+pub mod Conditions
+pub mod Separation
+pub mod PolicyStep

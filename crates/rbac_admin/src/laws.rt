@@ -1,0 +1,42 @@
+//! Laws of the policy step, for callers that reason about lists of entries. Nothing here runs.
+ghost use Rattle.std.specs.Prelude.{◌≡◌, ℕ, ◌+◌, ◌<◌, ◌^◌, List, [], ◌∷◌, ◌++◌, length, Option, Result, Ok, IsTrue};
+ghost use Rattle.rbac_policy.specs.declared.commands.AdminCommand.{AdminCommand};
+ghost use Rattle.rbac_policy.specs.declared.commands.Entry.{Entry};
+ghost use Rattle.rbac_policy.specs.declared.policy.Policy.{Policy};
+ghost use Rattle.rbac_policy.specs.Change.{absorbed};
+ghost use Rattle.rbac_policy.specs.StandsFor.{StandsFor};
+ghost use Rattle.rbac_admin.specs.declared.refusals.Refusal.{Refusal};
+ghost use Rattle.rbac_admin.specs.Conditions.{Administers};
+ghost use Rattle.rbac_admin.specs.PolicyStep.{PolicyStep, entry_of, is_administrative, is_decided};
+
+/// The policy step gives one answer at most.
+pub fn one_answer()
+    ensures { (entries : List Entry) (session : Option ℕ) (command : AdminCommand) (a b : Result Entry Refusal)
+        → PolicyStep entries session command a → PolicyStep entries session command b → a ≡ b }
+{}
+
+/// An accepted entry is the command, with the session that gave it; a login has none.
+pub fn accepted_entry()
+    ensures { (entries : List Entry) (session : Option ℕ) (command : AdminCommand) (entry : Entry)
+        → PolicyStep entries session command (Ok entry) → entry ≡ entry_of session command }
+{}
+
+/// An accepted entry is accepted again from the entry alone.
+pub fn accepted_again()
+    ensures { (entries : List Entry) (session : Option ℕ) (command : AdminCommand) (entry : Entry)
+        → PolicyStep entries session command (Ok entry) → PolicyStep entries entry.session entry.command (Ok entry) }
+{}
+
+/// No administrative command is accepted from a session that may not administer the policy.
+pub fn not_accepted()
+    ensures { (entries : List Entry) (session : Option ℕ) (command : AdminCommand) (entry : Entry)
+        → IsTrue (is_administrative command) → (Administers entries session → ⊥)
+        → PolicyStep entries session command (Ok entry) → ⊥ }
+{}
+
+/// A policy that stands for a list, and then takes in an accepted entry, stands for the longer list.
+pub fn accepted_stands()
+    ensures { (policy : Policy) (entries : List Entry) (session : Option ℕ) (command : AdminCommand) (entry : Entry)
+        → StandsFor policy entries → length entries + 1 < 2 ^ 64 → IsTrue (is_decided command)
+        → PolicyStep entries session command (Ok entry) → StandsFor (absorbed policy entry) (entries ++ entry ∷ []) }
+{}
