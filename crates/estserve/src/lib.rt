@@ -1,0 +1,9 @@
+//! Lines of a connection: requests and replies as JSON, one on a line.
+//!
+//! `reading` gives the request that a line asks for, exactly where it asks for one, and tells a line that is no JSON from one that is no request.
+//! `reply` writes a reply as its one text.
+#![tactic(auto)]
+
+pub mod reading;
+pub mod reply;
+pub mod request;

@@ -1,0 +1,55 @@
+//! What a line may ask for.
+use est_kernel::identifier::Identifier;
+use rbac_policy::names::{Name, RoleNames};
+use rbac_policy::objects::{Object, Operation};
+use reactor_core::text::Text;
+
+/// What a line asks for.
+#[derive(Drop)]
+pub enum Request {
+    /// A session of the user with these roles active.
+    Login {
+        roles: RoleNames,
+        user: Name,
+    },
+    /// The end of the connection's session.
+    Logout,
+    /// The permission of this operation on this object, for the role.
+    Grant {
+        object: Object,
+        operation: Operation,
+        role: Name,
+    },
+    /// The module `main` of the text, for the slot.
+    Load {
+        main: Identifier,
+        slot: u64,
+        text: Text,
+    },
+    /// The input, present in the slot's next instant.
+    Offer {
+        signal: Identifier,
+        slot: u64,
+    },
+    /// The slot's next instant.
+    Step {
+        slot: u64,
+    },
+    /// The signals of one of the slot's instants.
+    Look {
+        instant: u64,
+        slot: u64,
+    },
+}
+
+/// The commands that a line may name.
+#[derive(Clone, Copy, Debug, PartialEq, Eq)]
+pub enum Command {
+    Login,
+    Logout,
+    Grant,
+    Load,
+    Offer,
+    Step,
+    Look,
+}
