@@ -1,6 +1,7 @@
 pub mod Reacting
 pub mod Meaning
 pub mod Standing
+pub mod Faults
 pub mod Answers
 pub mod Keywords
 pub mod Lexical

@@ -11,6 +11,6 @@ pub mod entry;
 pub mod journal;
 pub mod laws;
 pub mod reactor;
-pub mod reader;
+mod reader;
 pub mod refusal;
 pub mod text;

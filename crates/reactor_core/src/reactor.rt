@@ -1,5 +1,5 @@
 //! A running module with its journal.
-ghost use Rattle.std.specs.Prelude.{◌≡◌, ◌⊎◌, ◌<◌, ◌-◌, ◌^◌, ◌++◌, ◌∷◌, [], length, bit_or, Some, MatchResult, MatchOption, ℕ, true, false, slice_get};
+ghost use Rattle.std.specs.Prelude.{◌≡◌, ◌⊎◌, ◌<◌, ◌-◌, ◌^◌, ◌++◌, ◌∷◌, [], length, bit_or, Some, MatchResult, MatchOption, IfErr, ℕ, true, false, slice_get};
 ghost use Rattle.est_kernel.specs.Bits.{bits};
 ghost use Rattle.est_kernel.specs.declared.interface.Kind.TheVariants.{Input};
 ghost use Rattle.est_kernel.specs.Term.{Term};
@@ -8,11 +8,13 @@ ghost use Rattle.est_meaning.specs.States.{IsState};
 ghost use Rattle.est_rounds.specs.Contract.{AreInputs, IsReaction, HasNoReaction};
 ghost use Rattle.reactor_core.specs.Meaning.{Running, running_of, entry};
 ghost use Rattle.reactor_core.specs.Standing.{LoadsAt, IsRunning};
-ghost use Rattle.reactor_core.specs.Answers.{OfferAnswer, StepAnswer, ShownAnswer, HasRoom, RefusesEntry, RefusesName, IsSignal};
+ghost use Rattle.reactor_core.specs.Answers.{LoadAnswer, IsReadFault, OfferAnswer, StepAnswer, ShownAnswer, HasRoom, RefusesEntry, RefusesName, IsSignal};
 
 use crate::entry::{Action, Instant, Load, SlotEntry, Stamp};
 use crate::journal::{JOURNAL_ENTRIES, Journal};
+use crate::reader::read_module;
 use crate::refusal::Refusal;
+use crate::text::Text;
 use est_kernel::identifier::Identifier;
 use est_kernel::interface::{Interface, Kind};
 use est_kernel::kernel::Kernel;
@@ -154,6 +156,15 @@ fn append_step(
     Ok(())
 }
 
+/// The kernel of the module `main` of a text.
+fn read_kernel(alloc: Global, main: &Identifier, text: &str) -> Result<Kernel, Refusal>
+    ensures { IfErr result IsReadFault }
+{
+    let (interface, root) = read_module(alloc, main, text)?;
+    let kernel = Kernel::build(interface, root)?;
+    Ok(kernel)
+}
+
 impl Reactor {
     /// The interface of the module that runs.
     pub fn interface(&self) -> &Interface
@@ -191,9 +202,26 @@ impl Reactor {
         self.pending
     }
 
-    /// The reactor of a kernel that was read from a text's module `main`: it has not begun, and its journal has the
-    /// load's entry. A refusal, JournalFull or Memory, gives the journal back as it was.
-    pub(crate) fn begin(
+    /// Loads the module `main` of a text: the reactor has not begun, and its journal has the load's entry. A refusal, by
+    /// the text, JournalFull or Memory, gives the journal back as it was.
+    pub fn load(
+        alloc: Global,
+        journal: Journal,
+        stamp: Stamp,
+        main: Identifier,
+        text: Text,
+    ) -> Result<Reactor, (Refusal, Journal)>
+        ensures { LoadAnswer journal stamp main text result }
+    {
+        match read_kernel(alloc, &main, text.as_str()) {
+            Ok(kernel) => Reactor::begin(alloc, journal, stamp, Load { main, text, kernel }),
+            Err(refusal) => Err((refusal, journal)),
+        }
+    }
+
+    /// The reactor of a load: it has not begun, and its journal has the load's entry. A refusal, JournalFull or Memory,
+    /// gives the journal back as it was.
+    fn begin(
         alloc: Global,
         journal: Journal,
         stamp: Stamp,

@@ -1,5 +1,7 @@
 //! What a reactor refuses.
+use crate::reader::fault::ReadFault;
 use est_kernel::identifier::Identifier;
+use est_kernel::kernel::LoadFault;
 use est_kernel::limits::Limit as KernelLimit;
 
 /// A place in a text: line and column, both from 1; columns count bytes.
@@ -26,9 +28,13 @@ pub enum Limit {
     Locals,
 }
 
-impl Limit {
-    /// The limit of a kernel's size.
-    pub fn of_kernel(limit: KernelLimit) -> Limit {
+impl From<KernelLimit> for Limit {
+    ghost use Rattle.std.specs.Prelude.{◌≡◌};
+    ghost use Rattle.reactor_core.specs.Faults.{limit_of};
+
+    ghost from_gives = { λ limit r. r ≡ limit_of limit };
+
+    fn from(limit: KernelLimit) -> Limit {
         match limit {
             KernelLimit::Statements => Limit::Statements,
             KernelLimit::Loops => Limit::Loops,
@@ -71,4 +77,38 @@ pub enum Refusal {
     TooLarge(Limit),
     /// Memory was refused.
     Memory,
+}
+
+impl From<ReadFault> for Refusal {
+    ghost use Rattle.std.specs.Prelude.{◌≡◌};
+    ghost use Rattle.reactor_core.specs.Faults.{refusal_of_text};
+
+    ghost from_gives = { λ fault r. r ≡ refusal_of_text fault };
+
+    fn from(fault: ReadFault) -> Refusal {
+        match fault {
+            ReadFault::Lexical(place) => Refusal::Lexical(place),
+            ReadFault::Syntax(place) => Refusal::Syntax(place),
+            ReadFault::UnknownModule(name) => Refusal::UnknownModule(name),
+            ReadFault::UnknownName(name) => Refusal::UnknownName(name),
+            ReadFault::DuplicateName(name) => Refusal::DuplicateName(name),
+            ReadFault::EmitInput(name) => Refusal::EmitInput(name),
+            ReadFault::TooLarge(limit) => Refusal::TooLarge(limit),
+            ReadFault::Memory => Refusal::Memory,
+        }
+    }
+}
+
+impl From<LoadFault> for Refusal {
+    ghost use Rattle.std.specs.Prelude.{◌≡◌};
+    ghost use Rattle.reactor_core.specs.Faults.{refusal_of_kernel};
+
+    ghost from_gives = { λ fault r. r ≡ refusal_of_kernel fault };
+
+    fn from(fault: LoadFault) -> Refusal {
+        match fault {
+            LoadFault::TooLarge(limit) => Refusal::TooLarge(Limit::from(limit)),
+            LoadFault::InstantLoop => Refusal::InstantLoop,
+        }
+    }
 }
