@@ -1,8 +1,10 @@
 pub mod Agree
 pub mod CodeSets
+pub mod Learning
 pub mod Monotony
 pub mod MustRules
 pub mod NextStates
+pub mod SafeLoops
+pub mod Settled
 pub mod Stepping
 pub mod Uniqueness
-pub mod Settled

@@ -264,7 +264,7 @@ can_chosen v w a b x c d y (inl h) f g i j k = rw h (any w)
     any unknown = i
 
 -- what a local signal is, with more knowledge
-verdict_below : (b c b' c' : Bool) → (b ≡ true → b' ≡ true) → (c' ≡ true → c ≡ true) → (b' ≡ true → c' ≡ true) → IsBelow (verdict b c) (verdict b' c')
+pub verdict_below : (b c b' c' : Bool) → (b ≡ true → b' ≡ true) → (c' ≡ true → c ≡ true) → (b' ≡ true → c' ≡ true) → IsBelow (verdict b c) (verdict b' c')
 verdict_below true c b' c' f g i = rw (f refl) (inr refl)
 verdict_below false true b' c' f g i = inl refl
 verdict_below false false true c' f g i = absurd (both_ways false refl (g (i refl)))

@@ -1,5 +1,5 @@
 -- The laws of the meaning, as they are promised by the functions of the module of laws.
-use Rattle.std.specs.Prelude.{◌≡◌, ℕ, Bool, true}
+use Rattle.std.specs.Prelude.{◌≡◌, ◌≤◌, ◌<◌, ℕ, suc, Bool, true}
 use Rattle.est_kernel.specs.Term.{Term}
 use Rattle.est_kernel.specs.Codes.{code}
 use Rattle.est_meaning.specs.Signals.{Signals}
@@ -7,9 +7,10 @@ use Rattle.est_meaning.specs.Status.{Env}
 use Rattle.est_meaning.specs.MustCan.{Acts, Mode, sure, maybe, must, can}
 use Rattle.est_kernel.specs.StartCodes.{IsLoopSafe}
 use Rattle.est_meaning.specs.Rules.{Gives}
+use Rattle.est_meaning.specs.Rounds.{Judged, first_env, env_after, how_many, last_env}
 use Rattle.est_meaning.specs.Knowledge.{KnowsLess, IsWithin}
 use Rattle.est_meaning.specs.States.{HasPausedAt, IsState, state_term}
-use Rattle.est_kernel.specs.View.{term_at, IsNumbered}
+use Rattle.est_kernel.specs.View.{term_of, term_at, IsNumbered}
 use Rattle.est_kernel.specs.declared.statement.Statement.{Statement}
 use Rattle.est_kernel.specs.declared.state.State.{State}
 
@@ -45,6 +46,20 @@ pub record MonotoneLaw : Type 0 where
   pub can_shrinks : (t : Term) (m : Mode) (e f : Env) → KnowsLess e f → IsWithin (can t m f) (can t m e)
   pub must_in_can : (t : Term) (e : Env) → IsWithin (must t e) (can t sure e)
   pub sure_in_maybe : (t : Term) (e : Env) → IsWithin (can t sure e) (can t maybe e)
+
+-- the judged signals have places of the interface
+abbrev pub IsWithinPlaces : Judged → Type 0
+IsWithinPlaces j = (n : ℕ) → j.has n ≡ true → n < j.places
+
+-- a round never takes back what was decided, and after as many rounds as there are judged signals nothing changes
+pub record RoundsLaw : Type 0 where
+  pub learns : (j : Judged) (inputs : ℕ → Bool) (t : Term) (n : ℕ) → KnowsLess (env_after n j t (first_env j inputs)) (env_after (suc n) j t (first_env j inputs))
+  pub settles : (j : Judged) → IsWithinPlaces j → (inputs : ℕ → Bool) (t : Term) (m : ℕ) → how_many j.has j.places ≤ m → env_after m j t (first_env j inputs) ≡ last_env j inputs t
+
+-- in a term whose loops' bodies take time, they still do after each step, and in each state of a statement
+pub record LoopsStaySafe : Type 0 where
+  pub after_a_step : (t : Term) (e : Env) (o : Signals) (k : ℕ) (u : Term) → IsLoopSafe t → Gives t e o k u → IsLoopSafe u
+  pub in_a_state : (s : Statement) → IsLoopSafe (term_of s) → (x : State) → IsLoopSafe (state_term s x)
 
 -- pauses of s that stand for u
 pub record StandsAt (s : Statement) (u : Term) : Type 0 where

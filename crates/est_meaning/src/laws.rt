@@ -1,6 +1,6 @@
 //! The laws of the meaning. Each function does nothing: its contract is the law.
 
-ghost use Rattle.est_meaning.specs.Laws.{DecidedByMust, Unique, MonotoneLaw, StateBits};
+ghost use Rattle.est_meaning.specs.Laws.{DecidedByMust, Unique, MonotoneLaw, StateBits, RoundsLaw, LoopsStaySafe};
 
 /// Where Must has no code there is no reaction, and where it has one, the reaction is Must's: so an engine may judge by Must alone.
 pub fn decided_by_must()
@@ -20,4 +20,14 @@ pub fn knowledge_is_monotone()
 /// A state of fixed size is enough: what a kernel that pauses has left to do is always some set of its own pauses.
 pub fn pauses_are_enough()
     ensures { StateBits }
+{}
+
+/// The rounds come to rest: after as many as there are outputs another one would decide nothing, so what is then unknown stays so.
+pub fn rounds_come_to_rest()
+    ensures { RoundsLaw }
+{}
+
+/// What is checked once, when a kernel is built, holds in every instant: no loop's body can end at once.
+pub fn loops_stay_safe()
+    ensures { LoopsStaySafe }
 {}

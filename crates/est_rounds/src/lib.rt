@@ -13,3 +13,5 @@ pub mod rounds;
 mod signal_set;
 mod start;
 mod step;
+#[cfg(test)]
+mod tests;

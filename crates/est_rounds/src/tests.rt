@@ -1,0 +1,349 @@
+//! Worked examples, run instant by instant. The interface is `input I; output O, P, Q`.
+
+ghost use Rattle.std.specs.Prelude.{IfOk, IsTrue, ◌<◌, ◌≡◌, length};
+ghost use Rattle.est_kernel.specs.Scope.{IsClosed, IsVisible, IsAsked, IsEmitted};
+ghost use Rattle.est_kernel.specs.View.{term_of, name_of, query_of};
+ghost use Rattle.est_meaning.specs.States.{IsState};
+ghost use Rattle.est_rounds.specs.Contract.{AreInputs};
+
+use crate::engine::Engine;
+use crate::rounds::Rounds;
+use est_kernel::identifier::Identifier;
+use est_kernel::interface::{Declaration, Interface, Kind, MOST_SIGNALS};
+use est_kernel::kernel::{Kernel, LoadFault};
+use est_kernel::state::{Inputs, State};
+use est_kernel::statement::{
+    InterfaceSignal, LocalSignal, PauseIndex, Signal, Statement, Test, TrapIndex,
+};
+use std::alloc::{AllocError, Global};
+use std::process::Abort;
+use std::test::Fail;
+
+const I: Test = Test::Status(Signal::Interface(InterfaceSignal { index: 0 }));
+
+const O: Signal = Signal::Interface(InterfaceSignal { index: 1 });
+
+const P: Signal = Signal::Interface(InterfaceSignal { index: 2 });
+
+const Q: Signal = Signal::Interface(InterfaceSignal { index: 3 });
+
+const S: Signal = Signal::Local(LocalSignal { index: 0 });
+
+fn emit(signal: Signal) -> Statement {
+    Statement::Emit(signal)
+}
+
+fn pause() -> Statement {
+    Statement::Pause(PauseIndex { index: 0 })
+}
+
+fn exit() -> Statement {
+    Statement::Exit(TrapIndex { index: 0 })
+}
+
+fn seq(alloc: Global, p: Statement, q: Statement) -> Result<Statement, AllocError> {
+    Ok(Statement::Seq(Box::new(alloc, p)?, Box::new(alloc, q)?))
+}
+
+fn par(alloc: Global, p: Statement, q: Statement) -> Result<Statement, AllocError> {
+    Ok(Statement::Par(Box::new(alloc, p)?, Box::new(alloc, q)?))
+}
+
+fn present(alloc: Global, t: Test, p: Statement, q: Statement) -> Result<Statement, AllocError> {
+    Ok(Statement::Present(t, Box::new(alloc, p)?, Box::new(alloc, q)?))
+}
+
+fn trap(alloc: Global, p: Statement) -> Result<Statement, AllocError> {
+    Ok(Statement::Trap(Box::new(alloc, p)?))
+}
+
+fn again(alloc: Global, p: Statement) -> Result<Statement, AllocError> {
+    Ok(Statement::Loop(Box::new(alloc, p)?))
+}
+
+fn suspend(alloc: Global, t: Test, p: Statement) -> Result<Statement, AllocError> {
+    Ok(Statement::Suspend(t, Box::new(alloc, p)?))
+}
+
+fn local(alloc: Global, p: Statement) -> Result<Statement, AllocError> {
+    Ok(Statement::Local(LocalSignal { index: 0 }, Box::new(alloc, p)?))
+}
+
+fn is_visible(signal: Signal, interface: &Interface, locals: u8) -> bool
+    ensures { IsTrue result → IsVisible interface.now locals (name_of signal) }
+{
+    match signal {
+        Signal::Interface(s) => (s.index as usize) < interface.len(),
+        Signal::Local(s) => s.index < locals,
+    }
+}
+
+fn is_asked(test: Test, interface: &Interface, locals: u8) -> bool
+    ensures { IsTrue result → IsAsked interface.now locals (query_of test) }
+{
+    match test {
+        Test::Tick => true,
+        Test::Status(s) => is_visible(s, interface, locals),
+    }
+}
+
+fn is_emitted(signal: Signal, interface: &Interface, locals: u8) -> bool
+    ensures { IsTrue result → IsEmitted interface.now locals (name_of signal) }
+{
+    match signal {
+        Signal::Interface(s) => {
+            if (s.index as usize) < interface.len() {
+                match interface.kind(s) {
+                    Kind::Input => false,
+                    Kind::Output => true,
+                }
+            } else {
+                false
+            }
+        }
+        Signal::Local(s) => s.index < locals,
+    }
+}
+
+/// Whether each name has its binder.
+fn is_closed(s: &Statement, interface: &Interface, traps: u8, locals: u8) -> bool
+    ensures { IsTrue result → IsClosed interface.now traps locals (term_of s.now) }
+{
+    if traps >= 100 || locals >= 100 {
+        return false;
+    }
+    match s {
+        Statement::Nothing => true,
+        Statement::Pause(_) => true,
+        Statement::Emit(s) => is_emitted(*s, interface, locals),
+        Statement::Present(t, p, q) => {
+            is_asked(*t, interface, locals)
+                && is_closed(p, interface, traps, locals)
+                && is_closed(q, interface, traps, locals)
+        }
+        Statement::Suspend(t, p) => {
+            is_asked(*t, interface, locals) && is_closed(p, interface, traps, locals)
+        }
+        Statement::Seq(p, q) => {
+            is_closed(p, interface, traps, locals) && is_closed(q, interface, traps, locals)
+        }
+        Statement::Loop(p) => is_closed(p, interface, traps, locals),
+        Statement::Par(p, q) => {
+            is_closed(p, interface, traps, locals) && is_closed(q, interface, traps, locals)
+        }
+        Statement::Trap(p) => is_closed(p, interface, traps + 1, locals),
+        Statement::Exit(k) => k.index < traps,
+        Statement::Local(s, p) => {
+            s.index == locals && is_closed(p, interface, traps, locals + 1)
+        }
+    }
+}
+
+fn interface(rt: &impl Abort, alloc: Global) -> Result<Interface, AllocError> {
+    let mut interface = Interface::new(alloc);
+    for (text, kind) in [
+        ("I", Kind::Input),
+        ("O", Kind::Output),
+        ("P", Kind::Output),
+        ("Q", Kind::Output),
+    ] {
+        let name = Identifier::from_text(text).expect(rt, "an identifier");
+        assert!(rt; interface.len() < MOST_SIGNALS);
+        assert!(rt; !interface.has(&name));
+        interface.declare(Declaration { name, kind })?;
+    }
+    Ok(interface)
+}
+
+fn build(
+    rt: &impl Abort,
+    alloc: Global,
+    root: Statement,
+) -> Result<Result<Kernel, LoadFault>, AllocError> {
+    let interface = interface(rt, alloc)?;
+    assert!(rt; is_closed(&root, &interface, 0, 0));
+    Ok(Kernel::build(interface, root))
+}
+
+/// The outputs of an instant as a mask, or those that are undecided.
+type Shown = Result<u64, u64>;
+
+/// The inputs of an instant, with or without `I`.
+fn offered(kernel: &Kernel, present: bool) -> Inputs
+    ensures { AreInputs kernel.now result }
+{
+    if present {
+        Inputs {
+            signals: kernel.interface().inputs(),
+        }
+    } else {
+        Inputs { signals: 0 }
+    }
+}
+
+/// What four instants show, each with or without `I`.
+fn run(kernel: &Kernel, inputs: [bool; 4]) -> [Shown; 4] {
+    let mut shown = [Ok(0); 4];
+    let mut state = State::Fresh;
+    let mut engine = Rounds::new();
+    for i in 0..4 {
+        match engine.react(kernel, &state, &offered(kernel, inputs[i])) {
+            Ok(outcome) => {
+                shown[i] = Ok(outcome.outputs);
+                state = outcome.next;
+            }
+            Err(stuck) => shown[i] = Err(stuck.undecided),
+        }
+    }
+    shown
+}
+
+/// Runs a statement for four instants, each with or without `I`.
+fn shown(
+    rt: &impl Abort,
+    alloc: Global,
+    root: Statement,
+    inputs: [bool; 4],
+) -> Result<[Shown; 4], AllocError> {
+    let kernel = build(rt, alloc, root)?.ok().expect(rt, "a kernel");
+    Ok(run(&kernel, inputs))
+}
+
+const NONE: Shown = Ok(0);
+
+const ONLY_O: Shown = Ok(0b0010);
+
+const ONLY_P: Shown = Ok(0b0100);
+
+const O_AND_P: Shown = Ok(0b0110);
+
+const O_AND_Q: Shown = Ok(0b1010);
+
+const STUCK_AT_O: Shown = Err(0b0010);
+
+const STUCK_INSIDE: Shown = Err(0);
+
+const SILENT: [bool; 4] = [false; 4];
+
+#[test]
+fn sequences_and_suspension(rt: HostRuntime) -> Result<(), Fail> {
+    let a = rt.alloc();
+    let opening = seq(a, emit(O), seq(a, pause(), emit(P))?)?;
+    assert_eq!(rt;
+        shown(&rt, a, opening, SILENT)?,
+        [ONLY_O, ONLY_P, NONE, NONE]
+    );
+    let body = seq(a, pause(), emit(O))?;
+    let suspended = suspend(a, I, body)?;
+    assert_eq!(rt;
+        shown(&rt, a, suspended, [true, true, true, false])?,
+        [NONE, NONE, NONE, ONLY_O],
+        "suspend [pause; emit O] when I"
+    );
+    Ok(())
+}
+
+#[test]
+fn traps(rt: HostRuntime) -> Result<(), Fail> {
+    let a = rt.alloc();
+    let left = seq(a, emit(O), exit())?;
+    let right = seq(a, pause(), emit(P))?;
+    let root = seq(a, trap(a, par(a, left, right)?)?, emit(Q))?;
+    assert_eq!(rt;
+        shown(&rt, a, root, SILENT)?,
+        [O_AND_Q, NONE, NONE, NONE],
+        "trap T in [emit O; exit T || pause; emit P] end; emit Q"
+    );
+    let right = seq(a, emit(O), seq(a, pause(), emit(P))?)?;
+    let root = seq(a, trap(a, par(a, exit(), right)?)?, emit(P))?;
+    assert_eq!(rt;
+        shown(&rt, a, root, SILENT)?,
+        [O_AND_P, NONE, NONE, NONE],
+        "trap T in [exit T || emit O; pause; emit P] end; emit P"
+    );
+    let body = trap(a, seq(a, pause(), exit())?)?;
+    let root = again(a, seq(a, body, emit(O))?)?;
+    assert_eq!(rt;
+        shown(&rt, a, root, SILENT)?,
+        [NONE, ONLY_O, ONLY_O, ONLY_O],
+        "loop trap T in pause; exit T end; emit O end"
+    );
+    Ok(())
+}
+
+#[test]
+fn local_signals(rt: HostRuntime) -> Result<(), Fail> {
+    let a = rt.alloc();
+    let asks = present(a, Test::Status(S), emit(O), Statement::Nothing)?;
+    let root = local(a, par(a, asks, emit(S))?)?;
+    assert_eq!(rt;
+        shown(&rt, a, root, SILENT)?,
+        [ONLY_O, NONE, NONE, NONE],
+        "signal S in [present S then emit O end || emit S] end"
+    );
+    let asks = present(a, Test::Status(S), emit(O), emit(P))?;
+    let body = seq(a, asks, seq(a, pause(), emit(S))?)?;
+    let root = again(a, local(a, body)?)?;
+    assert_eq!(rt;
+        shown(&rt, a, root, SILENT)?,
+        [ONLY_P; 4],
+        "loop signal S in present S then emit O else emit P end; pause; emit S end end"
+    );
+    Ok(())
+}
+
+#[test]
+fn not_constructive(rt: HostRuntime) -> Result<(), Fail> {
+    let a = rt.alloc();
+    let root = present(a, Test::Status(O), emit(O), emit(O))?;
+    assert_eq!(rt;
+        shown(&rt, a, root, SILENT)?,
+        [STUCK_AT_O; 4],
+        "present O then emit O else emit O end"
+    );
+    let asks = present(a, Test::Status(S), emit(S), Statement::Nothing)?;
+    assert_eq!(rt;
+        shown(&rt, a, local(a, asks)?, SILENT)?,
+        [STUCK_INSIDE; 4],
+        "signal S in present S then emit S end end"
+    );
+    let asks = present(a, Test::Status(S), emit(O), Statement::Nothing)?;
+    let root = local(a, seq(a, asks, emit(S))?)?;
+    assert_eq!(rt;
+        shown(&rt, a, root, SILENT)?,
+        [STUCK_AT_O; 4],
+        "signal S in [present S then emit O end; emit S] end"
+    );
+    Ok(())
+}
+
+#[test]
+fn instant_loop(rt: HostRuntime) -> Result<(), Fail> {
+    let a = rt.alloc();
+    let asks = present(a, I, pause(), Statement::Nothing)?;
+    let root = again(a, asks)?;
+    assert_eq!(rt;
+        build(&rt, a, root)?.err(),
+        Some(LoadFault::InstantLoop),
+        "loop present I then pause end end"
+    );
+    Ok(())
+}
+
+/// A sequence of 500 parts under six local signals: each part is to be visited a bounded number of times in a judging.
+#[test]
+fn long_sequences(rt: HostRuntime) -> Result<(), Fail> {
+    let a = rt.alloc();
+    let mut first = pause();
+    let mut last = pause();
+    for _ in 0..250 {
+        first = seq(a, first, pause())?;
+        last = seq(a, pause(), last)?;
+    }
+    let mut root = seq(a, first, last)?;
+    for outer in 0..6u8 {
+        root = Statement::Local(LocalSignal { index: 5 - outer }, Box::new(a, root)?);
+    }
+    assert_eq!(rt; shown(&rt, a, root, SILENT)?, [NONE; 4]);
+    Ok(())
+}
