@@ -72,3 +72,6 @@ pub fn read_module(
     let root = statement_of(alloc, &interface, &module.body)?;
     Ok((interface, root))
 }
+
+#[cfg(test)]
+mod tests;
