@@ -13,17 +13,18 @@ use Rattle.reactor_core.specs.declared.entry.Action.TheVariants.{Load, Offer, St
 use Rattle.reactor_core.specs.declared.entry.SlotEntry.{SlotEntry}
 use Rattle.reactor_core.specs.declared.refusal.Refusal.{Refusal}
 use Rattle.reactor_core.specs.declared.refusal.Refusal.TheVariants.{UnknownSignal, NotInput, AlreadyOffered, NoInstant, JournalFull, Stuck, Lexical, Syntax, UnknownModule, UnknownName, DuplicateName, EmitInput, InstantLoop, TooLarge, Memory}
+use Rattle.reactor_core.specs.declared.journal.TheConstants.{JOURNAL_ENTRIES}
 use Rattle.reactor_core.specs.declared.reactor.Shown.{Shown}
 use Rattle.reactor_core.specs.Reacting.{ReactsWith, HasReaction, IsStuck}
 use Rattle.reactor_core.specs.Meaning.{entry, instant, Running, running_of, place_of, Leaves}
 
 -- the journal may take another entry
 abbrev pub HasRoom : List SlotEntry → Type 0
-HasRoom journal = length journal < 65536
+HasRoom journal = length journal < JOURNAL_ENTRIES
 
 -- the journal has as many entries as it may have
 abbrev pub IsFull : List SlotEntry → Type 0
-IsFull journal = 65536 ≤ length journal
+IsFull journal = JOURNAL_ENTRIES ≤ length journal
 
 -- the signal of this name stands at this place of the interface, with this kind
 pub record IsSignal (interface : List Declaration) (name : List ℕ) (place : ℕ) (kind : Kind) : Type 0 where

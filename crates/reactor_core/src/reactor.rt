@@ -215,7 +215,7 @@ impl Reactor {
     {
         match read_kernel(alloc, &main, text.as_str()) {
             Ok(kernel) => Reactor::begin(alloc, journal, stamp, Load { main, text, kernel }),
-            Err(refusal) => Err((refusal, journal)),
+            Err(fault) => Err((fault, journal)),
         }
     }
 
