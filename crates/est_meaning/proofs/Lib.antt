@@ -4,6 +4,7 @@ pub mod Learning
 pub mod Monotony
 pub mod MustRules
 pub mod NextStates
+pub mod PauseWords
 pub mod SafeLoops
 pub mod Settled
 pub mod Stepping

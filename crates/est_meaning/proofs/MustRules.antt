@@ -1,14 +1,14 @@
 -- A term that reacts must do just that and can do nothing else; and where Must gives a code, the rules react.
 use Rattle.std.specs.Prelude.{◌≡◌, ◌≢◌, ℕ, zero, suc, ◌+◌, Bool, true, false, cond, ◌&&◌, max}
 use Rattle.std.proofs.Common.{inl, inr, ap, sym, ◌∙◌, refl, arith}
-use Rattle.std.proofs.lemmas.Bool.{or_cases, and_parts, both_ways}
+use Rattle.std.proofs.lemmas.Bool.{eq-eqb, or_cases, and_parts, both_ways}
 use Rattle.est_kernel.specs.Term.{inner, Query, Term, nothing, pause, emit, present, suspend, held, seq, loop, par, trap, exit, signal}
 use Rattle.est_kernel.specs.Codes.{Codes, no_codes, code, either_code, but_zero, max_codes, some_up_to, down}
 use Rattle.est_meaning.specs.Signals.{Signals, no_signals, only, union, without}
 use Rattle.est_meaning.specs.Status.{Status, on, off, unknown, Env, status_of, with_local, verdict, by_status}
 use Rattle.est_meaning.specs.MustCan.{Acts, no_acts, ends, must_then, sure, must, can, status_within, env_within}
 use Rattle.est_kernel.specs.StartCodes.{start_codes, IsLoopSafe}
-use Rattle.est_meaning.specs.Rules.{Gives, rest_of, outside, takes_first, takes_second, held_on, held_off, goes_on, ends_then}
+use Rattle.est_meaning.specs.Rules.{Gives, HasNoRule, rest_of, outside, takes_first, takes_second, held_on, held_off, goes_on, ends_then}
 use Rattle.est_meaning.specs.Laws.{just, HasRule}
 use Rattle.est_meaning.proofs.CodeSets.{both_true, code_at, code_zero, max_of_codes, down_code, later_code, up_to_found, max_mono, down_mono, code_true, none_true}
 
@@ -223,3 +223,16 @@ must_gives (loop p) e k i h =
 must_gives (par p q) e k i h = par_has p q e k (λ j. must_gives p e j i.0) (λ j. must_gives q e j i.1) h
 must_gives (trap p) e k i h = trap_has p e k (λ j. must_gives p e j i) h
 must_gives (signal s p) e k i h = signal_has s p e k (must_gives p (env_within sure s p e) k i h)
+
+-- where the rules give nothing, Must has no code
+pub must_silent : (t : Term) (e : Env) → IsLoopSafe t → HasNoRule t e → (k : ℕ) → (must t e).codes k ≡ false
+must_silent t e i none k = go ((must t e).codes k) refl
+  where
+    go : (b : Bool) → (must t e).codes k ≡ b → b ≡ false
+    go true h = let r = must_gives t e k i h in absurd (none r.signals k r.rest r.gives)
+    go false h = refl
+
+-- where Must has no code, the rules give nothing
+pub silent_none : (t : Term) (e : Env) → ((k : ℕ) → (must t e).codes k ≡ false) → HasNoRule t e
+silent_none t e f o k u g =
+    both_ways (code k k) (sym (ap (λ (a : Acts). a.codes k) (gives_must t e o k u g)) ∙ f k) (code_at k k ∙ eq-eqb k k refl)

@@ -1,5 +1,5 @@
 -- Where the rules react, some set of pauses stands for what is left.
-use Rattle.std.proofs.Common.{◌≡◌, ◌≢◌, ℕ, zero, suc, Bool, true, false, ◌&&◌, ◌||◌, cond, nat_eq, max, refl, sym, ◌∙◌, inl, inr, subst, arith}
+use Rattle.std.proofs.Common.{ap, ◌≡◌, ◌≢◌, ℕ, zero, suc, Bool, true, false, ◌&&◌, ◌||◌, cond, nat_eq, max, refl, sym, ◌∙◌, inl, inr, subst, arith}
 use Rattle.std.proofs.lemmas.Bool.{ne_eqb, eq-eqb, or_parts, both_ways, cases_eq}
 use Rattle.est_kernel.specs.View.{term_of, term_at, is_live, has_pause, IsNumbered, IsExclusive, AreApart, query_of}
 use Rattle.est_kernel.specs.Term.{Term, nothing, suspend, held, seq, loop, par, trap, signal}
@@ -11,11 +11,12 @@ use Rattle.est_meaning.specs.Status.{Env, unknown}
 use Rattle.est_meaning.specs.MustCan.{sure, status_within, env_within}
 use Rattle.est_meaning.specs.Rules.{Gives, rest_of, outside, takes_first, takes_second, held_on, held_off, goes_on, ends_then}
 use Rattle.est_meaning.specs.Steps.{StepsTo}
-use Rattle.est_meaning.specs.Laws.{StandsAt}
-use Rattle.est_meaning.specs.States.{IsState, state_term}
+use Rattle.est_meaning.specs.Laws.{SomeStateFor}
+use Rattle.est_meaning.specs.States.{HasPausedAt, IsState, state_term}
 use Rattle.est_kernel.specs.Pauses.{pauses_of}
 use Rattle.est_kernel.specs.declared.state.State.{State}
 use Rattle.est_kernel.specs.declared.state.State.TheVariants.{Fresh, Done, Paused}
+use Rattle.est_meaning.proofs.PauseWords.{words_from, has_members, no_pause_above}
 use Rattle.est_meaning.proofs.Uniqueness.{unique}
 use Rattle.est_meaning.proofs.Agree.{dead_exclusive, cleared_dead}
 use Rattle.est_meaning.proofs.Stepping.{steps_same, rest_in, seq_stays, seq_goes, seq_second, loop_again, present_on, present_off, present_first, present_second, par_pauses, par_ends, stays_held}
@@ -262,16 +263,30 @@ resumes (Par' a p c q) num b l x e o k u g =
 resumes (Trap' a p) num b l x e o k u g = traps g.code (resumes p num b l x e o g.body_code g.left g.gives)
 resumes (Binder' y a p) num b l x e o k u g = binds g.decided g.signals (resumes p num b l x _ g.body_signals k g.left g.gives)
 
-stands_at : (s : Statement) (t : Term) (e : Env) (o : Signals) (u : Term) → Gives t e o 1 u → Next s t e o 1 → StandsAt s u
-stands_at s t e o u g n = record {
-  pauses = n.next;
-  paused = record { live = n.steps.live; exclusive = n.steps.exclusive; own = n.own };
-  term = (unique t e o 1 (term_at s n.next) o 1 u n.steps.gives g).rest;
-}
+same_paused : (s : Statement) (a b : ℕ → Bool) → a ≡ b → HasPausedAt s a → HasPausedAt s b
+same_paused s a b e h = subst (λ f. HasPausedAt s f) e h
 
--- what is left of a state's term has its pauses
-pub next_stands : (s : Statement) → IsNumbered s → (x : State) → IsState s x → (e : Env) (o : Signals) (u : Term) → Gives (state_term s x) e o 1 u → StandsAt s u
-next_stands s num Fresh h e o u g = stands_at s (term_of s) e o u g (begins s num e o 1 u g)
-next_stands s num Done h e o u g = absurd (not_one 1 g.code refl)
-next_stands s num (Paused p) h e o u g =
-    stands_at s (term_at s (pauses_of p)) e o u g (resumes s num (pauses_of p) h.live h.exclusive e o 1 u g)
+-- the state after a step of code 1
+paused_after : (s : Statement) (t : Term) (e : Env) (o : Signals) (u : Term) → Gives t e o 1 u → Next s t e o 1 → SomeStateFor s u
+paused_after s t e o u g n =
+    let members = sym (has_members n.next (λ i l. n.own i (no_pause_above s i l))) in
+    record {
+      state = Paused (record { words = words_from n.next 0 32 });
+      stands = record {
+        state = same_paused s n.next _ members (record { live = n.steps.live; exclusive = n.steps.exclusive; own = n.own });
+        term = ap (λ f. term_at s f) (sym members) ∙ (unique t e o 1 (term_at s n.next) o 1 u n.steps.gives g).rest;
+      };
+    }
+
+-- the state after a step
+state_after : (s : Statement) (t : Term) (e : Env) (o : Signals) (k : ℕ) (u : Term) → Gives t e o k u → Next s t e o k → SomeStateFor s u
+state_after s t e o zero u g n = record { state = Done; stands = record { state = tt; term = (unique t e o 0 nothing o 0 u n.steps.gives g).rest } }
+state_after s t e o (suc zero) u g n = paused_after s t e o u g n
+state_after s t e o (suc (suc k)) u g n = record { state = Done; stands = record { state = tt; term = (unique t e o (suc (suc k)) nothing o (suc (suc k)) u n.steps.gives g).rest } }
+
+-- what is left of a state's term has a state
+pub next_stands : (s : Statement) → IsNumbered s → (x : State) → IsState s x → (e : Env) (o : Signals) (k : ℕ) (u : Term) → Gives (state_term s x) e o k u → SomeStateFor s u
+next_stands s num Fresh h e o k u g = state_after s (term_of s) e o k u g (begins s num e o k u g)
+next_stands s num Done h e o k u g = record { state = Done; stands = record { state = tt; term = sym g.rest } }
+next_stands s num (Paused p) h e o k u g =
+    state_after s (term_at s (pauses_of p)) e o k u g (resumes s num (pauses_of p) h.live h.exclusive e o k u g)

@@ -1,16 +1,16 @@
 -- The laws of the meaning, as they are promised by the functions of the module of laws.
-use Rattle.std.specs.Prelude.{◌≡◌, ◌≤◌, ◌<◌, ℕ, suc, Bool, true}
+use Rattle.std.specs.Prelude.{◌≡◌, ◌≤◌, ◌<◌, ℕ, suc, Bool, true, false}
 use Rattle.est_kernel.specs.Term.{Term}
 use Rattle.est_kernel.specs.Codes.{code}
 use Rattle.est_meaning.specs.Signals.{Signals}
 use Rattle.est_meaning.specs.Status.{Env}
 use Rattle.est_meaning.specs.MustCan.{Acts, Mode, sure, maybe, must, can}
 use Rattle.est_kernel.specs.StartCodes.{IsLoopSafe}
-use Rattle.est_meaning.specs.Rules.{Gives}
+use Rattle.est_meaning.specs.Rules.{Gives, HasNoRule}
 use Rattle.est_meaning.specs.Rounds.{Judged, first_env, env_after, how_many, last_env}
 use Rattle.est_meaning.specs.Knowledge.{KnowsLess, IsWithin}
-use Rattle.est_meaning.specs.States.{HasPausedAt, IsState, state_term}
-use Rattle.est_kernel.specs.View.{term_of, term_at, IsNumbered}
+use Rattle.est_meaning.specs.States.{IsState, StandsFor, state_term}
+use Rattle.est_kernel.specs.View.{term_of, IsNumbered}
 use Rattle.est_kernel.specs.declared.statement.Statement.{Statement}
 use Rattle.est_kernel.specs.declared.state.State.{State}
 
@@ -24,11 +24,13 @@ pub record HasRule (t : Term) (e : Env) (k : ℕ) : Type 0 where
   pub rest : Term
   pub gives : Gives t e signals k rest
 
--- where the rules react, Must and Can are exactly that reaction; and the rules react wherever Must has a code
+-- where the rules react, Must and Can are exactly that reaction; and where loops are safe the rules react just where Must has a code
 pub record DecidedByMust : Type 0 where
   pub must_is : (t : Term) (e : Env) (o : Signals) (k : ℕ) (u : Term) → Gives t e o k u → must t e ≡ just o k
   pub can_is : (t : Term) (e : Env) (o : Signals) (k : ℕ) (u : Term) → Gives t e o k u → can t sure e ≡ just o k
   pub reacts : (t : Term) (e : Env) (k : ℕ) → IsLoopSafe t → (must t e).codes k ≡ true → HasRule t e k
+  pub no_code : (t : Term) (e : Env) → IsLoopSafe t → HasNoRule t e → (k : ℕ) → (must t e).codes k ≡ false
+  pub no_rule : (t : Term) (e : Env) → ((k : ℕ) → (must t e).codes k ≡ false) → HasNoRule t e
 
 -- two steps are the same
 pub record IsSame (o : Signals) (k : ℕ) (u : Term) (o' : Signals) (k' : ℕ) (u' : Term) : Type 0 where
@@ -61,12 +63,11 @@ pub record LoopsStaySafe : Type 0 where
   pub after_a_step : (t : Term) (e : Env) (o : Signals) (k : ℕ) (u : Term) → IsLoopSafe t → Gives t e o k u → IsLoopSafe u
   pub in_a_state : (s : Statement) → IsLoopSafe (term_of s) → (x : State) → IsLoopSafe (state_term s x)
 
--- pauses of s that stand for u
-pub record StandsAt (s : Statement) (u : Term) : Type 0 where
-  pub pauses : ℕ → Bool
-  pub paused : HasPausedAt s pauses
-  pub term : term_at s pauses ≡ u
+-- some state of s stands for u
+pub record SomeStateFor (s : Statement) (u : Term) : Type 0 where
+  pub state : State
+  pub stands : StandsFor s state u
 
--- one bit for each pause is enough: wherever the term of a state pauses, some pauses of the statement stand for what is left
+-- one bit for each pause is enough: wherever the term of a state has a step, some state of the statement stands for what is left
 abbrev pub StateBits : Type 0
-StateBits = (s : Statement) → IsNumbered s → (x : State) → IsState s x → (e : Env) (o : Signals) (u : Term) → Gives (state_term s x) e o 1 u → StandsAt s u
+StateBits = (s : Statement) → IsNumbered s → (x : State) → IsState s x → (e : Env) (o : Signals) (k : ℕ) (u : Term) → Gives (state_term s x) e o k u → SomeStateFor s u
