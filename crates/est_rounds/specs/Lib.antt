@@ -1,3 +1,4 @@
 pub mod Contract
+pub mod Judging
 pub mod Steps
 pub mod Views

@@ -1,10 +1,10 @@
 //! What a statement that goes on from its pauses must do and can do.
 
-ghost use Rattle.std.specs.Prelude.{◌≡◌, MatchOption, true, false};
-ghost use Rattle.est_kernel.specs.View.{term_at, is_live};
+ghost use Rattle.std.specs.Prelude.{◌≡◌, MatchOption, false};
+ghost use Rattle.est_kernel.specs.View.{is_live};
 ghost use Rattle.est_kernel.specs.Pauses.{pauses_of};
-ghost use Rattle.est_meaning.specs.MustCan.{must, can, sure, maybe};
-ghost use Rattle.est_rounds.specs.Views.{acts_of, env_of};
+ghost use Rattle.est_rounds.specs.Judging.{CanDo, IsJudged};
+ghost use Rattle.est_rounds.specs.Views.{env_of};
 
 use crate::acts::{Acts, Judged};
 use crate::signal_set::{self, Env, Status};
@@ -14,7 +14,7 @@ use est_kernel::statement::Statement;
 
 /// What a statement can do as it goes on, in doubt whether it is reached; none where it has no pause in the set.
 pub fn resume_maybe(s: &Statement, pauses: &PauseSet, env: &Env) -> Option<Acts>
-    ensures { MatchOption result (is_live s.now (pauses_of pauses.now) ≡ false) (λ a. (is_live s.now (pauses_of pauses.now) ≡ true) × (acts_of a ≡ can (term_at s.now (pauses_of pauses.now)) maybe (env_of env.now))) }
+    ensures { MatchOption result (is_live s.now (pauses_of pauses.now) ≡ false) (CanDo s.now (pauses_of pauses.now) (env_of env.now)) }
 {
     match s {
         Statement::Nothing => None,
@@ -78,7 +78,7 @@ pub fn resume_maybe(s: &Statement, pauses: &PauseSet, env: &Env) -> Option<Acts>
 
 /// What a statement must do and can do as it goes on; none where it has no pause in the set.
 pub fn resume_sure(s: &Statement, pauses: &PauseSet, env: &Env) -> Option<Judged>
-    ensures { MatchOption result (is_live s.now (pauses_of pauses.now) ≡ false) (λ a. (is_live s.now (pauses_of pauses.now) ≡ true) × (acts_of a.must ≡ must (term_at s.now (pauses_of pauses.now)) (env_of env.now)) × (acts_of a.can ≡ can (term_at s.now (pauses_of pauses.now)) sure (env_of env.now))) }
+    ensures { MatchOption result (is_live s.now (pauses_of pauses.now) ≡ false) (IsJudged s.now (pauses_of pauses.now) (env_of env.now)) }
 {
     match s {
         Statement::Nothing => None,
