@@ -1,0 +1,5 @@
+pub mod Places
+pub mod Running
+pub mod Deciding
+pub mod Stepping
+pub mod Desks

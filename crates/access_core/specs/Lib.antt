@@ -1,2 +1,10 @@
 pub mod Refusals
 pub mod Replies
+pub mod Rules
+pub mod Conversions
+pub mod Shown
+pub mod SlotState
+pub mod Holding
+pub mod SlotStep
+pub mod Allowed
+pub mod Desk

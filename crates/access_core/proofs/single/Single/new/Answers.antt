@@ -1,0 +1,10 @@
+use Rattle.std.proofs.Common.{sym, subst}
+use Rattle.access_core.specs.Desk.{AreSlots}
+use Rattle.access_core.proofs.Desks.{opening_slots}
+use Rattle.access_core.proofs.single.Single.new.Goals as goal
+
+pub invariant_of-result : goal.invariant_of-result
+invariant_of-result c = (
+  rw (c.in_ok-push-4.ensures.items, c.in_ok-push-3.ensures.items, c.in_ok-push-2.ensures.items, c.in_ok-push.ensures.items, c.new-entries.ensures.items, c.opening_entries.ensures) c.opening.ensures,
+  subst AreSlots (sym c.empty_slots.ensures) opening_slots,
+)

@@ -1,0 +1,52 @@
+-- The refusals of the crates below, as those of a request.
+use Rattle.std.specs.Prelude.{ℕ, List}
+use Rattle.access_core.specs.declared.refusal.Refusal.{Refusal}
+use Rattle.access_core.specs.declared.refusal.Refusal.TheVariants.{NoSession, SessionsExhausted, Permission, DsdViolated, NotAuthorized, AlreadyActive, NotActive, Cycle, UnknownUser, UnknownRole, UserExists, RoleExists, AlreadyAssigned, NotAssigned, AlreadyGranted, NotGranted, EdgeExists, NoEdge, DsdExists, NoDsd, DsdShape, RoleInDsd, Full, Stuck, UnknownSignal, NotInput, AlreadyOffered, NoInstant, JournalFull, Lexical, Syntax, UnknownModule, UnknownName, DuplicateName, EmitInput, InstantLoop, TooLarge, Memory}
+use Rattle.rbac_admin.specs.declared.refusals.Refusal.{Refusal as PolicyRefusal}
+use Rattle.rbac_admin.specs.declared.refusals.Refusal.TheVariants as policy
+use Rattle.reactor_core.specs.declared.refusal.Refusal.{Refusal as ReactorRefusal}
+use Rattle.reactor_core.specs.declared.refusal.Refusal.TheVariants as reactor
+
+-- the refusal of a policy command
+abbrev pub of_policy : PolicyRefusal → Refusal
+of_policy policy.NoSession = NoSession
+of_policy policy.SessionsExhausted = SessionsExhausted
+of_policy (policy.Permission operation object) = Permission operation object
+of_policy (policy.DsdViolated set session) = DsdViolated session set
+of_policy (policy.NotAuthorized role) = NotAuthorized role
+of_policy (policy.AlreadyActive role) = AlreadyActive role
+of_policy (policy.NotActive role) = NotActive role
+of_policy policy.Cycle = Cycle
+of_policy (policy.UnknownUser user) = UnknownUser user
+of_policy (policy.UnknownRole role) = UnknownRole role
+of_policy (policy.UserExists user) = UserExists user
+of_policy (policy.RoleExists role) = RoleExists role
+of_policy policy.AlreadyAssigned = AlreadyAssigned
+of_policy policy.NotAssigned = NotAssigned
+of_policy policy.AlreadyGranted = AlreadyGranted
+of_policy policy.NotGranted = NotGranted
+of_policy policy.EdgeExists = EdgeExists
+of_policy policy.NoEdge = NoEdge
+of_policy (policy.DsdExists set) = DsdExists set
+of_policy (policy.NoDsd set) = NoDsd set
+of_policy policy.DsdShape = DsdShape
+of_policy (policy.RoleInDsd set) = RoleInDsd set
+of_policy (policy.Full table) = Full table
+
+-- the refusal of a reactor; a Stuck names these undecided outputs
+abbrev pub of_reactor : (undecided : List (List ℕ)) → ReactorRefusal → Refusal
+of_reactor undecided reactor.UnknownSignal = UnknownSignal
+of_reactor undecided reactor.NotInput = NotInput
+of_reactor undecided reactor.AlreadyOffered = AlreadyOffered
+of_reactor undecided reactor.NoInstant = NoInstant
+of_reactor undecided reactor.JournalFull = JournalFull
+of_reactor undecided (reactor.Stuck mask) = Stuck undecided
+of_reactor undecided (reactor.Lexical place) = Lexical place
+of_reactor undecided (reactor.Syntax place) = Syntax place
+of_reactor undecided (reactor.UnknownModule name) = UnknownModule name
+of_reactor undecided (reactor.UnknownName name) = UnknownName name
+of_reactor undecided (reactor.DuplicateName name) = DuplicateName name
+of_reactor undecided (reactor.EmitInput name) = EmitInput name
+of_reactor undecided reactor.InstantLoop = InstantLoop
+of_reactor undecided (reactor.TooLarge limit) = TooLarge limit
+of_reactor undecided reactor.Memory = Memory

@@ -1,0 +1,106 @@
+-- The desk: one policy list and sixteen slots, and what each command is answered there (this project's own form).
+use Rattle.std.specs.Prelude.{◌≡◌, ℕ, ◌+◌, ◌≤◌, List, [], ◌∷◌, ◌++◌, Option, Some, None, Result, MatchResult, length, map, slice_get, slice_set}
+use Rattle.std.specs.List.{range_with_len}
+use Rattle.rbac_policy.specs.declared.commands.AdminCommand.{AdminCommand}
+use Rattle.rbac_policy.specs.declared.commands.AdminCommand.TheVariants.{AddUser, DeleteUser, AddRole, DeleteRole, AssignUser, DeassignUser, GrantPermission, RevokePermission, AddInheritance, DeleteInheritance, CreateDsdSet, DeleteDsdSet, CreateSession, DeleteSession, AddActiveRole, DropActiveRole}
+use Rattle.rbac_policy.specs.declared.commands.Entry.{Entry}
+use Rattle.rbac_policy.specs.Entries.{logins}
+use Rattle.rbac_policy.specs.Opening.{opening_entries}
+use Rattle.rbac_admin.specs.declared.refusals.Refusal.{Refusal as PolicyRefusal}
+use Rattle.rbac_admin.specs.PolicyStep.{PolicyStep}
+use Rattle.reactor_core.specs.declared.entry.SlotEntry.{SlotEntry}
+use Rattle.access_core.specs.declared.command.SlotCommand.{SlotCommand}
+use Rattle.access_core.specs.declared.refusal.Refusal.{Refusal}
+use Rattle.access_core.specs.declared.refusal.Refusal.TheVariants.{NoSlot, JournalFull}
+use Rattle.access_core.specs.declared.reply.Change.{Change}
+use Rattle.access_core.specs.declared.reply.Change.TheVariants as change
+use Rattle.access_core.specs.declared.reply.Reply.{Reply}
+use Rattle.access_core.specs.declared.reply.Reply.TheVariants.{Login, Changed}
+use Rattle.access_core.specs.Rules.{◌▸◌, ◌▹◌, Says, Refuses}
+use Rattle.access_core.specs.Conversions.{of_policy}
+use Rattle.access_core.specs.SlotState.{SlotState}
+use Rattle.access_core.specs.SlotStep.{SlotStep, no_session, no_memory}
+
+-- the accepted policy entries, the oldest first, and the slots by number
+pub record Desk : Type 0 where
+  pub entries : List Entry
+  pub slots : List SlotState
+
+-- an empty slot of this number
+abbrev pub empty_slot : ℕ → SlotState
+empty_slot number = record { number = number; journal = [] }
+
+-- the opening entries, and sixteen empty slots
+abbrev pub opening_desk : Desk
+opening_desk = record { entries = opening_entries; slots = map empty_slot (range_with_len 0 16) }
+
+-- there are sixteen slots, and each stands at its number
+pub record AreSlots (slots : List SlotState) : Type 0 where
+  pub sixteen : length slots ≡ 16
+  pub numbered : (number : ℕ) (slot : SlotState) → slice_get slots number ≡ Some slot → slot.number ≡ number
+
+-- the most entries with which the policy list takes this command; the last 64 places are for DeleteSession alone
+abbrev pub most_entries : AdminCommand → ℕ
+most_entries DeleteSession = 262144
+most_entries _ = 262080
+
+-- the policy list has no place for the entry
+abbrev pub list_full : List Entry → Entry → Refusal → Type 0
+list_full entries entry = Says JournalFull (most_entries entry.command ≤ length entries)
+
+-- which change of the policy the command is; a login is none of them
+abbrev pub change_of : AdminCommand → Option Change
+change_of (CreateSession user roles) = None
+change_of (AddUser user) = Some change.AddUser
+change_of (DeleteUser user) = Some change.DeleteUser
+change_of (AddRole role) = Some change.AddRole
+change_of (DeleteRole role) = Some change.DeleteRole
+change_of (AssignUser user role) = Some change.AssignUser
+change_of (DeassignUser user role) = Some change.DeassignUser
+change_of (GrantPermission role operation object) = Some change.GrantPermission
+change_of (RevokePermission role operation object) = Some change.RevokePermission
+change_of (AddInheritance senior junior) = Some change.AddInheritance
+change_of (DeleteInheritance senior junior) = Some change.DeleteInheritance
+change_of (CreateDsdSet set count roles) = Some change.CreateDsdSet
+change_of (DeleteDsdSet set) = Some change.DeleteDsdSet
+change_of DeleteSession = Some change.DeleteSession
+change_of (AddActiveRole role) = Some change.AddActiveRole
+change_of (DropActiveRole role) = Some change.DropActiveRole
+
+-- the reply to an accepted command on this policy list: a login tells the number of its session, and each tells the new version
+abbrev pub reply_of_change : Option Change → List Entry → Reply
+reply_of_change None entries = Login (logins entries + 1) (length entries + 1)
+reply_of_change (Some change) entries = Changed change (length entries + 1)
+
+abbrev pub accepted_reply : List Entry → AdminCommand → Reply
+accepted_reply entries command = reply_of_change (change_of command) entries
+
+-- the entry is appended to the policy list, and nothing else is changed
+pub record Appends (entry : Entry) (before : Desk) (reply : Reply) (after : Desk) : Type 0 where
+  pub replied : reply ≡ accepted_reply before.entries entry.command
+  pub appended : after ≡ record before { entries = before.entries ++ entry ∷ [] }
+
+-- the reply to a policy command, which this session gives, and the desk afterwards: the policy step's, or a refusal for want of room
+pub record AdminStep (session : Option ℕ) (command : AdminCommand) (before : Desk) (reply : Reply) (after : Desk) : Type 0 where
+  pub answer : Result Entry PolicyRefusal
+  pub given : PolicyStep before.entries session command answer
+  pub replied : MatchResult answer
+      (λ entry. (list_full before.entries entry ▸ no_memory ▹ Appends entry) before reply after)
+      (λ refusal. Refuses (of_policy refusal) before reply after)
+
+-- there is no slot of this number
+abbrev pub no_slot : ℕ → Refusal → Type 0
+no_slot number = Says NoSlot (16 ≤ number)
+
+-- the slot of this number answers by the slot step, and nothing but its journal is changed
+pub record InSlot (number session : ℕ) (command : SlotCommand) (before : Desk) (reply : Reply) (after : Desk) : Type 0 where
+  pub slot : SlotState
+  pub there : slice_get before.slots number ≡ Some slot
+  pub journal : List SlotEntry
+  pub step : SlotStep before.entries number session command slot.journal reply journal
+  pub stored : after ≡ record before { slots = slice_set before.slots number (record slot { journal = journal }) }
+
+-- the reply to a command on the slot of this number, which this session gives, and the desk afterwards
+abbrev pub DeskStep : (number session : ℕ) → SlotCommand → (before : Desk) → Reply → (after : Desk) → Type 0
+DeskStep number session command before =
+    (no_session before.entries session ▸ no_slot number ▸ InSlot number session command) before

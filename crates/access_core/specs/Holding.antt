@@ -1,0 +1,16 @@
+-- How a slot holds its journal.
+use Rattle.std.specs.Prelude.{◌≡◌, List, Some, None}
+use Rattle.reactor_core.specs.declared.entry.SlotEntry.{SlotEntry}
+use Rattle.reactor_core.specs.Meaning.{Running, running_of}
+use Rattle.access_core.specs.declared.slot.Content.{Content}
+use Rattle.access_core.specs.declared.slot.Content.TheVariants.{Empty, Loaded}
+
+-- the journal of what a slot holds
+abbrev pub journal_of : Content → List SlotEntry
+journal_of (Empty journal) = journal
+journal_of (Loaded reactor) = reactor
+
+-- a reactor is held exactly where the journal says that a module runs
+abbrev pub IsHeldRight : Content → Type 0
+IsHeldRight (Empty journal) = running_of journal ≡ None
+IsHeldRight (Loaded reactor) = (r : Running) × (running_of reactor ≡ Some r)

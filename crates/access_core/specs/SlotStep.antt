@@ -1,0 +1,121 @@
+-- The slot step: what a command on a slot is answered, on a policy list and the slot's journal, and the journal afterwards
+-- (this project's own form).
+use Rattle.std.specs.Prelude.{◌≡◌, ◌⊎◌, ℕ, ◌<◌, Bool, List, [], Some, None, Result, MatchResult, length}
+use Rattle.rbac_policy.specs.declared.commands.Entry.{Entry}
+use Rattle.rbac_policy.specs.declared.objects.Operation.{Operation}
+use Rattle.rbac_policy.specs.declared.objects.Operation.TheVariants.{Offer as ToOffer, Step as ToStep, Load as ToLoad}
+use Rattle.rbac_policy.specs.declared.objects.Object.{Object}
+use Rattle.rbac_policy.specs.declared.objects.Object.TheVariants.{Slot, Signal}
+use Rattle.rbac_policy.specs.Facts.{IsLive, May}
+use Rattle.reactor_core.specs.declared.entry.Stamp.{Stamp}
+use Rattle.reactor_core.specs.declared.entry.Instant.{Instant}
+use Rattle.reactor_core.specs.declared.entry.SlotEntry.{SlotEntry}
+use Rattle.reactor_core.specs.declared.refusal.Refusal.{Refusal as ReactorRefusal}
+use Rattle.reactor_core.specs.declared.refusal.Refusal.TheVariants.{Stuck}
+use Rattle.reactor_core.specs.Meaning.{Running, running_of}
+use Rattle.reactor_core.specs.Answers.{LoadAnswer, OfferAnswer, StepAnswer, IsInstant}
+use Rattle.access_core.specs.declared.command.SlotCommand.{SlotCommand}
+use Rattle.access_core.specs.declared.command.SlotCommand.TheVariants.{Load, Offer, Step, Look}
+use Rattle.access_core.specs.declared.refusal.Refusal.{Refusal}
+use Rattle.access_core.specs.declared.refusal.Refusal.TheVariants.{NoSession, Permission, Occupied, Empty, NoInstant, Memory}
+use Rattle.access_core.specs.declared.reply.Reply.{Reply}
+use Rattle.access_core.specs.declared.reply.Reply.TheVariants.{Load as Loaded, Offer as Offered, Step as Stepped, Look as Shown}
+use Rattle.access_core.specs.Rules.{◌▸◌, ◌▹◌, Says, Refuses}
+use Rattle.access_core.specs.Conversions.{of_reactor}
+use Rattle.access_core.specs.Shown.{Sees, shown_of, names_of}
+
+-- the session doesn't live
+abbrev pub no_session : List Entry → (session : ℕ) → Refusal → Type 0
+no_session entries session = Says NoSession (IsLive entries session → ⊥)
+
+-- the session may not do the operation on the object
+abbrev pub no_permission : List Entry → (session : ℕ) → Operation → Object → Refusal → Type 0
+no_permission entries session operation object = Says (Permission operation object) (May entries session operation object → ⊥)
+
+-- a module runs in the slot
+abbrev pub occupied : List SlotEntry → Refusal → Type 0
+occupied journal = Says Occupied ((r : Running) × (running_of journal ≡ Some r))
+
+-- no module runs in the slot
+abbrev pub empty : List SlotEntry → Refusal → Type 0
+empty journal = Says Empty (running_of journal ≡ None)
+
+-- the module that runs had no instant of this number since its load
+abbrev pub no_instant : List SlotEntry → (n : ℕ) → Refusal → Type 0
+no_instant journal n = Says NoInstant ((r : Running) × (running_of journal ≡ Some r) × ((n ≡ 0) ⊎ (length r.instants < n)))
+
+-- memory was refused
+abbrev pub no_memory : Refusal → Type 0
+no_memory refusal = refusal ≡ Memory
+
+-- what an entry bears: the version at which its command was judged, and the session that gave it
+abbrev pub stamp_of : List Entry → (session : ℕ) → Stamp
+stamp_of entries session = record { version = length entries; session = session }
+
+-- the reactor's answer to a load: its entry is appended, or the load is refused by the text, the journal's limit or for memory
+pub record Loads (stamp : Stamp) (main text : List ℕ) (before : List SlotEntry) (reply : Reply) (after : List SlotEntry) : Type 0 where
+  pub answer : Result (List SlotEntry) (ReactorRefusal × List SlotEntry)
+  pub given : LoadAnswer before stamp main text answer
+  pub replied : MatchResult answer
+      (λ journal. (after ≡ journal) × (reply ≡ Loaded (length after) stamp.version))
+      (λ refused. Refuses (of_reactor [] refused.0) before reply after)
+
+-- the reactor's answer to an offer: its entry is appended, or it is refused by the signal, the journal's limit or for memory
+pub record Offers (stamp : Stamp) (signal : List ℕ) (before : List SlotEntry) (reply : Reply) (after : List SlotEntry) : Type 0 where
+  pub answer : Result (Unit {0}) ReactorRefusal
+  pub given : OfferAnswer before stamp signal answer after
+  pub replied : MatchResult answer
+      (λ _. reply ≡ Offered (length after) stamp.version)
+      (λ refusal. Refuses (of_reactor [] refusal) before reply after)
+
+-- the outputs that a reactor's refusal leaves undecided, as a mask
+abbrev pub undecided_of : ReactorRefusal → ℕ
+undecided_of (Stuck undecided) = undecided
+undecided_of _ = 0
+
+-- the reply to a reactor's refusal of a step: a Stuck names those undecided outputs that the session may observe
+pub record RefusesStep (entries : List Entry) (slot session : ℕ) (refusal : ReactorRefusal) (before : List SlotEntry) (reply : Reply) (after : List SlotEntry) : Type 0 where
+  pub running : Running
+  pub runs : running_of before ≡ Some running
+  pub sees : ℕ → Bool
+  pub observes : Sees entries session slot running.kernel.interface sees
+  pub refuses : Refuses (of_reactor (names_of running.kernel.interface sees (undecided_of refusal)) refusal) before reply after
+
+-- the reply to an accepted step tells the number of its instant
+pub record AcceptsStep (stamp : Stamp) (reply : Reply) (after : List SlotEntry) : Type 0 where
+  pub running : Running
+  pub runs : running_of after ≡ Some running
+  pub replied : reply ≡ Stepped (length running.instants) (length after) stamp.version
+
+-- the reactor's answer to a step: its entry is appended, or it is refused as Stuck, by the journal's limit or for memory
+pub record Steps (entries : List Entry) (slot session : ℕ) (before : List SlotEntry) (reply : Reply) (after : List SlotEntry) : Type 0 where
+  pub answer : Result (Unit {0}) ReactorRefusal
+  pub given : StepAnswer before (stamp_of entries session) answer after
+  pub replied : MatchResult answer
+      (λ _. AcceptsStep (stamp_of entries session) reply after)
+      (λ refusal. RefusesStep entries slot session refusal before reply after)
+
+-- the n-th instant since the load is shown: each signal that the session may observe, and whether it was present
+pub record Looks (entries : List Entry) (slot session n : ℕ) (before : List SlotEntry) (reply : Reply) (after : List SlotEntry) : Type 0 where
+  pub running : Running
+  pub runs : running_of before ≡ Some running
+  pub instant : Instant
+  pub there : IsInstant running n instant
+  pub sees : ℕ → Bool
+  pub observes : Sees entries session slot running.kernel.interface sees
+  pub replied : reply ≡ Shown n (shown_of running.kernel.interface sees instant) (length entries)
+  pub stays : after ≡ before
+
+-- the reply to the command, which this session gives to this slot, on a policy list and a journal, and the journal afterwards
+abbrev pub SlotStep : List Entry → (slot session : ℕ) → SlotCommand → (before : List SlotEntry) → Reply → (after : List SlotEntry) → Type 0
+SlotStep entries slot session (Load main text) before =
+    (no_session entries session ▸ no_permission entries session ToLoad (Slot slot) ▸ occupied before
+    ▸ Loads (stamp_of entries session) main text) before
+SlotStep entries slot session (Offer signal) before =
+    (no_session entries session ▸ no_permission entries session ToOffer (Signal slot signal) ▸ empty before
+    ▸ Offers (stamp_of entries session) signal) before
+SlotStep entries slot session Step before =
+    (no_session entries session ▸ no_permission entries session ToStep (Slot slot) ▸ empty before
+    ▸ no_memory ▹ Steps entries slot session) before
+SlotStep entries slot session (Look n) before =
+    (no_session entries session ▸ empty before ▸ no_instant before n ▸ no_memory ▹ Looks entries slot session n) before

@@ -1,0 +1,69 @@
+//! What a session is shown of a module's signals.
+ghost use Rattle.std.specs.Prelude.{◌≡◌, ◌&&◌, List, IfOk, map, filter};
+ghost use Rattle.est_kernel.specs.Bits.{bits};
+ghost use Rattle.rbac_policy.specs.declared.commands.Entry.{Entry};
+ghost use Rattle.rbac_policy.specs.StandsFor.{StandsFor};
+ghost use Rattle.access_core.specs.Shown.{Sees, places_of, name_at, present_at, names_of};
+
+use crate::reply::{ShownSignal, ShownSignals, SignalNames};
+use est_kernel::interface::Interface;
+use est_kernel::mask;
+use rbac_policy::commands::SessionId;
+use rbac_policy::objects::{Object, Operation, SlotNumber};
+use rbac_policy::policy::Policy;
+use std::alloc::{AllocError, Global};
+
+/// The signals of the interface that the session may observe in the slot, as a mask.
+pub fn observed(policy: &Policy, slot: SlotNumber, session: SessionId, interface: &Interface) -> u64
+    ensures { (entries : List Entry) → StandsFor policy.now entries → Sees entries session slot interface.now (bits result) }
+{
+    let declarations = interface.declarations();
+    let mut seen = 0;
+    for place in 0..declarations.len() {
+        let object = Object::Signal(slot, declarations[place].name);
+        if policy.may(session, &Operation::Observe, &object) {
+            seen = mask::with(seen, place as u8);
+        }
+    }
+    seen
+}
+
+/// The signals that are seen, in the order of declaration, each with whether it is present.
+pub fn statuses(
+    alloc: Global,
+    interface: &Interface,
+    seen: u64,
+    present: u64,
+) -> Result<ShownSignals, AllocError>
+    ensures { IfOk result (λ shown. shown ≡ map (present_at interface.now present) (filter (bits seen) (places_of interface.now))) }
+{
+    let declarations = interface.declarations();
+    let mut shown = ShownSignals::new(alloc);
+    for place in 0..declarations.len() {
+        if mask::has(seen, place as u8) {
+            let name = declarations[place].name;
+            let present = mask::has(present, place as u8);
+            shown.push(ShownSignal { name, present })?;
+        }
+    }
+    Ok(shown)
+}
+
+/// The names of those of the signals that are seen, in the order of declaration.
+pub fn names(
+    alloc: Global,
+    interface: &Interface,
+    seen: u64,
+    signals: u64,
+) -> Result<SignalNames, AllocError>
+    ensures { IfOk result (λ names. names ≡ names_of interface.now (bits seen) signals) }
+{
+    let declarations = interface.declarations();
+    let mut names = SignalNames::new(alloc);
+    for place in 0..declarations.len() {
+        if mask::has(seen, place as u8) && mask::has(signals, place as u8) {
+            names.push(declarations[place].name)?;
+        }
+    }
+    Ok(names)
+}

@@ -1,0 +1,219 @@
+//! A policy with its list, and sixteen slots, in one hand.
+ghost use Rattle.std.specs.Prelude.{◌≡◌, ◌↔◌, ◌+◌, ◌<◌, ◌^◌, ◌++◌, ◌∷◌, [], List, IsTrue, IfOk, length};
+ghost use Rattle.rbac_policy.specs.declared.commands.Entry.{Entry};
+ghost use Rattle.rbac_policy.specs.Facts.{May};
+ghost use Rattle.rbac_policy.specs.Fits.{Fits};
+ghost use Rattle.rbac_policy.specs.StandsFor.{StandsFor};
+ghost use Rattle.rbac_admin.specs.PolicyStep.{is_decided};
+ghost use Rattle.access_core.specs.Rules.{◌▸◌, ◌▹◌};
+ghost use Rattle.access_core.specs.SlotStep.{no_memory};
+ghost use Rattle.access_core.specs.Desk.{Desk, opening_desk, empty_slot, change_of, accepted_reply, most_entries, list_full, Appends, AdminStep, DeskStep};
+
+use crate::command::SlotCommand;
+use crate::refusal::Refusal;
+use crate::reply::{Change, Reply};
+use crate::slot::{Slot, decide_slot};
+use rbac_admin::decisions::decide;
+use rbac_policy::commands::{AdminCommand, Entry, SessionId};
+use rbac_policy::objects::{Object, Operation, SLOTS, SlotNumber};
+use rbac_policy::opening::opening_entries;
+use rbac_policy::policy::Policy;
+use std::alloc::{AllocError, Global};
+use std::marker::Model;
+
+/// The most entries that the policy list takes, but for DeleteSession.
+pub const POLICY_ENTRIES: usize = 262_080;
+
+/// The further places of the policy list, which are for DeleteSession alone.
+pub const ENDING_ENTRIES: usize = 64;
+
+/// A policy with the list of its accepted entries, and sixteen slots. A contract sees the list and the slots.
+#[derive(Drop)]
+pub struct Single {
+    policy: Policy,
+    entries: Vec<Entry>,
+    slots: [Slot; 16],
+}
+
+impl Model for Single {
+    ghost use Rattle.std.specs.Coded.{codes};
+    ghost use Rattle.access_core.specs.Desk.{Desk};
+    ghost use Rattle.reactor_core.specs.contracts.entry.SlotEntry as entry;
+
+    ghost Value = { Desk };
+
+    ghost coded = { Prim.hlevel (codes, entry.the_row.coded) };
+
+    ghost use Rattle.rbac_policy.specs.StandsFor.{StandsFor};
+    ghost use Rattle.access_core.specs.Desk.{AreSlots};
+
+    ghost view = { λ s. record { entries = s.entries.items; slots = s.slots } };
+
+    ghost invariant = { λ s. StandsFor s.policy s.entries.items × AreSlots s.slots };
+}
+
+/// The change that the command makes of the policy; a login makes none.
+fn change_of(command: &AdminCommand) -> Option<Change>
+    ensures { result ≡ change_of command.now }
+{
+    match command {
+        AdminCommand::AddUser { .. } => Some(Change::AddUser),
+        AdminCommand::DeleteUser { .. } => Some(Change::DeleteUser),
+        AdminCommand::AddRole { .. } => Some(Change::AddRole),
+        AdminCommand::DeleteRole { .. } => Some(Change::DeleteRole),
+        AdminCommand::AssignUser { .. } => Some(Change::AssignUser),
+        AdminCommand::DeassignUser { .. } => Some(Change::DeassignUser),
+        AdminCommand::GrantPermission { .. } => Some(Change::GrantPermission),
+        AdminCommand::RevokePermission { .. } => Some(Change::RevokePermission),
+        AdminCommand::AddInheritance { .. } => Some(Change::AddInheritance),
+        AdminCommand::DeleteInheritance { .. } => Some(Change::DeleteInheritance),
+        AdminCommand::CreateDsdSet { .. } => Some(Change::CreateDsdSet),
+        AdminCommand::DeleteDsdSet { .. } => Some(Change::DeleteDsdSet),
+        AdminCommand::CreateSession { .. } => None,
+        AdminCommand::DeleteSession => Some(Change::DeleteSession),
+        AdminCommand::AddActiveRole { .. } => Some(Change::AddActiveRole),
+        AdminCommand::DropActiveRole { .. } => Some(Change::DropActiveRole),
+    }
+}
+
+/// The most entries with which the policy list takes the command.
+fn most_entries(command: &AdminCommand) -> usize
+    ensures { result ≡ most_entries command.now }
+{
+    match command {
+        AdminCommand::DeleteSession => POLICY_ENTRIES + ENDING_ENTRIES,
+        _ => POLICY_ENTRIES,
+    }
+}
+
+/// The reply to the accepted entry that this policy took in last.
+fn accepted(policy: &Policy, entry: &Entry) -> Reply
+    ensures { (before : List Entry) → StandsFor policy.now (before ++ entry.now ∷ []) → result ≡ accepted_reply before entry.now.command }
+{
+    let version = policy.version();
+    match change_of(&entry.command) {
+        Some(change) => Reply::Changed { change, version },
+        None => Reply::Login {
+            session: SessionId::new(policy.logins()),
+            version,
+        },
+    }
+}
+
+/// An empty slot.
+fn empty(alloc: Global, number: u8) -> Slot
+    requires { number < 16 }
+    ensures { result ≡ empty_slot number }
+{
+    match SlotNumber::new(number) {
+        Some(number) => Slot::new(alloc, number),
+        None => unreachable!(),
+    }
+}
+
+/// Sixteen empty slots.
+fn empty_slots(alloc: Global) -> [Slot; 16]
+    ensures { result ≡ opening_desk.slots }
+{
+    [
+        empty(alloc, 0),
+        empty(alloc, 1),
+        empty(alloc, 2),
+        empty(alloc, 3),
+        empty(alloc, 4),
+        empty(alloc, 5),
+        empty(alloc, 6),
+        empty(alloc, 7),
+        empty(alloc, 8),
+        empty(alloc, 9),
+        empty(alloc, 10),
+        empty(alloc, 11),
+        empty(alloc, 12),
+        empty(alloc, 13),
+        empty(alloc, 14),
+        empty(alloc, 15),
+    ]
+}
+
+impl Single {
+    /// The opening policy, its list, and sixteen empty slots.
+    pub fn new(alloc: Global) -> Result<Single, AllocError>
+        ensures { IfOk result (λ desk. desk ≡ opening_desk) }
+    {
+        let mut entries = Vec::new(alloc);
+        let [user, role, assignment, permission] = opening_entries();
+        entries.push(user)?;
+        entries.push(role)?;
+        entries.push(assignment)?;
+        entries.push(permission)?;
+        Ok(Single {
+            policy: Policy::opening(),
+            entries,
+            slots: empty_slots(alloc),
+        })
+    }
+
+    /// The accepted policy entries, the oldest first.
+    pub fn entries(&self) -> &[Entry]
+        ensures { result.now ≡ self.now.entries }
+    {
+        self.entries.as_slice()
+    }
+
+    /// The slots, by number.
+    pub fn slots(&self) -> &[Slot]
+        ensures { result.now ≡ self.now.slots }
+    {
+        &self.slots
+    }
+
+    // Adds an entry to the list and takes it into the policy, or refuses it as JournalFull or Memory.
+    fn append(&mut self, entry: Entry) -> Reply
+        requires { length self.old.entries + 1 < 2 ^ 64 → Fits self.old.entries entry }
+        ensures { (list_full self.old.entries entry ▸ no_memory ▹ Appends entry) self.old result self.new }
+    {
+        if self.entries.len() >= most_entries(&entry.command) {
+            return Reply::Refused(Refusal::JournalFull);
+        }
+        if self.entries.reserve(1).is_err() {
+            return Reply::Refused(Refusal::Memory);
+        }
+        self.policy.absorb(&entry);
+        self.entries.push_reserved(entry);
+        accepted(&self.policy, &entry)
+    }
+
+    /// Answers a policy command, which this session gives. An accepted command adds its one entry to the policy list.
+    ///
+    /// At this stage the command is a login, a logout or a grant.
+    pub fn admin(&mut self, session: Option<SessionId>, command: AdminCommand) -> Reply
+        requires { IsTrue (is_decided command) }
+        ensures { AdminStep session command self.old result self.new }
+    {
+        match decide(&self.policy, session, &command) {
+            Ok(entry) => self.append(entry),
+            Err(refusal) => Reply::Refused(refusal.into()),
+        }
+    }
+
+    /// Answers a command on the slot of this number, which this session gives, at the whole policy list.
+    pub fn slot(&mut self, session: SessionId, number: u64, command: SlotCommand) -> Reply
+        ensures { DeskStep number session command self.old result self.new }
+    {
+        if !self.policy.lives(session) {
+            return Reply::Refused(Refusal::NoSession);
+        }
+        if number >= u64::from(SLOTS) {
+            return Reply::Refused(Refusal::NoSlot);
+        }
+        let slot = &mut self.slots[number as usize];
+        decide_slot(&self.policy, slot, session, command)
+    }
+
+    /// Whether the session may do the operation on the object.
+    pub fn check(&self, session: SessionId, operation: Operation, object: &Object) -> bool
+        ensures { IsTrue result ↔ May self.now.entries session operation object.now }
+    {
+        self.policy.may(session, &operation, object)
+    }
+}

@@ -1,0 +1,341 @@
+//! One slot, and the answer to a command on it.
+ghost use Rattle.std.specs.Prelude.{◌≡◌, [], List, Some};
+ghost use Rattle.rbac_policy.specs.declared.commands.Entry.{Entry};
+ghost use Rattle.rbac_policy.specs.StandsFor.{StandsFor};
+ghost use Rattle.access_core.specs.Rules.{◌▸◌, ◌▹◌};
+ghost use Rattle.access_core.specs.SlotStep.{SlotStep, no_memory, no_instant, stamp_of, undecided_of, Offers, Steps, Looks, RefusesStep};
+ghost use Rattle.reactor_core.specs.Meaning.{Running, running_of};
+ghost use Rattle.access_core.specs.Allowed.{IsAllowed};
+
+use crate::command::SlotCommand;
+use crate::conversions::of_reactor;
+use crate::refusal::Refusal;
+use crate::reply::{Reply, ShownSignals, SignalNames};
+use crate::shown::{names, observed, statuses};
+use est_kernel::identifier::Identifier;
+use rbac_policy::commands::SessionId;
+use rbac_policy::objects::{Object, Operation, SlotNumber};
+use rbac_policy::policy::Policy;
+use reactor_core::entry::Stamp;
+use reactor_core::journal::Journal;
+use reactor_core::reactor::Reactor;
+use reactor_core::refusal::Refusal as ReactorRefusal;
+use reactor_core::text::Text;
+use std::alloc::{AllocError, Global};
+use std::marker::Model;
+use std::mem;
+
+/// What a slot holds.
+#[derive(Drop)]
+enum Content {
+    /// No module runs.
+    Empty(Journal),
+    Loaded(Reactor),
+}
+
+/// A slot: its number, and a journal with no module or a reactor. A contract sees the number and the journal.
+#[derive(Drop)]
+pub struct Slot {
+    alloc: Global,
+    number: SlotNumber,
+    content: Content,
+}
+
+impl Model for Slot {
+    ghost use Rattle.std.specs.Coded.{codes};
+    ghost use Rattle.reactor_core.specs.contracts.entry.SlotEntry as entry;
+    ghost use Rattle.access_core.specs.SlotState.{SlotState};
+
+    ghost Value = { SlotState };
+
+    ghost coded = { Prim.hlevel (codes, entry.the_row.coded) };
+
+    ghost use Rattle.access_core.specs.Holding.{journal_of, IsHeldRight};
+
+    ghost view = { λ s. record { number = s.number; journal = journal_of s.content } };
+
+    ghost invariant = { λ s. IsHeldRight s.content };
+}
+
+/// The version and the session that an entry bears.
+fn stamp(policy: &Policy, session: SessionId) -> Stamp
+    ensures { (entries : List Entry) → StandsFor policy.now entries → result ≡ stamp_of entries session }
+{
+    Stamp {
+        version: policy.version(),
+        session: session.number(),
+    }
+}
+
+/// What the session is shown of an instant of the reactor.
+fn looked(
+    alloc: Global,
+    policy: &Policy,
+    slot: SlotNumber,
+    session: SessionId,
+    reactor: &Reactor,
+    instant: u64,
+) -> Reply
+    ensures { (entries : List Entry) → StandsFor policy.now entries
+        → (no_instant reactor.now instant ▸ no_memory ▹ Looks entries slot session instant) reactor.now result reactor.now }
+{
+    let interface = reactor.interface();
+    let seen = observed(policy, slot, session, interface);
+    match reactor.shown(instant, seen) {
+        Ok(shown) => match statuses(alloc, interface, shown.mask, shown.present) {
+            Ok(signals) => Reply::Look {
+                instant,
+                signals,
+                version: policy.version(),
+            },
+            Err(_) => Reply::Refused(Refusal::Memory),
+        },
+        Err(_) => Reply::Refused(Refusal::NoInstant),
+    }
+}
+
+/// The outputs that the refusal leaves undecided, as a mask.
+fn undecided(refusal: &ReactorRefusal) -> u64
+    ensures { result ≡ undecided_of refusal.now }
+{
+    match refusal {
+        ReactorRefusal::Stuck(undecided) => *undecided,
+        _ => 0,
+    }
+}
+
+/// The refusal of a step: a Stuck names the undecided outputs that the session may observe.
+fn refused_step(
+    alloc: Global,
+    policy: &Policy,
+    slot: SlotNumber,
+    session: SessionId,
+    reactor: &Reactor,
+    refusal: ReactorRefusal,
+) -> Reply
+    ensures { (entries : List Entry) → StandsFor policy.now entries
+        → (no_memory ▹ RefusesStep entries slot session refusal) reactor.now result reactor.now }
+{
+    let interface = reactor.interface();
+    let seen = observed(policy, slot, session, interface);
+    match names(alloc, interface, seen, undecided(&refusal)) {
+        Ok(names) => Reply::Refused(of_reactor(names, refusal)),
+        Err(_) => Reply::Refused(Refusal::Memory),
+    }
+}
+
+/// Offers the signal to the reactor.
+fn offered(alloc: Global, reactor: &mut Reactor, stamp: Stamp, signal: &Identifier) -> Reply
+    ensures running { (r : Running) × (running_of reactor.new ≡ Some r) }
+    ensures step { Offers stamp signal.now reactor.old result reactor.new }
+{
+    match reactor.offer(stamp, signal) {
+        Ok(()) => Reply::Offer {
+            place: reactor.journal().len() as u64,
+            version: stamp.version,
+        },
+        Err(refusal) => Reply::Refused(of_reactor(SignalNames::new(alloc), refusal)),
+    }
+}
+
+/// Steps the reactor.
+fn stepped(
+    alloc: Global,
+    policy: &Policy,
+    slot: SlotNumber,
+    session: SessionId,
+    reactor: &mut Reactor,
+) -> Reply
+    ensures running { (r : Running) × (running_of reactor.new ≡ Some r) }
+    ensures step { (entries : List Entry) → StandsFor policy.now entries
+        → (no_memory ▹ Steps entries slot session) reactor.old result reactor.new }
+{
+    let stamp = stamp(policy, session);
+    match reactor.step(stamp) {
+        Ok(()) => Reply::Step {
+            instant: reactor.instants(),
+            place: reactor.journal().len() as u64,
+            version: stamp.version,
+        },
+        Err(refusal) => refused_step(alloc, policy, slot, session, reactor, refusal),
+    }
+}
+
+impl Slot {
+    ghost use Rattle.access_core.specs.Desk.{empty_slot};
+    ghost use Rattle.access_core.specs.SlotStep.{occupied, empty, Loads};
+
+    /// An empty slot with an empty journal. It takes no memory.
+    pub fn new(alloc: Global, number: SlotNumber) -> Slot
+        ensures { result ≡ empty_slot number }
+    {
+        Slot {
+            alloc,
+            number,
+            content: Content::Empty(Journal::new(alloc)),
+        }
+    }
+
+    /// Its number.
+    pub fn number(&self) -> SlotNumber
+        ensures { result ≡ self.now.number }
+    {
+        self.number
+    }
+
+    /// Its journal.
+    pub fn journal(&self) -> &Journal
+        ensures { result.now ≡ self.now.journal }
+    {
+        match &self.content {
+            Content::Empty(journal) => journal,
+            Content::Loaded(reactor) => reactor.journal(),
+        }
+    }
+
+    fn load(&mut self, stamp: Stamp, main: Identifier, text: Text) -> Reply
+        ensures number { self.new.number ≡ self.old.number }
+        ensures step { (occupied self.old.journal ▸ Loads stamp main text) self.old.journal result self.new.journal }
+    {
+        let empty = Content::Empty(Journal::new(self.alloc));
+        match mem::replace(&mut self.content, empty) {
+            Content::Empty(journal) => match Reactor::load(self.alloc, journal, stamp, main, text) {
+                Ok(reactor) => {
+                    let place = reactor.journal().len() as u64;
+                    self.content = Content::Loaded(reactor);
+                    Reply::Load {
+                        place,
+                        version: stamp.version,
+                    }
+                }
+                Err((refusal, journal)) => {
+                    self.content = Content::Empty(journal);
+                    Reply::Refused(of_reactor(SignalNames::new(self.alloc), refusal))
+                }
+            },
+            Content::Loaded(reactor) => {
+                self.content = Content::Loaded(reactor);
+                Reply::Refused(Refusal::Occupied)
+            }
+        }
+    }
+
+    fn offer(&mut self, stamp: Stamp, signal: &Identifier) -> Reply
+        ensures number { self.new.number ≡ self.old.number }
+        ensures step { (empty self.old.journal ▸ Offers stamp signal.now) self.old.journal result self.new.journal }
+    {
+        let alloc = self.alloc;
+        if let Content::Loaded(reactor) = &mut self.content {
+            return offered(alloc, reactor, stamp, signal);
+        }
+        Reply::Refused(Refusal::Empty)
+    }
+
+    fn step(&mut self, policy: &Policy, session: SessionId) -> Reply
+        ensures number { self.new.number ≡ self.old.number }
+        ensures step { (entries : List Entry) → StandsFor policy.now entries
+            → (empty self.old.journal ▸ no_memory ▹ Steps entries self.old.number session) self.old.journal result self.new.journal }
+    {
+        let alloc = self.alloc;
+        let number = self.number;
+        if let Content::Loaded(reactor) = &mut self.content {
+            return stepped(alloc, policy, number, session, reactor);
+        }
+        Reply::Refused(Refusal::Empty)
+    }
+
+    fn look(&self, policy: &Policy, session: SessionId, instant: u64) -> Reply
+        ensures { (entries : List Entry) → StandsFor policy.now entries
+            → (empty self.now.journal ▸ no_instant self.now.journal instant ▸ no_memory ▹ Looks entries self.now.number session instant)
+            self.now.journal result self.now.journal }
+    {
+        match &self.content {
+            Content::Empty(_) => Reply::Refused(Refusal::Empty),
+            Content::Loaded(reactor) => looked(
+                self.alloc,
+                policy,
+                self.number,
+                session,
+                reactor,
+                instant,
+            ),
+        }
+    }
+}
+
+/// Whether the session lives and may do the operation on the object, and else why not.
+fn allowed(
+    policy: &Policy,
+    session: SessionId,
+    operation: Operation,
+    object: Object,
+) -> Result<(), Refusal>
+    ensures { (entries : List Entry) → StandsFor policy.now entries → IsAllowed entries session operation object result }
+{
+    if !policy.lives(session) {
+        return Err(Refusal::NoSession);
+    }
+    if !policy.may(session, &operation, &object) {
+        return Err(Refusal::Permission { operation, object });
+    }
+    Ok(())
+}
+
+/// Answers a command, which this session gives to the slot, at the policy as it is.
+///
+/// The session is to live, and to have the command's permission: `load` and `step` on the slot, `offer` on the signal; a look needs
+/// none and shows what the session may observe. A refusal leaves the slot, and a command that is accepted adds its one entry, but
+/// for a look, which adds none.
+pub fn decide_slot(
+    policy: &Policy,
+    slot: &mut Slot,
+    session: SessionId,
+    command: SlotCommand,
+) -> Reply
+    ensures number { slot.new.number ≡ slot.old.number }
+    ensures step { (entries : List Entry) → StandsFor policy.now entries
+        → SlotStep entries slot.old.number session command slot.old.journal result slot.new.journal }
+{
+    match command {
+        SlotCommand::Load { main, text } => {
+            match allowed(
+                policy,
+                session,
+                Operation::Load,
+                Object::Slot(slot.number()),
+            ) {
+                Ok(()) => slot.load(stamp(policy, session), main, text),
+                Err(refusal) => Reply::Refused(refusal),
+            }
+        }
+        SlotCommand::Offer { signal } => {
+            match allowed(
+                policy,
+                session,
+                Operation::Offer,
+                Object::Signal(slot.number(), signal),
+            ) {
+                Ok(()) => slot.offer(stamp(policy, session), &signal),
+                Err(refusal) => Reply::Refused(refusal),
+            }
+        }
+        SlotCommand::Step => {
+            match allowed(
+                policy,
+                session,
+                Operation::Step,
+                Object::Slot(slot.number()),
+            ) {
+                Ok(()) => slot.step(policy, session),
+                Err(refusal) => Reply::Refused(refusal),
+            }
+        }
+        SlotCommand::Look { instant } => {
+            if policy.lives(session) {
+                slot.look(policy, session, instant)
+            } else {
+                Reply::Refused(Refusal::NoSession)
+            }
+        }
+    }
+}
