@@ -6,13 +6,13 @@ use Rattle.est_kernel.specs.Term.{outer, inner, Term}
 use Rattle.est_meaning.specs.Status.{Status, on, off, unknown, Env, verdict, is_unknown}
 use Rattle.est_meaning.specs.MustCan.{sure, must, can}
 use Rattle.est_meaning.specs.Knowledge.{IsBelow, KnowsLess}
-use Rattle.est_meaning.specs.Rounds.{Judged, first_env, round, env_after, how_many, last_env}
+use Rattle.est_meaning.specs.Rounds.{JudgedSignals, first_env, round, env_after, how_many, last_env}
 use Rattle.est_meaning.specs.Laws.{IsWithinPlaces}
 use Rattle.est_meaning.proofs.Monotony.{verdict_below, monotone, must_can}
 use Rattle.est_meaning.proofs.Settled.{settled}
 
 -- a round keeps the order of knowledge
-round_grows : (j : Judged) (t : Term) (e f : Env) → KnowsLess e f → KnowsLess (round j t e) (round j t f)
+round_grows : (j : JudgedSignals) (t : Term) (e f : Env) → KnowsLess e f → KnowsLess (round j t e) (round j t f)
 unfolding round
 round_grows j t e f k (outer n) = go (j.has n)
   where
@@ -25,7 +25,7 @@ round_grows j t e f k (outer n) = go (j.has n)
     go false = k (outer n)
 round_grows j t e f k (inner n) = k (inner n)
 
-first_below : (j : Judged) (inputs : ℕ → Bool) (t : Term) → KnowsLess (first_env j inputs) (round j t (first_env j inputs))
+first_below : (j : JudgedSignals) (inputs : ℕ → Bool) (t : Term) → KnowsLess (first_env j inputs) (round j t (first_env j inputs))
 unfolding round first_env
 first_below j inputs t (outer n) = go (j.has n) _
   where
@@ -35,7 +35,7 @@ first_below j inputs t (outer n) = go (j.has n) _
 first_below j inputs t (inner n) = inr refl
 
 -- statuses only become more defined
-pub learns : (j : Judged) (inputs : ℕ → Bool) (t : Term) (n : ℕ) → KnowsLess (env_after n j t (first_env j inputs)) (env_after (suc n) j t (first_env j inputs))
+pub learns : (j : JudgedSignals) (inputs : ℕ → Bool) (t : Term) (n : ℕ) → KnowsLess (env_after n j t (first_env j inputs)) (env_after (suc n) j t (first_env j inputs))
 learns j inputs t zero = first_below j inputs t
 learns j inputs t (suc n) = round_grows j t _ _ (learns j inputs t n)
 
@@ -67,7 +67,7 @@ as_many f g s (suc p) h n l =
     ]
 
 -- the judged signals that are not known
-abbrev pub open_in : Judged → Env → ℕ → Bool
+abbrev pub open_in : JudgedSignals → Env → ℕ → Bool
 open_in j e n = j.has n && is_unknown (e (outer n))
 
 unknown_stays : (v w : Status) → IsBelow v w → is_unknown w ≡ true → is_unknown v ≡ true
@@ -77,7 +77,7 @@ unknown_stays v w (inr h) g = rw h g
 both_are : (x y : Bool) → x ≡ true → y ≡ true → (x && y) ≡ true
 both_are x y p q = rw (p, q) refl
 
-open_fewer : (j : Judged) (e f : Env) → KnowsLess e f → (n : ℕ) → open_in j f n ≡ true → open_in j e n ≡ true
+open_fewer : (j : JudgedSignals) (e f : Env) → KnowsLess e f → (n : ℕ) → open_in j f n ≡ true → open_in j e n ≡ true
 open_fewer j e f k n h =
     let p = and_parts (j.has n) (is_unknown (f (outer n))) h in
     both_are (j.has n) (is_unknown (e (outer n))) p.0 (unknown_stays (e (outer n)) (f (outer n)) (k (outer n)) p.1)
@@ -94,16 +94,16 @@ known_same v w (inl h) g = h ∙ sym (is_it w (sym g ∙ ap is_unknown h))
 when_has : (b x y : Bool) → b ≡ true → (b && x) ≡ (b && y) → x ≡ y
 when_has b x y e h = rw e at h
 
-inner_kept : (j : Judged) (t : Term) (e : Env) (n : ℕ) → round j t e (inner n) ≡ e (inner n)
+inner_kept : (j : JudgedSignals) (t : Term) (e : Env) (n : ℕ) → round j t e (inner n) ≡ e (inner n)
 unfolding round
 inner_kept j t e n = refl
 
-kept : (j : Judged) (t : Term) (e : Env) (n : ℕ) → j.has n ≡ false → round j t e (outer n) ≡ e (outer n)
+kept : (j : JudgedSignals) (t : Term) (e : Env) (n : ℕ) → j.has n ≡ false → round j t e (outer n) ≡ e (outer n)
 unfolding round
 kept j t e n d = rw d refl
 
 -- a round that leaves as many open changes nothing
-changes_nothing : (j : Judged) → IsWithinPlaces j → (t : Term) (e : Env) → KnowsLess e (round j t e)
+changes_nothing : (j : JudgedSignals) → IsWithinPlaces j → (t : Term) (e : Env) → KnowsLess e (round j t e)
     → how_many (open_in j e) j.places ≤ how_many (open_in j (round j t e)) j.places → round j t e ≡ e
 changes_nothing j w t e k h = fun_ext (elim [ outer n ↦ at n (j.has n) refl | inner n ↦ inner_kept j t e n ])
   where
@@ -114,7 +114,7 @@ changes_nothing j w t e k h = fun_ext (elim [ outer n ↦ at n (j.has n) refl | 
     at n false d = kept j t e n d
 
 -- where at most k signals are open after n rounds, nothing changes after k more
-enough : (j : Judged) → IsWithinPlaces j → (inputs : ℕ → Bool) (t : Term) (k n : ℕ) → how_many (open_in j (env_after n j t (first_env j inputs))) j.places ≤ k
+enough : (j : JudgedSignals) → IsWithinPlaces j → (inputs : ℕ → Bool) (t : Term) (k n : ℕ) → how_many (open_in j (env_after n j t (first_env j inputs))) j.places ≤ k
     → round j t (env_after (k + n) j t (first_env j inputs)) ≡ env_after (k + n) j t (first_env j inputs)
 enough j w inputs t zero n h =
     let c : 0 + n ≡ n = omega arith in
@@ -131,7 +131,7 @@ enough j w inputs t (suc k) n h =
     ]
 
 -- after as many rounds as there are judged signals nothing changes
-pub settles : (j : Judged) → IsWithinPlaces j → (inputs : ℕ → Bool) (t : Term) (m : ℕ) → how_many j.has j.places ≤ m → env_after m j t (first_env j inputs) ≡ last_env j inputs t
+pub settles : (j : JudgedSignals) → IsWithinPlaces j → (inputs : ℕ → Bool) (t : Term) (m : ℕ) → how_many j.has j.places ≤ m → env_after m j t (first_env j inputs) ≡ last_env j inputs t
 settles j w inputs t m l =
     let rounds = how_many j.has j.places in
     let few = fewer j.has (open_in j (first_env j inputs)) (λ n h. (and_parts (j.has n) (is_unknown (first_env j inputs (outer n))) h).0) j.places in

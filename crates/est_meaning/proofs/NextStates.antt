@@ -272,21 +272,19 @@ paused_after s t e o u g n =
     let members = sym (has_members n.next (λ i l. n.own i (no_pause_above s i l))) in
     record {
       state = Paused (record { words = words_from n.next 0 32 });
-      stands = record {
-        state = same_paused s n.next _ members (record { live = n.steps.live; exclusive = n.steps.exclusive; own = n.own });
-        term = ap (λ f. term_at s f) (sym members) ∙ (unique t e o 1 (term_at s n.next) o 1 u n.steps.gives g).rest;
-      };
+      is_state = same_paused s n.next _ members (record { live = n.steps.live; exclusive = n.steps.exclusive; own = n.own });
+      term = ap (λ f. term_at s f) (sym members) ∙ (unique t e o 1 (term_at s n.next) o 1 u n.steps.gives g).rest;
     }
 
 -- the state after a step
 state_after : (s : Statement) (t : Term) (e : Env) (o : Signals) (k : ℕ) (u : Term) → Gives t e o k u → Next s t e o k → SomeStateFor s u
-state_after s t e o zero u g n = record { state = Done; stands = record { state = tt; term = (unique t e o 0 nothing o 0 u n.steps.gives g).rest } }
+state_after s t e o zero u g n = record { state = Done; is_state = tt; term = (unique t e o 0 nothing o 0 u n.steps.gives g).rest }
 state_after s t e o (suc zero) u g n = paused_after s t e o u g n
-state_after s t e o (suc (suc k)) u g n = record { state = Done; stands = record { state = tt; term = (unique t e o (suc (suc k)) nothing o (suc (suc k)) u n.steps.gives g).rest } }
+state_after s t e o (suc (suc k)) u g n = record { state = Done; is_state = tt; term = (unique t e o (suc (suc k)) nothing o (suc (suc k)) u n.steps.gives g).rest }
 
 -- what is left of a state's term has a state
 pub next_stands : (s : Statement) → IsNumbered s → (x : State) → IsState s x → (e : Env) (o : Signals) (k : ℕ) (u : Term) → Gives (state_term s x) e o k u → SomeStateFor s u
 next_stands s num Fresh h e o k u g = state_after s (term_of s) e o k u g (begins s num e o k u g)
-next_stands s num Done h e o k u g = record { state = Done; stands = record { state = tt; term = sym g.rest } }
+next_stands s num Done h e o k u g = record { state = Done; is_state = tt; term = sym g.rest }
 next_stands s num (Paused p) h e o k u g =
     state_after s (term_at s (pauses_of p)) e o k u g (resumes s num (pauses_of p) h.live h.exclusive e o k u g)

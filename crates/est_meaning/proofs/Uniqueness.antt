@@ -4,7 +4,7 @@ use Rattle.est_kernel.specs.Term.{Term, nothing, pause, emit, present, suspend, 
 use Rattle.est_meaning.specs.Signals.{Signals, union, without}
 use Rattle.est_meaning.specs.Status.{Status, on, off, Env, status_of}
 use Rattle.est_meaning.specs.MustCan.{sure, env_within}
-use Rattle.est_meaning.specs.Rules.{Gives, Step, rest_of, outside, IsJust, Inside, takes_first, takes_second, held_on, held_off, goes_on, ends_then}
+use Rattle.est_meaning.specs.Rules.{Gives, Behaviour, rest_of, outside, IsJust, Inside, takes_first, takes_second, held_on, held_off, goes_on, ends_then}
 use Rattle.est_meaning.specs.Laws.{IsSame}
 
 on_off : {A : Type 0} (s : Status) → s ≡ on → s ≡ off → A
@@ -17,7 +17,7 @@ just_same : {a : Signals} {j : ℕ} {t : Term} {o : Signals} {k : ℕ} {u : Term
     → IsJust a j t o k u → IsJust a j t o' k' u' → IsSame o k u o' k' u'
 just_same g h = record { signals = g.signals ∙ sym h.signals; code = g.code ∙ sym h.code; rest = g.rest ∙ sym h.rest }
 
-inside_same : {body : Step} {around : Term → Term} {o : Signals} {k : ℕ} {u : Term} {o' : Signals} {k' : ℕ} {u' : Term}
+inside_same : {body : Behaviour} {around : Term → Term} {o : Signals} {k : ℕ} {u : Term} {o' : Signals} {k' : ℕ} {u' : Term}
     → (g : Inside body around o k u) (h : Inside body around o' k' u') → IsSame o k g.left o' k' h.left → IsSame o k u o' k' u'
 inside_same {around = around} {k = k} g h s = record {
   signals = s.signals;

@@ -5,22 +5,22 @@ use Rattle.est_meaning.specs.Status.{off, unknown, Env, verdict}
 use Rattle.est_meaning.specs.MustCan.{must, can, sure}
 
 -- the interface signals that the rounds judge: those below `places` for which the test holds
-pub record Judged : Type 0 where
+pub record JudgedSignals : Type 0 where
   pub places : ℕ
   pub has : ℕ → Bool
 
 -- the first environment: judged signals are unknown, all others are present just where they are inputs of the instant
-unfoldable pub first_env : Judged → (ℕ → Bool) → Env
+unfoldable pub first_env : JudgedSignals → (ℕ → Bool) → Env
 first_env j inputs (outer n) = cond (j.has n) unknown (verdict (inputs n) false)
 first_env j inputs (inner n) = off
 
 -- a round gives each judged signal the verdict on what the term must emit and can emit
-unfoldable pub round : Judged → Term → Env → Env
+unfoldable pub round : JudgedSignals → Term → Env → Env
 round j t e (outer n) = cond (j.has n) (verdict ((must t e).signals (outer n)) ((can t sure e).signals (outer n))) (e (outer n))
 round j t e (inner n) = e (inner n)
 
 -- the environment after so many rounds
-abbrev pub env_after : ℕ → Judged → Term → Env → Env
+abbrev pub env_after : ℕ → JudgedSignals → Term → Env → Env
 env_after zero j t e = e
 env_after (suc n) j t e = round j t (env_after n j t e)
 
@@ -30,5 +30,5 @@ how_many f zero = 0
 how_many f (suc n) = how_many f n + cond (f n) 1 0
 
 -- the environment of the last round, which is the one numbered by the number of judged signals
-abbrev pub last_env : Judged → (ℕ → Bool) → Term → Env
+abbrev pub last_env : JudgedSignals → (ℕ → Bool) → Term → Env
 last_env j inputs t = env_after (how_many j.has j.places) j t (first_env j inputs)

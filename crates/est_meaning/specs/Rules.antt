@@ -19,8 +19,8 @@ outside (suc (suc zero)) = 0
 outside (suc (suc (suc k))) = suc (suc k)
 
 -- a way to react: the signals emitted, the code given, the term that is left
-abbrev pub Step : Type 1
-Step = Signals → ℕ → Term → Type 0
+abbrev pub Behaviour : Type 1
+Behaviour = Signals → ℕ → Term → Type 0
 
 -- exactly this: these signals, this code, this rest
 pub record IsJust (emitted : Signals) (given : ℕ) (left : Term) (o : Signals) (k : ℕ) (u : Term) : Type 0 where
@@ -29,33 +29,33 @@ pub record IsJust (emitted : Signals) (given : ℕ) (left : Term) (o : Signals) 
   pub rest : u ≡ left
 
 -- the body reacts, and what is left of it goes on inside the same statement
-pub record Inside (body : Step) (around : Term → Term) (o : Signals) (k : ℕ) (u : Term) : Type 0 where
+pub record Inside (body : Behaviour) (around : Term → Term) (o : Signals) (k : ℕ) (u : Term) : Type 0 where
   pub left : Term
   pub gives : body o k left
   pub rest : u ≡ rest_of k (around left)
 
 -- `present`: the branch that the status chooses; none while it is unknown
-pub data PresentRule (v : Status) (first second : Step) (o : Signals) (k : ℕ) (u : Term) : Type 0 where
+pub data PresentRule (v : Status) (first second : Behaviour) (o : Signals) (k : ℕ) (u : Term) : Type 0 where
   takes_first : v ≡ on → first o k u → PresentRule v first second o k u
   takes_second : v ≡ off → second o k u → PresentRule v first second o k u
 
 -- a suspended statement that has paused: it stays as it is, or its body goes on
-pub data HeldRule (v : Status) (s : Query) (p : Term) (body : Step) (o : Signals) (k : ℕ) (u : Term) : Type 0 where
+pub data HeldRule (v : Status) (s : Query) (p : Term) (body : Behaviour) (o : Signals) (k : ℕ) (u : Term) : Type 0 where
   held_on : v ≡ on → IsJust no_signals 1 (held s p) o k u → HeldRule v s p body o k u
   held_off : v ≡ off → Inside body (λ t. held s t) o k u → HeldRule v s p body o k u
 
 -- `;`: the first part does not end and the second waits; or it ends and the second is begun
-pub data SeqRule (first second : Step) (q : Term) (o : Signals) (k : ℕ) (u : Term) : Type 0 where
+pub data SeqRule (first second : Behaviour) (q : Term) (o : Signals) (k : ℕ) (u : Term) : Type 0 where
   goes_on : k ≢ 0 → Inside first (λ t. seq t q) o k u → SeqRule first second q o k u
   ends_then : (before after : Signals) (left : Term) → first before 0 left → second after k u → o ≡ union before after → SeqRule first second q o k u
 
 -- `loop`: the body may not end in the instant in which it is begun
-pub record LoopRule (body : Step) (p : Term) (o : Signals) (k : ℕ) (u : Term) : Type 0 where
+pub record LoopRule (body : Behaviour) (p : Term) (o : Signals) (k : ℕ) (u : Term) : Type 0 where
   pub not_ended : k ≢ 0
   pub inside : Inside body (λ t. seq t (loop p)) o k u
 
 -- `||`: both sides react, and the greater code is given
-pub record BothRule (left right : Step) (o : Signals) (k : ℕ) (u : Term) : Type 0 where
+pub record BothRule (left right : Behaviour) (o : Signals) (k : ℕ) (u : Term) : Type 0 where
   pub left_signals : Signals
   pub left_code : ℕ
   pub left_rest : Term
@@ -69,7 +69,7 @@ pub record BothRule (left right : Step) (o : Signals) (k : ℕ) (u : Term) : Typ
   pub rest : u ≡ rest_of k (par left_rest right_rest)
 
 -- `trap`: the body's code as it is seen outside
-pub record TrapRule (body : Step) (o : Signals) (k : ℕ) (u : Term) : Type 0 where
+pub record TrapRule (body : Behaviour) (o : Signals) (k : ℕ) (u : Term) : Type 0 where
   pub body_code : ℕ
   pub left : Term
   pub gives : body o body_code left
@@ -77,7 +77,7 @@ pub record TrapRule (body : Step) (o : Signals) (k : ℕ) (u : Term) : Type 0 wh
   pub rest : u ≡ rest_of k (trap left)
 
 -- `signal`: the body reacts once the local signal's status is decided, and the signal is not seen outside
-pub record LocalRule (v : Status) (s : ℕ) (body : Step) (o : Signals) (k : ℕ) (u : Term) : Type 0 where
+pub record LocalRule (v : Status) (s : ℕ) (body : Behaviour) (o : Signals) (k : ℕ) (u : Term) : Type 0 where
   pub decided : v ≢ unknown
   pub body_signals : Signals
   pub left : Term

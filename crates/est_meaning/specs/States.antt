@@ -24,8 +24,3 @@ abbrev pub state_term : Statement → State → Term
 state_term s Fresh = term_of s
 state_term s Done = nothing
 state_term s (Paused p) = term_at s (pauses_of p)
-
--- x is a state of s and stands for t
-pub record StandsFor (s : Statement) (x : State) (t : Term) : Type 0 where
-  pub state : IsState s x
-  pub term : state_term s x ≡ t

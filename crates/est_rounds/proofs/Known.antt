@@ -8,7 +8,7 @@ use Rattle.est_kernel.proofs.Masks.{bits_zero}
 use Rattle.est_meaning.specs.Status as meaning
 use Rattle.est_meaning.specs.MustCan.{must, can, sure}
 use Rattle.est_meaning.specs.Rounds.{first_env, round}
-use Rattle.est_rounds.specs.Views.{set_of, env_of, judged_is}
+use Rattle.est_rounds.specs.Views.{set_of, env_of, judged_by}
 use Rattle.est_rounds.specs.declared.judged.JudgedSignals.{JudgedSignals}
 use Rattle.est_rounds.specs.declared.signal_set.SignalSet.{SignalSet}
 
@@ -20,7 +20,7 @@ first_verdict false false = refl
 
 -- before the first round
 pub first_known_is : (j : JudgedSignals) (i p q : ℕ) → ((n : ℕ) → bits p n ≡ (bits i n && not (bits j.signals n))) → bits q ≡ either_code (bits j.signals) (bits i)
-    → env_of (record { present = record { interface = p; local = 0 }; possible = record { interface = q; local = 0 } }) ≡ first_env (judged_is j) (bits i)
+    → env_of (record { present = record { interface = p; local = 0 }; possible = record { interface = q; local = 0 } }) ≡ first_env (judged_by j) (bits i)
 unfolding env_of set_of first_env either_code
 first_known_is j i p q f g = fun_ext (elim [
   | outer n ↦ ap (λ x. meaning.verdict x (bits q n)) (f n) ∙ (ap (λ h. meaning.verdict (bits i n && not (bits j.signals n)) (h n)) g ∙ first_verdict (bits j.signals n) (bits i n))
@@ -52,7 +52,7 @@ pub next_known_is : (j : JudgedSignals) (t : Term) (e : meaning.Env) (ms cs p q 
     → e ≡ env_of (record { present = p; possible = q }) → set_of ms ≡ (must t e).signals → set_of cs ≡ (can t sure e).signals
     → ((n : ℕ) → bits p' n ≡ cond (bits j.signals n) (bits ms.interface n) (bits p.interface n))
     → ((n : ℕ) → bits q' n ≡ cond (bits j.signals n) (bits cs.interface n) (bits q.interface n))
-    → env_of (record { present = record { interface = p'; local = p.local }; possible = record { interface = q'; local = q.local } }) ≡ round (judged_is j) t e
+    → env_of (record { present = record { interface = p'; local = p.local }; possible = record { interface = q'; local = q.local } }) ≡ round (judged_by j) t e
 unfolding env_of set_of round
 next_known_is j t e ms cs p q p' q' ee em ec fp fq = fun_ext (elim [
   | outer n ↦

@@ -10,7 +10,7 @@ use Rattle.est_kernel.specs.declared.state.State.TheVariants.{Paused}
 use Rattle.est_meaning.specs.Status.{Env}
 use Rattle.est_meaning.specs.Signals.{Signals}
 use Rattle.est_meaning.specs.Rules.{Gives, rest_of}
-use Rattle.est_meaning.specs.Rounds.{Judged, last_env}
+use Rattle.est_meaning.specs.Rounds.{JudgedSignals, last_env}
 use Rattle.est_meaning.specs.Reaction.{Reacts}
 use Rattle.est_meaning.specs.States.{IsState, state_term}
 use Rattle.est_meaning.specs.Steps.{StepsTo}
@@ -22,7 +22,7 @@ pub paused_state : (s : Statement) (t : Term) (e : Env) (o : Signals) (k : ℕ) 
     → ((i : ℕ) → has_pause s i ≡ false → pauses_of p i ≡ false) → IsState s (Paused p)
 paused_state s t e o k p z h own = record { live = rw z at h.live; exclusive = h.exclusive; own = own }
 
-pub paused_reacts : (j : Judged) (inputs : ℕ → Bool) (s : Statement) (t : Term) (e : Env) (o : SignalSet) (k : ℕ) (p : PauseSet) → e ≡ last_env j inputs t → k ≡ 1
+pub paused_reacts : (j : JudgedSignals) (inputs : ℕ → Bool) (s : Statement) (t : Term) (e : Env) (o : SignalSet) (k : ℕ) (p : PauseSet) → e ≡ last_env j inputs t → k ≡ 1
     → StepsTo s t e (set_of o) k (pauses_of p) → Reacts j inputs t (bits o.interface) (state_term s (Paused p))
 unfolding set_of
 paused_reacts j inputs s t e o k p ee z h = record { signals = set_of o; code = 1; gives = rw (ee, z) at h.gives; seen = λ n. refl }
@@ -33,7 +33,7 @@ rest_nothing (suc zero) u d = absurd (d refl)
 rest_nothing (suc (suc k)) u d = refl
 
 -- a step of another code leaves nothing
-pub ended_reacts : (j : Judged) (inputs : ℕ → Bool) (s : Statement) (t : Term) (e : Env) (o : SignalSet) (k : ℕ) (n : ℕ → Bool) → e ≡ last_env j inputs t → k ≢ 1
+pub ended_reacts : (j : JudgedSignals) (inputs : ℕ → Bool) (s : Statement) (t : Term) (e : Env) (o : SignalSet) (k : ℕ) (n : ℕ → Bool) → e ≡ last_env j inputs t → k ≢ 1
     → StepsTo s t e (set_of o) k n → Reacts j inputs t (bits o.interface) nothing
 unfolding set_of
 ended_reacts j inputs s t e o k n ee d h = record {

@@ -8,12 +8,12 @@ use Rattle.est_kernel.specs.declared.state.Inputs.{Inputs}
 use Rattle.est_kernel.specs.declared.state.Outcome.{Outcome}
 use Rattle.est_kernel.specs.declared.state.Stuck.{Stuck}
 use Rattle.est_meaning.specs.Knowledge.{IsIn}
-use Rattle.est_meaning.specs.Rounds.{Judged}
+use Rattle.est_meaning.specs.Rounds.{JudgedSignals}
 use Rattle.est_meaning.specs.Reaction.{Reacts, CannotReact, is_undecided}
 use Rattle.est_meaning.specs.States.{IsState, state_term}
 
 -- the signals that the rounds judge for a kernel: its outputs
-abbrev pub judged_of : Kernel → Judged
+abbrev pub judged_of : Kernel → JudgedSignals
 judged_of k = record { places = length k.interface; has = outputs_of k.interface }
 
 -- each signal in the mask is an input of the kernel

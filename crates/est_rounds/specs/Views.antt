@@ -9,7 +9,7 @@ use Rattle.est_rounds.specs.declared.signal_set.SignalSet.{SignalSet}
 use Rattle.est_rounds.specs.declared.signal_set.Env.{Env}
 use Rattle.est_rounds.specs.declared.signal_set.Status.{Status}
 use Rattle.est_rounds.specs.declared.signal_set.Status.TheVariants.{Present, Absent, Unknown}
-use Rattle.est_meaning.specs.Rounds.{Judged}
+use Rattle.est_meaning.specs.Rounds as rounds
 use Rattle.est_rounds.specs.declared.acts.Acts.{Acts}
 use Rattle.est_rounds.specs.declared.judged.JudgedSignals.{JudgedSignals}
 
@@ -26,16 +26,16 @@ with_member a s is_in t = cond (same_name (inner s) t) is_in (a t)
 unfoldable pub env_of : Env → meaning.Env
 env_of e s = meaning.verdict (set_of e.present s) (set_of e.possible s)
 
--- a status of the code
-abbrev pub status_is : Status → meaning.Status
-status_is Present = meaning.on
-status_is Absent = meaning.off
-status_is Unknown = meaning.unknown
+-- what is known of a signal, as a status
+abbrev pub status_of_code : Status → meaning.Status
+status_of_code Present = meaning.on
+status_of_code Absent = meaning.off
+status_of_code Unknown = meaning.unknown
 
--- signals and codes
+-- two sets of signals and a mask of codes, as the acts of a statement
 abbrev pub acts_of : Acts → must_can.Acts
 acts_of a = record { signals = set_of a.signals; codes = bits a.codes }
 
--- the signals that are judged
-abbrev pub judged_is : JudgedSignals → Judged
-judged_is j = record { places = j.places; has = bits j.signals }
+-- the signals of the mask, as those that the rounds judge
+abbrev pub judged_by : JudgedSignals → rounds.JudgedSignals
+judged_by j = record { places = j.places; has = bits j.signals }

@@ -121,51 +121,51 @@ impl Acts {
 
 /// What must be done and what can be done.
 #[derive(Clone, Copy)]
-pub struct Judged {
+pub struct Judgement {
     pub must: Acts,
     pub can: Acts,
 }
 
-impl Judged {
+impl Judgement {
     /// What is done for sure.
-    pub fn exactly(acts: Acts) -> Judged
+    pub fn exactly(acts: Acts) -> Judgement
         ensures must { result.must ≡ acts }
         ensures can { result.can ≡ acts }
     {
-        Judged {
+        Judgement {
             must: acts,
             can: acts,
         }
     }
 
     /// What is judged of both, side by side.
-    pub fn beside(self, other: Judged) -> Judged
+    pub fn beside(self, other: Judgement) -> Judgement
         ensures must { acts_of result.must ≡ together (acts_of self.must) (acts_of other.must) }
         ensures can { acts_of result.can ≡ together (acts_of self.can) (acts_of other.can) }
     {
-        Judged {
+        Judgement {
             must: self.must.beside(other.must),
             can: self.can.beside(other.can),
         }
     }
 
     /// What is judged outside a trap.
-    pub fn out_of_trap(self) -> Judged
+    pub fn out_of_trap(self) -> Judgement
         ensures must { acts_of result.must ≡ trapped (acts_of self.must) }
         ensures can { acts_of result.can ≡ trapped (acts_of self.can) }
     {
-        Judged {
+        Judgement {
             must: self.must.out_of_trap(),
             can: self.can.out_of_trap(),
         }
     }
 
     /// What is judged outside the binder of this local signal.
-    pub fn hiding(self, s: LocalSignal) -> Judged
+    pub fn hiding(self, s: LocalSignal) -> Judgement
         ensures must { acts_of result.must ≡ hide s.index (acts_of self.must) }
         ensures can { acts_of result.can ≡ hide s.index (acts_of self.can) }
     {
-        Judged {
+        Judgement {
             must: self.must.hiding(s),
             can: self.can.hiding(s),
         }

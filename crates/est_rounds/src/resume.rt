@@ -6,7 +6,7 @@ ghost use Rattle.est_kernel.specs.Pauses.{pauses_of};
 ghost use Rattle.est_rounds.specs.Judging.{CanDo, IsJudged};
 ghost use Rattle.est_rounds.specs.Views.{env_of};
 
-use crate::acts::{Acts, Judged};
+use crate::acts::{Acts, Judgement};
 use crate::signal_set::{self, Env, Status};
 use crate::start::{start_maybe, then_start};
 use est_kernel::pause_set::PauseSet;
@@ -77,14 +77,14 @@ pub fn resume_maybe(s: &Statement, pauses: &PauseSet, env: &Env) -> Option<Acts>
 }
 
 /// What a statement must do and can do as it goes on; none where it has no pause in the set.
-pub fn resume_sure(s: &Statement, pauses: &PauseSet, env: &Env) -> Option<Judged>
+pub fn resume_sure(s: &Statement, pauses: &PauseSet, env: &Env) -> Option<Judgement>
     ensures { MatchOption result (is_live s.now (pauses_of pauses.now) ≡ false) (IsJudged s.now (pauses_of pauses.now) (env_of env.now)) }
 {
     match s {
         Statement::Nothing => None,
         Statement::Pause(n) => {
             if pauses.has(*n) {
-                Some(Judged::exactly(Acts::ending(0)))
+                Some(Judgement::exactly(Acts::ending(0)))
             } else {
                 None
             }
@@ -97,12 +97,12 @@ pub fn resume_sure(s: &Statement, pauses: &PauseSet, env: &Env) -> Option<Judged
         Statement::Suspend(t, p) => match signal_set::answer_to(env, *t) {
             Status::Present => {
                 let _paused = resume_maybe(p, pauses, env)?;
-                Some(Judged::exactly(Acts::ending(1)))
+                Some(Judgement::exactly(Acts::ending(1)))
             }
             Status::Absent => resume_sure(p, pauses, env),
             Status::Unknown => {
                 let acts = resume_maybe(p, pauses, env)?;
-                Some(Judged {
+                Some(Judgement {
                     must: Acts::none(),
                     can: acts.or_stays(),
                 })
@@ -119,8 +119,8 @@ pub fn resume_sure(s: &Statement, pauses: &PauseSet, env: &Env) -> Option<Judged
         Statement::Par(p, q) => {
             match (resume_sure(p, pauses, env), resume_sure(q, pauses, env)) {
                 (None, None) => None,
-                (Some(left), None) => Some(left.beside(Judged::exactly(Acts::ending(0)))),
-                (None, Some(right)) => Some(Judged::exactly(Acts::ending(0)).beside(right)),
+                (Some(left), None) => Some(left.beside(Judgement::exactly(Acts::ending(0)))),
+                (None, Some(right)) => Some(Judgement::exactly(Acts::ending(0)).beside(right)),
                 (Some(left), Some(right)) => Some(left.beside(right)),
             }
         }

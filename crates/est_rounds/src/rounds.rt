@@ -10,9 +10,9 @@ ghost use Rattle.est_meaning.specs.Rules.{HasNoRule};
 ghost use Rattle.est_meaning.specs.States.{IsState, state_term};
 ghost use Rattle.est_meaning.specs.Steps.{StepsTo};
 ghost use Rattle.est_rounds.specs.Contract.{judged_of};
-ghost use Rattle.est_rounds.specs.Views.{set_of, env_of, acts_of, judged_is};
+ghost use Rattle.est_rounds.specs.Views.{set_of, env_of, acts_of, judged_by};
 
-use crate::acts::{Acts, Judged};
+use crate::acts::{Acts, Judgement};
 use crate::engine::Engine;
 use crate::judged::JudgedSignals;
 use crate::resume::resume_sure;
@@ -27,7 +27,7 @@ use est_kernel::state::{Inputs, Outcome, State, Stuck};
 
 /// The signals that are judged for a kernel: its outputs.
 fn judged_signals(kernel: &Kernel) -> JudgedSignals
-    ensures { judged_is result ≡ judged_of kernel.now }
+    ensures { judged_by result ≡ judged_of kernel.now }
 {
     let interface = kernel.interface();
     JudgedSignals {
@@ -51,7 +51,7 @@ fn judged_count(judged: JudgedSignals) -> u8
 
 /// What is known before the first round.
 fn first_known(judged: JudgedSignals, inputs: u64) -> Env
-    ensures { env_of result ≡ first_env (judged_is judged) (bits inputs) }
+    ensures { env_of result ≡ first_env (judged_by judged) (bits inputs) }
 {
     Env {
         present: SignalSet {
@@ -66,17 +66,17 @@ fn first_known(judged: JudgedSignals, inputs: u64) -> Env
 }
 
 /// What a kernel must do and can do from this state.
-fn judge(kernel: &Kernel, state: &State, env: &Env) -> Judged
+fn judge(kernel: &Kernel, state: &State, env: &Env) -> Judgement
     requires { IsState kernel.now.root state.now }
     ensures must { acts_of result.must ≡ must (state_term kernel.now.root state.now) (env_of env.now) }
     ensures can { acts_of result.can ≡ can (state_term kernel.now.root state.now) sure (env_of env.now) }
 {
     match state {
         State::Fresh => start_sure(kernel.root(), env),
-        State::Done => Judged::exactly(Acts::ending(0)),
+        State::Done => Judgement::exactly(Acts::ending(0)),
         State::Paused(pauses) => match resume_sure(kernel.root(), pauses, env) {
             Some(judged) => judged,
-            None => Judged::exactly(Acts::ending(0)),
+            None => Judgement::exactly(Acts::ending(0)),
         },
     }
 }
@@ -94,7 +94,7 @@ fn judged_again(judged: JudgedSignals, before: u64, now: u64) -> u64
 /// What is known after one more round.
 fn next_known(kernel: &Kernel, state: &State, judged: JudgedSignals, env: &Env) -> Env
     requires { IsState kernel.now.root state.now }
-    ensures { env_of result ≡ round (judged_is judged) (state_term kernel.now.root state.now) (env_of env.now) }
+    ensures { env_of result ≡ round (judged_by judged) (state_term kernel.now.root state.now) (env_of env.now) }
 {
     let acts = judge(kernel, state, env);
     Env {
@@ -112,7 +112,7 @@ fn next_known(kernel: &Kernel, state: &State, judged: JudgedSignals, env: &Env) 
 /// What is known after the last round. A round that changes nothing is the last that is run.
 fn last_known(kernel: &Kernel, state: &State, judged: JudgedSignals, inputs: u64) -> Env
     requires { IsState kernel.now.root state.now }
-    ensures { env_of result ≡ last_env (judged_is judged) (bits inputs) (state_term kernel.now.root state.now) }
+    ensures { env_of result ≡ last_env (judged_by judged) (bits inputs) (state_term kernel.now.root state.now) }
 {
     let mut env = first_known(judged, inputs);
     for i in 0..judged_count(judged) {

@@ -5,7 +5,7 @@ ghost use Rattle.est_kernel.specs.Term.{inner};
 ghost use Rattle.est_kernel.specs.View.{name_of, query_of};
 ghost use Rattle.est_meaning.specs.Signals.{no_signals, only, union, without};
 ghost use Rattle.est_meaning.specs.Status.{verdict, status_of, with_local};
-ghost use Rattle.est_rounds.specs.Views.{set_of, env_of, status_is, with_member};
+ghost use Rattle.est_rounds.specs.Views.{set_of, env_of, status_of_code, with_member};
 
 use est_kernel::mask;
 use est_kernel::statement::{LocalSignal, Signal, Test};
@@ -99,7 +99,7 @@ pub struct Env {
 
 /// What is known of that which a test asks.
 pub fn answer_to(env: &Env, test: Test) -> Status
-    ensures { status_is result ≡ status_of (env_of env.now) (query_of test) }
+    ensures { status_of_code result ≡ status_of (env_of env.now) (query_of test) }
 {
     match test {
         Test::Tick => Status::Present,

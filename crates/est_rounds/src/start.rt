@@ -6,7 +6,7 @@ ghost use Rattle.est_kernel.specs.View.{term_of};
 ghost use Rattle.est_meaning.specs.MustCan.{must, can, sure, maybe, must_then, can_then, next_mode};
 ghost use Rattle.est_rounds.specs.Views.{acts_of, env_of};
 
-use crate::acts::{Acts, Judged};
+use crate::acts::{Acts, Judgement};
 use crate::signal_set::{self, Env, Status};
 use est_kernel::mask;
 use est_kernel::statement::Statement;
@@ -52,21 +52,21 @@ pub fn start_maybe(s: &Statement, env: &Env) -> Acts
 
 /// What a statement must do and can do.
 #[cycle(start)]
-pub fn start_sure(s: &Statement, env: &Env) -> Judged
+pub fn start_sure(s: &Statement, env: &Env) -> Judgement
     ensures must { acts_of result.must ≡ must (term_of s.now) (env_of env.now) }
     ensures can { acts_of result.can ≡ can (term_of s.now) sure (env_of env.now) }
 {
     match s {
-        Statement::Nothing => Judged::exactly(Acts::ending(0)),
-        Statement::Pause(_) => Judged::exactly(Acts::ending(1)),
-        Statement::Emit(s) => Judged::exactly(Acts {
+        Statement::Nothing => Judgement::exactly(Acts::ending(0)),
+        Statement::Pause(_) => Judgement::exactly(Acts::ending(1)),
+        Statement::Emit(s) => Judgement::exactly(Acts {
             signals: signal_set::only_signal(*s),
             codes: mask::single(0),
         }),
         Statement::Present(t, p, q) => match signal_set::answer_to(env, *t) {
             Status::Present => start_sure(p, env),
             Status::Absent => start_sure(q, env),
-            Status::Unknown => Judged {
+            Status::Unknown => Judgement {
                 must: Acts::none(),
                 can: start_maybe(p, env).or(start_maybe(q, env)),
             },
@@ -76,7 +76,7 @@ pub fn start_sure(s: &Statement, env: &Env) -> Judged
         Statement::Loop(p) => start_sure(p, env),
         Statement::Par(p, q) => start_sure(p, env).beside(start_sure(q, env)),
         Statement::Trap(p) => start_sure(p, env).out_of_trap(),
-        Statement::Exit(k) => Judged::exactly(Acts::ending(k.index + 2)),
+        Statement::Exit(k) => Judgement::exactly(Acts::ending(k.index + 2)),
         Statement::Local(s, p) => {
             let open = signal_set::set_local(env, *s, false, true);
             let first = start_sure(p, &open);
@@ -90,13 +90,13 @@ pub fn start_sure(s: &Statement, env: &Env) -> Judged
 
 /// What is judged of a first part and of a statement that follows it.
 #[cycle(start)]
-pub fn then_start(first: Judged, q: &Statement, env: &Env) -> Judged
+pub fn then_start(first: Judgement, q: &Statement, env: &Env) -> Judgement
     ensures must { acts_of result.must ≡ must_then (acts_of first.must) (must (term_of q.now) (env_of env.now)) }
     ensures can { acts_of result.can ≡ can_then (acts_of first.can) (can (term_of q.now) (next_mode sure (bits first.must.codes 0)) (env_of env.now)) }
 {
     if first.must.has_end() {
         let second = start_sure(q, env);
-        Judged {
+        Judgement {
             must: first.must.must_then(second.must),
             can: if first.can.has_end() {
                 first.can.can_then(second.can)
@@ -105,7 +105,7 @@ pub fn then_start(first: Judged, q: &Statement, env: &Env) -> Judged
             },
         }
     } else {
-        Judged {
+        Judgement {
             must: first.must,
             can: if first.can.has_end() {
                 first.can.can_then(start_maybe(q, env))

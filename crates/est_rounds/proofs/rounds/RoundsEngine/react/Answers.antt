@@ -3,7 +3,7 @@ use Rattle.est_kernel.specs.Bits.{bits}
 use Rattle.est_kernel.specs.Term.{outer}
 use Rattle.est_meaning.specs.Status.{Env, is_unknown}
 use Rattle.est_meaning.specs.Rules.{HasNoRule}
-use Rattle.est_meaning.specs.Rounds.{Judged, last_env}
+use Rattle.est_meaning.specs.Rounds.{JudgedSignals, last_env}
 use Rattle.est_meaning.specs.States.{state_term}
 use Rattle.est_meaning.proofs.Agree.{cleared_dead}
 use Rattle.est_rounds.specs.Contract.{judged_of}
@@ -16,7 +16,7 @@ step_of-requires-clause-clear c = cleared_dead c.args.kernel.now.root _ (λ i h.
 
 pub returns-then-step-eq1-clause-ok : goal.returns-then-step-eq1-clause-ok
 returns-then-step-eq1-clause-ok c =
-    let known = c.last_known-env.ensures ∙ ap (λ (j : Judged). last_env j (bits c.args.inputs.now.signals) (state_term c.args.kernel.now.root c.args.state.now)) c.judged_signals-judged.ensures in
+    let known = c.last_known-env.ensures ∙ ap (λ (j : JudgedSignals). last_env j (bits c.args.inputs.now.signals) (state_term c.args.kernel.now.root c.args.state.now)) c.judged_signals-judged.ensures in
     let root = c.args.kernel.now.root in
     record {
       reacts = paused_reacts (judged_of c.args.kernel.now) (bits c.args.inputs.now.signals) root (state_term root c.args.state.now) _ c.in-Some.step.signals c.in-Some.step.code c.step_of.new.next known c.if-step-eq1.true c.in-Some.ensures.some;
@@ -25,7 +25,7 @@ returns-then-step-eq1-clause-ok c =
 
 pub returns-else-step-eq1-clause-ok : goal.returns-else-step-eq1-clause-ok
 returns-else-step-eq1-clause-ok c =
-    let known = c.last_known-env.ensures ∙ ap (λ (j : Judged). last_env j (bits c.args.inputs.now.signals) (state_term c.args.kernel.now.root c.args.state.now)) c.judged_signals-judged.ensures in
+    let known = c.last_known-env.ensures ∙ ap (λ (j : JudgedSignals). last_env j (bits c.args.inputs.now.signals) (state_term c.args.kernel.now.root c.args.state.now)) c.judged_signals-judged.ensures in
     let root = c.args.kernel.now.root in
     record {
       reacts = ended_reacts (judged_of c.args.kernel.now) (bits c.args.inputs.now.signals) root (state_term root c.args.state.now) _ c.in-Some.step.signals c.in-Some.step.code _ known c.if-step-eq1.false c.in-Some.ensures.some;
@@ -34,12 +34,12 @@ returns-else-step-eq1-clause-ok c =
 
 pub returns-in-None-clause-stuck : goal.returns-in-None-clause-stuck
 returns-in-None-clause-stuck c =
-    let known = c.last_known-env.ensures ∙ ap (λ (j : Judged). last_env j (bits c.args.inputs.now.signals) (state_term c.args.kernel.now.root c.args.state.now)) c.judged_signals-judged.ensures in
+    let known = c.last_known-env.ensures ∙ ap (λ (j : JudgedSignals). last_env j (bits c.args.inputs.now.signals) (state_term c.args.kernel.now.root c.args.state.now)) c.judged_signals-judged.ensures in
     let judged = judged_of c.args.kernel.now in
     let last = last_env judged (bits c.args.inputs.now.signals) (state_term c.args.kernel.now.root c.args.state.now) in
     record {
       cannot = subst (λ (e : Env). HasNoRule (state_term c.args.kernel.now.root c.args.state.now) e) known c.in-None.ensures.none;
       undecided = λ n.
           undecided_is last c.judged_signals-judged.result.signals _ _ c.last_known-env.result.present c.last_known-env.result.possible known c.common.ensures c.minus.ensures n
-          ∙ ap (λ (j : Judged). j.has n && is_unknown (last (outer n))) c.judged_signals-judged.ensures;
+          ∙ ap (λ (j : JudgedSignals). j.has n && is_unknown (last (outer n))) c.judged_signals-judged.ensures;
     }
