@@ -6,7 +6,7 @@ use Rattle.std.proofs.lemmas.Option.{same_Some}
 use Rattle.std.proofs.lemmas.Slice.Eq.{bytes_eq-Decides}
 use Rattle.std.specs.List.{AllByRecursion}
 use Rattle.serde_json.specs.Data.{Data, Num, number, unsigned, string, array, object, Items, item, no_items, Members, member, no_members}
-use Rattle.serde_json.specs.Find.{get, as_object, as_str, as_array, as_number, as_u64}
+use Rattle.serde_json.specs.Find.{as_str, as_array, as_number, as_u64}
 use Rattle.serde_json.specs.View.{items_of}
 use Rattle.est_kernel.specs.Identifiers.{is_identifier}
 use Rattle.rbac_policy.specs.Names.{is_name}
@@ -16,7 +16,7 @@ use Rattle.rbac_policy.specs.declared.objects.Object.{Object}
 use Rattle.rbac_policy.proofs.ObjectTexts.{operation_of-exact, object_of-exact}
 use Rattle.estserve.proofs.Keys.{list_back}
 use Rattle.estserve.specs.Requests.{members_of, Fits}
-use Rattle.estserve.specs.Reading.{name_of, identifier_of, text_at, name_at, identifier_at, operation_at, object_at, number_at, keys_are, has_keys, command_of, names_from, with_front, list_of, roles_from, roles_at, login_of, logout_of, grant_of, load_of, offer_of, step_of, look_of, fields_of, request_of}
+use Rattle.estserve.specs.Reading.{text_at, name_at, identifier_at, operation_at, object_at, number_at, keys_are, has_keys, command_of, names_from, with_front, list_of, roles_from, roles_at, login_of, logout_of, grant_of, load_of, offer_of, step_of, look_of, fields_of, request_of}
 use Rattle.estserve.specs.declared.request.Command.{Command}
 use Rattle.estserve.specs.declared.request.Command.TheVariants as command
 use Rattle.estserve.specs.declared.request.Request.{Request}

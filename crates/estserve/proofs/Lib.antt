@@ -1,3 +1,6 @@
+pub mod Ahead
 pub mod Floats
 pub mod Keys
 pub mod Laws
+pub mod Running
+pub mod Writing

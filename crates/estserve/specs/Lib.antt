@@ -1,3 +1,6 @@
 pub mod Requests
 pub mod Reading
 pub mod Replies
+pub mod Lines
+pub mod Serving
+pub mod Faults

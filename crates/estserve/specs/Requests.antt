@@ -1,5 +1,5 @@
 -- A request line, as the JSON that it is.
-use Rattle.std.specs.Prelude.{◌∷◌, ◌≡◌, ◌≤◌, ℕ, IsTrue, IsUtf8, List, [], length, map, codes, Some, Result, Ok, Err}
+use Rattle.std.specs.Prelude.{◌≡◌, ◌≤◌, ℕ, IsTrue, IsUtf8, List, length, map, codes, Some, Result, Ok, Err}
 use Rattle.std.specs.List.{AllByRecursion}
 use Rattle.serde_json.specs.Data.{Data, number, unsigned, string, array, object, Members, member, no_members}
 use Rattle.serde_json.specs.Read.{read}
@@ -57,11 +57,11 @@ pub record IsRequest (line : List ℕ) (request : Request) : Type 0 where
   pub value : IsValue line (object (members_of request))
   pub fits : Fits request
 
--- what may be answered to a line: the request that it asks for; NotJson where it reads as no value; NotARequest where it reads as a value
+-- what a line is read as: the request that it asks for; NotJson where it reads as no value; NotARequest where it reads as a value
 -- and asks for no request; Memory where memory was refused
-abbrev pub Answers : List ℕ → Result Request Refusal → Type 0
-Answers line (Ok request) = IsRequest line request
-Answers line (Err refusal.NotJson) = (d : Data) → IsValue line d → ⊥
-Answers line (Err refusal.NotARequest) = ((d : Data) × IsValue line d) × ((request : Request) → IsRequest line request → ⊥)
-Answers line (Err refusal.Memory) = Unit {0}
-Answers line (Err _) = ⊥
+abbrev pub IsReadAs : List ℕ → Result Request Refusal → Type 0
+IsReadAs line (Ok request) = IsRequest line request
+IsReadAs line (Err refusal.NotJson) = (d : Data) → IsValue line d → ⊥
+IsReadAs line (Err refusal.NotARequest) = ((d : Data) × IsValue line d) × ((request : Request) → IsRequest line request → ⊥)
+IsReadAs line (Err refusal.Memory) = Unit {0}
+IsReadAs line (Err _) = ⊥

@@ -2,7 +2,7 @@
 ghost use Rattle.std.specs.Prelude.{◌≡◌, ◌≤◌, length, map, option_map, IfOk, List, ℕ};
 ghost use Rattle.serde_json.specs.Data.{object};
 ghost use Rattle.serde_json.specs.View.{view};
-ghost use Rattle.estserve.specs.Requests.{Answers, IsRequest, Fits, members_of};
+ghost use Rattle.estserve.specs.Requests.{IsReadAs, IsRequest, Fits, members_of};
 ghost use Rattle.estserve.specs.Reading.{text_at, name_at, identifier_at, operation_at, object_at, number_at, has_keys, names_are, command_of, login_of, logout_of, grant_of, load_of, offer_of, step_of, look_of, names_from, roles_from, roles_at, request_of};
 ghost use Rattle.estserve.specs.declared.request.Request.{Request};
 
@@ -254,7 +254,7 @@ fn request_of(alloc: Global, value: &Value) -> Result<Option<Request>, AllocErro
 
 /// The request of a line, or NotJson, NotARequest or Memory.
 pub fn request(alloc: Global, line: &[u8]) -> Result<Request, Refusal>
-    ensures { Answers line.now result }
+    ensures { IsReadAs line.now result }
 {
     let value = match Value::from_slice(alloc, line) {
         Ok(value) => value,

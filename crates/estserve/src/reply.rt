@@ -253,21 +253,24 @@ fn value(alloc: Global, reply: &Reply) -> Result<Value, AllocError>
     }
 }
 
-/// The line of a reply, with its LF.
+/// The line for want of memory, from a constant.
+fn memory_line(alloc: Global) -> Result<Vec<u8>, AllocError>
+    ensures { IfOk result (λ line. line.items ≡ line_of (Refused refusal.Memory)) }
+{
+    Vec::from_slice(alloc, NO_MEMORY.as_bytes())
+}
+
+/// The line of a reply, with its LF. The line for want of memory is a constant.
 pub fn reply_line(alloc: Global, reply: &Reply) -> Result<Vec<u8>, AllocError>
     ensures { IfOk result (λ line. line.items ≡ line_of reply.now) }
 {
+    if let Reply::Refused(Refusal::Memory) = reply {
+        return memory_line(alloc);
+    }
     let value = value(alloc, reply)?;
     let mut line = value.to_vec(alloc)?;
     line.push(b'\n')?;
     Ok(line)
-}
-
-/// The line for want of memory, from a constant.
-pub fn memory_line(alloc: Global) -> Result<Vec<u8>, AllocError>
-    ensures { IfOk result (λ line. line.items ≡ line_of (Refused refusal.Memory)) }
-{
-    Vec::from_slice(alloc, NO_MEMORY.as_bytes())
 }
 
 /// The lines byte for byte.

@@ -1,4 +1,4 @@
-use Rattle.std.proofs.Common.{Option, ◌≡◌, List, ℕ, Bor, map, rules, false, sym, ap, ◌∙◌}
+use Rattle.std.proofs.Common.{Option, List, ℕ, Bor, map, rules, false, sym, ap, ◌∙◌}
 use Rattle.std.specs.Option.{option_map_or}
 use Rattle.serde_json.specs.Data.{Members}
 use Rattle.std.proofs.Common.{Bor, Option}

@@ -1,6 +1,5 @@
 use Rattle.std.proofs.Common.{◌∙◌, sym}
 use Rattle.std.proofs.lemmas.Option.{same_Some}
-use Rattle.estserve.specs.Requests.{members_of}
 use Rattle.estserve.proofs.Laws.{same_members, same_object}
 use Rattle.estserve.proofs.reading.requests_are_told_apart.Goals as goal
 
