@@ -3,3 +3,4 @@ pub mod Running
 pub mod Deciding
 pub mod Stepping
 pub mod Desks
+pub mod Unchanged

@@ -8,6 +8,7 @@
 
 pub mod command;
 mod conversions;
+pub mod laws;
 pub mod refusal;
 pub mod reply;
 mod shown;
