@@ -330,13 +330,13 @@ fn instant_loop(rt: HostRuntime) -> Result<(), Fail> {
     Ok(())
 }
 
-/// A sequence of 500 parts under six local signals: each part is to be visited a bounded number of times in a judging.
+/// A sequence of 1,000 parts, nested to the left and to the right, under six local signals.
 #[test]
 fn long_sequences(rt: HostRuntime) -> Result<(), Fail> {
     let a = rt.alloc();
     let mut first = pause();
     let mut last = pause();
-    for _ in 0..250 {
+    for _ in 0..500 {
         first = seq(a, first, pause())?;
         last = seq(a, pause(), last)?;
     }
