@@ -9,6 +9,7 @@ use Rattle.serde_json.specs.Data.{Data, Num, number, unsigned, string, array, ob
 use Rattle.serde_json.specs.Find.{as_str, as_array, as_number, as_u64}
 use Rattle.serde_json.specs.View.{items_of}
 use Rattle.est_kernel.specs.Identifiers.{is_identifier}
+use Rattle.rbac_policy.specs.declared.names.TheConstants.{LISTED_ROLES}
 use Rattle.rbac_policy.specs.Names.{is_name}
 use Rattle.rbac_policy.specs.Texts.{operation_text, operation_of, object_text, object_of, IsObject}
 use Rattle.rbac_policy.specs.declared.objects.Operation.{Operation}
@@ -249,9 +250,9 @@ login_is d r named h =
     let m = mapped (request.Login a.0) _ r a.2 in
     let n = tested is_name k.2 m.0 (subst (λ (x : Data). name_at (codes "user") x ≡ Some m.0) whole m.1) in
     let b = chained (λ (is : Items). roles_from (list_of is)) _ a.0 (subst (λ (x : Data). roles_at (codes "roles") x ≡ Some a.0) whole a.1) in
-    let g = guard (nat_le (length (list_of b.0)) 32) (names_from (list_of b.0)) a.0 b.2 in
+    let g = guard (nat_le (length (list_of b.0)) LISTED_ROLES) (names_from (list_of b.0)) a.0 b.2 in
     let t = names_are_texts (list_of b.0) a.0 g.1 in
-    let l : length a.0 ≤ 32 = omega (arith, leb-true (length (list_of b.0)) 32 g.0, ap length t.0, length-map a.0 string) in
+    let l : length a.0 ≤ LISTED_ROLES = omega (arith, leb-true (length (list_of b.0)) LISTED_ROLES g.0, ap length t.0, length-map a.0 string) in
     let is : k.1 ≡ array (items_of (map string a.0)) = as_array_is k.1 b.0 b.1 ∙ ap array (sym (items_back b.0) ∙ ap items_of t.0) in
     subst (Is d) m.2 (record { value = whole ∙ rw (e, is, n.0) refl; fits = (l, t.1, n.1) })
 
@@ -272,7 +273,7 @@ from_request (request.Load main slot text) f = rw f refl
 from_request (request.Grant on operation role) f =
     rw ((object_of-exact (object_text on) on).1 (f.0, refl), (operation_of-exact (operation_text operation) operation).1 refl, f.1) refl
 from_request (request.Login roles user) f =
-    let short : nat_le (length (map string roles)) 32 ≡ true = rw (length-map roles string) (le-leb _ _ f.0) in
+    let short : nat_le (length (map string roles)) LISTED_ROLES ≡ true = rw (length-map roles string) (le-leb _ _ f.0) in
     rw (list_back (map string roles), short, texts_are_names roles f.1, f.2) refl
 
 -- ---- which command

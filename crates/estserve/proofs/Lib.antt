@@ -4,3 +4,4 @@ pub mod Keys
 pub mod Laws
 pub mod Running
 pub mod Writing
+pub mod Cuts

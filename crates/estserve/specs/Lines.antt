@@ -1,13 +1,14 @@
 -- Cutting at LF.
-use Rattle.std.specs.Prelude.{◌≡◌, ◌≤◌, ◌<◌, ℕ, List, [], ◌∷◌, ◌++◌, length, ◌||◌, nat_lt, IsTrue, ◌⊎◌, Option, Some, None, Result, Ok, Err, Vec}
+use Rattle.std.specs.Prelude.{◌≡◌, ◌≤◌, ◌<◌, ℕ, List, [], ◌∷◌, ◌++◌, length, ◌==◌, not, IsTrue, ◌⊎◌, Option, Some, None, Result, Ok, Err, Vec}
 use Rattle.std.specs.declared.alloc.Global.{Global}
 use Rattle.std.specs.List.{list_all}
+use Rattle.estserve.specs.declared.lines.TheConstants.{LINE_BYTES}
 use Rattle.estserve.specs.declared.lines.LineFault.{LineFault}
 use Rattle.estserve.specs.declared.lines.LineFault.TheVariants.{TooLong, Read, Memory}
 
 -- no LF
 abbrev pub HasNoEnd : List ℕ → Type 0
-HasNoEnd bs = IsTrue (list_all (λ b. nat_lt b 10 || nat_lt 10 b) bs)
+HasNoEnd bs = IsTrue (list_all (λ b. not (b == 10)) bs)
 
 -- an LF stands first, or nothing
 abbrev pub StartsWithEnd : List ℕ → Type 0
@@ -20,13 +21,25 @@ SameAhead held None more left = Unit {0}
 SameAhead held (Some xs) more None = ⊥
 SameAhead held (Some xs) more (Some ys) = held ++ xs ≡ more ++ ys
 
--- The next line of the bytes, and what follows it: an LF ends a line, and a last line without one counts if it is not empty.
-abbrev pub IsNext : List ℕ → List ℕ → List ℕ → Type 0
-IsNext bytes line others = HasNoEnd line × (length line ≤ 65536) × ((bytes ≡ line ++ 10 ∷ others) ⊎ ((0 < length line) × (bytes ≡ line) × (others ≡ [])))
+-- the bytes are one line without an LF, and nothing follows
+pub record IsLastLine (bytes line others : List ℕ) : Type 0 where
+  pub some : 0 < length line
+  pub all : bytes ≡ line
+  pub nothing : others ≡ []
+
+-- the next line of the bytes, and what follows it: an LF ends a line, and a last line without one counts if it is not empty
+pub record IsNext (bytes line others : List ℕ) : Type 0 where
+  pub no_end : HasNoEnd line
+  pub short : length line ≤ LINE_BYTES
+  pub ended : (bytes ≡ line ++ 10 ∷ others) ⊎ IsLastLine bytes line others
 
 -- more bytes stand before an LF, or the end, than a line may have
-abbrev pub IsTooLong : List ℕ → Type 0
-IsTooLong bytes = (front : List ℕ) × (others : List ℕ) × HasNoEnd front × (65536 < length front) × (bytes ≡ front ++ others)
+pub record IsTooLong (bytes : List ℕ) : Type 0 where
+  pub front : List ℕ
+  pub others : List ℕ
+  pub no_end : HasNoEnd front
+  pub long : LINE_BYTES < length front
+  pub whole : bytes ≡ front ++ others
 
 -- what a reading of the bytes may answer
 abbrev pub IsReading : List ℕ → Result (Option (List ℕ)) LineFault → List ℕ → Type 0

@@ -7,6 +7,7 @@ use Rattle.std.specs.declared.alloc.Global.{Global}
 use Rattle.serde_json.specs.Data.{Data, Items, item, no_items, Members, member, no_members}
 use Rattle.serde_json.specs.Find.{get, as_object, as_array, as_str, as_u64, as_number}
 use Rattle.est_kernel.specs.Identifiers.{is_identifier}
+use Rattle.rbac_policy.specs.declared.names.TheConstants.{LISTED_ROLES}
 use Rattle.rbac_policy.specs.Names.{is_name}
 use Rattle.rbac_policy.specs.Texts.{operation_of, object_of}
 use Rattle.rbac_policy.specs.declared.objects.Operation.{Operation}
@@ -80,9 +81,9 @@ abbrev pub list_of : Items → List Data
 list_of no_items = []
 list_of (item d ds) = d ∷ list_of ds
 
--- at most 32 names
+-- no more names than a command may list
 unfoldable pub roles_from : List Data → Option (List (List ℕ))
-roles_from ds = if nat_le (length ds) 32 then names_from ds else None
+roles_from ds = if nat_le (length ds) LISTED_ROLES then names_from ds else None
 
 -- the roles that a field lists
 unfoldable pub roles_at : List ℕ → Data → Option (List (List ℕ))
@@ -100,36 +101,41 @@ command_of s =
     else (if bytes_eq s (codes "look") then Some command.Look
     else None))))))
 
--- the request of a value by each command
-
+-- the value as a login
 unfoldable pub login_of : Data → Option Request
 login_of d =
     if has_keys d (codes "cmd" ∷ codes "roles" ∷ codes "user" ∷ [])
     then option_and_then (λ roles. option_map (request.Login roles) (name_at (codes "user") d)) (roles_at (codes "roles") d) else None
 
+-- the value as a logout
 unfoldable pub logout_of : Data → Option Request
 logout_of d = if has_keys d (codes "cmd" ∷ []) then Some request.Logout else None
 
+-- the value as a grant
 unfoldable pub grant_of : Data → Option Request
 grant_of d =
     if has_keys d (codes "cmd" ∷ codes "object" ∷ codes "op" ∷ codes "role" ∷ [])
     then option_and_then (λ object. option_and_then (λ operation. option_map (request.Grant object operation) (name_at (codes "role") d)) (operation_at (codes "op") d)) (object_at (codes "object") d)
     else None
 
+-- the value as a load
 unfoldable pub load_of : Data → Option Request
 load_of d =
     if has_keys d (codes "cmd" ∷ codes "main" ∷ codes "slot" ∷ codes "text" ∷ [])
     then option_and_then (λ main. option_and_then (λ slot. option_map (request.Load main slot) (text_at (codes "text") d)) (number_at (codes "slot") d)) (identifier_at (codes "main") d)
     else None
 
+-- the value as an offer
 unfoldable pub offer_of : Data → Option Request
 offer_of d =
     if has_keys d (codes "cmd" ∷ codes "signal" ∷ codes "slot" ∷ [])
     then option_and_then (λ signal. option_map (request.Offer signal) (number_at (codes "slot") d)) (identifier_at (codes "signal") d) else None
 
+-- the value as a step
 unfoldable pub step_of : Data → Option Request
 step_of d = if has_keys d (codes "cmd" ∷ codes "slot" ∷ []) then option_map request.Step (number_at (codes "slot") d) else None
 
+-- the value as a look
 unfoldable pub look_of : Data → Option Request
 look_of d =
     if has_keys d (codes "cmd" ∷ codes "instant" ∷ codes "slot" ∷ [])

@@ -5,6 +5,7 @@ use Rattle.serde_json.specs.Data.{Data, number, unsigned, string, array, object,
 use Rattle.serde_json.specs.Read.{read}
 use Rattle.serde_json.specs.View.{items_of}
 use Rattle.est_kernel.specs.Identifiers.{is_identifier}
+use Rattle.rbac_policy.specs.declared.names.TheConstants.{LISTED_ROLES}
 use Rattle.rbac_policy.specs.Names.{is_name}
 use Rattle.rbac_policy.specs.Texts.{operation_text, object_text, IsObject}
 use Rattle.access_core.specs.declared.refusal.Refusal.{Refusal}
@@ -37,9 +38,9 @@ members_of (Offer signal slot) = text_member (codes "cmd") (codes "offer") (text
 members_of (Step slot) = text_member (codes "cmd") (codes "step") (number_member (codes "slot") slot no_members)
 members_of (Look instant slot) = text_member (codes "cmd") (codes "look") (number_member (codes "instant") instant (number_member (codes "slot") slot no_members))
 
--- names and identifiers are of their form, slots in objects are among the sixteen, and at most 32 roles are listed
+-- names and identifiers are of their form, slots in objects are among the sixteen, and no more roles are listed than a command may list
 abbrev pub Fits : Request → Type 0
-Fits (Login roles user) = (length roles ≤ 32) × AllByRecursion (λ role. IsTrue (is_name role)) roles × IsTrue (is_name user)
+Fits (Login roles user) = (length roles ≤ LISTED_ROLES) × AllByRecursion (λ role. IsTrue (is_name role)) roles × IsTrue (is_name user)
 Fits Logout = Unit {0}
 Fits (Grant on operation role) = IsObject on × IsTrue (is_name role)
 Fits (Load main slot text) = IsTrue (is_identifier main)

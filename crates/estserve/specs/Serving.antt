@@ -109,6 +109,17 @@ abbrev pub Runs : {A : Type 0} → (A → List ℕ → List ℕ → A → Type 0
 Runs tells before [] after = before ≡ after
 Runs {A} tells before (e ∷ later) after = (next : Connection A) × AnswersLine tells before e.line e.text next × Runs tells next later after
 
+-- the lines are cut from the bytes in turn, and these are left
+abbrev pub Cuts : List ℕ → List (List ℕ) → List ℕ → Type 0
+Cuts bytes [] others = bytes ≡ others
+Cuts bytes (line ∷ lines) others = (next : List ℕ) × IsNext bytes line next × Cuts next lines others
+
+-- the same of known bytes
+abbrev pub KnownCuts : Option (List ℕ) → List (List ℕ) → Option (List ℕ) → Type 0
+KnownCuts None lines after = Unit {0}
+KnownCuts (Some bytes) lines None = ⊥
+KnownCuts (Some bytes) lines (Some others) = Cuts bytes lines others
+
 -- a connection to its end: lines are answered one after the other, and then it ends so
 pub record Serves {A : Type 0} (tells : A → List ℕ → List ℕ → A → Type 0) (fails : A → List ℕ → A → Type 0) (before : Connection A) (end : End) (desk : A) (written : Option (List ℕ)) : Type 0 where
   pub exchanges : List Exchange

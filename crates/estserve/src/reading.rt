@@ -91,7 +91,7 @@ fn number_at(value: &Value, key: &str) -> Option<u64>
 /// The names that values are, in their order.
 #[tactic(auto, unfolding(crate::specs::Reading::names_from))]
 fn names_from(values: &[Value]) -> Option<RoleNames>
-    requires { length values.now ≤ 32 }
+    requires { length values.now ≤ LISTED_ROLES }
     ensures { result ≡ names_from (map view values.now) }
 {
     let mut roles = RoleNames::new();

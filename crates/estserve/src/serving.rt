@@ -1,7 +1,9 @@
 //! A connection, over any reader and writer, and whatever answers its lines.
-ghost use Rattle.std.specs.Prelude.{◌≡◌, ℕ, List, [], MatchResult, IfOk, IfErr, OnOk};
+ghost use Rattle.std.specs.Prelude.{◌≡◌, ℕ, List, [], MatchResult, IfOk, IfErr, OnOk, map};
 ghost use Rattle.std.specs.Io.KnownBytes.{Appends, prepend_known};
-ghost use Rattle.estserve.specs.Serving.{Connection, WritesFront, Refuses, Turns, Serves};
+ghost use Rattle.std.specs.List.{concat};
+ghost use Rattle.estserve.specs.Lines.{IsNext};
+ghost use Rattle.estserve.specs.Serving.{Connection, Exchange, Runs, KnownCuts, WritesFront, Refuses, Turns, Serves};
 
 use crate::lines::{LineFault, next_line};
 use crate::reply::reply_line;
@@ -115,6 +117,19 @@ pub fn serve<R: Read, W: Write, A: Answerer>(
     }
     End::ReadFault
 }
+
+/// The next line of bytes is one alone.
+pub fn bytes_have_one_next_line()
+    ensures { (bytes line others other rest : List ℕ) → IsNext bytes line others → IsNext bytes other rest → line ≡ other }
+{}
+
+/// Whatever answers the lines: the lines that are answered are those of the bytes in turn, and what is written is their answers in turn.
+pub fn lines_are_answered_in_turn<A: Answerer>()
+    ensures lines { (before after : Connection A) (exchanges : List Exchange) → Runs A.tells before exchanges after
+        → KnownCuts before.ahead (map (λ e. e.line) exchanges) after.ahead }
+    ensures texts { (before after : Connection A) (exchanges : List Exchange) → Runs A.tells before exchanges after
+        → Appends before.written after.written (concat (map (λ e. e.text) exchanges)) }
+{}
 
 #[cfg(test)]
 mod tests;
