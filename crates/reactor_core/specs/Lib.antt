@@ -6,3 +6,7 @@ pub mod Answers
 pub mod Keywords
 pub mod Lexical
 pub mod Places
+pub mod Syntax
+pub mod Trees
+pub mod Modules
+pub mod Reading

@@ -10,6 +10,7 @@
 ghost use Rattle.std.specs.Prelude.{IfOk};
 ghost use Rattle.est_kernel.specs.Scope.{IsClosed};
 ghost use Rattle.est_kernel.specs.View.{term_of};
+ghost use Rattle.reactor_core.specs.Reading.{IsReading};
 
 mod checks;
 mod cursor;
@@ -63,7 +64,10 @@ pub fn read_module(
     main: &Identifier,
     text: &str,
 ) -> Result<(Interface, Statement), ReadFault>
-    ensures { IfOk result (λ p. IsClosed p.0 0 0 (term_of p.1)) }
+    // Each name has its declaration, and no input is emitted.
+    ensures closed { IfOk result (λ p. IsClosed p.0 0 0 (term_of p.1)) }
+    // The text is that of the main module, with this interface and this body.
+    ensures reading { IfOk result (λ p. IsReading main.now text.now p.0 (term_of p.1)) }
 {
     let tokens = lex(alloc, text).map_err(|fault| lexical_fault(text, fault))?;
     let module = parse(alloc, &tokens).map_err(|fault| syntax_fault(text, fault))?;

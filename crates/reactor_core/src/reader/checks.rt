@@ -1,4 +1,7 @@
 //! The checks of a module's names and sizes, in their order.
+ghost use Rattle.std.specs.Prelude.{◌≡◌, OnOk};
+ghost use Rattle.reactor_core.specs.Reading.{is_tick};
+
 use crate::reader::fault::ReadFault;
 use crate::reader::names::{Mention, mentions_of};
 use crate::reader::size::sequence_size;
@@ -15,7 +18,9 @@ const MOST_SIGNALS: usize = 64;
 const MOST_STATEMENTS: u64 = 2048;
 
 /// Whether the name is that of the signal which is present in every instant.
-pub fn is_tick(name: &Identifier) -> bool {
+pub fn is_tick(name: &Identifier) -> bool
+    ensures { result ≡ is_tick name.now }
+{
     name.as_bytes() == b"tick".as_slice()
 }
 
@@ -62,7 +67,9 @@ fn first_emitted_input(declarations: &[Declaration], mentions: &[Mention]) -> Op
 }
 
 /// The names of a module, against its interface and the name of the main module.
-fn check_names(alloc: Global, main: &Identifier, module: &Module) -> Result<(), ReadFault> {
+fn check_names(alloc: Global, main: &Identifier, module: &Module) -> Result<(), ReadFault>
+    ensures { OnOk result («module».now.name ≡ main.now) }
+{
     if let Some(name) = first_duplicate(&module.declarations) {
         return Err(ReadFault::DuplicateName(name));
     }
@@ -80,7 +87,9 @@ fn check_names(alloc: Global, main: &Identifier, module: &Module) -> Result<(), 
 }
 
 /// The names of a module, and then its sizes.
-pub fn check(alloc: Global, main: &Identifier, module: &Module) -> Result<(), ReadFault> {
+pub fn check(alloc: Global, main: &Identifier, module: &Module) -> Result<(), ReadFault>
+    ensures { OnOk result («module».now.name ≡ main.now) }
+{
     check_names(alloc, main, module)?;
     if module.declarations.len() > MOST_SIGNALS {
         return Err(ReadFault::TooLarge(Limit::Signals));

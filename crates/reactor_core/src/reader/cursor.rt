@@ -1,5 +1,7 @@
 //! A walk over tokens.
-ghost use Rattle.std.specs.Prelude.{◌≡◌, ◌+◌, ◌≤◌, ◌<◌, length, IsTrue, OnOk};
+ghost use Rattle.std.specs.Prelude.{◌≡◌, ◌≤◌, ◌<◌, ◌∷◌, [], length, IsTrue, IfOk, OnOk, MatchOption, false};
+ghost use Rattle.reactor_core.specs.Syntax.{tokens_of};
+ghost use Rattle.reactor_core.specs.declared.reader.token.Token.TheVariants.{Keyword as KeywordToken, Identifier as IdentifierToken, Symbol as SymbolToken};
 
 use crate::reader::keyword::Keyword;
 use crate::reader::parser::SyntaxFault;
@@ -29,52 +31,54 @@ impl<'a> Cursor<'a> {
         }
     }
 
-    /// Goes past the first token.
-    pub fn advance(&mut self)
+    /// Goes past the first token, if one is left, and answers it.
+    pub fn next(&mut self) -> Option<&'a Located>
         ensures shorter { length self.new.left.now ≤ length self.old.left.now }
-        ensures past { 0 < length self.old.left.now → length self.new.left.now < length self.old.left.now }
+        ensures first { MatchOption result (self.old.left.now ≡ []) (λ first. self.old.left.now ≡ first.now ∷ self.new.left.now) }
     {
-        if let [_, rest @ ..] = self.left {
-            self.left = rest;
-        }
-    }
-
-    /// Goes past the token if it stands first, and answers whether it does.
-    pub fn take(&mut self, token: Token) -> bool
-        ensures shorter { length self.new.left.now ≤ length self.old.left.now }
-        ensures past { IsTrue result → length self.new.left.now < length self.old.left.now }
-    {
-        match self.left {
-            [first, rest @ ..] => {
-                let stands = first.token == token;
-                if stands {
-                    self.left = rest;
-                }
-                stands
-            }
-            [] => false,
-        }
+        let (first, rest) = self.left.split_first()?;
+        self.left = rest;
+        Some(first)
     }
 
     /// Goes past the keyword if it stands first, and answers whether it does.
     pub fn take_keyword(&mut self, keyword: Keyword) -> bool
         ensures shorter { length self.new.left.now ≤ length self.old.left.now }
         ensures past { IsTrue result → length self.new.left.now < length self.old.left.now }
+        ensures first { IsTrue result → tokens_of self.old.left.now ≡ KeywordToken keyword ∷ tokens_of self.new.left.now }
+        ensures other { result ≡ false → self.new.left.now ≡ self.old.left.now }
     {
-        self.take(Token::Keyword(keyword))
+        let Some((first, rest)) = self.left.split_first() else {
+            return false;
+        };
+        let stands = first.token.is_keyword(keyword);
+        if stands {
+            self.left = rest;
+        }
+        stands
     }
 
     /// Goes past the symbol if it stands first, and answers whether it does.
     pub fn take_symbol(&mut self, symbol: Symbol) -> bool
         ensures shorter { length self.new.left.now ≤ length self.old.left.now }
         ensures past { IsTrue result → length self.new.left.now < length self.old.left.now }
+        ensures first { IsTrue result → tokens_of self.old.left.now ≡ SymbolToken symbol ∷ tokens_of self.new.left.now }
+        ensures other { result ≡ false → self.new.left.now ≡ self.old.left.now }
     {
-        self.take(Token::Symbol(symbol))
+        let Some((first, rest)) = self.left.split_first() else {
+            return false;
+        };
+        let stands = first.token.is_symbol(symbol);
+        if stands {
+            self.left = rest;
+        }
+        stands
     }
 
     /// Goes past the keyword, which has to stand first.
     pub fn expect_keyword(&mut self, keyword: Keyword) -> Result<(), SyntaxFault>
         ensures shorter { length self.new.left.now ≤ length self.old.left.now }
+        ensures first { OnOk result (tokens_of self.old.left.now ≡ KeywordToken keyword ∷ tokens_of self.new.left.now) }
     {
         if self.take_keyword(keyword) {
             Ok(())
@@ -86,6 +90,7 @@ impl<'a> Cursor<'a> {
     /// Goes past the symbol, which has to stand first.
     pub fn expect_symbol(&mut self, symbol: Symbol) -> Result<(), SyntaxFault>
         ensures shorter { length self.new.left.now ≤ length self.old.left.now }
+        ensures first { OnOk result (tokens_of self.old.left.now ≡ SymbolToken symbol ∷ tokens_of self.new.left.now) }
     {
         if self.take_symbol(symbol) {
             Ok(())
@@ -97,11 +102,14 @@ impl<'a> Cursor<'a> {
     /// Goes past the identifier that has to stand first, and answers it.
     pub fn expect_name(&mut self) -> Result<Identifier, SyntaxFault>
         ensures shorter { length self.new.left.now ≤ length self.old.left.now }
+        ensures first { IfOk result (λ name. tokens_of self.old.left.now ≡ IdentifierToken name ∷ tokens_of self.new.left.now) }
     {
-        let Some(Token::Identifier(name)) = self.peek() else {
-            return Err(self.unexpected());
+        let Some(first) = self.next() else {
+            return Err(SyntaxFault::Ended);
         };
-        self.advance();
-        Ok(*name)
+        match &first.token {
+            Token::Identifier(name) => Ok(*name),
+            _ => Err(SyntaxFault::Unexpected { start: first.start }),
+        }
     }
 }

@@ -29,8 +29,8 @@ fn mention_in_unit(mentions: &mut Vec<Mention>, unit: &Unit) -> Result<(), Alloc
 #[cycle(mention)]
 fn mention_in_branches(mentions: &mut Vec<Mention>, branches: &Branches) -> Result<(), AllocError> {
     match branches {
-        Branches::Then(body) | Branches::Else(body) => mention_in_sequence(mentions, body),
-        Branches::Both(body, other) => {
+        Branches::Then(body, _) | Branches::Else(body, _) => mention_in_sequence(mentions, body),
+        Branches::Both(body, other, _) => {
             mention_in_sequence(mentions, body)?;
             mention_in_sequence(mentions, other)
         }

@@ -13,8 +13,8 @@ fn unit_size(unit: &Unit) -> u64 {
 #[cycle(size)]
 fn branches_size(branches: &Branches) -> u64 {
     match branches {
-        Branches::Then(body) | Branches::Else(body) => sequence_size(body),
-        Branches::Both(body, other) => sequence_size(body).saturating_add(sequence_size(other)),
+        Branches::Then(body, _) | Branches::Else(body, _) => sequence_size(body),
+        Branches::Both(body, other, _) => sequence_size(body).saturating_add(sequence_size(other)),
     }
 }
 

@@ -1,4 +1,7 @@
 //! What a text is made of.
+ghost use Rattle.std.specs.Prelude.{◌≡◌, IsTrue};
+ghost use Rattle.reactor_core.specs.declared.reader.token.Token.TheVariants.{Keyword as KeywordToken, Symbol as SymbolToken};
+
 use crate::reader::keyword::Keyword;
 use est_kernel::identifier::Identifier;
 
@@ -31,4 +34,26 @@ pub enum Token {
 pub struct Located {
     pub token: Token,
     pub start: usize,
+}
+
+impl Token {
+    /// Whether it is this keyword.
+    pub fn is_keyword(&self, keyword: Keyword) -> bool
+        ensures { IsTrue result → self.now ≡ KeywordToken keyword }
+    {
+        match self {
+            Token::Keyword(own) => *own == keyword,
+            _ => false,
+        }
+    }
+
+    /// Whether it is this symbol.
+    pub fn is_symbol(&self, symbol: Symbol) -> bool
+        ensures { IsTrue result → self.now ≡ SymbolToken symbol }
+    {
+        match self {
+            Token::Symbol(own) => *own == symbol,
+            _ => false,
+        }
+    }
 }

@@ -1,7 +1,10 @@
 //! From the tree of a module to its interface and its kernel statement.
 ghost use Rattle.std.specs.Prelude.{◌≡◌, ◌<◌, length, IfOk};
 ghost use Rattle.est_kernel.specs.Scope.{IsClosed, IsEmitted, IsAsked};
+ghost use Rattle.est_kernel.specs.Term.{outer};
 ghost use Rattle.est_kernel.specs.View.{term_of, name_of, query_of};
+ghost use Rattle.reactor_core.specs.Reading.{place_of, query_of_name, unit_term, then_term, else_term, sequence_term};
+ghost use Rattle.reactor_core.specs.Trees.{unit_view, branches_view, sequence_view};
 
 use crate::reader::checks::is_tick;
 use crate::reader::fault::ReadFault;
@@ -31,7 +34,8 @@ pub fn interface_of(alloc: Global, declarations: &[Declaration]) -> Result<Inter
 
 /// The signal of a name.
 fn declared(interface: &Interface, name: &Identifier) -> Result<InterfaceSignal, ReadFault>
-    ensures { IfOk result (λ s. s.index < length interface.now) }
+    ensures within { IfOk result (λ s. s.index < length interface.now) }
+    ensures place { IfOk result (λ s. s.index ≡ place_of interface.now name.now) }
 {
     match interface.find(name) {
         Some(signal) => Ok(signal),
@@ -41,7 +45,8 @@ fn declared(interface: &Interface, name: &Identifier) -> Result<InterfaceSignal,
 
 /// The output of a name.
 fn emitted(interface: &Interface, name: &Identifier) -> Result<Signal, ReadFault>
-    ensures { IfOk result (λ s. IsEmitted interface.now 0 (name_of s)) }
+    ensures output { IfOk result (λ s. IsEmitted interface.now 0 (name_of s)) }
+    ensures name { IfOk result (λ s. name_of s ≡ outer (place_of interface.now name.now)) }
 {
     let signal = declared(interface, name)?;
     match interface.kind(signal) {
@@ -52,7 +57,8 @@ fn emitted(interface: &Interface, name: &Identifier) -> Result<Signal, ReadFault
 
 /// What a test of a name asks.
 fn tested(interface: &Interface, name: &Identifier) -> Result<Test, ReadFault>
-    ensures { IfOk result (λ t. IsAsked interface.now 0 (query_of t)) }
+    ensures visible { IfOk result (λ t. IsAsked interface.now 0 (query_of t)) }
+    ensures name { IfOk result (λ t. query_of t ≡ query_of_name interface.now name.now) }
 {
     if is_tick(name) {
         return Ok(Test::Tick);
@@ -66,7 +72,8 @@ fn statement_of_unit(
     interface: &Interface,
     unit: &Unit,
 ) -> Result<Statement, ReadFault>
-    ensures { IfOk result (λ s. IsClosed interface.now 0 0 (term_of s)) }
+    ensures closed { IfOk result (λ s. IsClosed interface.now 0 0 (term_of s)) }
+    ensures term { IfOk result (λ s. term_of s ≡ unit_term interface.now (unit_view unit.now)) }
 {
     match unit {
         Unit::Nothing => Ok(Statement::Nothing),
@@ -89,11 +96,13 @@ fn statements_of_branches(
 ) -> Result<(Statement, Statement), ReadFault>
     ensures then { IfOk result (λ p. IsClosed interface.now 0 0 (term_of p.0)) }
     ensures other { IfOk result (λ p. IsClosed interface.now 0 0 (term_of p.1)) }
+    ensures then_term { IfOk result (λ p. term_of p.0 ≡ then_term interface.now (branches_view branches.now)) }
+    ensures other_term { IfOk result (λ p. term_of p.1 ≡ else_term interface.now (branches_view branches.now)) }
 {
     match branches {
-        Branches::Then(body) => Ok((statement_of(alloc, interface, body)?, Statement::Nothing)),
-        Branches::Else(body) => Ok((Statement::Nothing, statement_of(alloc, interface, body)?)),
-        Branches::Both(body, other) => Ok((
+        Branches::Then(body, _) => Ok((statement_of(alloc, interface, body)?, Statement::Nothing)),
+        Branches::Else(body, _) => Ok((Statement::Nothing, statement_of(alloc, interface, body)?)),
+        Branches::Both(body, other, _) => Ok((
             statement_of(alloc, interface, body)?,
             statement_of(alloc, interface, other)?,
         )),
@@ -107,11 +116,12 @@ pub fn statement_of(
     interface: &Interface,
     sequence: &Sequence,
 ) -> Result<Statement, ReadFault>
-    ensures { IfOk result (λ s. IsClosed interface.now 0 0 (term_of s)) }
+    ensures closed { IfOk result (λ s. IsClosed interface.now 0 0 (term_of s)) }
+    ensures term { IfOk result (λ s. term_of s ≡ sequence_term interface.now (sequence_view sequence.now)) }
 {
     let mut statement = statement_of_unit(alloc, interface, &sequence.last)?;
-    for unit in sequence.earlier.iter().rev() {
-        let front = statement_of_unit(alloc, interface, unit)?;
+    for at in (0..sequence.earlier.len()).rev() {
+        let front = statement_of_unit(alloc, interface, &sequence.earlier[at])?;
         statement = Statement::Seq(Box::new(alloc, front)?, Box::new(alloc, statement)?);
     }
     Ok(statement)

@@ -13,21 +13,22 @@ pub enum Unit {
     Group(Sequence),
 }
 
-/// The branches of a test.
+/// The branches of a test. The flag tells whether `present` stands again behind `end`.
 #[derive(Drop)]
 #[cycle(tree)]
 pub enum Branches {
-    Then(Sequence),
-    Else(Sequence),
-    Both(Sequence, Sequence),
+    Then(Sequence, bool),
+    Else(Sequence, bool),
+    Both(Sequence, Sequence, bool),
 }
 
-/// Units one after another: those before the last, and the last.
+/// Units one after another: those before the last, and the last. The flag tells whether a `;` closes them.
 #[derive(Drop)]
 #[cycle(tree)]
 pub struct Sequence {
     pub earlier: Vec<Unit>,
     pub last: Box<Unit>,
+    pub closed: bool,
 }
 
 /// A module: its name, its declared signals in the order of the text, and its body.
