@@ -7,10 +7,11 @@
 //! Recursion is bounded whatever the text: the parser opens at most `NESTING` units in one another and reads the units
 //! of a sequence in a loop, and only a tree of at most `MOST_STATEMENTS` statements is turned into nested boxes.
 
-ghost use Rattle.std.specs.Prelude.{IfOk};
+ghost use Rattle.std.specs.Prelude.{IfOk, IfErr, List, ℕ};
 ghost use Rattle.est_kernel.specs.Scope.{IsClosed};
 ghost use Rattle.est_kernel.specs.View.{term_of};
-ghost use Rattle.reactor_core.specs.Reading.{IsReading};
+ghost use Rattle.reactor_core.specs.Reading.{AreRead, IsReading, IsNameFault, IsReadFaultOf};
+ghost use Rattle.reactor_core.specs.Lexical.{IsLexicalFault};
 
 mod checks;
 mod cursor;
@@ -32,6 +33,7 @@ use crate::reader::fault::ReadFault;
 use crate::reader::lexer::{LexicalFault, lex};
 use crate::reader::parser::{SyntaxFault, parse};
 use crate::reader::place::{front, place_after};
+use crate::reader::token::Located;
 use crate::reader::translation::{interface_of, statement_of};
 use crate::refusal::Limit;
 use est_kernel::identifier::Identifier;
@@ -40,7 +42,10 @@ use est_kernel::statement::Statement;
 use std::alloc::Global;
 
 /// The fault of a text that has no tokens.
-fn lexical_fault(text: &str, fault: LexicalFault) -> ReadFault {
+fn lexical_fault(text: &str, fault: LexicalFault) -> ReadFault
+    requires { IsLexicalFault text.now fault }
+    ensures { (main : List ℕ) → IsReadFaultOf main text.now result }
+{
     match fault {
         LexicalFault::NoToken(start) => ReadFault::Lexical(place_after(front(text, start))),
         LexicalFault::Memory => ReadFault::Memory,
@@ -48,7 +53,9 @@ fn lexical_fault(text: &str, fault: LexicalFault) -> ReadFault {
 }
 
 /// The fault of a text whose tokens are no module.
-fn syntax_fault(text: &str, fault: SyntaxFault) -> ReadFault {
+fn syntax_fault(text: &str, fault: SyntaxFault) -> ReadFault
+    ensures { (main : List ℕ) → IsNameFault main result }
+{
     let start = match fault {
         SyntaxFault::Unexpected { start } => start,
         SyntaxFault::Ended => text.len(),
@@ -56,6 +63,27 @@ fn syntax_fault(text: &str, fault: SyntaxFault) -> ReadFault {
         SyntaxFault::Memory => return ReadFault::Memory,
     };
     ReadFault::Syntax(place_after(front(text, start)))
+}
+
+/// Reads the tokens of a text as one module, whose name is that of the main module.
+fn read_tokens(
+    alloc: Global,
+    main: &Identifier,
+    text: &str,
+    tokens: &[Located],
+) -> Result<(Interface, Statement), ReadFault>
+    ensures closed { IfOk result (λ p. IsClosed p.0 0 0 (term_of p.1)) }
+    ensures reading { IfOk result (λ p. AreRead main.now tokens.now p.0 (term_of p.1)) }
+    ensures err { IfErr result (IsNameFault main.now) }
+{
+    let module = match parse(alloc, tokens) {
+        Ok(module) => module,
+        Err(fault) => return Err(syntax_fault(text, fault)),
+    };
+    check(alloc, main, &module)?;
+    let interface = interface_of(alloc, &module.declarations)?;
+    let root = statement_of(alloc, &interface, &module.body)?;
+    Ok((interface, root))
 }
 
 /// Reads the text of one module, whose name is that of the main module.
@@ -68,13 +96,12 @@ pub fn read_module(
     ensures closed { IfOk result (λ p. IsClosed p.0 0 0 (term_of p.1)) }
     // The text is that of the main module, with this interface and this body.
     ensures reading { IfOk result (λ p. IsReading main.now text.now p.0 (term_of p.1)) }
+    ensures err { IfErr result (IsReadFaultOf main.now text.now) }
 {
-    let tokens = lex(alloc, text).map_err(|fault| lexical_fault(text, fault))?;
-    let module = parse(alloc, &tokens).map_err(|fault| syntax_fault(text, fault))?;
-    check(alloc, main, &module)?;
-    let interface = interface_of(alloc, &module.declarations)?;
-    let root = statement_of(alloc, &interface, &module.body)?;
-    Ok((interface, root))
+    match lex(alloc, text) {
+        Ok(tokens) => read_tokens(alloc, main, text, &tokens),
+        Err(fault) => Err(lexical_fault(text, fault)),
+    }
 }
 
 #[cfg(test)]

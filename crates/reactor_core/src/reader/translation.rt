@@ -1,5 +1,6 @@
 //! From the tree of a module to its interface and its kernel statement.
-ghost use Rattle.std.specs.Prelude.{◌≡◌, ◌<◌, length, IfOk};
+ghost use Rattle.std.specs.Prelude.{◌≡◌, ◌<◌, ◌≤◌, length, IfOk};
+ghost use Rattle.est_kernel.specs.Interfaces.{HasDistinctNames};
 ghost use Rattle.est_kernel.specs.Scope.{IsClosed, IsEmitted, IsAsked};
 ghost use Rattle.est_kernel.specs.Term.{outer};
 ghost use Rattle.est_kernel.specs.View.{term_of, name_of, query_of};
@@ -9,54 +10,83 @@ ghost use Rattle.reactor_core.specs.Trees.{unit_view, branches_view, sequence_vi
 use crate::reader::checks::is_tick;
 use crate::reader::fault::ReadFault;
 use crate::reader::tree::{Branches, Sequence, Unit};
-use crate::refusal::Limit;
 use est_kernel::identifier::Identifier;
-use est_kernel::interface::{Declaration, Interface, Kind};
+use est_kernel::interface::{Declaration, Interface, Kind, MOST_SIGNALS};
 use est_kernel::statement::{InterfaceSignal, PauseIndex, Signal, Statement, Test};
-use std::alloc::{AllocError, Global};
+use std::alloc::{AllocError, AllocFailed, Global};
+
+/// Why a tree has no statement over an interface.
+#[derive(Clone, Copy, PartialEq, Eq, Debug)]
+pub enum TranslationFault {
+    /// A name that isn't declared.
+    Unknown(Identifier),
+    /// An emitted name that is an input.
+    Input(Identifier),
+    /// Memory was refused.
+    Memory,
+}
+
+impl<T: Drop> From<AllocFailed<T>> for TranslationFault {
+    ghost from_gives = { λ _ _. Unit {0} };
+
+    fn from(_e: AllocFailed<T>) -> TranslationFault {
+        TranslationFault::Memory
+    }
+}
+
+impl From<TranslationFault> for ReadFault {
+    ghost use Rattle.std.specs.Prelude.{List, ℕ};
+    ghost use Rattle.reactor_core.specs.Reading.{IsNameFault};
+
+    ghost from_gives = { λ _ e. (main : List ℕ) → IsNameFault main e };
+
+    fn from(fault: TranslationFault) -> ReadFault {
+        match fault {
+            TranslationFault::Unknown(name) => ReadFault::UnknownName(name),
+            TranslationFault::Input(name) => ReadFault::EmitInput(name),
+            TranslationFault::Memory => ReadFault::Memory,
+        }
+    }
+}
 
 /// The interface of these declarations.
-pub fn interface_of(alloc: Global, declarations: &[Declaration]) -> Result<Interface, ReadFault>
+pub fn interface_of(alloc: Global, declarations: &[Declaration]) -> Result<Interface, AllocError>
+    requires few { length declarations.now ≤ MOST_SIGNALS }
+    requires distinct { HasDistinctNames declarations.now }
     ensures { IfOk result (λ i. i ≡ declarations.now) }
 {
     let mut interface = Interface::new(alloc);
     for declaration in declarations {
-        if interface.is_full() {
-            return Err(ReadFault::TooLarge(Limit::Signals));
-        }
-        if interface.has(&declaration.name) {
-            return Err(ReadFault::DuplicateName(declaration.name));
-        }
         interface.declare(*declaration)?;
     }
     Ok(interface)
 }
 
 /// The signal of a name.
-fn declared(interface: &Interface, name: &Identifier) -> Result<InterfaceSignal, ReadFault>
+fn declared(interface: &Interface, name: &Identifier) -> Result<InterfaceSignal, TranslationFault>
     ensures within { IfOk result (λ s. s.index < length interface.now) }
     ensures place { IfOk result (λ s. s.index ≡ place_of interface.now name.now) }
 {
     match interface.find(name) {
         Some(signal) => Ok(signal),
-        None => Err(ReadFault::UnknownName(*name)),
+        None => Err(TranslationFault::Unknown(*name)),
     }
 }
 
 /// The output of a name.
-fn emitted(interface: &Interface, name: &Identifier) -> Result<Signal, ReadFault>
+fn emitted(interface: &Interface, name: &Identifier) -> Result<Signal, TranslationFault>
     ensures output { IfOk result (λ s. IsEmitted interface.now 0 (name_of s)) }
     ensures name { IfOk result (λ s. name_of s ≡ outer (place_of interface.now name.now)) }
 {
     let signal = declared(interface, name)?;
     match interface.kind(signal) {
         Kind::Output => Ok(Signal::Interface(signal)),
-        Kind::Input => Err(ReadFault::EmitInput(*name)),
+        Kind::Input => Err(TranslationFault::Input(*name)),
     }
 }
 
 /// What a test of a name asks.
-fn tested(interface: &Interface, name: &Identifier) -> Result<Test, ReadFault>
+fn tested(interface: &Interface, name: &Identifier) -> Result<Test, TranslationFault>
     ensures visible { IfOk result (λ t. IsAsked interface.now 0 (query_of t)) }
     ensures name { IfOk result (λ t. query_of t ≡ query_of_name interface.now name.now) }
 {
@@ -71,7 +101,7 @@ fn statement_of_unit(
     alloc: Global,
     interface: &Interface,
     unit: &Unit,
-) -> Result<Statement, ReadFault>
+) -> Result<Statement, TranslationFault>
     ensures closed { IfOk result (λ s. IsClosed interface.now 0 0 (term_of s)) }
     ensures term { IfOk result (λ s. term_of s ≡ unit_term interface.now (unit_view unit.now)) }
 {
@@ -93,7 +123,7 @@ fn statements_of_branches(
     alloc: Global,
     interface: &Interface,
     branches: &Branches,
-) -> Result<(Statement, Statement), ReadFault>
+) -> Result<(Statement, Statement), TranslationFault>
     ensures then { IfOk result (λ p. IsClosed interface.now 0 0 (term_of p.0)) }
     ensures other { IfOk result (λ p. IsClosed interface.now 0 0 (term_of p.1)) }
     ensures then_term { IfOk result (λ p. term_of p.0 ≡ then_term interface.now (branches_view branches.now)) }
@@ -115,7 +145,7 @@ pub fn statement_of(
     alloc: Global,
     interface: &Interface,
     sequence: &Sequence,
-) -> Result<Statement, ReadFault>
+) -> Result<Statement, TranslationFault>
     ensures closed { IfOk result (λ s. IsClosed interface.now 0 0 (term_of s)) }
     ensures term { IfOk result (λ s. term_of s ≡ sequence_term interface.now (sequence_view sequence.now)) }
 {
