@@ -5,3 +5,4 @@ pub mod Laws
 pub mod Running
 pub mod Writing
 pub mod Cuts
+pub mod Refusing

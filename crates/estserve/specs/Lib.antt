@@ -4,3 +4,4 @@ pub mod Replies
 pub mod Lines
 pub mod Serving
 pub mod Faults
+pub mod Connection
