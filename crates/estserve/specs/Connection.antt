@@ -108,4 +108,4 @@ TellsNothing line before after = (after ≡ before) ⊎ Accepts line before afte
 pub data HangsUp : (login : Option ℕ) → (before after : Desk) → (given : Option Reply) → Type 0 where
   none_held : (desk : Desk) → HangsUp None desk desk None
   logs_out : (session : ℕ) → (before after : Desk) → (given : Reply) → AdminStep (Some session) DeleteSession before given after
-    → HangsUp (Some session) before after (Some given)
+      → HangsUp (Some session) before after (Some given)

@@ -46,7 +46,12 @@ fn administer(desk: &mut Single, login: &Option<SessionId>, command: AdminComman
 }
 
 /// A slot command of the session that the connection holds.
-fn command_slot(desk: &mut Single, login: &Option<SessionId>, slot: u64, command: SlotCommand) -> Reply
+fn command_slot(
+    desk: &mut Single,
+    login: &Option<SessionId>,
+    slot: u64,
+    command: SlotCommand,
+) -> Reply
     ensures { Held login.now (λ session. DeskStep slot session command) desk.old result desk.new }
 {
     match login {

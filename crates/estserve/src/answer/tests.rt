@@ -35,9 +35,18 @@ fn told(rt: &impl Abort, alloc: Global, turns: Turns<'_>) -> Result<(), Fail> {
 fn lines_on_a_fresh_connection(rt: HostRuntime) -> Result<(), Fail> {
     let turns = [
         ("", r#"{"code":2,"fault":"NotJson"}"#),
-        (r#"{"cmd":"step","slot":0}"#, r#"{"code":4,"fault":"NoSession"}"#),
-        (r#"{"cmd":"step","slot":0,"x":1}"#, r#"{"code":3,"fault":"NotARequest"}"#),
-        (r#"{"cmd":"step","slot":0.0}"#, r#"{"code":3,"fault":"NotARequest"}"#),
+        (
+            r#"{"cmd":"step","slot":0}"#,
+            r#"{"code":4,"fault":"NoSession"}"#,
+        ),
+        (
+            r#"{"cmd":"step","slot":0,"x":1}"#,
+            r#"{"code":3,"fault":"NotARequest"}"#,
+        ),
+        (
+            r#"{"cmd":"step","slot":0.0}"#,
+            r#"{"code":3,"fault":"NotARequest"}"#,
+        ),
         (r#"{"cmd":"fly"}"#, r#"{"code":3,"fault":"NotARequest"}"#),
         ("[]", r#"{"code":3,"fault":"NotARequest"}"#),
         (r#"{"cmd":"logout"}"#, r#"{"code":4,"fault":"NoSession"}"#),
@@ -48,17 +57,44 @@ fn lines_on_a_fresh_connection(rt: HostRuntime) -> Result<(), Fail> {
 #[test]
 fn logins_and_grants(rt: HostRuntime) -> Result<(), Fail> {
     let turns = [
-        (r#"{"cmd":"login","roles":[],"user":"ann"}"#, r#"{"code":25,"fault":"UnknownUser","user":"ann"}"#),
-        (r#"{"cmd":"login","roles":["chief"],"user":"root"}"#, r#"{"code":26,"fault":"UnknownRole","role":"chief"}"#),
-        (r#"{"cmd":"login","roles":["root","root"],"user":"root"}"#, r#"{"code":22,"fault":"AlreadyActive","role":"root"}"#),
+        (
+            r#"{"cmd":"login","roles":[],"user":"ann"}"#,
+            r#"{"code":25,"fault":"UnknownUser","user":"ann"}"#,
+        ),
+        (
+            r#"{"cmd":"login","roles":["chief"],"user":"root"}"#,
+            r#"{"code":26,"fault":"UnknownRole","role":"chief"}"#,
+        ),
+        (
+            r#"{"cmd":"login","roles":["root","root"],"user":"root"}"#,
+            r#"{"code":22,"fault":"AlreadyActive","role":"root"}"#,
+        ),
         ROOT,
-        (r#"{"cmd":"login","roles":[],"user":"root"}"#, r#"{"code":5,"fault":"AlreadyLoggedIn"}"#),
-        (r#"{"cmd":"grant","object":"0.A","op":"offer","role":"root"}"#, r#"{"ok":"grant","version":6}"#),
-        (r#"{"cmd":"grant","object":"0.A","op":"offer","role":"root"}"#, r#"{"code":31,"fault":"AlreadyGranted"}"#),
-        (r#"{"cmd":"grant","object":"0.A","op":"offer","role":"eng"}"#, r#"{"code":26,"fault":"UnknownRole","role":"eng"}"#),
+        (
+            r#"{"cmd":"login","roles":[],"user":"root"}"#,
+            r#"{"code":5,"fault":"AlreadyLoggedIn"}"#,
+        ),
+        (
+            r#"{"cmd":"grant","object":"0.A","op":"offer","role":"root"}"#,
+            r#"{"ok":"grant","version":6}"#,
+        ),
+        (
+            r#"{"cmd":"grant","object":"0.A","op":"offer","role":"root"}"#,
+            r#"{"code":31,"fault":"AlreadyGranted"}"#,
+        ),
+        (
+            r#"{"cmd":"grant","object":"0.A","op":"offer","role":"eng"}"#,
+            r#"{"code":26,"fault":"UnknownRole","role":"eng"}"#,
+        ),
         (r#"{"cmd":"logout"}"#, r#"{"ok":"logout","version":7}"#),
-        (r#"{"cmd":"login","roles":[],"user":"root"}"#, r#"{"ok":"login","session":2,"version":8}"#),
-        (r#"{"cmd":"grant","object":"policy","op":"audit","role":"root"}"#, r#"{"code":10,"fault":"Permission","object":"policy","op":"administer"}"#),
+        (
+            r#"{"cmd":"login","roles":[],"user":"root"}"#,
+            r#"{"ok":"login","session":2,"version":8}"#,
+        ),
+        (
+            r#"{"cmd":"grant","object":"policy","op":"audit","role":"root"}"#,
+            r#"{"code":10,"fault":"Permission","object":"policy","op":"administer"}"#,
+        ),
     ];
     told(&rt, rt.alloc(), turns.as_slice())
 }
@@ -67,21 +103,54 @@ fn logins_and_grants(rt: HostRuntime) -> Result<(), Fail> {
 fn what_may_be_seen(rt: HostRuntime) -> Result<(), Fail> {
     let turns = [
         ROOT,
-        (r#"{"cmd":"step","slot":16}"#, r#"{"code":60,"fault":"NoSlot"}"#),
-        (r#"{"cmd":"grant","object":"0","op":"load","role":"root"}"#, r#"{"ok":"grant","version":6}"#),
-        (r#"{"cmd":"grant","object":"0","op":"step","role":"root"}"#, r#"{"ok":"grant","version":7}"#),
-        (r#"{"cmd":"step","slot":0}"#, r#"{"code":62,"fault":"Empty"}"#),
+        (
+            r#"{"cmd":"step","slot":16}"#,
+            r#"{"code":60,"fault":"NoSlot"}"#,
+        ),
+        (
+            r#"{"cmd":"grant","object":"0","op":"load","role":"root"}"#,
+            r#"{"ok":"grant","version":6}"#,
+        ),
+        (
+            r#"{"cmd":"grant","object":"0","op":"step","role":"root"}"#,
+            r#"{"ok":"grant","version":7}"#,
+        ),
+        (
+            r#"{"cmd":"step","slot":0}"#,
+            r#"{"code":62,"fault":"Empty"}"#,
+        ),
         (
             r#"{"cmd":"load","main":"M","slot":0,"text":"module M: output O, P; emit O; pause; emit P end module"}"#,
             r#"{"ok":"load","place":1,"version":7}"#,
         ),
-        (r#"{"cmd":"load","main":"M","slot":0,"text":"module M: nothing end module"}"#, r#"{"code":61,"fault":"Occupied"}"#),
-        (r#"{"cmd":"step","slot":0}"#, r#"{"instant":1,"ok":"step","place":2,"version":7}"#),
-        (r#"{"cmd":"look","instant":0,"slot":0}"#, r#"{"code":66,"fault":"NoInstant"}"#),
-        (r#"{"cmd":"look","instant":2,"slot":0}"#, r#"{"code":66,"fault":"NoInstant"}"#),
-        (r#"{"cmd":"look","instant":1,"slot":0}"#, r#"{"instant":1,"ok":"look","signals":[],"version":7}"#),
-        (r#"{"cmd":"grant","object":"0.O","op":"observe","role":"root"}"#, r#"{"ok":"grant","version":8}"#),
-        (r#"{"cmd":"look","instant":1,"slot":0}"#, r#"{"instant":1,"ok":"look","signals":[["O",true]],"version":8}"#),
+        (
+            r#"{"cmd":"load","main":"M","slot":0,"text":"module M: nothing end module"}"#,
+            r#"{"code":61,"fault":"Occupied"}"#,
+        ),
+        (
+            r#"{"cmd":"step","slot":0}"#,
+            r#"{"instant":1,"ok":"step","place":2,"version":7}"#,
+        ),
+        (
+            r#"{"cmd":"look","instant":0,"slot":0}"#,
+            r#"{"code":66,"fault":"NoInstant"}"#,
+        ),
+        (
+            r#"{"cmd":"look","instant":2,"slot":0}"#,
+            r#"{"code":66,"fault":"NoInstant"}"#,
+        ),
+        (
+            r#"{"cmd":"look","instant":1,"slot":0}"#,
+            r#"{"instant":1,"ok":"look","signals":[],"version":7}"#,
+        ),
+        (
+            r#"{"cmd":"grant","object":"0.O","op":"observe","role":"root"}"#,
+            r#"{"ok":"grant","version":8}"#,
+        ),
+        (
+            r#"{"cmd":"look","instant":1,"slot":0}"#,
+            r#"{"instant":1,"ok":"look","signals":[["O",true]],"version":8}"#,
+        ),
     ];
     told(&rt, rt.alloc(), turns.as_slice())
 }
@@ -90,24 +159,66 @@ fn what_may_be_seen(rt: HostRuntime) -> Result<(), Fail> {
 fn offers_and_stuck_steps(rt: HostRuntime) -> Result<(), Fail> {
     let turns = [
         ROOT,
-        (r#"{"cmd":"grant","object":"0","op":"load","role":"root"}"#, r#"{"ok":"grant","version":6}"#),
-        (r#"{"cmd":"grant","object":"0","op":"step","role":"root"}"#, r#"{"ok":"grant","version":7}"#),
+        (
+            r#"{"cmd":"grant","object":"0","op":"load","role":"root"}"#,
+            r#"{"ok":"grant","version":6}"#,
+        ),
+        (
+            r#"{"cmd":"grant","object":"0","op":"step","role":"root"}"#,
+            r#"{"ok":"grant","version":7}"#,
+        ),
         (
             r#"{"cmd":"load","main":"M","slot":0,"text":"module M: input I; output O; present O then emit O else emit O end end module"}"#,
             r#"{"ok":"load","place":1,"version":7}"#,
         ),
-        (r#"{"cmd":"offer","signal":"X","slot":0}"#, r#"{"code":10,"fault":"Permission","object":"0.X","op":"offer"}"#),
-        (r#"{"cmd":"grant","object":"0.X","op":"offer","role":"root"}"#, r#"{"ok":"grant","version":8}"#),
-        (r#"{"cmd":"offer","signal":"X","slot":0}"#, r#"{"code":63,"fault":"UnknownSignal"}"#),
-        (r#"{"cmd":"grant","object":"0.O","op":"offer","role":"root"}"#, r#"{"ok":"grant","version":9}"#),
-        (r#"{"cmd":"offer","signal":"O","slot":0}"#, r#"{"code":64,"fault":"NotInput"}"#),
-        (r#"{"cmd":"grant","object":"0.I","op":"offer","role":"root"}"#, r#"{"ok":"grant","version":10}"#),
-        (r#"{"cmd":"offer","signal":"I","slot":0}"#, r#"{"ok":"offer","place":2,"version":10}"#),
-        (r#"{"cmd":"step","slot":0}"#, r#"{"code":50,"fault":"Stuck","undecided":[]}"#),
-        (r#"{"cmd":"offer","signal":"I","slot":0}"#, r#"{"code":65,"fault":"AlreadyOffered"}"#),
-        (r#"{"cmd":"grant","object":"0.O","op":"observe","role":"root"}"#, r#"{"ok":"grant","version":11}"#),
-        (r#"{"cmd":"step","slot":0}"#, r#"{"code":50,"fault":"Stuck","undecided":["O"]}"#),
-        (r#"{"cmd":"look","instant":1,"slot":0}"#, r#"{"code":66,"fault":"NoInstant"}"#),
+        (
+            r#"{"cmd":"offer","signal":"X","slot":0}"#,
+            r#"{"code":10,"fault":"Permission","object":"0.X","op":"offer"}"#,
+        ),
+        (
+            r#"{"cmd":"grant","object":"0.X","op":"offer","role":"root"}"#,
+            r#"{"ok":"grant","version":8}"#,
+        ),
+        (
+            r#"{"cmd":"offer","signal":"X","slot":0}"#,
+            r#"{"code":63,"fault":"UnknownSignal"}"#,
+        ),
+        (
+            r#"{"cmd":"grant","object":"0.O","op":"offer","role":"root"}"#,
+            r#"{"ok":"grant","version":9}"#,
+        ),
+        (
+            r#"{"cmd":"offer","signal":"O","slot":0}"#,
+            r#"{"code":64,"fault":"NotInput"}"#,
+        ),
+        (
+            r#"{"cmd":"grant","object":"0.I","op":"offer","role":"root"}"#,
+            r#"{"ok":"grant","version":10}"#,
+        ),
+        (
+            r#"{"cmd":"offer","signal":"I","slot":0}"#,
+            r#"{"ok":"offer","place":2,"version":10}"#,
+        ),
+        (
+            r#"{"cmd":"step","slot":0}"#,
+            r#"{"code":50,"fault":"Stuck","undecided":[]}"#,
+        ),
+        (
+            r#"{"cmd":"offer","signal":"I","slot":0}"#,
+            r#"{"code":65,"fault":"AlreadyOffered"}"#,
+        ),
+        (
+            r#"{"cmd":"grant","object":"0.O","op":"observe","role":"root"}"#,
+            r#"{"ok":"grant","version":11}"#,
+        ),
+        (
+            r#"{"cmd":"step","slot":0}"#,
+            r#"{"code":50,"fault":"Stuck","undecided":["O"]}"#,
+        ),
+        (
+            r#"{"cmd":"look","instant":1,"slot":0}"#,
+            r#"{"code":66,"fault":"NoInstant"}"#,
+        ),
     ];
     told(&rt, rt.alloc(), turns.as_slice())
 }
@@ -116,15 +227,42 @@ fn offers_and_stuck_steps(rt: HostRuntime) -> Result<(), Fail> {
 fn faults_of_a_text(rt: HostRuntime) -> Result<(), Fail> {
     let turns = [
         ROOT,
-        (r#"{"cmd":"grant","object":"0","op":"load","role":"root"}"#, r#"{"ok":"grant","version":6}"#),
-        (r#"{"cmd":"load","main":"M","slot":0,"text":""}"#, r#"{"code":71,"column":1,"fault":"Syntax","line":1}"#),
-        (r#"{"cmd":"load","main":"M","slot":0,"text":"module M: %{ x"}"#, r#"{"code":70,"column":11,"fault":"Lexical","line":1}"#),
-        (r#"{"cmd":"load","main":"M","slot":0,"text":"module M: emit end module"}"#, r#"{"code":71,"column":16,"fault":"Syntax","line":1}"#),
-        (r#"{"cmd":"load","main":"N","slot":0,"text":"module M: nothing end module"}"#, r#"{"code":72,"fault":"UnknownModule","name":"N"}"#),
-        (r#"{"cmd":"load","main":"M","slot":0,"text":"module M: emit X end module"}"#, r#"{"code":74,"fault":"UnknownName","name":"X"}"#),
-        (r#"{"cmd":"load","main":"M","slot":0,"text":"module M: input A; output A; nothing end module"}"#, r#"{"code":75,"fault":"DuplicateName","name":"A"}"#),
-        (r#"{"cmd":"load","main":"M","slot":0,"text":"module M: emit tick end module"}"#, r#"{"code":76,"fault":"EmitInput","name":"tick"}"#),
-        (r#"{"cmd":"load","main":"M","slot":0,"text":"module M: nothing end module"}"#, r#"{"ok":"load","place":1,"version":6}"#),
+        (
+            r#"{"cmd":"grant","object":"0","op":"load","role":"root"}"#,
+            r#"{"ok":"grant","version":6}"#,
+        ),
+        (
+            r#"{"cmd":"load","main":"M","slot":0,"text":""}"#,
+            r#"{"code":71,"column":1,"fault":"Syntax","line":1}"#,
+        ),
+        (
+            r#"{"cmd":"load","main":"M","slot":0,"text":"module M: %{ x"}"#,
+            r#"{"code":70,"column":11,"fault":"Lexical","line":1}"#,
+        ),
+        (
+            r#"{"cmd":"load","main":"M","slot":0,"text":"module M: emit end module"}"#,
+            r#"{"code":71,"column":16,"fault":"Syntax","line":1}"#,
+        ),
+        (
+            r#"{"cmd":"load","main":"N","slot":0,"text":"module M: nothing end module"}"#,
+            r#"{"code":72,"fault":"UnknownModule","name":"N"}"#,
+        ),
+        (
+            r#"{"cmd":"load","main":"M","slot":0,"text":"module M: emit X end module"}"#,
+            r#"{"code":74,"fault":"UnknownName","name":"X"}"#,
+        ),
+        (
+            r#"{"cmd":"load","main":"M","slot":0,"text":"module M: input A; output A; nothing end module"}"#,
+            r#"{"code":75,"fault":"DuplicateName","name":"A"}"#,
+        ),
+        (
+            r#"{"cmd":"load","main":"M","slot":0,"text":"module M: emit tick end module"}"#,
+            r#"{"code":76,"fault":"EmitInput","name":"tick"}"#,
+        ),
+        (
+            r#"{"cmd":"load","main":"M","slot":0,"text":"module M: nothing end module"}"#,
+            r#"{"ok":"load","place":1,"version":6}"#,
+        ),
     ];
     told(&rt, rt.alloc(), turns.as_slice())
 }
