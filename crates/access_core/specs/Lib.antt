@@ -8,3 +8,4 @@ pub mod Holding
 pub mod SlotStep
 pub mod Allowed
 pub mod Desk
+pub mod Needs

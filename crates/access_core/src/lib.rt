@@ -14,3 +14,5 @@ pub mod reply;
 mod shown;
 pub mod single;
 pub mod slot;
+#[cfg(test)]
+mod tests;

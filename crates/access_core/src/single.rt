@@ -7,6 +7,7 @@ ghost use Rattle.rbac_policy.specs.StandsFor.{StandsFor};
 ghost use Rattle.rbac_admin.specs.PolicyStep.{is_decided};
 ghost use Rattle.access_core.specs.Rules.{◌▸◌, ◌▹◌};
 ghost use Rattle.access_core.specs.SlotStep.{no_memory};
+ghost use Rattle.access_core.specs.Needs.{Needs, IsAccepted};
 ghost use Rattle.access_core.specs.Desk.{Desk, opening_desk, empty_slot, change_of, accepted_reply, most_entries, list_full, Appends, AdminStep, DeskStep};
 
 use crate::command::SlotCommand;
@@ -198,7 +199,8 @@ impl Single {
 
     /// Answers a command on the slot of this number, which this session gives, at the whole policy list.
     pub fn slot(&mut self, session: SessionId, number: u64, command: SlotCommand) -> Reply
-        ensures { DeskStep number session command self.old result self.new }
+        ensures step { DeskStep number session command self.old result self.new }
+        ensures allowed { IsAccepted result → Needs self.old.entries number session command }
     {
         if !self.policy.lives(session) {
             return Reply::Refused(Refusal::NoSession);

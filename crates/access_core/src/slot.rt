@@ -6,11 +6,12 @@ ghost use Rattle.access_core.specs.Rules.{◌▸◌, ◌▹◌};
 ghost use Rattle.access_core.specs.SlotStep.{SlotStep, no_memory, no_instant, stamp_of, undecided_of, Offers, Steps, Looks, RefusesStep};
 ghost use Rattle.reactor_core.specs.Meaning.{Running, running_of};
 ghost use Rattle.access_core.specs.Allowed.{IsAllowed};
+ghost use Rattle.access_core.specs.Needs.{Needs, IsAccepted};
 
 use crate::command::SlotCommand;
 use crate::conversions::of_reactor;
 use crate::refusal::Refusal;
-use crate::reply::{Reply, ShownSignals, SignalNames};
+use crate::reply::{Reply, SignalNames};
 use crate::shown::{names, observed, statuses};
 use est_kernel::identifier::Identifier;
 use rbac_policy::commands::SessionId;
@@ -21,7 +22,7 @@ use reactor_core::journal::Journal;
 use reactor_core::reactor::Reactor;
 use reactor_core::refusal::Refusal as ReactorRefusal;
 use reactor_core::text::Text;
-use std::alloc::{AllocError, Global};
+use std::alloc::Global;
 use std::marker::Model;
 use std::mem;
 
@@ -295,6 +296,8 @@ pub fn decide_slot(
     ensures number { slot.new.number ≡ slot.old.number }
     ensures step { (entries : List Entry) → StandsFor policy.now entries
         → SlotStep entries slot.old.number session command slot.old.journal result slot.new.journal }
+    ensures allowed { (entries : List Entry) → StandsFor policy.now entries → IsAccepted result
+        → Needs entries slot.old.number session command }
 {
     match command {
         SlotCommand::Load { main, text } => {

@@ -43,3 +43,22 @@ pub returns-else-lives-clause-step : goal.returns-else-lives-clause-step
 returns-else-lives-clause-step c = λ entries stands.
     rw c.in-Look.is (inl (refused_by (no_session entries c.args.session) _ _
     (refl, λ live. let on : c.lives.result ≡ true = (c.lives.ensures entries stands).1 live in let off = c.if-lives.false in cc)))
+
+pub returns-in-Ok-clause-allowed : goal.returns-in-Ok-clause-allowed
+returns-in-Ok-clause-allowed c = λ entries stands accepted.
+    let may = rw c.number.ensures at c.in-Ok.ensures entries stands in
+    rw c.in-Load.is may.1
+
+pub returns-in-Ok-allowed-clause-allowed : goal.returns-in-Ok-allowed-clause-allowed
+returns-in-Ok-allowed-clause-allowed c = λ entries stands accepted.
+    let may = rw c.number-in-Offer.ensures at c.in-Ok-allowed.ensures entries stands in
+    rw c.in-Offer.is may.1
+
+pub returns-in-Ok-allowed-2-clause-allowed : goal.returns-in-Ok-allowed-2-clause-allowed
+returns-in-Ok-allowed-2-clause-allowed c = λ entries stands accepted.
+    let may = rw c.number-in-Step.ensures at c.in-Ok-allowed-2.ensures entries stands in
+    rw c.in-Step.is may.1
+
+pub returns-then-lives-clause-allowed : goal.returns-then-lives-clause-allowed
+returns-then-lives-clause-allowed c = λ entries stands accepted.
+    rw c.in-Look.is ((c.lives.ensures entries stands).0 c.if-lives.true)

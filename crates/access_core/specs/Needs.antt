@@ -1,0 +1,29 @@
+-- What a command on a slot needs of the session that gives it.
+use Rattle.std.specs.Prelude.{ℕ, List}
+use Rattle.rbac_policy.specs.declared.commands.Entry.{Entry}
+use Rattle.rbac_policy.specs.declared.objects.Operation.TheVariants.{Offer as ToOffer, Step as ToStep, Load as ToLoad}
+use Rattle.rbac_policy.specs.declared.objects.Object.TheVariants.{Slot, Signal}
+use Rattle.rbac_policy.specs.Facts.{IsLive, May}
+use Rattle.access_core.specs.declared.command.SlotCommand.{SlotCommand}
+use Rattle.access_core.specs.declared.command.SlotCommand.TheVariants.{Load, Offer, Step, Look}
+use Rattle.access_core.specs.declared.reply.Reply.{Reply}
+use Rattle.access_core.specs.declared.reply.Reply.TheVariants.{Refused, Login, Changed, Check}
+use Rattle.access_core.specs.declared.reply.Reply.TheVariants.{Load as Loaded, Offer as Offered, Step as Stepped, Look as Shown}
+
+-- a load and a step need the operation on the slot, an offer needs it on the signal, and a look that the session lives
+abbrev pub Needs : List Entry → (slot session : ℕ) → SlotCommand → Type 0
+Needs entries slot session (Load main text) = May entries session ToLoad (Slot slot)
+Needs entries slot session (Offer signal) = May entries session ToOffer (Signal slot signal)
+Needs entries slot session Step = May entries session ToStep (Slot slot)
+Needs entries slot session (Look n) = IsLive entries session
+
+-- the reply is no refusal
+abbrev pub IsAccepted : Reply → Type 0
+IsAccepted (Refused refusal) = ⊥
+IsAccepted (Login session version) = Unit {0}
+IsAccepted (Changed change version) = Unit {0}
+IsAccepted (Loaded place version) = Unit {0}
+IsAccepted (Offered place version) = Unit {0}
+IsAccepted (Stepped instant place version) = Unit {0}
+IsAccepted (Shown instant signals version) = Unit {0}
+IsAccepted (Check allowed) = Unit {0}
