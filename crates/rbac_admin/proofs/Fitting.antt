@@ -9,16 +9,17 @@ use Rattle.rbac_policy.specs.declared.commands.AdminCommand.TheVariants.{AddUser
 use Rattle.rbac_policy.specs.declared.commands.Entry.{Entry}
 use Rattle.rbac_policy.specs.Names.{Text}
 use Rattle.rbac_policy.specs.Entries.{logins}
-use Rattle.rbac_policy.specs.Facts.{IsRole}
-use Rattle.rbac_policy.specs.Tables.{place_of}
+use Rattle.rbac_policy.specs.Facts.{IsUser, IsRole}
+use Rattle.rbac_policy.specs.Tables.{place_of, user_is}
+use Rattle.std.specs.List.{list_any}
 use Rattle.rbac_policy.specs.Fits.{Fits, FitsCommand}
 use Rattle.rbac_policy.specs.StandsFor.{StandsFor}
 use Rattle.rbac_policy.specs.Change.{absorbed}
-use Rattle.rbac_policy.proofs.Asking.{role_test}
+use Rattle.rbac_policy.proofs.Asking.{role_test, user_test}
 use Rattle.rbac_policy.proofs.Absorbing.{stands_after}
 use Rattle.rbac_admin.specs.Rules.{FirstListed}
 use Rattle.rbac_admin.specs.Conditions.{HasSession}
-use Rattle.rbac_admin.specs.PolicyStep.{PolicyStep, entry_of, is_decided}
+use Rattle.rbac_admin.specs.PolicyStep.{PolicyStep, entry_of, is_decided, is_followed}
 use Rattle.rbac_admin.proofs.Accepted.{passed, accepted_entry}
 use Rattle.rbac_admin.proofs.Listing.{NoneBefore, none_at_first, none_further, first_here}
 
@@ -37,12 +38,38 @@ role_unless p L st r not_not = by_test (is_some (place_of r p.roles)) (role_test
   by_test true test = test.0 (search rules)
   by_test false test = absurd (not_not (λ h. absurd (search (rules, test.1 h))))
 
+-- the test of a user decides it
+user_unless : (p : Policy) (L : List Entry) → StandsFor p L → (u : Text) → ((IsUser L u → ⊥) → ⊥) → IsUser L u
+user_unless p L st u not_not = by_test (list_any (user_is u) p.users) (user_test p L st u (list_any (user_is u) p.users) refl) where
+  by_test : (b : Bool) → (IsTrue b ↔ IsUser L u) → IsUser L u
+  by_test true test = test.0 (search rules)
+  by_test false test = absurd (not_not (λ h. absurd (search (rules, test.1 h))))
+
 given_unless : (L : List Entry) (session : Option ℕ) → ((HasSession L session → ⊥) → ⊥) → (number : ℕ) × (session ≡ Some number)
 given_unless L (Some number) not_not = (number, refl)
 given_unless L None not_not = absurd (not_not (λ h. (let given = h.1.given in cc)))
 
+-- what is decided is followed
+decided_followed : (command : AdminCommand) → is_decided command ≡ true → is_followed command ≡ true
+decided_followed (AddUser user) decided = refl
+decided_followed (AddRole role) decided = refl
+decided_followed (AssignUser user role) decided = refl
+decided_followed (GrantPermission role operation object) decided = refl
+decided_followed (CreateSession user roles) decided = refl
+decided_followed DeleteSession decided = refl
+decided_followed (DeleteUser user) decided = decided
+decided_followed (DeleteRole role) decided = decided
+decided_followed (DeassignUser user role) decided = decided
+decided_followed (RevokePermission role operation object) decided = decided
+decided_followed (AddInheritance senior junior) decided = decided
+decided_followed (DeleteInheritance senior junior) decided = decided
+decided_followed (CreateDsdSet set count roles) decided = decided
+decided_followed (DeleteDsdSet set) decided = decided
+decided_followed (AddActiveRole role) decided = decided
+decided_followed (DropActiveRole role) decided = decided
+
 module _ (p : Policy) (L : List Entry) (st : StandsFor p L) where
-  fits_command : (session : Option ℕ) (command : AdminCommand) (e : Entry) → is_decided command ≡ true → PolicyStep L session command (Ok e)
+  fits_command : (session : Option ℕ) (command : AdminCommand) (e : Entry) → is_followed command ≡ true → PolicyStep L session command (Ok e)
       → FitsCommand (entry_of session command).command (entry_of session command).session L
   fits_command session (GrantPermission role operation object) e decided h =
       let a = passed e h in
@@ -74,11 +101,29 @@ module _ (p : Policy) (L : List Entry) (st : StandsFor p L) where
       let a = passed e h in
       let n = given_unless L session (λ no. a.silent _ (refl, no)) in
       record { number = n.0; given = n.1 }
-  fits_command session (AddUser user) e decided h = cc
+  fits_command session (AddUser user) e decided h =
+      let a = passed e h in
+      let b = passed e a.then in
+      let c = passed e b.then in
+      let d = passed e c.then in
+      record { absent = λ is. c.silent _ (refl, is); room = λ full. d.silent _ (refl, full) }
   fits_command session (DeleteUser user) e decided h = cc
-  fits_command session (AddRole role) e decided h = cc
+  fits_command session (AddRole role) e decided h =
+      let a = passed e h in
+      let b = passed e a.then in
+      let c = passed e b.then in
+      let d = passed e c.then in
+      record { absent = λ is. c.silent _ (refl, is); room = λ full. d.silent _ (refl, full) }
   fits_command session (DeleteRole role) e decided h = cc
-  fits_command session (AssignUser user role) e decided h = cc
+  fits_command session (AssignUser user role) e decided h =
+      let a = passed e h in
+      let b = passed e a.then in
+      let c = passed e b.then in
+      let d = passed e c.then in
+      record {
+        is_user = user_unless p L st user (λ no. c.silent _ (refl, no));
+        is_role = role_unless p L st role (λ no. d.silent _ (refl, no));
+      }
   fits_command session (DeassignUser user role) e decided h = cc
   fits_command session (RevokePermission role operation object) e decided h = cc
   fits_command session (AddInheritance senior junior) e decided h = cc
@@ -88,14 +133,18 @@ module _ (p : Policy) (L : List Entry) (st : StandsFor p L) where
   fits_command session (AddActiveRole role) e decided h = cc
   fits_command session (DropActiveRole role) e decided h = cc
 
-  -- an accepted entry fits
-  pub accepted_fits : (session : Option ℕ) (command : AdminCommand) (e : Entry) → length L + 1 < 2 ^ 64 → is_decided command ≡ true → PolicyStep L session command (Ok e) → Fits L e
-  accepted_fits session command e few decided h =
+  -- an accepted entry of a command that the policy follows fits
+  pub followed_fits : (session : Option ℕ) (command : AdminCommand) (e : Entry) → length L + 1 < 2 ^ 64 → is_followed command ≡ true → PolicyStep L session command (Ok e) → Fits L e
+  followed_fits session command e few followed h =
       let is = accepted_entry L session command e h in
       let Fitting : Entry → Type 0 = λ x. FitsCommand x.command x.session L in
-      record { few = few; command = subst Fitting (sym is) (fits_command session command e decided h) }
+      record { few = few; command = subst Fitting (sym is) (fits_command session command e followed h) }
+
+  -- an accepted entry of a command that is decided fits
+  pub accepted_fits : (session : Option ℕ) (command : AdminCommand) (e : Entry) → length L + 1 < 2 ^ 64 → is_decided command ≡ true → PolicyStep L session command (Ok e) → Fits L e
+  accepted_fits session command e few decided h = followed_fits session command e few (decided_followed command decided) h
 
   -- the policy that has taken it in stands for the longer list
-  pub accepted_stands : (session : Option ℕ) (command : AdminCommand) (e : Entry) → length L + 1 < 2 ^ 64 → is_decided command ≡ true → PolicyStep L session command (Ok e)
+  pub accepted_stands : (session : Option ℕ) (command : AdminCommand) (e : Entry) → length L + 1 < 2 ^ 64 → is_followed command ≡ true → PolicyStep L session command (Ok e)
       → StandsFor (absorbed p e) (L ++ e ∷ [])
-  accepted_stands session command e few decided h = stands_after p L e st (accepted_fits session command e few decided h)
+  accepted_stands session command e few followed h = stands_after p L e st (followed_fits session command e few followed h)

@@ -7,7 +7,7 @@ ghost use Rattle.rbac_policy.specs.Change.{absorbed};
 ghost use Rattle.rbac_policy.specs.StandsFor.{StandsFor};
 ghost use Rattle.rbac_admin.specs.declared.refusals.Refusal.{Refusal};
 ghost use Rattle.rbac_admin.specs.Conditions.{Administers};
-ghost use Rattle.rbac_admin.specs.PolicyStep.{PolicyStep, entry_of, is_administrative, is_decided};
+ghost use Rattle.rbac_admin.specs.PolicyStep.{PolicyStep, entry_of, is_administrative, is_followed};
 
 /// The policy step gives one answer at most.
 pub fn one_answer()
@@ -37,6 +37,6 @@ pub fn not_accepted()
 /// A policy that stands for a list, and then takes in an accepted entry, stands for the longer list.
 pub fn accepted_stands()
     ensures { (policy : Policy) (entries : List Entry) (session : Option ℕ) (command : AdminCommand) (entry : Entry)
-        → StandsFor policy entries → length entries + 1 < 2 ^ 64 → IsTrue (is_decided command)
+        → StandsFor policy entries → length entries + 1 < 2 ^ 64 → IsTrue (is_followed command)
         → PolicyStep entries session command (Ok entry) → StandsFor (absorbed policy entry) (entries ++ entry ∷ []) }
 {}
