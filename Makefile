@@ -1,5 +1,6 @@
 # `make run`: prove and build what is needed, and run the opening script on the built program.
-# `make test`: all proofs, wrong bodies, tests and stored runs. Its last line is 'N passed, M failed'.
+# `make test`: that the documents are in step, and then all proofs, wrong bodies, tests and stored runs.
+# Its last line is 'N passed, M failed'.
 # `make bench`: commands a second of the built program, beside Python's json over the same lines.
 PROGRAM := crates/estserve/out/estserve
 SCRIPT := crates/estserve/stdin
@@ -13,6 +14,7 @@ build:
 	@cd crates/estserve && rt run -- script < /dev/null
 
 test:
+	python3 tests/documents.py
 	rt ci
 
 bench: build
