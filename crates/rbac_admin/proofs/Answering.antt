@@ -2,7 +2,7 @@
 use Rattle.std.proofs.Common.{◌≡◌, ℕ, ◌↔◌, List, inl, inr, refl, sym, ◌∙◌, subst, IsTrue, true, false, Bool, rules}
 use Rattle.std.specs.Prelude.{Option, Result, Err}
 use Rattle.std.proofs.lemmas.Option.{same_Some}
-use Rattle.rbac_policy.specs.Names.{Text}
+use Rattle.rbac_policy.specs.Names.{NameText}
 use Rattle.rbac_policy.specs.declared.commands.Entry.{Entry}
 use Rattle.rbac_policy.specs.declared.objects.Operation.TheVariants.{Administer}
 use Rattle.rbac_policy.specs.declared.objects.Object.TheVariants.{Policy}
@@ -21,7 +21,7 @@ pub pass : {r : Refusal} {Fact : Type 0} {next : Result Entry Refusal → Type 0
 pass not then = inr (record { silent = λ refusal given. not given.1; then = then })
 
 -- the fact holds of nothing, and what follows answers
-pub pass_all : {r : Text → Refusal} {Fact : Text → Type 0} {next : Result Entry Refusal → Type 0} {answer : Result Entry Refusal} → ((name : Text) → Fact name → ⊥) → next answer → (Naming r Fact ▸ next) answer
+pub pass_all : {r : NameText → Refusal} {Fact : NameText → Type 0} {next : Result Entry Refusal → Type 0} {answer : Result Entry Refusal} → ((name : NameText) → Fact name → ⊥) → next answer → (Naming r Fact ▸ next) answer
 pass_all none then = inr (record { silent = λ refusal given. none given.0 given.2; then = then })
 
 -- a test that is not passed

@@ -7,7 +7,8 @@ use Rattle.rbac_policy.specs.declared.policy.Policy.{Policy}
 use Rattle.rbac_policy.specs.declared.commands.AdminCommand.{AdminCommand}
 use Rattle.rbac_policy.specs.declared.commands.AdminCommand.TheVariants.{AddUser, DeleteUser, AddRole, DeleteRole, AssignUser, DeassignUser, GrantPermission, RevokePermission, AddInheritance, DeleteInheritance, CreateDsdSet, DeleteDsdSet, CreateSession, DeleteSession, AddActiveRole, DropActiveRole}
 use Rattle.rbac_policy.specs.declared.commands.Entry.{Entry}
-use Rattle.rbac_policy.specs.Names.{Text}
+use Rattle.rbac_policy.specs.declared.sizes.TheConstants.{LAST_SESSION, LAST_VERSION}
+use Rattle.rbac_policy.specs.Names.{NameText}
 use Rattle.rbac_policy.specs.Entries.{logins}
 use Rattle.rbac_policy.specs.Facts.{IsUser, IsRole}
 use Rattle.rbac_policy.specs.Tables.{place_of, user_is}
@@ -24,7 +25,7 @@ use Rattle.rbac_admin.proofs.Accepted.{passed, accepted_entry}
 use Rattle.rbac_admin.proofs.Listing.{NoneBefore, none_at_first, none_further, first_here}
 
 -- where no name is the first with the property, none has it
-none_anywhere : (P : List Text → Text → Type 0) (names : List Text) → ((name : Text) → FirstListed P names name → ⊥) → (place : ℕ) → NoneBefore P names place
+none_anywhere : (P : List NameText → NameText → Type 0) (names : List NameText) → ((name : NameText) → FirstListed P names name → ⊥) → (place : ℕ) → NoneBefore P names place
 none_anywhere P names none zero = none_at_first P names
 none_anywhere P names none (suc place) =
     let before = none_anywhere P names none place in
@@ -32,14 +33,14 @@ none_anywhere P names none (suc place) =
     record { none = λ k name low. further.none k name (omega arith) }
 
 -- the test of a role decides it
-role_unless : (p : Policy) (L : List Entry) → StandsFor p L → (r : Text) → ((IsRole L r → ⊥) → ⊥) → IsRole L r
+role_unless : (p : Policy) (L : List Entry) → StandsFor p L → (r : NameText) → ((IsRole L r → ⊥) → ⊥) → IsRole L r
 role_unless p L st r not_not = by_test (is_some (place_of r p.roles)) (role_test p L st r (is_some (place_of r p.roles)) refl) where
   by_test : (b : Bool) → (IsTrue b ↔ IsRole L r) → IsRole L r
   by_test true test = test.0 (search rules)
   by_test false test = absurd (not_not (λ h. absurd (search (rules, test.1 h))))
 
 -- the test of a user decides it
-user_unless : (p : Policy) (L : List Entry) → StandsFor p L → (u : Text) → ((IsUser L u → ⊥) → ⊥) → IsUser L u
+user_unless : (p : Policy) (L : List Entry) → StandsFor p L → (u : NameText) → ((IsUser L u → ⊥) → ⊥) → IsUser L u
 user_unless p L st u not_not = by_test (list_any (user_is u) p.users) (user_test p L st u (list_any (user_is u) p.users) refl) where
   by_test : (b : Bool) → (IsTrue b ↔ IsUser L u) → IsUser L u
   by_test true test = test.0 (search rules)
@@ -95,7 +96,7 @@ module _ (p : Policy) (L : List Entry) (st : StandsFor p L) where
         are_roles = λ role listed. role_unless p L st role
             ((unknown (suc listed.0)).none listed.0 role (omega arith) (slice_get-get_or roles listed.0 role listed.1 ∙ ap Some listed.2));
         room = λ full. i.silent _ (refl, full);
-        numbers = elim (cases_lt (logins L) 65535) [ inl low ↦ low | inr high ↦ absurd (a.silent _ (refl, high)) ];
+        numbers = elim (cases_lt (logins L) LAST_SESSION) [ inl low ↦ low | inr high ↦ absurd (a.silent _ (refl, high)) ];
       }
   fits_command session DeleteSession e decided h =
       let a = passed e h in
@@ -134,17 +135,17 @@ module _ (p : Policy) (L : List Entry) (st : StandsFor p L) where
   fits_command session (DropActiveRole role) e decided h = cc
 
   -- an accepted entry of a command that the policy follows fits
-  pub followed_fits : (session : Option ℕ) (command : AdminCommand) (e : Entry) → length L + 1 < 2 ^ 64 → is_followed command ≡ true → PolicyStep L session command (Ok e) → Fits L e
+  pub followed_fits : (session : Option ℕ) (command : AdminCommand) (e : Entry) → length L < LAST_VERSION → is_followed command ≡ true → PolicyStep L session command (Ok e) → Fits L e
   followed_fits session command e few followed h =
       let is = accepted_entry L session command e h in
       let Fitting : Entry → Type 0 = λ x. FitsCommand x.command x.session L in
       record { few = few; command = subst Fitting (sym is) (fits_command session command e followed h) }
 
   -- an accepted entry of a command that is decided fits
-  pub accepted_fits : (session : Option ℕ) (command : AdminCommand) (e : Entry) → length L + 1 < 2 ^ 64 → is_decided command ≡ true → PolicyStep L session command (Ok e) → Fits L e
+  pub accepted_fits : (session : Option ℕ) (command : AdminCommand) (e : Entry) → length L < LAST_VERSION → is_decided command ≡ true → PolicyStep L session command (Ok e) → Fits L e
   accepted_fits session command e few decided h = followed_fits session command e few (decided_followed command decided) h
 
   -- the policy that has taken it in stands for the longer list
-  pub accepted_stands : (session : Option ℕ) (command : AdminCommand) (e : Entry) → length L + 1 < 2 ^ 64 → is_followed command ≡ true → PolicyStep L session command (Ok e)
+  pub accepted_stands : (session : Option ℕ) (command : AdminCommand) (e : Entry) → length L < LAST_VERSION → is_followed command ≡ true → PolicyStep L session command (Ok e)
       → StandsFor (absorbed p e) (L ++ e ∷ [])
   accepted_stands session command e few followed h = stands_after p L e st (followed_fits session command e few followed h)

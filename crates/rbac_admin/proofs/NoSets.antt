@@ -2,7 +2,7 @@
 use Rattle.std.proofs.Common.{refl, ◌≡◌, ℕ, List, [], ◌∷◌, ◌++◌, length, inl, inr}
 use Rattle.rbac_policy.specs.declared.commands.AdminCommand.TheVariants.{CreateDsdSet, DeleteDsdSet, CreateSession}
 use Rattle.rbac_policy.specs.declared.commands.Entry.{Entry}
-use Rattle.rbac_policy.specs.Names.{Text}
+use Rattle.rbac_policy.specs.Names.{NameText}
 use Rattle.rbac_policy.specs.Facts.{IsSet}
 use Rattle.rbac_policy.proofs.Steps.{in_force_push}
 use Rattle.std.specs.Prelude.{None, Result}
@@ -11,21 +11,21 @@ use Rattle.rbac_admin.specs.Rules.{◌▸◌}
 use Rattle.rbac_admin.specs.Separation.{IsFirstViolated}
 use Rattle.rbac_admin.specs.PolicyStep.{violation}
 
-module _ (entries : List Entry) (no_set : (place : ℕ) (set : Text) (count : ℕ) (roles : List Text) → IsSet entries place set count roles → ⊥) where
-  pub no_set_after_login : (entry : Entry) (user : Text) (listed : List Text) → entry.command ≡ CreateSession user listed
-      → (place : ℕ) (set : Text) (count : ℕ) (roles : List Text) → IsSet (entries ++ entry ∷ []) place set count roles → ⊥
+module _ (entries : List Entry) (no_set : (place : ℕ) (set : NameText) (count : ℕ) (roles : List NameText) → IsSet entries place set count roles → ⊥) where
+  pub no_set_after_login : (entry : Entry) (user : NameText) (listed : List NameText) → entry.command ≡ CreateSession user listed
+      → (place : ℕ) (set : NameText) (count : ℕ) (roles : List NameText) → IsSet (entries ++ entry ∷ []) place set count roles → ⊥
   no_set_after_login entry user listed is place set count roles made =
       elim ((in_force_push (λ before e. (length before ≡ place) × (e.command ≡ CreateDsdSet set count roles)) (λ e. e.command ≡ DeleteDsdSet set) entries entry).0 made) [
         | inl new ↦ (let other = new.1 in cc)
         | inr old ↦ no_set place set count roles old.0
       ]
 
-  pub no_violation_after_login : (entry : Entry) (user : Text) (listed : List Text) → entry.command ≡ CreateSession user listed
-      → (set : Text) (session : ℕ) → IsFirstViolated (entries ++ entry ∷ []) set session → ⊥
+  pub no_violation_after_login : (entry : Entry) (user : NameText) (listed : List NameText) → entry.command ≡ CreateSession user listed
+      → (set : NameText) (session : ℕ) → IsFirstViolated (entries ++ entry ∷ []) set session → ⊥
   no_violation_after_login entry user listed is set session v = no_set_after_login entry user listed is v.place set v.count v.roles v.is_set
 
   -- a login can't violate a set
-  pub pass_violation : (user : Text) (listed : List Text) {next : Result Entry Refusal → Type 0} {answer : Result Entry Refusal}
+  pub pass_violation : (user : NameText) (listed : List NameText) {next : Result Entry Refusal → Type 0} {answer : Result Entry Refusal}
       → next answer → (violation entries None (CreateSession user listed) ▸ next) answer
   pass_violation user listed then =
       inr (record { silent = λ refusal v. no_violation_after_login (record { session = None; command = CreateSession user listed }) user listed refl v.0 v.1 v.3; then = then })

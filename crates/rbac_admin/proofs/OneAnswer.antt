@@ -4,7 +4,7 @@ use Rattle.std.specs.Prelude.{Option, Some, None, Result, Err, slice_get}
 use Rattle.std.proofs.lemmas.Bool.{cases_order}
 use Rattle.std.proofs.lemmas.Option.{same_Some, slice_get_within}
 use Rattle.std.proofs.lemmas.List.{length-take-le}
-use Rattle.rbac_policy.specs.Names.{Text}
+use Rattle.rbac_policy.specs.Names.{NameText}
 use Rattle.rbac_policy.specs.Facts.{IsSet, Violates}
 use Rattle.rbac_policy.specs.declared.commands.AdminCommand.{AdminCommand}
 use Rattle.rbac_policy.specs.declared.commands.AdminCommand.TheVariants.{AddUser, DeleteUser, AddRole, DeleteRole, AssignUser, DeassignUser, GrantPermission, RevokePermission, AddInheritance, DeleteInheritance, CreateDsdSet, DeleteDsdSet, CreateSession, DeleteSession, AddActiveRole, DropActiveRole}
@@ -44,36 +44,36 @@ says = record { same = λ a b x y. x.0 ∙ sym y.0 }
 accepts : {session : Option ℕ} {command : AdminCommand} → OneAnswer (Accepts session command)
 accepts = record { same = λ a b x y. x ∙ sym y }
 
-one_listed : (P : List Text → Text → Type 0) (names : List Text) (a b : Text) → FirstListed P names a → FirstListed P names b → a ≡ b
+one_listed : (P : List NameText → NameText → Type 0) (names : List NameText) (a b : NameText) → FirstListed P names a → FirstListed P names b → a ≡ b
 one_listed P names a b x y =
     let at = one_place x.at y.at (λ low. y.first x.at a low x.there x.has) (λ low. x.first y.at b low y.there y.has) in
     same_Some a b (sym x.there ∙ ap (slice_get names) at ∙ y.there)
 
-listed : {refusal : Text → Refusal} {P : List Text → Text → Type 0} {names : List Text} → OneRefusal (Naming refusal (FirstListed P names))
+listed : {refusal : NameText → Refusal} {P : List NameText → NameText → Type 0} {names : List NameText} → OneRefusal (Naming refusal (FirstListed P names))
 listed {refusal = refusal} {P = P} {names = names} =
     record { same = λ a b x y. x.1 ∙ ap refusal (one_listed P names x.0 y.0 x.2 y.2) ∙ sym y.1 }
 
 module _ (entries : List Entry) where
   -- a separation set's place is that of its entry
-  set_there : (place : ℕ) (set : Text) (count : ℕ) (roles : List Text) (s : IsSet entries place set count roles) → slice_get entries place ≡ Some s.entry
+  set_there : (place : ℕ) (set : NameText) (count : ℕ) (roles : List NameText) (s : IsSet entries place set count roles) → slice_get entries place ≡ Some s.entry
   set_there place set count roles s =
       let within = slice_get_within entries s.at s.entry s.there in
       let at : s.at ≡ place = sym (length-take-le s.at entries (omega arith)) ∙ s.made.0 in
       subst (λ k. slice_get entries k ≡ Some s.entry) at s.there
 
-  record SameSet (set : Text) (count : ℕ) (roles : List Text) (other : Text) (number : ℕ) (members : List Text) : Type 0 where
+  record SameSet (set : NameText) (count : ℕ) (roles : List NameText) (other : NameText) (number : ℕ) (members : List NameText) : Type 0 where
     by_name : set ≡ other
     by_count : count ≡ number
     by_roles : roles ≡ members
 
-  one_set : (place : ℕ) (set : Text) (count : ℕ) (roles : List Text) (other : Text) (number : ℕ) (members : List Text)
+  one_set : (place : ℕ) (set : NameText) (count : ℕ) (roles : List NameText) (other : NameText) (number : ℕ) (members : List NameText)
       → IsSet entries place set count roles → IsSet entries place other number members → SameSet set count roles other number members
   one_set place set count roles other number members s t =
       let entry : s.entry ≡ t.entry = same_Some s.entry t.entry (sym (set_there place set count roles s) ∙ set_there place other number members t) in
       let same : CreateDsdSet set count roles ≡ CreateDsdSet other number members = sym s.made.1 ∙ ap (λ e. e.command) entry ∙ t.made.1 in
       record { by_name = cc; by_count = cc; by_roles = cc }
 
-  one_violated : (set other : Text) (session number : ℕ) → IsFirstViolated entries set session → IsFirstViolated entries other number → (set ≡ other) × (session ≡ number)
+  one_violated : (set other : NameText) (session number : ℕ) → IsFirstViolated entries set session → IsFirstViolated entries other number → (set ≡ other) × (session ≡ number)
   one_violated set other session number x y =
       let place = one_place x.place y.place
       (λ low. y.first x.place set x.count x.roles low x.is_set session x.violates)
@@ -86,7 +86,7 @@ module _ (entries : List Entry) where
       subst (Violates entries s y.count) same.by_roles (subst (λ n. Violates entries s n x.roles) same.by_count v) in
       (same.by_name, one_place session number (λ low. y.least session low (back session x.violates)) (λ low. x.least number low (there number y.violates)))
 
-  one_set_of : (role set other : Text) → IsFirstSetOf entries role set → IsFirstSetOf entries role other → set ≡ other
+  one_set_of : (role set other : NameText) → IsFirstSetOf entries role set → IsFirstSetOf entries role other → set ≡ other
   one_set_of role set other x y =
       let place = one_place x.place y.place
       (λ low. y.first x.place set x.count x.roles low x.is_set x.member)
@@ -102,7 +102,7 @@ violations entries session command =
           x.2 ∙ ap (λ set. DsdViolated set x.1) one.0 ∙ ap (DsdViolated y.0) one.1 ∙ sym y.2;
     }
 
-members : {refusal : Text → Refusal} (entries : List Entry) (role : Text) → OneRefusal (Naming refusal (IsFirstSetOf entries role))
+members : {refusal : NameText → Refusal} (entries : List Entry) (role : NameText) → OneRefusal (Naming refusal (IsFirstSetOf entries role))
 members {refusal = refusal} entries role =
     record { same = λ a b x y. x.1 ∙ ap refusal (one_set_of entries role x.0 y.0 x.2 y.2) ∙ sym y.1 }
 

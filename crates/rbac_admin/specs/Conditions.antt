@@ -5,7 +5,8 @@ use Rattle.rbac_policy.specs.declared.objects.Operation.TheVariants.{Administer}
 use Rattle.rbac_policy.specs.declared.objects.Object.{Object}
 use Rattle.rbac_policy.specs.declared.objects.Object.TheVariants.{Policy}
 use Rattle.rbac_policy.specs.declared.commands.Entry.{Entry}
-use Rattle.rbac_policy.specs.Names.{Text}
+use Rattle.rbac_policy.specs.declared.sizes.TheConstants.{SETS}
+use Rattle.rbac_policy.specs.Names.{NameText}
 use Rattle.rbac_policy.specs.Facts.{IsSet, IsPairGranted, IsActive, IsAuthorized, Lives, May}
 use Rattle.rbac_policy.specs.Fits.{PermissionsFull}
 use Rattle.rbac_policy.specs.Limits.{HasAtLeast, IsDistinct}
@@ -13,7 +14,7 @@ use Rattle.rbac_policy.specs.Limits.{HasAtLeast, IsDistinct}
 -- the command is given by the session of this number, which lives
 pub record IsGivenBy (entries : List Entry) (session : Option ℕ) (number : ℕ) : Type 0 where
   pub given : session ≡ Some number
-  pub user : Text
+  pub user : NameText
   pub lives : Lives entries number user
 
 -- a session gives the command, and it lives
@@ -27,13 +28,13 @@ pub record Administers (entries : List Entry) (session : Option ℕ) : Type 0 wh
   pub may : May entries number Administer Policy
 
 -- the user of the session that gives the command is authorized for the role
-pub record HasAuthorized (entries : List Entry) (session : Option ℕ) (role : Text) : Type 0 where
+pub record HasAuthorized (entries : List Entry) (session : Option ℕ) (role : NameText) : Type 0 where
   pub number : ℕ
   pub by : IsGivenBy entries session number
   pub authorized : IsAuthorized entries by.user role
 
 -- the role is active in the session that gives the command
-pub record HasActive (entries : List Entry) (session : Option ℕ) (role : Text) : Type 0 where
+pub record HasActive (entries : List Entry) (session : Option ℕ) (role : NameText) : Type 0 where
   pub number : ℕ
   pub given : session ≡ Some number
   pub active : IsActive entries number role
@@ -44,16 +45,16 @@ pub record HasNoRoomFor (entries : List Entry) (operation : Operation) (object :
   pub full : PermissionsFull entries
 
 -- there is a separation set of this name
-pub record IsSetName (entries : List Entry) (set : Text) : Type 0 where
+pub record IsSetName (entries : List Entry) (set : NameText) : Type 0 where
   pub place : ℕ
   pub count : ℕ
-  pub roles : List Text
+  pub roles : List NameText
   pub is_set : IsSet entries place set count roles
 
 -- the table of separation sets is full
 abbrev pub SetsFull : List Entry → Type 0
-SetsFull entries = HasAtLeast 16 (IsSetName entries)
+SetsFull entries = HasAtLeast SETS (IsSetName entries)
 
 -- no separation set has this number and these roles: a role stands twice, or the number is under 2 or over that of the roles
-abbrev pub IsNoShape : ℕ → List Text → Type 0
+abbrev pub IsNoShape : ℕ → List NameText → Type 0
 IsNoShape count roles = (IsDistinct roles → ⊥) ⊎ (count < 2) ⊎ (length roles < count)

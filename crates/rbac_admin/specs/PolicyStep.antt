@@ -6,7 +6,7 @@ use Rattle.rbac_policy.specs.declared.commands.AdminCommand.{AdminCommand}
 use Rattle.rbac_policy.specs.declared.commands.AdminCommand.TheVariants.{AddUser, DeleteUser, AddRole, DeleteRole, AssignUser, DeassignUser, GrantPermission, RevokePermission, AddInheritance, DeleteInheritance, CreateDsdSet, DeleteDsdSet, CreateSession, DeleteSession, AddActiveRole, DropActiveRole}
 use Rattle.rbac_policy.specs.declared.commands.Table.TheVariants.{Users, Roles, Permissions, Sessions, Sets}
 use Rattle.rbac_policy.specs.declared.commands.Entry.{Entry}
-use Rattle.rbac_policy.specs.Names.{Text}
+use Rattle.rbac_policy.specs.Names.{NameText}
 use Rattle.rbac_policy.specs.Facts.{IsUser, IsRole, IsAssigned, IsGranted, IsEdge, IsAtOrBelow, IsAuthorized}
 use Rattle.rbac_policy.specs.Fits.{UsersFull, RolesFull, SessionsFull, NumbersExhausted}
 use Rattle.rbac_admin.specs.declared.refusals.Refusal.{Refusal}
@@ -24,29 +24,29 @@ abbrev pub no_permission : List Entry → Option ℕ → Refusal → Type 0
 no_permission entries session = Says (Permission Administer Policy) (Administers entries session → ⊥)
 
 -- there is no such user
-abbrev pub unknown_user : List Entry → Text → Refusal → Type 0
+abbrev pub unknown_user : List Entry → NameText → Refusal → Type 0
 unknown_user entries user = Says (UnknownUser user) (IsUser entries user → ⊥)
 
 -- there is no such role
-abbrev pub unknown_role : List Entry → Text → Refusal → Type 0
+abbrev pub unknown_role : List Entry → NameText → Refusal → Type 0
 unknown_role entries role = Says (UnknownRole role) (IsRole entries role → ⊥)
 
 -- the first listed role that is none
-abbrev pub unknown_listed : List Entry → List Text → Refusal → Type 0
+abbrev pub unknown_listed : List Entry → List NameText → Refusal → Type 0
 unknown_listed entries roles = Naming UnknownRole (FirstListed (λ before role. IsRole entries role → ⊥) roles)
 
 -- the first listed role for which the user is not authorized
-abbrev pub unauthorized_listed : List Entry → Text → List Text → Refusal → Type 0
+abbrev pub unauthorized_listed : List Entry → NameText → List NameText → Refusal → Type 0
 unauthorized_listed entries user roles = Naming NotAuthorized (FirstListed (λ before role. IsAuthorized entries user role → ⊥) roles)
 
 -- the first listed role that stands a second time
-abbrev pub repeated_listed : List Text → Refusal → Type 0
+abbrev pub repeated_listed : List NameText → Refusal → Type 0
 repeated_listed roles = Naming AlreadyActive (FirstListed Contains roles)
 
 -- with the entry appended, some living session would hold too many roles of a set
 abbrev pub violation : List Entry → Option ℕ → AdminCommand → Refusal → Type 0
 violation entries session command given =
-    (set : Text) × (violator : ℕ) × (given ≡ DsdViolated set violator)
+    (set : NameText) × (violator : ℕ) × (given ≡ DsdViolated set violator)
     × IsFirstViolated (entries ++ record { session = session; command = command } ∷ []) set violator
 
 -- the entry of an accepted command: it has the session that gave the command, but for a login, which no session gives

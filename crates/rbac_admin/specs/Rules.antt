@@ -1,6 +1,6 @@
 -- How the answer to a policy command is read off an ordered list of rules.
 use Rattle.std.specs.Prelude.{◌≡◌, ℕ, ◌<◌, ◌⊎◌, List, Option, Some, Result, Ok, Err, slice_get, take}
-use Rattle.rbac_policy.specs.Names.{Text}
+use Rattle.rbac_policy.specs.Names.{NameText}
 use Rattle.rbac_policy.specs.declared.commands.AdminCommand.{AdminCommand}
 use Rattle.rbac_policy.specs.declared.commands.Entry.{Entry}
 use Rattle.rbac_admin.specs.declared.refusals.Refusal.{Refusal}
@@ -26,16 +26,16 @@ abbrev pub Says : Refusal → Type 0 → Refusal → Type 0
 Says refusal Fact given = (given ≡ refusal) × Fact
 
 -- this refusal of the thing for which the fact holds
-abbrev pub Naming : (Text → Refusal) → (Text → Type 0) → Refusal → Type 0
-Naming refusal Fact given = (name : Text) × (given ≡ refusal name) × Fact name
+abbrev pub Naming : (NameText → Refusal) → (NameText → Type 0) → Refusal → Type 0
+Naming refusal Fact given = (name : NameText) × (given ≡ refusal name) × Fact name
 
 -- the command is accepted, with this session
 abbrev pub Accepts : Option ℕ → AdminCommand → Result Entry Refusal → Type 0
 Accepts session command answer = answer ≡ Ok (record { session = session; command = command })
 
 -- the first of the names that has the property, which may speak of those before it
-pub record FirstListed (P : List Text → Text → Type 0) (names : List Text) (name : Text) : Type 0 where
+pub record FirstListed (P : List NameText → NameText → Type 0) (names : List NameText) (name : NameText) : Type 0 where
   pub at : ℕ
   pub there : slice_get names at ≡ Some name
   pub has : P (take at names) name
-  pub first : (place : ℕ) (earlier : Text) → place < at → slice_get names place ≡ Some earlier → P (take place names) earlier → ⊥
+  pub first : (place : ℕ) (earlier : NameText) → place < at → slice_get names place ≡ Some earlier → P (take place names) earlier → ⊥

@@ -1,24 +1,24 @@
 -- Dynamic separation of duty over the list of accepted entries (ANSI INCITS 359-2004; the order of sets and sessions is this project's own form).
 use Rattle.std.specs.Prelude.{ℕ, ◌<◌, List, Contains}
 use Rattle.rbac_policy.specs.declared.commands.Entry.{Entry}
-use Rattle.rbac_policy.specs.Names.{Text}
+use Rattle.rbac_policy.specs.Names.{NameText}
 use Rattle.rbac_policy.specs.Facts.{IsSet, Violates}
 
 -- the set is the first, in order of creation, that some session violates, and the session is the least that violates it
-pub record IsFirstViolated (entries : List Entry) (set : Text) (session : ℕ) : Type 0 where
+pub record IsFirstViolated (entries : List Entry) (set : NameText) (session : ℕ) : Type 0 where
   pub place : ℕ
   pub count : ℕ
-  pub roles : List Text
+  pub roles : List NameText
   pub is_set : IsSet entries place set count roles
   pub violates : Violates entries session count roles
-  pub first : (earlier : ℕ) (other : Text) (number : ℕ) (members : List Text) → earlier < place → IsSet entries earlier other number members → (any : ℕ) → Violates entries any number members → ⊥
+  pub first : (earlier : ℕ) (other : NameText) (number : ℕ) (members : List NameText) → earlier < place → IsSet entries earlier other number members → (any : ℕ) → Violates entries any number members → ⊥
   pub least : (lesser : ℕ) → lesser < session → Violates entries lesser count roles → ⊥
 
 -- the set is the first, in order of creation, of which the role is a member
-pub record IsFirstSetOf (entries : List Entry) (role : Text) (set : Text) : Type 0 where
+pub record IsFirstSetOf (entries : List Entry) (role : NameText) (set : NameText) : Type 0 where
   pub place : ℕ
   pub count : ℕ
-  pub roles : List Text
+  pub roles : List NameText
   pub is_set : IsSet entries place set count roles
   pub member : Contains roles role
-  pub first : (earlier : ℕ) (other : Text) (number : ℕ) (members : List Text) → earlier < place → IsSet entries earlier other number members → Contains members role → ⊥
+  pub first : (earlier : ℕ) (other : NameText) (number : ℕ) (members : List NameText) → earlier < place → IsSet entries earlier other number members → Contains members role → ⊥

@@ -2,7 +2,7 @@
 ghost use Rattle.std.specs.Prelude.{◌≡◌, ◌↔◌, ℕ, List, Option, IsTrue, MatchOption, Contains, take};
 ghost use Rattle.rbac_policy.specs.declared.commands.Entry.{Entry};
 ghost use Rattle.rbac_policy.specs.StandsFor.{StandsFor};
-ghost use Rattle.rbac_policy.specs.Names.{Text};
+ghost use Rattle.rbac_policy.specs.Names.{NameText};
 ghost use Rattle.rbac_policy.specs.Facts.{IsRole, IsAuthorized};
 ghost use Rattle.rbac_admin.specs.Rules.{FirstListed};
 ghost use Rattle.rbac_admin.specs.Conditions.{HasSession, IsGivenBy, HasNoRoomFor};
@@ -41,7 +41,7 @@ fn has_no_room_for(policy: &Policy, operation: &Operation, object: &Object) -> b
 fn unknown_role(policy: &Policy, roles: &RoleNames) -> Option<Name>
     ensures { (entries : List Entry) → StandsFor policy.now entries
         → MatchOption result
-        ((role : Text) → FirstListed (λ before name. IsRole entries name → ⊥) roles.now role → ⊥)
+        ((role : NameText) → FirstListed (λ before name. IsRole entries name → ⊥) roles.now role → ⊥)
         (FirstListed (λ before name. IsRole entries name → ⊥) roles.now) }
 {
     for place in 0..roles.len() {
@@ -58,7 +58,7 @@ fn unknown_role(policy: &Policy, roles: &RoleNames) -> Option<Name>
 fn unauthorized_role(policy: &Policy, user: &Name, roles: &RoleNames) -> Option<Name>
     ensures { (entries : List Entry) → StandsFor policy.now entries
         → MatchOption result
-        ((role : Text) → FirstListed (λ before name. IsAuthorized entries user.now name → ⊥) roles.now role → ⊥)
+        ((role : NameText) → FirstListed (λ before name. IsAuthorized entries user.now name → ⊥) roles.now role → ⊥)
         (FirstListed (λ before name. IsAuthorized entries user.now name → ⊥) roles.now) }
 {
     for place in 0..roles.len() {
@@ -87,7 +87,7 @@ fn is_listed_before(roles: &RoleNames, place: usize, role: &Name) -> bool
 
 /// The first role that stands a second time.
 fn repeated_role(roles: &RoleNames) -> Option<Name>
-    ensures { MatchOption result ((role : Text) → FirstListed Contains roles.now role → ⊥) (FirstListed Contains roles.now) }
+    ensures { MatchOption result ((role : NameText) → FirstListed Contains roles.now role → ⊥) (FirstListed Contains roles.now) }
 {
     for place in 0..roles.len() {
         if let Some(role) = roles.get(place) {

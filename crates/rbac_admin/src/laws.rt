@@ -1,10 +1,11 @@
 //! Laws of the policy step, for callers that reason about lists of entries. Nothing here runs.
-ghost use Rattle.std.specs.Prelude.{◌≡◌, ℕ, ◌+◌, ◌<◌, ◌^◌, List, [], ◌∷◌, ◌++◌, length, Option, Result, Ok, IsTrue};
+ghost use Rattle.std.specs.Prelude.{◌≡◌, ℕ, ◌<◌, List, [], ◌∷◌, ◌++◌, length, Option, Result, Ok, IsTrue};
 ghost use Rattle.rbac_policy.specs.declared.commands.AdminCommand.{AdminCommand};
 ghost use Rattle.rbac_policy.specs.declared.commands.Entry.{Entry};
 ghost use Rattle.rbac_policy.specs.declared.policy.Policy.{Policy};
 ghost use Rattle.rbac_policy.specs.Change.{absorbed};
 ghost use Rattle.rbac_policy.specs.StandsFor.{StandsFor};
+ghost use Rattle.rbac_policy.specs.declared.sizes.TheConstants.{LAST_VERSION};
 ghost use Rattle.rbac_admin.specs.declared.refusals.Refusal.{Refusal};
 ghost use Rattle.rbac_admin.specs.Conditions.{Administers};
 ghost use Rattle.rbac_admin.specs.PolicyStep.{PolicyStep, entry_of, is_administrative, is_followed};
@@ -37,6 +38,6 @@ pub fn not_accepted()
 /// A policy that stands for a list, and then takes in an accepted entry, stands for the longer list.
 pub fn accepted_stands()
     ensures { (policy : Policy) (entries : List Entry) (session : Option ℕ) (command : AdminCommand) (entry : Entry)
-        → StandsFor policy entries → length entries + 1 < 2 ^ 64 → IsTrue (is_followed command)
+        → StandsFor policy entries → length entries < LAST_VERSION → IsTrue (is_followed command)
         → PolicyStep entries session command (Ok entry) → StandsFor (absorbed policy entry) (entries ++ entry ∷ []) }
 {}

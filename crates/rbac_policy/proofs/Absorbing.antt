@@ -13,7 +13,8 @@ use Rattle.rbac_policy.specs.declared.commands.Entry.{Entry}
 use Rattle.rbac_policy.specs.declared.rows.User.{User}
 use Rattle.rbac_policy.specs.declared.rows.Session.{Session}
 use Rattle.rbac_policy.specs.declared.policy.Policy.{Policy}
-use Rattle.rbac_policy.specs.Names.{Text}
+use Rattle.rbac_policy.specs.declared.sizes.TheConstants.{USERS, ROLES, GRANTS, SESSIONS, LAST_SESSION, LAST_VERSION}
+use Rattle.rbac_policy.specs.Names.{NameText}
 use Rattle.rbac_policy.specs.Entries.{logins}
 use Rattle.rbac_policy.specs.Facts.{IsUser, IsRole, IsPairGranted, IsLive}
 use Rattle.rbac_policy.specs.Limits.{HasAtLeast}
@@ -34,7 +35,7 @@ use Rattle.rbac_policy.proofs.Granting.{granting, passes_any}
 use Rattle.rbac_policy.proofs.Sessions.{login_unswept, logout_unswept}
 
 -- the parts of the changed policy, and the sweep, make the whole
-assemble : (target : Policy) (L : List Entry) (e : Entry) → target.version ≡ length L → length L + 1 < 2 ^ 64 → target.logins ≡ logins (L ++ e ∷ [])
+assemble : (target : Policy) (L : List Entry) (e : Entry) → target.version ≡ length L → length L < LAST_VERSION → target.logins ≡ logins (L ++ e ∷ [])
     → UsersStand target.roles target.users (L ++ e ∷ []) → RolesStand target.roles target.juniors (L ++ e ∷ []) → GrantsStand target.roles target.grants (L ++ e ∷ [])
     → Unswept target.roles target.sessions L e → SetsStand target.sets (L ++ e ∷ []) → StandsFor (swept target) (L ++ e ∷ [])
 assemble target L e version few count us rs gs un ss = record {
@@ -48,17 +49,17 @@ assemble target L e version few count us rs gs un ss = record {
 }
 
 -- the role that is a role has a place
-role_place : (p : Policy) (L : List Entry) (role : Text) → StandsFor p L → IsRole L role → Placed p.roles role
+role_place : (p : Policy) (L : List Entry) (role : NameText) → StandsFor p L → IsRole L role → Placed p.roles role
 role_place p L role st is =
     let h = (st.roles.exist role).0 is in
     placed p.roles h.at role (subst (At p.roles h.at) h.fact h.there)
 
-add_user : (p : Policy) (L : List Entry) (s : Option ℕ) (user : Text) → StandsFor p L → length L + 1 < 2 ^ 64 → FitsAddUser L user
+add_user : (p : Policy) (L : List Entry) (s : Option ℕ) (user : NameText) → StandsFor p L → length L < LAST_VERSION → FitsAddUser L user
     → StandsFor (swept (changed p (record { session = s; command = AddUser user }))) (L ++ record { session = s; command = AddUser user } ∷ [])
 add_user p L s user st few fits =
     let e : Entry = record { session = s; command = AddUser user } in
     let the_new : User = record { name = user; roles = 0 } in
-    let place = room (λ (x : User). x.name) p.users (IsUser L) 64 (keeps_users p.roles p.users L st.users) st.users.places fits.room in
+    let place = room (λ (x : User). x.name) p.users (IsUser L) USERS (keeps_users p.roles p.users L st.users) st.users.places fits.room in
     let i = place.0 in
     let target : Policy = record p { users = set p.users i (Some the_new) } in
     let is : changed p e ≡ target = ap (λ (o : Option ℕ). let z : Policy = record p { users = put_at the_new p.users o } in z) place.1 in
@@ -70,11 +71,11 @@ add_user p L s user st few fits =
     (untouched_sessions p.roles p.sessions L e refl (logins_other L e refl) st.roles.unique st.roles.places st.sessions)
     (untouched_sets p.sets L e refl st.sets))
 
-add_role : (p : Policy) (L : List Entry) (s : Option ℕ) (role : Text) → StandsFor p L → length L + 1 < 2 ^ 64 → FitsAddRole L role
+add_role : (p : Policy) (L : List Entry) (s : Option ℕ) (role : NameText) → StandsFor p L → length L < LAST_VERSION → FitsAddRole L role
     → StandsFor (swept (changed p (record { session = s; command = AddRole role }))) (L ++ record { session = s; command = AddRole role } ∷ [])
 add_role p L s role st few fits =
     let e : Entry = record { session = s; command = AddRole role } in
-    let place = room (λ (x : Text). x) p.roles (IsRole L) 32 (keeps_roles p.roles p.juniors L st.roles) st.roles.places fits.room in
+    let place = room (λ (x : NameText). x) p.roles (IsRole L) ROLES (keeps_roles p.roles p.juniors L st.roles) st.roles.places fits.room in
     let i = place.0 in
     let fr = free p.roles i place.1 in
     let before = p.roles in
@@ -92,12 +93,12 @@ add_role p L s role st few fits =
     (untouched_sessions before p.sessions L e refl (logins_other L e refl) st.roles.unique st.roles.places st.sessions))
     (untouched_sets p.sets L e refl st.sets))
 
-assign : (p : Policy) (L : List Entry) (s : Option ℕ) (user role : Text) → StandsFor p L → length L + 1 < 2 ^ 64 → FitsAssignUser L user role
+assign : (p : Policy) (L : List Entry) (s : Option ℕ) (user role : NameText) → StandsFor p L → length L < LAST_VERSION → FitsAssignUser L user role
     → StandsFor (swept (changed p (record { session = s; command = AssignUser user role }))) (L ++ record { session = s; command = AssignUser user role } ∷ [])
 assign p L s user role st few fits =
     let e : Entry = record { session = s; command = AssignUser user role } in
     let q = role_place p L role st fits.is_role in
-    let low : q.place < 32 = omega (arith, slice_get_within p.roles q.place (Some role) q.there, st.roles.places) in
+    let low : q.place < ROLES = omega (arith, slice_get_within p.roles q.place (Some role) q.there, st.roles.places) in
     let is : changed p e ≡ assigned_at (Some q.place) user p = ap (λ o. assigned_at o user p) q.found in
     subst (λ (t : Policy). StandsFor (swept t) (L ++ e ∷ [])) (sym is) (assemble (assigned_at (Some q.place) user p) L e st.version few
     (st.logins ∙ sym (logins_other L e refl))
@@ -108,21 +109,21 @@ assign p L s user role st few fits =
     (untouched_sets p.sets L e refl st.sets))
 
 -- the pair has a row, or there is a free one
-row_or_room : (p : Policy) (L : List Entry) (op : Operation) (ob : Object) → StandsFor p L → ((IsPairGranted L op ob → ⊥) → HasAtLeast {A = Operation × Object} 256 (λ pair. IsPairGranted L pair.0 pair.1) → ⊥)
+row_or_room : (p : Policy) (L : List Entry) (op : Operation) (ob : Object) → StandsFor p L → ((IsPairGranted L op ob → ⊥) → HasAtLeast {A = Operation × Object} GRANTS (λ pair. IsPairGranted L pair.0 pair.1) → ⊥)
     → (list_any (grant_is op ob) p.grants ≡ true) ⊎ ((i : ℕ) × (position is_none p.grants ≡ Some i))
 row_or_room p L op ob st few = by_test (list_any (grant_is op ob) p.grants) refl where
   by_test : (b : Bool) → list_any (grant_is op ob) p.grants ≡ b → (list_any (grant_is op ob) p.grants ≡ true) ⊎ ((i : ℕ) × (position is_none p.grants ≡ Some i))
   by_test true e = inl e
-  by_test false e = inr (room pair_of p.grants (λ pair. IsPairGranted L pair.0 pair.1) 256 (keeps_grants p.roles p.grants L st.grants) st.grants.places (few (λ g.
+  by_test false e = inr (room pair_of p.grants (λ pair. IsPairGranted L pair.0 pair.1) GRANTS (keeps_grants p.roles p.grants L st.grants) st.grants.places (few (λ g.
       let h = st.grants.only_pairs g.0 op ob g.1 in
       false≢true (sym e ∙ passes_any (grant_is op ob) p.grants h.at (Some h.value) h.there ((both _ _ _ _ (operations h.value.operation op) (objects h.value.object ob)).1 h.fact)))))
 
-grant : (p : Policy) (L : List Entry) (s : Option ℕ) (role : Text) (op : Operation) (ob : Object) → StandsFor p L → length L + 1 < 2 ^ 64 → FitsGrantPermission L role op ob
+grant : (p : Policy) (L : List Entry) (s : Option ℕ) (role : NameText) (op : Operation) (ob : Object) → StandsFor p L → length L < LAST_VERSION → FitsGrantPermission L role op ob
     → StandsFor (swept (changed p (record { session = s; command = GrantPermission role op ob }))) (L ++ record { session = s; command = GrantPermission role op ob } ∷ [])
 grant p L s role op ob st few fits =
     let e : Entry = record { session = s; command = GrantPermission role op ob } in
     let q = role_place p L role st fits.is_role in
-    let low : q.place < 32 = omega (arith, slice_get_within p.roles q.place (Some role) q.there, st.roles.places) in
+    let low : q.place < ROLES = omega (arith, slice_get_within p.roles q.place (Some role) q.there, st.roles.places) in
     let is : changed p e ≡ granted_at (Some q.place) op ob p = ap (λ o. granted_at o op ob p) q.found in
     subst (λ (t : Policy). StandsFor (swept t) (L ++ e ∷ [])) (sym is) (assemble (granted_at (Some q.place) op ob p) L e st.version few
     (st.logins ∙ sym (logins_other L e refl))
@@ -132,15 +133,15 @@ grant p L s role op ob st few fits =
     (untouched_sessions p.roles p.sessions L e refl (logins_other L e refl) st.roles.unique st.roles.places st.sessions)
     (untouched_sets p.sets L e refl st.sets))
 
-login : (p : Policy) (L : List Entry) (user : Text) (listed : List Text) → StandsFor p L → length L + 1 < 2 ^ 64 → FitsCreateSession L None listed
+login : (p : Policy) (L : List Entry) (user : NameText) (listed : List NameText) → StandsFor p L → length L < LAST_VERSION → FitsCreateSession L None listed
     → StandsFor (swept (changed p (record { session = None; command = CreateSession user listed }))) (L ++ record { session = None; command = CreateSession user listed } ∷ [])
 login p L user listed st few fits =
     let e : Entry = record { session = None; command = CreateSession user listed } in
-    let number : (p.logins + 1) % 2 ^ 16 ≡ logins L + 1 = omega (arith, st.logins, fits.numbers) in
-    let place = room (λ (x : Session). x.number) p.sessions (IsLive L) 64 (keeps_sessions p.roles p.sessions L st.sessions) st.sessions.places fits.room in
+    let number : (p.logins + 1) % (LAST_SESSION + 1) ≡ logins L + 1 = omega (arith, st.logins, fits.numbers) in
+    let place = room (λ (x : Session). x.number) p.sessions (IsLive L) SESSIONS (keeps_sessions p.roles p.sessions L st.sessions) st.sessions.places fits.room in
     let i = place.0 in
     let fr = free p.sessions i place.1 in
-    let known : (r : Text) → Contains listed r → (q : ℕ) × At p.roles q r = λ r c. let h = (st.roles.exist r).0 (fits.are_roles r c) in (h.at, subst (At p.roles h.at) h.fact h.there) in
+    let known : (r : NameText) → Contains listed r → (q : ℕ) × At p.roles q r = λ r c. let h = (st.roles.exist r).0 (fits.are_roles r c) in (h.at, subst (At p.roles h.at) h.fact h.there) in
     let session = λ (n : ℕ). let z : Session = record { number = n; user = user; active = mask_of p.roles listed } in z in
     let target : Policy = record p { logins = logins L + 1; sessions = set p.sessions i (Some (session (logins L + 1))) } in
     let is : changed p e ≡ target =
@@ -154,7 +155,7 @@ login p L user listed st few fits =
     (login_unswept p.roles st.roles.unique st.roles.places p.sessions L st.sessions user listed known i fr)
     (untouched_sets p.sets L e refl st.sets))
 
-logout : (p : Policy) (L : List Entry) (k : ℕ) → StandsFor p L → length L + 1 < 2 ^ 64
+logout : (p : Policy) (L : List Entry) (k : ℕ) → StandsFor p L → length L < LAST_VERSION
     → StandsFor (swept (changed p (record { session = Some k; command = DeleteSession }))) (L ++ record { session = Some k; command = DeleteSession } ∷ [])
 logout p L k st few =
     let e : Entry = record { session = Some k; command = DeleteSession } in
@@ -167,7 +168,7 @@ logout p L k st few =
     (logout_unswept p.roles st.roles.unique st.roles.places p.sessions L st.sessions k)
     (untouched_sets p.sets L e refl st.sets)
 
-by_command : (p : Policy) (L : List Entry) (s : Option ℕ) (c : AdminCommand) → StandsFor p L → length L + 1 < 2 ^ 64 → FitsCommand c s L
+by_command : (p : Policy) (L : List Entry) (s : Option ℕ) (c : AdminCommand) → StandsFor p L → length L < LAST_VERSION → FitsCommand c s L
     → StandsFor (swept (changed p (record { session = s; command = c }))) (L ++ record { session = s; command = c } ∷ [])
 by_command p L s (AddUser user) st few fits = add_user p L s user st few fits
 by_command p L s (AddRole role) st few fits = add_role p L s role st few fits

@@ -5,21 +5,21 @@ use Rattle.std.proofs.lemmas.List.{length-set}
 use Rattle.rbac_policy.specs.declared.commands.AdminCommand.TheVariants.{AddUser, DeleteUser, DeleteRole, AssignUser, DeassignUser}
 use Rattle.rbac_policy.specs.declared.commands.Entry.{Entry}
 use Rattle.rbac_policy.specs.declared.rows.User.{User}
-use Rattle.rbac_policy.specs.Names.{Text}
+use Rattle.rbac_policy.specs.Names.{NameText}
 use Rattle.rbac_policy.specs.Facts.{IsUser, IsAssigned}
 use Rattle.rbac_policy.specs.StandsFor.{InMask, IsNamed, UsersStand}
 use Rattle.rbac_policy.proofs.Steps.{in_force_push}
 use Rattle.rbac_policy.proofs.Untouched.{through, untouched}
 use Rattle.rbac_policy.proofs.Slots.{get_set_same, get_set_other, written, Free, none_in_zero, zero_named}
 
-module _ (roles : List (Option Text)) (users : List (Option User)) (L : List Entry) (s : Option ℕ) (u0 : Text) (us : UsersStand roles users L) (fresh : IsUser L u0 → ⊥) (i : ℕ) (fr : Free users i) where
+module _ (roles : List (Option NameText)) (users : List (Option User)) (L : List Entry) (s : Option ℕ) (u0 : NameText) (us : UsersStand roles users L) (fresh : IsUser L u0 → ⊥) (i : ℕ) (fr : Free users i) where
   abbrev pub the_adding : Entry
   the_adding = record { session = s; command = AddUser u0 }
 
   abbrev pub the_user : User
   the_user = record { name = u0; roles = 0 }
 
-  user_push : (u : Text) → IsUser (L ++ the_adding ∷ []) u ↔ ((u0 ≡ u) ⊎ IsUser L u)
+  user_push : (u : NameText) → IsUser (L ++ the_adding ∷ []) u ↔ ((u0 ≡ u) ⊎ IsUser L u)
   user_push u =
       let M : List Entry → Entry → Type 0 = λ before x. x.command ≡ AddUser u in
       let U : Entry → Type 0 = λ x. x.command ≡ DeleteUser u in (
@@ -27,7 +27,7 @@ module _ (roles : List (Option Text)) (users : List (Option User)) (L : List Ent
         λ h. (in_force_push M U L the_adding).1 (elim h [ inl same ↦ inl cc | inr k ↦ inr (k, λ x. cc) ]),
       )
 
-  given : (u r : Text) → IsAssigned (L ++ the_adding ∷ []) u r ↔ IsAssigned L u r
+  given : (u r : NameText) → IsAssigned (L ++ the_adding ∷ []) u r ↔ IsAssigned L u r
   given u r = untouched (λ before x. x.command ≡ AssignUser u r) (λ x. (x.command ≡ DeassignUser u r) ⊎ (x.command ≡ DeleteUser u) ⊎ (x.command ≡ DeleteRole r)) L the_adding
       (λ h. cc) (λ h. elim h [ inl a ↦ cc | inr b ↦ elim b [ inl x ↦ cc | inr y ↦ cc ] ])
 

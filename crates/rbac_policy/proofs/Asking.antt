@@ -13,7 +13,7 @@ use Rattle.rbac_policy.specs.declared.commands.Entry.{Entry}
 use Rattle.rbac_policy.specs.declared.rows.Session.{Session}
 use Rattle.rbac_policy.specs.declared.rows.Grant.{Grant}
 use Rattle.rbac_policy.specs.declared.policy.Policy.{Policy}
-use Rattle.rbac_policy.specs.Names.{Text}
+use Rattle.rbac_policy.specs.Names.{NameText}
 use Rattle.rbac_policy.specs.Facts.{IsUser, IsRole, IsActive, IsGranted, IsLive, May}
 use Rattle.rbac_policy.specs.StandsFor.{Holds, InMask, StandsFor}
 use Rattle.rbac_policy.proofs.Order.{chain_up, chain_down}
@@ -144,7 +144,7 @@ by_option None P some none = (λ t. absurd (false≢true t), λ e h. none refl h
 by_option (Some x) P some none = (λ t. some x refl, λ e h. absurd (false≢true (sym e)))
 
 module _ (p : Policy) (L : List Entry) (st : StandsFor p L) where
-  pub user_test : (u : Text) (b : Bool) → b ≡ list_any (user_is u) p.users → IsTrue b ↔ IsUser L u
+  pub user_test : (u : NameText) (b : Bool) → b ≡ list_any (user_is u) p.users → IsTrue b ↔ IsUser L u
   user_test u b is = reflects b (IsUser L u)
       (λ t. let f = some_passes (user_is u) p.users (sym is ∙ t) in (st.users.exist u).1 (held f.at f.value f.there f.test))
       (λ t h. let k = (st.users.exist u).0 h in
@@ -153,21 +153,21 @@ module _ (p : Policy) (L : List Entry) (st : StandsFor p L) where
         held at None there t = absurd (false≢true t)
         held at (Some x) there t = record { at = at; value = x; there = there; fact = (bytes_eq-Decides x.name u).0 t }
 
-  pub role_at : (r : Text) (q : ℕ) → place_of r p.roles ≡ Some q → At p.roles q r
+  pub role_at : (r : NameText) (q : ℕ) → place_of r p.roles ≡ Some q → At p.roles q r
   role_at r q found =
       let passes = position-Some (role_is r) p.roles q None found in
       slice_get-get_or p.roles q None passes.0 ∙ ap Some (named_r _ passes.1) where
-        named_r : (o : Option Text) → role_is r o ≡ true → o ≡ Some r
+        named_r : (o : Option NameText) → role_is r o ≡ true → o ≡ Some r
         named_r None t = absurd (false≢true t)
         named_r (Some x) t = ap Some ((bytes_eq-Decides x r).0 t)
 
-  pub no_role : (r : Text) → place_of r p.roles ≡ None → IsRole L r → ⊥
+  pub no_role : (r : NameText) → place_of r p.roles ≡ None → IsRole L r → ⊥
   no_role r none h =
       let k = (st.roles.exist r).0 h in
       let q = placed p.roles k.at r (subst (At p.roles k.at) k.fact k.there) in
       (let e = q.found in cc)
 
-  pub role_test : (r : Text) (b : Bool) → b ≡ is_some (place_of r p.roles) → IsTrue b ↔ IsRole L r
+  pub role_test : (r : NameText) (b : Bool) → b ≡ is_some (place_of r p.roles) → IsTrue b ↔ IsRole L r
   role_test r b is =
       let c = by_option (place_of r p.roles) (IsRole L r) (λ q e. (st.roles.exist r).1 (record { at = q; value = r; there = role_at r q e; fact = refl })) (no_role r) in
       reflects b (IsRole L r) (λ t. c.0 (sym is ∙ t)) (λ t h. c.1 (sym is ∙ t) h)
@@ -187,7 +187,7 @@ module _ (p : Policy) (L : List Entry) (st : StandsFor p L) where
       ]) in
       reflects b (IsLive L n) (λ t. c.0 (sym is ∙ t)) (λ t h. c.1 (sym is ∙ t) h)
 
-  pub not_granted_pair : (r : Text) (op : Operation) (ob : Object) → grant_of op ob p.grants ≡ None → IsGranted L r op ob → ⊥
+  pub not_granted_pair : (r : NameText) (op : Operation) (ob : Object) → grant_of op ob p.grants ≡ None → IsGranted L r op ob → ⊥
   not_granted_pair r op ob none g =
       let h = st.grants.only_pairs r op ob g in
       elim (first_cases (λ (x : Grant). same_operation x.operation op && same_object x.object ob) p.grants) [
@@ -195,7 +195,7 @@ module _ (p : Policy) (L : List Entry) (st : StandsFor p L) where
         | inr a ↦ a.nowhere h.at h.value h.there ((both _ _ _ _ (operations h.value.operation op) (objects h.value.object ob)).1 h.fact)
       ]
 
-  pub granted_slot : (r : Text) (op : Operation) (ob : Object) (g : Grant) → grant_of op ob p.grants ≡ Some g → IsGranted L r op ob ↔ InMask p.roles g.roles r
+  pub granted_slot : (r : NameText) (op : Operation) (ob : Object) (g : Grant) → grant_of op ob p.grants ≡ Some g → IsGranted L r op ob ↔ InMask p.roles g.roles r
   granted_slot r op ob g is = elim (first_cases (λ (x : Grant). same_operation x.operation op && same_object x.object ob) p.grants) [
     | inl f ↦
         let same : f.value ≡ g = same_Some f.value g (sym f.is ∙ is) in

@@ -9,7 +9,7 @@ use Rattle.std.proofs.lemmas.List.{length-map}
 use Rattle.rbac_policy.specs.declared.commands.AdminCommand.TheVariants.{AddUser, DeleteUser, DeleteRole, AssignUser, DeassignUser}
 use Rattle.rbac_policy.specs.declared.commands.Entry.{Entry}
 use Rattle.rbac_policy.specs.declared.rows.User.{User}
-use Rattle.rbac_policy.specs.Names.{Text}
+use Rattle.rbac_policy.specs.Names.{NameText}
 use Rattle.rbac_policy.specs.Facts.{IsUser, IsAssigned}
 use Rattle.rbac_policy.specs.Tables.{At, with_bit, user_given}
 use Rattle.rbac_policy.specs.StandsFor.{InMask, IsNamed, UsersStand}
@@ -18,15 +18,15 @@ use Rattle.rbac_policy.proofs.Untouched.{through, untouched}
 use Rattle.rbac_policy.proofs.Granting.{flip, sums}
 use Rattle.rbac_policy.proofs.Slots.{mapped, map_at, in_with_bit, named_with_bit}
 
-module _ (roles : List (Option Text)) (unique : (p q : ℕ) (r : Text) → At roles p r → At roles q r → p ≡ q) (p0 : ℕ) (r0 : Text) (there0 : At roles p0 r0) (low : p0 < 32)
-    (users : List (Option User)) (L : List Entry) (s : Option ℕ) (u0 : Text) (us : UsersStand roles users L) (exists : IsUser L u0) where
+module _ (roles : List (Option NameText)) (unique : (p q : ℕ) (r : NameText) → At roles p r → At roles q r → p ≡ q) (p0 : ℕ) (r0 : NameText) (there0 : At roles p0 r0) (low : p0 < 32)
+    (users : List (Option User)) (L : List Entry) (s : Option ℕ) (u0 : NameText) (us : UsersStand roles users L) (exists : IsUser L u0) where
   abbrev pub the_assignment : Entry
   the_assignment = record { session = s; command = AssignUser u0 r0 }
 
-  user_same : (u : Text) → IsUser (L ++ the_assignment ∷ []) u ↔ IsUser L u
+  user_same : (u : NameText) → IsUser (L ++ the_assignment ∷ []) u ↔ IsUser L u
   user_same u = untouched (λ before x. x.command ≡ AddUser u) (λ x. x.command ≡ DeleteUser u) L the_assignment (λ h. cc) (λ h. cc)
 
-  given_push : (u r : Text) → IsAssigned (L ++ the_assignment ∷ []) u r ↔ (((u0 ≡ u) × (r0 ≡ r)) ⊎ IsAssigned L u r)
+  given_push : (u r : NameText) → IsAssigned (L ++ the_assignment ∷ []) u r ↔ (((u0 ≡ u) × (r0 ≡ r)) ⊎ IsAssigned L u r)
   given_push u r =
       let M : List Entry → Entry → Type 0 = λ before x. x.command ≡ AssignUser u r in
       let U : Entry → Type 0 = λ x. (x.command ≡ DeassignUser u r) ⊎ (x.command ≡ DeleteUser u) ⊎ (x.command ≡ DeleteRole r) in (
@@ -39,7 +39,7 @@ module _ (roles : List (Option Text)) (unique : (p q : ℕ) (r : Text) → At ro
 
   record Given (x y : User) : Type 0 where
     name : x.name ≡ y.name
-    assigned : (r : Text) → IsAssigned (L ++ the_assignment ∷ []) y.name r ↔ InMask roles y.roles r
+    assigned : (r : NameText) → IsAssigned (L ++ the_assignment ∷ []) y.name r ↔ InMask roles y.roles r
     named : IsNamed roles y.roles
 
   slot : (at : ℕ) (x y : User) → At users at x → user_given u0 p0 (Some x) ≡ Some y → Given x y

@@ -10,7 +10,8 @@ use Rattle.rbac_policy.specs.declared.rows.Grant.{Grant}
 use Rattle.rbac_policy.specs.declared.rows.Session.{Session}
 use Rattle.rbac_policy.specs.declared.rows.DsdSet.{DsdSet}
 use Rattle.rbac_policy.specs.declared.policy.Policy as tables
-use Rattle.rbac_policy.specs.Names.{Text}
+use Rattle.rbac_policy.specs.declared.sizes.TheConstants.{USERS, ROLES, GRANTS, SESSIONS, SETS}
+use Rattle.rbac_policy.specs.Names.{NameText}
 use Rattle.rbac_policy.specs.Limits.{HasAtLeast}
 use Rattle.rbac_policy.specs.Opening.{root}
 use Rattle.rbac_policy.specs.Fits.{Fits}
@@ -37,7 +38,7 @@ zeros (suc n) (suc at) = zeros n at
 abbrev pub blank : (u r j g s d : ℕ) → tables.Policy
 blank u r j g s d = record { version = 0; logins = 0; users = replicate u None; roles = replicate r None; juniors = replicate j 0; grants = replicate g None; sessions = replicate s None; sets = replicate d None }
 
-pub blank_stands : (u r j g s d : ℕ) → u ≡ 64 → r ≡ 32 → g ≡ 256 → s ≡ 64 → d ≡ 16 → StandsFor (blank u r j g s d) []
+pub blank_stands : (u r j g s d : ℕ) → u ≡ USERS → r ≡ ROLES → g ≡ GRANTS → s ≡ SESSIONS → d ≡ SETS → StandsFor (blank u r j g s d) []
 blank_stands u r j g s d many_users many_roles many_grants many_sessions many_sets = record {
   version = refl;
   logins = refl;
@@ -102,7 +103,7 @@ few {A = A} n P none h = by_values h.values h.have h.enough where
   by_values [] have e = cc
   by_values (x ∷ xs) have e = none x (have 0 x refl)
 
-no_role : (r : Text) → IsRole (adds_user ∷ []) r → ⊥
+no_role : (r : NameText) → IsRole (adds_user ∷ []) r → ⊥
 no_role r h = elim ((in_force_push (λ before e. e.command ≡ AddRole r) (λ e. e.command ≡ DeleteRole r) [] adds_user).0 h) [
   | inl m ↦ cc
   | inr k ↦ none_in_force _ _ k.0
@@ -126,7 +127,7 @@ is_role_still =
     let U : Entry → Type 0 = λ e. e.command ≡ DeleteRole root in
     (in_force_push M U (adds_user ∷ adds_role ∷ []) assigns).1 (inr (is_role, λ u. cc))
 
-none_granted : (r : Text) (op : Operation) (ob : Object) → IsGranted (adds_user ∷ adds_role ∷ assigns ∷ []) r op ob → ⊥
+none_granted : (r : NameText) (op : Operation) (ob : Object) → IsGranted (adds_user ∷ adds_role ∷ assigns ∷ []) r op ob → ⊥
 none_granted r op ob h =
     let M : List Entry → Entry → Type 0 = λ before e. e.command ≡ GrantPermission r op ob in
     let U : Entry → Type 0 = Revokes r op ob in

@@ -8,7 +8,7 @@ use Rattle.rbac_policy.specs.declared.rows.User.{User}
 use Rattle.rbac_policy.specs.declared.rows.Session.{Session}
 use Rattle.rbac_policy.specs.Entries.{logins}
 use Rattle.rbac_policy.specs.Facts.{IsActive, IsAuthorized}
-use Rattle.rbac_policy.specs.Names.{Text}
+use Rattle.rbac_policy.specs.Names.{NameText}
 use Rattle.rbac_policy.specs.Tables.{At, roles_of, session_kept}
 use Rattle.rbac_policy.specs.StandsFor.{Holds, InMask, IsNamed, IsKeyed, UsersStand, RolesStand, SessionsStand}
 use Rattle.rbac_policy.proofs.Order.{one_role, authorized_below, below_authorized, below_named}
@@ -18,18 +18,18 @@ use Rattle.rbac_policy.proofs.Masks.{low_bits}
 use Rattle.rbac_policy.proofs.Sweep.{IsSwept, HasOnlyBelow, swept_sessions}
 
 -- before the sweep the slots have the sessions that remain, with the roles that are active in them by the names of `before`
-pub record Unswept (before : List (Option Text)) (sessions : List (Option Session)) (L : List Entry) (e : Entry) : Type 0 where
-  pub exist : (number : ℕ) (user : Text) → Remains L e number user ↔ Holds (λ x. (x.number ≡ number) × (x.user ≡ user)) sessions
-  pub active : (at : ℕ) (x : Session) → At sessions at x → (role : Text) → IsActive (L ++ e ∷ []) x.number role ↔ InMask before x.active role
+pub record Unswept (before : List (Option NameText)) (sessions : List (Option Session)) (L : List Entry) (e : Entry) : Type 0 where
+  pub exist : (number : ℕ) (user : NameText) → Remains L e number user ↔ Holds (λ x. (x.number ≡ number) × (x.user ≡ user)) sessions
+  pub active : (at : ℕ) (x : Session) → At sessions at x → (role : NameText) → IsActive (L ++ e ∷ []) x.number role ↔ InMask before x.active role
   pub named : (at : ℕ) (x : Session) → At sessions at x → IsNamed before x.active
   pub numbers : (at : ℕ) (x : Session) → At sessions at x → x.number ≤ logins (L ++ e ∷ [])
-  pub made : (number : ℕ) (role : Text) → IsActive (L ++ e ∷ []) number role → number ≤ logins (L ++ e ∷ [])
-  pub unique : (p q : ℕ) (role : Text) → At before p role → At before q role → p ≡ q
+  pub made : (number : ℕ) (role : NameText) → IsActive (L ++ e ∷ []) number role → number ≤ logins (L ++ e ∷ [])
+  pub unique : (p q : ℕ) (role : NameText) → At before p role → At before q role → p ≡ q
   pub many : length before ≡ 32
   pub once : IsKeyed (λ (x : Session). x.number) sessions
   pub places : length sessions ≡ 64
 
-module _ (before roles : List (Option Text)) (keeps : (p : ℕ) (r : Text) → At roles p r → At before p r) (juniors : List ℕ) (users : List (Option User)) (mid : List (Option Session)) (L : List Entry) (e : Entry)
+module _ (before roles : List (Option NameText)) (keeps : (p : ℕ) (r : NameText) → At roles p r → At before p r) (juniors : List ℕ) (users : List (Option User)) (mid : List (Option Session)) (L : List Entry) (e : Entry)
     (rs : RolesStand roles juniors (L ++ e ∷ [])) (us : UsersStand roles users (L ++ e ∷ [])) (un : Unswept before mid L e) where
   abbrev new : List (Option Session)
   new = map (session_kept users juniors) mid
@@ -47,7 +47,7 @@ module _ (before roles : List (Option Text)) (keeps : (p : ℕ) (r : Text) → A
   sw = swept_sessions users juniors mid low few
 
   -- a role that is active in a slot that was left has its place still
-  still : (at : ℕ) (x : Session) → At new at x → (p : ℕ) → Has x.active p → (r : Text) × At roles p r
+  still : (at : ℕ) (x : Session) → At new at x → (p : ℕ) → Has x.active p → (r : NameText) × At roles p r
   still at x there p bit = below_named roles juniors users (L ++ e ∷ []) rs us x.user p ((sw.left at x there).1 p bit)
 
   all : SessionsStand roles new (L ++ e ∷ [])

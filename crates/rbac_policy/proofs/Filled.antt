@@ -1,22 +1,10 @@
--- A text at the front of an array of zeros.
-use Rattle.std.proofs.Common.{◌≡◌, ℕ, ◌≤◌, List, [], ◌∷◌, ◌++◌, length, take, drop, refl, arith, true}
-use Rattle.std.specs.Prelude.{replicate}
-use Rattle.std.proofs.lemmas.List.{length-replicate, drop-replicate}
+-- How long a name is.
+use Rattle.std.proofs.Common.{◌≡◌, ℕ, ◌≤◌, List, [], ◌∷◌, length, arith, true}
 use Rattle.std.proofs.lemmas.Bool.Decides.{nat_tests}
 use Rattle.std.proofs.lemmas.Grind.{common_steps}
-use Rattle.rbac_policy.specs.Names.{IsFilled, is_name}
+use Rattle.rbac_policy.specs.Names.{is_name}
+use Rattle.rbac_policy.specs.declared.names.TheConstants.{NAME_BYTES}
 
-pub front : (text rest : List ℕ) (n : ℕ) → length text ≡ n → take n (text ++ rest) ≡ text
-front text rest n e = grind (arith, common_steps)
-
-pub filled : (m : ℕ) (text : List ℕ) (n : ℕ) → length text ≡ n → n ≤ m → IsFilled m (text ++ drop n (replicate m 0)) n
-filled m text n e h = record {
-  whole = grind (arith, common_steps, length-replicate {A = ℕ} m 0);
-  fits = h;
-  rest = rw (front text (drop n (replicate m 0)) n e, drop-replicate {X = ℕ} n m 0) refl;
-}
-
--- a name has at most 24 bytes
-pub short_name : (text : List ℕ) → is_name text ≡ true → length text ≤ 24
+pub short_name : (text : List ℕ) → is_name text ≡ true → length text ≤ NAME_BYTES
 short_name [] h = grind arith
 short_name (b ∷ bs) h = grind (arith, nat_tests, common_steps)

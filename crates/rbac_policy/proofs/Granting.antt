@@ -14,7 +14,7 @@ use Rattle.rbac_policy.specs.Objects.{same_operation, same_object}
 use Rattle.rbac_policy.specs.declared.commands.AdminCommand.TheVariants.{GrantPermission, RevokePermission, DeleteRole}
 use Rattle.rbac_policy.specs.declared.commands.Entry.{Entry}
 use Rattle.rbac_policy.specs.declared.rows.Grant.{Grant}
-use Rattle.rbac_policy.specs.Names.{Text}
+use Rattle.rbac_policy.specs.Names.{NameText}
 use Rattle.rbac_policy.specs.Facts.{IsGranted}
 use Rattle.rbac_policy.specs.Tables.{At, with_bit, grant_is, grant_given, grants_given, put_free, put_at}
 use Rattle.rbac_policy.specs.StandsFor.{Holds, InMask, IsNamed, GrantsStand}
@@ -52,15 +52,15 @@ passes_any p (y ∷ ys) (suc at) x there t = ap (λ b. p y || b) (passes_any p y
   or_true true = refl
   or_true false = refl
 
-module _ (roles : List (Option Text)) (unique : (p q : ℕ) (r : Text) → At roles p r → At roles q r → p ≡ q) (p0 : ℕ) (r0 : Text) (role_there : At roles p0 r0) (low : p0 < 32)
+module _ (roles : List (Option NameText)) (unique : (p q : ℕ) (r : NameText) → At roles p r → At roles q r → p ≡ q) (p0 : ℕ) (r0 : NameText) (role_there : At roles p0 r0) (low : p0 < 32)
     (grants : List (Option Grant)) (L : List Entry) (s : Option ℕ) (op : Operation) (ob : Object) (gs : GrantsStand roles grants L) where
   abbrev pub the_grant : Entry
   the_grant = record { session = s; command = GrantPermission r0 op ob }
 
-  abbrev Pair : Text → Operation → Object → Type 0
+  abbrev Pair : NameText → Operation → Object → Type 0
   Pair r op' ob' = (r0 ≡ r) × (op ≡ op') × (ob ≡ ob')
 
-  granted_push : (r : Text) (op' : Operation) (ob' : Object) → IsGranted (L ++ the_grant ∷ []) r op' ob' ↔ (Pair r op' ob' ⊎ IsGranted L r op' ob')
+  granted_push : (r : NameText) (op' : Operation) (ob' : Object) → IsGranted (L ++ the_grant ∷ []) r op' ob' ↔ (Pair r op' ob' ⊎ IsGranted L r op' ob')
   granted_push r op' ob' =
       let M : List Entry → Entry → Type 0 = λ before x. x.command ≡ GrantPermission r op' ob' in
       let U : Entry → Type 0 = λ x. (x.command ≡ RevokePermission r op' ob') ⊎ (x.command ≡ DeleteRole r) in (
@@ -72,7 +72,7 @@ module _ (roles : List (Option Text)) (unique : (p q : ℕ) (r : Text) → At ro
       )
 
   -- a slot of another pair stays as it was
-  other_pair : (at : ℕ) (x : Grant) → At grants at x → (x.operation ≡ op → x.object ≡ ob → ⊥) → (r : Text) → IsGranted (L ++ the_grant ∷ []) r x.operation x.object ↔ InMask roles x.roles r
+  other_pair : (at : ℕ) (x : Grant) → At grants at x → (x.operation ≡ op → x.object ≡ ob → ⊥) → (r : NameText) → IsGranted (L ++ the_grant ∷ []) r x.operation x.object ↔ InMask roles x.roles r
   other_pair at x there other r = (
     λ h. elim ((granted_push r x.operation x.object).0 h) [ inl p ↦ absurd (other (sym p.1) (sym p.2)) | inr k ↦ (gs.granted at x there r).0 k ],
     λ m. (granted_push r x.operation x.object).1 (inr ((gs.granted at x there r).1 m)),
@@ -82,7 +82,7 @@ module _ (roles : List (Option Text)) (unique : (p q : ℕ) (r : Text) → At ro
   record Widened (x y : Grant) : Type 0 where
     operation : x.operation ≡ y.operation
     object : x.object ≡ y.object
-    granted : (r : Text) → IsGranted (L ++ the_grant ∷ []) r y.operation y.object ↔ InMask roles y.roles r
+    granted : (r : NameText) → IsGranted (L ++ the_grant ∷ []) r y.operation y.object ↔ InMask roles y.roles r
     named : IsNamed roles y.roles
     used : (place : ℕ) × Has y.roles place
 
@@ -155,7 +155,7 @@ module _ (roles : List (Option Text)) (unique : (p q : ℕ) (r : Text) → At ro
       let new : Grant = record { operation = op; object = ob; roles = with_bit 0 p0 } in
       let no_pair : (at : ℕ) (x : Grant) → At grants at x → x.operation ≡ op → x.object ≡ ob → ⊥ = λ at x there a b.
       false≢true (sym none ∙ passes_any (grant_is op ob) grants at (Some x) there ((both _ _ _ _ (operations x.operation op) (objects x.object ob)).1 (a, b))) in
-      let fresh : (r : Text) → IsGranted (L ++ the_grant ∷ []) r op ob ↔ InMask roles (with_bit 0 p0) r = λ r. through (granted_push r op ob) (through
+      let fresh : (r : NameText) → IsGranted (L ++ the_grant ∷ []) r op ob ↔ InMask roles (with_bit 0 p0) r = λ r. through (granted_push r op ob) (through
       (sums {A = Pair r op ob} {C = r0 ≡ r} {D = InMask roles 0 r} (λ p. p.0, λ same. (same, refl, refl))
       (λ k. (let h = gs.only_pairs r op ob k in absurd (no_pair h.at h.value h.there h.fact.0 h.fact.1)), λ z. absurd (none_in_zero roles r z)))
       (flip (in_with_bit roles unique p0 r0 role_there low 0 r))) in

@@ -10,7 +10,7 @@ use Rattle.rbac_policy.specs.declared.commands.Entry.{Entry}
 use Rattle.rbac_policy.specs.declared.rows.User.{User}
 use Rattle.rbac_policy.specs.declared.rows.Grant.{Grant}
 use Rattle.rbac_policy.specs.declared.rows.Session.{Session}
-use Rattle.rbac_policy.specs.Names.{Text}
+use Rattle.rbac_policy.specs.Names.{NameText}
 use Rattle.rbac_policy.specs.Facts.{IsUser, IsRole, IsPairGranted, IsLive}
 use Rattle.rbac_policy.specs.Limits.{IsDistinct, HasAtLeast}
 use Rattle.rbac_policy.specs.Tables.{At}
@@ -140,14 +140,14 @@ room key slots P n k many few = by_position (position is_none slots) refl where
   by_position (Some i) e = (i, e)
 
 -- the four tables
-pub keeps_users : (roles : List (Option Text)) (users : List (Option User)) (L : List Entry) → UsersStand roles users L → Keeps (λ (x : User). x.name) users (IsUser L)
+pub keeps_users : (roles : List (Option NameText)) (users : List (Option User)) (L : List Entry) → UsersStand roles users L → Keeps (λ (x : User). x.name) users (IsUser L)
 keeps_users roles users L s = record {
   unique = s.unique;
   stands = λ u h. (s.exist u).0 h;
   fact = λ at x there. (s.exist x.name).1 (record { at = at; value = x; there = there; fact = refl });
 }
 
-pub keeps_roles : (roles : List (Option Text)) (juniors : List ℕ) (L : List Entry) → RolesStand roles juniors L → Keeps (λ (x : Text). x) roles (IsRole L)
+pub keeps_roles : (roles : List (Option NameText)) (juniors : List ℕ) (L : List Entry) → RolesStand roles juniors L → Keeps (λ (x : NameText). x) roles (IsRole L)
 keeps_roles roles juniors L s = record {
   unique = λ p q x y a b same. s.unique p q y (subst (At roles p) same a) b;
   stands = λ r h. (s.exist r).0 h;
@@ -158,7 +158,7 @@ keeps_roles roles juniors L s = record {
 abbrev pub pair_of : Grant → Operation × Object
 pair_of x = (x.operation, x.object)
 
-pub keeps_grants : (roles : List (Option Text)) (grants : List (Option Grant)) (L : List Entry) → GrantsStand roles grants L → Keeps pair_of grants (λ pair. IsPairGranted L pair.0 pair.1)
+pub keeps_grants : (roles : List (Option NameText)) (grants : List (Option Grant)) (L : List Entry) → GrantsStand roles grants L → Keeps pair_of grants (λ pair. IsPairGranted L pair.0 pair.1)
 keeps_grants roles grants L s = record {
   unique = λ p q x y a b same. s.unique p q x y a b (ap (λ (z : Operation × Object). z.0) same) (ap (λ (z : Operation × Object). z.1) same);
   stands = λ pair h.
@@ -175,7 +175,7 @@ keeps_grants roles grants L s = record {
       (r.0, (s.granted at x there r.0).1 (record { place = u.0; there = r.1; bit = u.1 }));
 }
 
-pub keeps_sessions : (roles : List (Option Text)) (sessions : List (Option Session)) (L : List Entry) → SessionsStand roles sessions L → Keeps (λ (x : Session). x.number) sessions (IsLive L)
+pub keeps_sessions : (roles : List (Option NameText)) (sessions : List (Option Session)) (L : List Entry) → SessionsStand roles sessions L → Keeps (λ (x : Session). x.number) sessions (IsLive L)
 keeps_sessions roles sessions L s = record {
   unique = s.unique;
   stands = λ n h. let k = (s.exist n h.0).0 h.1 in record { at = k.at; value = k.value; there = k.there; fact = k.fact.0 };

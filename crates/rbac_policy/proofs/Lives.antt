@@ -6,16 +6,16 @@ use Rattle.std.proofs.lemmas.List.{length_push}
 use Rattle.std.proofs.lemmas.Grind.{common_steps}
 use Rattle.rbac_policy.specs.declared.commands.Entry.{Entry}
 use Rattle.rbac_policy.specs.Facts.{Creates, Ends, Lives, HasOnlyAuthorized}
-use Rattle.rbac_policy.specs.Names.{Text}
+use Rattle.rbac_policy.specs.Names.{NameText}
 use Rattle.rbac_policy.proofs.Steps.{get_front, get_last, get_push, take_front, take_whole}
 
 -- the entry makes the session
-pub record Made (L : List Entry) (e : Entry) (s : ℕ) (u : Text) : Type 0 where
-  pub roles : List Text
+pub record Made (L : List Entry) (e : Entry) (s : ℕ) (u : NameText) : Type 0 where
+  pub roles : List NameText
   pub creates : Creates s u roles L e
 
 -- the session is made by the entry, or lived and the entry does not end it
-abbrev pub Remains : List Entry → Entry → ℕ → Text → Type 0
+abbrev pub Remains : List Entry → Entry → ℕ → NameText → Type 0
 Remains L e s u = Made L e s u ⊎ (Lives L s u × (Ends s u e → ⊥))
 
 take_past : {X : Type 0} (xs : List X) (y : X) (n : ℕ) → length xs < n → take n (xs ++ y ∷ []) ≡ xs ++ y ∷ []
@@ -28,7 +28,7 @@ upto L e P n h small whole = elim (cases_lt (length L) n) [
   | inr within ↦ subst P (sym (take_front L e n within)) (small within)
 ]
 
-pub lives_after : (L : List Entry) (e : Entry) (s : ℕ) (u : Text) → Lives (L ++ e ∷ []) s u → Remains L e s u × HasOnlyAuthorized (L ++ e ∷ []) s u
+pub lives_after : (L : List Entry) (e : Entry) (s : ℕ) (u : NameText) → Lives (L ++ e ∷ []) s u → Remains L e s u × HasOnlyAuthorized (L ++ e ∷ []) s u
 lives_after L e s u l =
     let past : length L < length (L ++ e ∷ []) = omega (arith, length_push L e) in
     let at_end = subst (λ k. HasOnlyAuthorized k s u) (take_past L e (length (L ++ e ∷ [])) past)
@@ -54,7 +54,7 @@ lives_after L e s u l =
       at_end,
     )
 
-pub lives_before : (L : List Entry) (e : Entry) (s : ℕ) (u : Text) → Remains L e s u → HasOnlyAuthorized (L ++ e ∷ []) s u → Lives (L ++ e ∷ []) s u
+pub lives_before : (L : List Entry) (e : Entry) (s : ℕ) (u : NameText) → Remains L e s u → HasOnlyAuthorized (L ++ e ∷ []) s u → Lives (L ++ e ∷ []) s u
 lives_before L e s u h all = elim h [
   | inl m ↦ record {
     at = length L;

@@ -8,7 +8,7 @@ use Rattle.rbac_policy.specs.declared.commands.Entry.{Entry}
 use Rattle.rbac_policy.specs.declared.rows.User.{User}
 use Rattle.rbac_policy.specs.declared.rows.Grant.{Grant}
 use Rattle.rbac_policy.specs.declared.rows.Session.{Session}
-use Rattle.rbac_policy.specs.Names.{Text}
+use Rattle.rbac_policy.specs.Names.{NameText}
 use Rattle.rbac_policy.specs.Facts.{IsRole, IsEdge}
 use Rattle.rbac_policy.specs.Tables.{At}
 use Rattle.rbac_policy.specs.StandsFor.{InMask, IsNamed, UsersStand, RolesStand, GrantsStand}
@@ -19,8 +19,8 @@ use Rattle.rbac_policy.proofs.Untouched.{through, untouched}
 use Rattle.rbac_policy.proofs.Slots.{Free, written}
 
 -- the masks say the same by the names of another table
-module _ (before after : List (Option Text)) where
-  pub renamed_users : (users : List (Option User)) (L : List Entry) → ((m : ℕ) → IsNamed before m → (r : Text) → InMask before m r ↔ InMask after m r) → ((m : ℕ) → IsNamed before m → IsNamed after m) → UsersStand before users L → UsersStand after users L
+module _ (before after : List (Option NameText)) where
+  pub renamed_users : (users : List (Option User)) (L : List Entry) → ((m : ℕ) → IsNamed before m → (r : NameText) → InMask before m r ↔ InMask after m r) → ((m : ℕ) → IsNamed before m → IsNamed after m) → UsersStand before users L → UsersStand after users L
   renamed_users users L same named s = record {
     exist = s.exist;
     assigned = λ at x there r. through (s.assigned at x there r) (same x.roles (s.named at x there) r);
@@ -30,7 +30,7 @@ module _ (before after : List (Option Text)) where
     places = s.places;
   }
 
-  pub renamed_grants : (grants : List (Option Grant)) (L : List Entry) → ((m : ℕ) → IsNamed before m → (r : Text) → InMask before m r ↔ InMask after m r) → ((m : ℕ) → IsNamed before m → IsNamed after m) → GrantsStand before grants L → GrantsStand after grants L
+  pub renamed_grants : (grants : List (Option Grant)) (L : List Entry) → ((m : ℕ) → IsNamed before m → (r : NameText) → InMask before m r ↔ InMask after m r) → ((m : ℕ) → IsNamed before m → IsNamed after m) → GrantsStand before grants L → GrantsStand after grants L
   renamed_grants grants L same named s = record {
     granted = λ at x there r. through (s.granted at x there r) (same x.roles (s.named at x there) r);
     only_pairs = s.only_pairs;
@@ -40,7 +40,7 @@ module _ (before after : List (Option Text)) where
     places = s.places;
   }
 
-  pub renamed_sessions : (sessions : List (Option Session)) (L : List Entry) (e : Entry) → ((m : ℕ) → IsNamed before m → (r : Text) → InMask before m r ↔ InMask after m r) → ((m : ℕ) → IsNamed before m → IsNamed after m) → ((p q : ℕ) (r : Text) → At after p r → At after q r → p ≡ q) → length after ≡ 32 → Unswept before sessions L e → Unswept after sessions L e
+  pub renamed_sessions : (sessions : List (Option Session)) (L : List Entry) (e : Entry) → ((m : ℕ) → IsNamed before m → (r : NameText) → InMask before m r ↔ InMask after m r) → ((m : ℕ) → IsNamed before m → IsNamed after m) → ((p q : ℕ) (r : NameText) → At after p r → At after q r → p ≡ q) → length after ≡ 32 → Unswept before sessions L e → Unswept after sessions L e
   renamed_sessions sessions L e same named unique many s = record {
     exist = s.exist;
     active = λ at x there r. through (s.active at x there r) (same x.active (s.named at x there) r);
@@ -53,12 +53,12 @@ module _ (before after : List (Option Text)) where
     places = s.places;
   }
 
-module _ (roles : List (Option Text)) (r0 : Text) (i : ℕ) (fr : Free roles i) where
-  old_role : (p : ℕ) (r : Text) → At roles p r → At (set roles i (Some r0)) p r
+module _ (roles : List (Option NameText)) (r0 : NameText) (i : ℕ) (fr : Free roles i) where
+  old_role : (p : ℕ) (r : NameText) → At roles p r → At (set roles i (Some r0)) p r
   old_role p r there = get_set_other roles i p (Some r0) (λ e. cc (fr.empty, subst (λ k. slice_get roles k ≡ Some (Some r)) e there)) ∙ there
 
   -- a place of a mask is not the free one
-  pub added_mask : (m : ℕ) → IsNamed roles m → (r : Text) → InMask roles m r ↔ InMask (set roles i (Some r0)) m r
+  pub added_mask : (m : ℕ) → IsNamed roles m → (r : NameText) → InMask roles m r ↔ InMask (set roles i (Some r0)) m r
   added_mask m named r = (
     λ k. record { place = k.place; there = old_role k.place r k.there; bit = k.bit },
     λ k. elim (written roles i k.place r0 r fr.within k.there) [
@@ -70,14 +70,14 @@ module _ (roles : List (Option Text)) (r0 : Text) (i : ℕ) (fr : Free roles i) 
   pub added_named : (m : ℕ) → IsNamed roles m → IsNamed (set roles i (Some r0)) m
   added_named m named = λ p bit. let n = named p bit in (n.0, old_role p n.0 n.1)
 
-module _ (roles : List (Option Text)) (juniors : List ℕ) (L : List Entry) (s : Option ℕ) (r0 : Text) (rs : RolesStand roles juniors L) (fresh : IsRole L r0 → ⊥) (i : ℕ) (fr : Free roles i) where
+module _ (roles : List (Option NameText)) (juniors : List ℕ) (L : List Entry) (s : Option ℕ) (r0 : NameText) (rs : RolesStand roles juniors L) (fresh : IsRole L r0 → ⊥) (i : ℕ) (fr : Free roles i) where
   abbrev pub the_role : Entry
   the_role = record { session = s; command = AddRole r0 }
 
   not_here : (p : ℕ) → At roles p r0 → ⊥
   not_here p there = fresh ((rs.exist r0).1 (record { at = p; value = r0; there = there; fact = refl }))
 
-  role_push : (r : Text) → IsRole (L ++ the_role ∷ []) r ↔ ((r0 ≡ r) ⊎ IsRole L r)
+  role_push : (r : NameText) → IsRole (L ++ the_role ∷ []) r ↔ ((r0 ≡ r) ⊎ IsRole L r)
   role_push r =
       let M : List Entry → Entry → Type 0 = λ before x. x.command ≡ AddRole r in
       let U : Entry → Type 0 = λ x. x.command ≡ DeleteRole r in (
@@ -85,11 +85,11 @@ module _ (roles : List (Option Text)) (juniors : List ℕ) (L : List Entry) (s :
         λ h. (in_force_push M U L the_role).1 (elim h [ inl same ↦ inl cc | inr k ↦ inr (k, λ x. cc) ]),
       )
 
-  edge_same : (a b : Text) → IsEdge (L ++ the_role ∷ []) a b ↔ IsEdge L a b
+  edge_same : (a b : NameText) → IsEdge (L ++ the_role ∷ []) a b ↔ IsEdge L a b
   edge_same a b = untouched (λ before x. x.command ≡ AddInheritance a b) (λ x. (x.command ≡ DeleteInheritance a b) ⊎ (x.command ≡ DeleteRole a) ⊎ (x.command ≡ DeleteRole b)) L the_role
       (λ h. cc) (λ h. elim h [ inl x ↦ cc | inr y ↦ elim y [ inl x ↦ cc | inr z ↦ cc ] ])
 
-  pub unique_added : (p q : ℕ) (r : Text) → At (set roles i (Some r0)) p r → At (set roles i (Some r0)) q r → p ≡ q
+  pub unique_added : (p q : ℕ) (r : NameText) → At (set roles i (Some r0)) p r → At (set roles i (Some r0)) q r → p ≡ q
   unique_added p q r a b = elim (written roles i p r0 r fr.within a) [
     | inl x ↦ elim (written roles i q r0 r fr.within b) [
       | inl y ↦ x.0 ∙ sym y.0

@@ -10,17 +10,17 @@ use Rattle.rbac_policy.specs.Order.{Has, Chain, stay, step, IsBelowSome, IsRowEd
 use Rattle.rbac_policy.specs.declared.commands.Entry.{Entry}
 use Rattle.rbac_policy.specs.declared.rows.User.{User}
 use Rattle.rbac_policy.specs.Facts.{IsAssigned, IsEdge, IsAuthorized}
-use Rattle.rbac_policy.specs.Names.{Text}
+use Rattle.rbac_policy.specs.Names.{NameText}
 use Rattle.rbac_policy.specs.Tables.{At, roles_of}
 use Rattle.rbac_policy.specs.StandsFor.{UsersStand, RolesStand}
 
 -- one place has one role
-pub one_role : (roles : List (Option Text)) (p : ℕ) (a b : Text) → At roles p a → At roles p b → a ≡ b
+pub one_role : (roles : List (Option NameText)) (p : ℕ) (a b : NameText) → At roles p a → At roles p b → a ≡ b
 one_role roles p a b x y = cc
 
-module _ (roles : List (Option Text)) (juniors : List ℕ) (L : List Entry) (stand : RolesStand roles juniors L) where
+module _ (roles : List (Option NameText)) (juniors : List ℕ) (L : List Entry) (stand : RolesStand roles juniors L) where
   -- a chain of edges from the role at a place is a chain of rows
-  pub chain_down : {a b : Text} → Chain (IsEdge L) a b → (p : ℕ) → At roles p a → (q : ℕ) × At roles q b × Chain (IsRowEdge juniors) p q
+  pub chain_down : {a b : NameText} → Chain (IsEdge L) a b → (p : ℕ) → At roles p a → (q : ℕ) × At roles q b × Chain (IsRowEdge juniors) p q
   chain_down stay p there = (p, there, stay)
   chain_down (step e more) p there =
       let m = (stand.edges p _ there _).0 e in
@@ -28,7 +28,7 @@ module _ (roles : List (Option Text)) (juniors : List ℕ) (L : List Entry) (sta
       (rest.0, rest.1, step (omega (arith, slice_get_within roles p _ there, stand.places), m.bit) rest.2)
 
   -- and the other way round
-  pub chain_up : {p q : ℕ} → Chain (IsRowEdge juniors) p q → (a : Text) → At roles p a → (b : Text) × At roles q b × Chain (IsEdge L) a b
+  pub chain_up : {p q : ℕ} → Chain (IsRowEdge juniors) p q → (a : NameText) → At roles p a → (b : NameText) × At roles q b × Chain (IsEdge L) a b
   chain_up stay a there = (a, there, stay)
   chain_up (step {a = p} {b = m} e more) a there =
       let named = stand.named p m e.1 in
@@ -37,18 +37,18 @@ module _ (roles : List (Option Text)) (juniors : List ℕ) (L : List Entry) (sta
       (rest.0, rest.1, step edge rest.2)
 
 -- what `roles_of` finds: the mask of a slot with the user, or nothing where no slot has it
-pub record FoundUser (u : Text) (users : List (Option User)) : Type 0 where
+pub record FoundUser (u : NameText) (users : List (Option User)) : Type 0 where
   pub at : ℕ
   pub user : User
   pub there : At users at user
   pub name : user.name ≡ u
   pub mask : roles_of u users ≡ user.roles
 
-pub record NoUser (u : Text) (users : List (Option User)) : Type 0 where
+pub record NoUser (u : NameText) (users : List (Option User)) : Type 0 where
   pub absent : (at : ℕ) (x : User) → At users at x → x.name ≡ u → ⊥
   pub mask : roles_of u users ≡ 0
 
-later : (u : Text) (slot : Option User) (slots : List (Option User)) → roles_of u (slot ∷ slots) ≡ roles_of u slots → ((x : User) → slot ≡ Some x → x.name ≡ u → ⊥) → FoundUser u slots ⊎ NoUser u slots → FoundUser u (slot ∷ slots) ⊎ NoUser u (slot ∷ slots)
+later : (u : NameText) (slot : Option User) (slots : List (Option User)) → roles_of u (slot ∷ slots) ≡ roles_of u slots → ((x : User) → slot ≡ Some x → x.name ≡ u → ⊥) → FoundUser u slots ⊎ NoUser u slots → FoundUser u (slot ∷ slots) ⊎ NoUser u (slot ∷ slots)
 later u slot slots e other h = elim h [
   | inl f ↦ inl (record { at = suc f.at; user = f.user; there = f.there; name = f.name; mask = e ∙ f.mask })
   | inr n ↦ inr (record { absent = absent_at n.absent; mask = e ∙ n.mask })
@@ -57,7 +57,7 @@ later u slot slots e other h = elim h [
   absent_at no_later zero x there = other x (same_Some slot (Some x) there)
   absent_at no_later (suc at) x there = no_later at x there
 
-pub find_user : (u : Text) (users : List (Option User)) → FoundUser u users ⊎ NoUser u users
+pub find_user : (u : NameText) (users : List (Option User)) → FoundUser u users ⊎ NoUser u users
 find_user u [] = inr (record { absent = λ at x there. absurd (omega (arith, slice_get_within {A = Option User} [] at (Some x) there)); mask = refl })
 find_user u (None ∷ slots) = later u None slots refl (λ x e. cc) (find_user u slots)
 find_user u (Some x ∷ slots) = found_at (find_user u slots) (bytes_eq x.name u) refl where
@@ -67,8 +67,8 @@ find_user u (Some x ∷ slots) = found_at (find_user u slots) (bytes_eq x.name u
       (λ y same name. absurd (false≢true (sym e ∙ (bytes_eq-Decides x.name u).1 (ap (λ (z : User). z.name) (same_Some x y same) ∙ name)))) rest
 
 -- a user is authorized for the roles that lie in or below the mask of its slot
-module _ (roles : List (Option Text)) (juniors : List ℕ) (users : List (Option User)) (L : List Entry) (rs : RolesStand roles juniors L) (us : UsersStand roles users L) where
-  pub authorized_below : (u r : Text) → IsAuthorized L u r → (p : ℕ) × At roles p r × IsBelowSome juniors (roles_of u users) p
+module _ (roles : List (Option NameText)) (juniors : List ℕ) (users : List (Option User)) (L : List Entry) (rs : RolesStand roles juniors L) (us : UsersStand roles users L) where
+  pub authorized_below : (u r : NameText) → IsAuthorized L u r → (p : ℕ) × At roles p r × IsBelowSome juniors (roles_of u users) p
   authorized_below u r a = elim (find_user u users) [
     | inl f ↦
         let mine = (us.assigned f.at f.user f.there a.by).0 (subst (λ n. IsAssigned L n a.by) (sym f.name) a.assigned) in
@@ -79,7 +79,7 @@ module _ (roles : List (Option Text)) (juniors : List ℕ) (users : List (Option
         absurd (n.absent h.at h.value h.there h.fact)
   ]
 
-  pub below_authorized : (u r : Text) (p : ℕ) → At roles p r → IsBelowSome juniors (roles_of u users) p → IsAuthorized L u r
+  pub below_authorized : (u r : NameText) (p : ℕ) → At roles p r → IsBelowSome juniors (roles_of u users) p → IsAuthorized L u r
   below_authorized u r p there b = elim (find_user u users) [
     | inl f ↦
         let bit = subst (λ m. Has m b.top) f.mask b.within in
@@ -96,7 +96,7 @@ module _ (roles : List (Option Text)) (juniors : List ℕ) (users : List (Option
   ]
 
   -- what lies in or below a user's mask has a name
-  pub below_named : (u : Text) (p : ℕ) → IsBelowSome juniors (roles_of u users) p → (r : Text) × At roles p r
+  pub below_named : (u : NameText) (p : ℕ) → IsBelowSome juniors (roles_of u users) p → (r : NameText) × At roles p r
   below_named u p b = elim (find_user u users) [
     | inl f ↦
         let named = us.named f.at f.user f.there b.top (subst (λ m. Has m b.top) f.mask b.within) in

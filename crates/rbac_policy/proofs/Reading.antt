@@ -9,7 +9,7 @@ use Rattle.rbac_policy.specs.declared.objects.Object.{Object}
 use Rattle.rbac_policy.specs.declared.commands.Entry.{Entry}
 use Rattle.rbac_policy.specs.declared.rows.Grant.{Grant}
 use Rattle.rbac_policy.specs.declared.policy.Policy.{Policy}
-use Rattle.rbac_policy.specs.Names.{Text}
+use Rattle.rbac_policy.specs.Names.{NameText}
 use Rattle.rbac_policy.specs.Objects.{same_operation, same_object}
 use Rattle.rbac_policy.specs.Order.{Has, below}
 use Rattle.rbac_policy.specs.Facts.{IsGranted, IsPairGranted, IsAuthorized}
@@ -29,7 +29,7 @@ bit_test b mask place is = reflects b (Has mask place)
     (λ f h. false≢true (sym f ∙ is ∙ (Decides-eqb (bit_at mask place) 1).1 h))
 
 module _ (p : Policy) (L : List Entry) (st : StandsFor p L) where
-  pub authorized_test : (u r : Text) (place all : ℕ) (b : Bool) → place_of r p.roles ≡ Some place → all ≡ below p.juniors (roles_of u p.users) → all < 2 ^ 32
+  pub authorized_test : (u r : NameText) (place all : ℕ) (b : Bool) → place_of r p.roles ≡ Some place → all ≡ below p.juniors (roles_of u p.users) → all < 2 ^ 32
       → b ≡ (bit_at all place == 1) → IsTrue b ↔ IsAuthorized L u r
   authorized_test u r place all b found walked fits is =
       let there = role_at p L st r place found in
@@ -44,7 +44,7 @@ module _ (p : Policy) (L : List Entry) (st : StandsFor p L) where
             (below_all p.juniors (roles_of u p.users) (subst Fits walked fits) h.0 h.2))),
       )
 
-  pub granted_test : (r : Text) (op : Operation) (ob : Object) (g : Grant) (place : ℕ) (b : Bool) → grant_of op ob p.grants ≡ Some g → place_of r p.roles ≡ Some place
+  pub granted_test : (r : NameText) (op : Operation) (ob : Object) (g : Grant) (place : ℕ) (b : Bool) → grant_of op ob p.grants ≡ Some g → place_of r p.roles ≡ Some place
       → b ≡ (bit_at g.roles place == 1) → IsTrue b ↔ IsGranted L r op ob
   granted_test r op ob g place b row found is =
       let there = role_at p L st r place found in

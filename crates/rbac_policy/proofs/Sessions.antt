@@ -9,7 +9,7 @@ use Rattle.rbac_policy.specs.declared.commands.AdminCommand.TheVariants.{CreateS
 use Rattle.rbac_policy.specs.declared.commands.Entry.{Entry}
 use Rattle.rbac_policy.specs.declared.rows.Session.{Session}
 use Rattle.rbac_policy.specs.Entries.{logins}
-use Rattle.rbac_policy.specs.Names.{Text}
+use Rattle.rbac_policy.specs.Names.{NameText}
 use Rattle.rbac_policy.specs.Facts.{IsActive, CreatesWith, TakesUp, LaysDown}
 use Rattle.rbac_policy.specs.Tables.{At, mask_of, session_without}
 use Rattle.rbac_policy.specs.StandsFor.{InMask, IsNamed, SessionsStand}
@@ -20,8 +20,8 @@ use Rattle.rbac_policy.proofs.Untouched.{through, untouched, logins_push}
 use Rattle.rbac_policy.proofs.Slots.{mapped, map_at, written, Free}
 use Rattle.rbac_policy.proofs.Listed.{in_mask_of, named_mask_of}
 
-module _ (roles : List (Option Text)) (unique : (p q : ℕ) (r : Text) → At roles p r → At roles q r → p ≡ q) (many : length roles ≡ 32) (sessions : List (Option Session)) (L : List Entry) (ss : SessionsStand roles sessions L) where
-  module _ (user : Text) (listed : List Text) (known : (r : Text) → Contains listed r → (p : ℕ) × At roles p r) (i : ℕ) (fr : Free sessions i) where
+module _ (roles : List (Option NameText)) (unique : (p q : ℕ) (r : NameText) → At roles p r → At roles q r → p ≡ q) (many : length roles ≡ 32) (sessions : List (Option Session)) (L : List Entry) (ss : SessionsStand roles sessions L) where
+  module _ (user : NameText) (listed : List NameText) (known : (r : NameText) → Contains listed r → (p : ℕ) × At roles p r) (i : ℕ) (fr : Free sessions i) where
     abbrev pub the_login : Entry
     the_login = record { session = None; command = CreateSession user listed }
 
@@ -31,7 +31,7 @@ module _ (roles : List (Option Text)) (unique : (p q : ℕ) (r : Text) → At ro
     count : logins (L ++ the_login ∷ []) ≡ logins L + 1
     count = logins_push L the_login
 
-    active_push : (n : ℕ) (r : Text) → IsActive (L ++ the_login ∷ []) n r ↔ (((n ≡ logins L + 1) × Contains listed r) ⊎ IsActive L n r)
+    active_push : (n : ℕ) (r : NameText) → IsActive (L ++ the_login ∷ []) n r ↔ (((n ≡ logins L + 1) × Contains listed r) ⊎ IsActive L n r)
     active_push n r =
         let M : List Entry → Entry → Type 0 = λ before e. CreatesWith n r before e ⊎ TakesUp n r e in
         let U : Entry → Type 0 = LaysDown n r in (
@@ -119,7 +119,7 @@ module _ (roles : List (Option Text)) (unique : (p q : ℕ) (r : Text) → At ro
     gone : logins (L ++ the_logout ∷ []) ≡ logins L
     gone = logins_push L the_logout ∙ add-zero (logins L)
 
-    still_active : (n : ℕ) (r : Text) → IsActive (L ++ the_logout ∷ []) n r ↔ IsActive L n r
+    still_active : (n : ℕ) (r : NameText) → IsActive (L ++ the_logout ∷ []) n r ↔ IsActive L n r
     still_active n r = untouched (λ before e. CreatesWith n r before e ⊎ TakesUp n r e) (LaysDown n r) L the_logout
         (λ m. elim m [ inl a ↦ (let h = a.creates.login in cc) | inr b ↦ (let h = b.1 in cc) ])
         (λ u. let h = u.1 in cc)

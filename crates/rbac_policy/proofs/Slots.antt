@@ -6,7 +6,7 @@ use Rattle.std.proofs.lemmas.Bool.{cases_eq, false≢true}
 use Rattle.std.proofs.lemmas.Nat.Bits.{bit_at_set_same, bit_at_set_other, bit_at-zero}
 use Rattle.std.proofs.lemmas.Option.{slice_get-map, same_Some, slice_get-get_or}
 use Rattle.std.proofs.lemmas.List.Quantifiers.{position-Some}
-use Rattle.rbac_policy.specs.Names.{Text}
+use Rattle.rbac_policy.specs.Names.{NameText}
 use Rattle.rbac_policy.specs.Tables.{At, with_bit}
 use Rattle.rbac_policy.specs.StandsFor.{InMask, IsNamed}
 use Rattle.rbac_policy.proofs.Order.{one_role}
@@ -60,8 +60,8 @@ free slots i h =
     let p = position-Some is_none slots i None h in
     record { within = p.0; empty = slice_get-get_or slots i None p.0 ∙ ap Some (is_nothing _ p.1) }
 
-module _ (roles : List (Option Text)) (unique : (p q : ℕ) (r : Text) → At roles p r → At roles q r → p ≡ q) (p0 : ℕ) (r0 : Text) (there : At roles p0 r0) (low : p0 < 32) where
-  pub in_with_bit : (m : ℕ) (r : Text) → InMask roles (with_bit m p0) r ↔ ((r0 ≡ r) ⊎ InMask roles m r)
+module _ (roles : List (Option NameText)) (unique : (p q : ℕ) (r : NameText) → At roles p r → At roles q r → p ≡ q) (p0 : ℕ) (r0 : NameText) (there : At roles p0 r0) (low : p0 < 32) where
+  pub in_with_bit : (m : ℕ) (r : NameText) → InMask roles (with_bit m p0) r ↔ ((r0 ≡ r) ⊎ InMask roles m r)
   in_with_bit m r = (
     λ i. elim (cases_eq i.place p0) [
       | inl e ↦ inl (one_role roles p0 r0 r there (subst (λ k. At roles k r) e i.there))
@@ -82,8 +82,8 @@ module _ (roles : List (Option Text)) (unique : (p q : ℕ) (r : Text) → At ro
     | inr ne ↦ n p (sym (bit_at_set_other w32 m p0 low p ne) ∙ bit)
   ]
 
-pub none_in_zero : (roles : List (Option Text)) (r : Text) → InMask roles 0 r → ⊥
+pub none_in_zero : (roles : List (Option NameText)) (r : NameText) → InMask roles 0 r → ⊥
 none_in_zero roles r i = omega (arith, i.bit, bit_at-zero i.place)
 
-pub zero_named : (roles : List (Option Text)) → IsNamed roles 0
+pub zero_named : (roles : List (Option NameText)) → IsNamed roles 0
 zero_named roles = λ p bit. absurd (omega (arith, bit, bit_at-zero p))

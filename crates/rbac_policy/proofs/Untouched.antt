@@ -16,7 +16,7 @@ use Rattle.rbac_policy.specs.Entries.{InForce, logins, is_login}
 use Rattle.rbac_policy.specs.Facts.{IsUser, IsRole, IsAssigned, IsGranted, IsEdge, IsActive, Lives}
 use Rattle.rbac_policy.specs.Tables.{At}
 use Rattle.rbac_policy.specs.StandsFor.{UsersStand, RolesStand, GrantsStand, SessionsStand, SetsStand}
-use Rattle.rbac_policy.specs.Names.{Text}
+use Rattle.rbac_policy.specs.Names.{NameText}
 use Rattle.rbac_policy.proofs.Steps.{in_force_push}
 use Rattle.rbac_policy.proofs.Lives.{Remains}
 use Rattle.rbac_policy.proofs.Ended.{Unswept}
@@ -68,11 +68,11 @@ touches_sets _ = false
 pub not_by : (test : AdminCommand → Bool) (a b : AdminCommand) → test a ≡ false → test b ≡ true → a ≡ b → ⊥
 not_by test a b no_a yes_b same = false≢true (sym no_a ∙ ap test same ∙ yes_b)
 
-pub untouched_users : (roles : List (Option Text)) (users : List (Option User)) (L : List Entry) (e : Entry) → touches_users e.command ≡ false → UsersStand roles users L → UsersStand roles users (L ++ e ∷ [])
+pub untouched_users : (roles : List (Option NameText)) (users : List (Option User)) (L : List Entry) (e : Entry) → touches_users e.command ≡ false → UsersStand roles users L → UsersStand roles users (L ++ e ∷ [])
 untouched_users roles users L e no_touch s =
     let out = λ (c : AdminCommand) (t : touches_users c ≡ true) (h : e.command ≡ c). not_by touches_users e.command c no_touch t h in
-    let user : (u : Text) → IsUser (L ++ e ∷ []) u ↔ IsUser L u = λ u. untouched _ _ L e (λ h. out (AddUser u) refl h) (λ h. out (DeleteUser u) refl h) in
-    let given : (u r : Text) → IsAssigned (L ++ e ∷ []) u r ↔ IsAssigned L u r = λ u r. untouched _ _ L e (λ h. out (AssignUser u r) refl h)
+    let user : (u : NameText) → IsUser (L ++ e ∷ []) u ↔ IsUser L u = λ u. untouched _ _ L e (λ h. out (AddUser u) refl h) (λ h. out (DeleteUser u) refl h) in
+    let given : (u r : NameText) → IsAssigned (L ++ e ∷ []) u r ↔ IsAssigned L u r = λ u r. untouched _ _ L e (λ h. out (AssignUser u r) refl h)
     (λ h. elim h [ inl a ↦ out (DeassignUser u r) refl a | inr b ↦ elim b [ inl x ↦ out (DeleteUser u) refl x | inr y ↦ out (DeleteRole r) refl y ] ]) in
     record {
       exist = λ u. through (user u) (s.exist u);
@@ -83,11 +83,11 @@ untouched_users roles users L e no_touch s =
       places = s.places;
     }
 
-pub untouched_roles : (roles : List (Option Text)) (juniors : List ℕ) (L : List Entry) (e : Entry) → touches_roles e.command ≡ false → RolesStand roles juniors L → RolesStand roles juniors (L ++ e ∷ [])
+pub untouched_roles : (roles : List (Option NameText)) (juniors : List ℕ) (L : List Entry) (e : Entry) → touches_roles e.command ≡ false → RolesStand roles juniors L → RolesStand roles juniors (L ++ e ∷ [])
 untouched_roles roles juniors L e no_touch s =
     let out = λ (c : AdminCommand) (t : touches_roles c ≡ true) (h : e.command ≡ c). not_by touches_roles e.command c no_touch t h in
-    let role : (r : Text) → IsRole (L ++ e ∷ []) r ↔ IsRole L r = λ r. untouched _ _ L e (λ h. out (AddRole r) refl h) (λ h. out (DeleteRole r) refl h) in
-    let edge : (a b : Text) → IsEdge (L ++ e ∷ []) a b ↔ IsEdge L a b = λ a b. untouched _ _ L e (λ h. out (AddInheritance a b) refl h)
+    let role : (r : NameText) → IsRole (L ++ e ∷ []) r ↔ IsRole L r = λ r. untouched _ _ L e (λ h. out (AddRole r) refl h) (λ h. out (DeleteRole r) refl h) in
+    let edge : (a b : NameText) → IsEdge (L ++ e ∷ []) a b ↔ IsEdge L a b = λ a b. untouched _ _ L e (λ h. out (AddInheritance a b) refl h)
     (λ h. elim h [ inl x ↦ out (DeleteInheritance a b) refl x | inr y ↦ elim y [ inl x ↦ out (DeleteRole a) refl x | inr z ↦ out (DeleteRole b) refl z ] ]) in
     record {
       exist = λ r. through (role r) (s.exist r);
@@ -99,10 +99,10 @@ untouched_roles roles juniors L e no_touch s =
       places = s.places;
     }
 
-pub untouched_grants : (roles : List (Option Text)) (grants : List (Option Grant)) (L : List Entry) (e : Entry) → touches_grants e.command ≡ false → GrantsStand roles grants L → GrantsStand roles grants (L ++ e ∷ [])
+pub untouched_grants : (roles : List (Option NameText)) (grants : List (Option Grant)) (L : List Entry) (e : Entry) → touches_grants e.command ≡ false → GrantsStand roles grants L → GrantsStand roles grants (L ++ e ∷ [])
 untouched_grants roles grants L e no_touch s =
     let out = λ (c : AdminCommand) (t : touches_grants c ≡ true) (h : e.command ≡ c). not_by touches_grants e.command c no_touch t h in
-    let given : (r : Text) (op : Operation) (ob : Object) → IsGranted (L ++ e ∷ []) r op ob ↔ IsGranted L r op ob = λ r op ob. untouched (λ before x. x.command ≡ GrantPermission r op ob) (λ x. (x.command ≡ RevokePermission r op ob) ⊎ (x.command ≡ DeleteRole r)) L e (λ h. out (GrantPermission r op ob) refl h)
+    let given : (r : NameText) (op : Operation) (ob : Object) → IsGranted (L ++ e ∷ []) r op ob ↔ IsGranted L r op ob = λ r op ob. untouched (λ before x. x.command ≡ GrantPermission r op ob) (λ x. (x.command ≡ RevokePermission r op ob) ⊎ (x.command ≡ DeleteRole r)) L e (λ h. out (GrantPermission r op ob) refl h)
     (λ h. elim h [ inl x ↦ out (RevokePermission r op ob) refl x | inr y ↦ out (DeleteRole r) refl y ]) in
     record {
       granted = λ at x there r. through (given r x.operation x.object) (s.granted at x there r);
@@ -129,13 +129,13 @@ logins_push L e = fold_push (λ (a : ℕ) (x : Entry). a + cond (is_login x) 1 0
 pub logins_other : (L : List Entry) (e : Entry) → is_login e ≡ false → logins (L ++ e ∷ []) ≡ logins L
 logins_other L e h = logins_push L e ∙ ap (λ b. logins L + cond b 1 0) h ∙ add-zero (logins L)
 
-pub untouched_sessions : (roles : List (Option Text)) (sessions : List (Option Session)) (L : List Entry) (e : Entry) → touches_sessions e.command ≡ false → logins (L ++ e ∷ []) ≡ logins L → ((p q : ℕ) (role : Text) → At roles p role → At roles q role → p ≡ q) → length roles ≡ 32 → SessionsStand roles sessions L → Unswept roles sessions L e
+pub untouched_sessions : (roles : List (Option NameText)) (sessions : List (Option Session)) (L : List Entry) (e : Entry) → touches_sessions e.command ≡ false → logins (L ++ e ∷ []) ≡ logins L → ((p q : ℕ) (role : NameText) → At roles p role → At roles q role → p ≡ q) → length roles ≡ 32 → SessionsStand roles sessions L → Unswept roles sessions L e
 untouched_sessions roles sessions L e no_touch count unique many s =
     let out = λ (c : AdminCommand) (t : touches_sessions c ≡ true) (h : e.command ≡ c). not_by touches_sessions e.command c no_touch t h in
-    let active : (n : ℕ) (r : Text) → IsActive (L ++ e ∷ []) n r ↔ IsActive L n r = λ n r. untouched _ _ L e
+    let active : (n : ℕ) (r : NameText) → IsActive (L ++ e ∷ []) n r ↔ IsActive L n r = λ n r. untouched _ _ L e
     (λ h. elim h [ inl x ↦ out (CreateSession x.user x.roles) refl x.creates.login | inr y ↦ out (AddActiveRole r) refl y.1 ])
     (λ h. out (DropActiveRole r) refl h.1) in
-    let lives : (n : ℕ) (u : Text) → Remains L e n u ↔ Lives L n u = λ n u. (
+    let lives : (n : ℕ) (u : NameText) → Remains L e n u ↔ Lives L n u = λ n u. (
       λ h. elim h [ inl m ↦ absurd (out (CreateSession u m.roles) refl m.creates.login) | inr l ↦ l.0 ],
       λ l. inr (l, λ h. elim h [ inl x ↦ out DeleteSession refl x.1 | inr y ↦ out (DeleteUser u) refl y ]),
     ) in

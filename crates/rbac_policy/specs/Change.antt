@@ -1,12 +1,13 @@
 -- What an entry makes of the policy's tables, as it is computed.
-use Rattle.std.specs.Prelude.{ℕ, ◌+◌, ◌%◌, ◌^◌, List, Option, Some, None, map}
+use Rattle.std.specs.Prelude.{ℕ, ◌+◌, ◌%◌, List, Option, Some, None, map}
 use Rattle.rbac_policy.specs.declared.objects.Operation.{Operation}
 use Rattle.rbac_policy.specs.declared.objects.Object.{Object}
 use Rattle.rbac_policy.specs.declared.commands.AdminCommand.{AdminCommand}
 use Rattle.rbac_policy.specs.declared.commands.AdminCommand.TheVariants.{AddUser, AssignUser, AddRole, GrantPermission, CreateSession, DeleteSession}
 use Rattle.rbac_policy.specs.declared.commands.Entry.{Entry}
 use Rattle.rbac_policy.specs.declared.policy.Policy.{Policy}
-use Rattle.rbac_policy.specs.Names.{Text}
+use Rattle.rbac_policy.specs.declared.sizes.TheConstants.{LAST_SESSION, LAST_VERSION}
+use Rattle.rbac_policy.specs.Names.{NameText}
 use Rattle.rbac_policy.specs.Tables.{place_of, grants_given, put_free, mask_of, session_without, session_kept, user_given}
 
 -- the pair is granted to the role at this place, if there is one
@@ -14,13 +15,13 @@ abbrev pub granted_at : Option ℕ → Operation → Object → Policy → Polic
 granted_at None operation object p = p
 granted_at (Some place) operation object p = record p { grants = grants_given operation object place p.grants }
 
-abbrev pub granted : Text → Operation → Object → Policy → Policy
+abbrev pub granted : NameText → Operation → Object → Policy → Policy
 granted role operation object p = granted_at (place_of role p.roles) operation object p
 
 -- the session has the next number
-abbrev pub logged_in : Text → List Text → Policy → Policy
+abbrev pub logged_in : NameText → List NameText → Policy → Policy
 logged_in user roles p =
-    let number = (p.logins + 1) % 2 ^ 16 in
+    let number = (p.logins + 1) % (LAST_SESSION + 1) in
     record p { logins = number; sessions = put_free (record { number = number; user = user; active = mask_of p.roles roles }) p.sessions }
 
 abbrev pub logged_out : Option ℕ → Policy → Policy
@@ -28,11 +29,11 @@ logged_out None p = p
 logged_out (Some number) p = record p { sessions = map (session_without number) p.sessions }
 
 -- the role at this place is assigned to the user, if there is one
-abbrev pub assigned_at : Option ℕ → Text → Policy → Policy
+abbrev pub assigned_at : Option ℕ → NameText → Policy → Policy
 assigned_at None user p = p
 assigned_at (Some place) user p = record p { users = map (user_given user place) p.users }
 
-abbrev pub assigned : Text → Text → Policy → Policy
+abbrev pub assigned : NameText → NameText → Policy → Policy
 assigned user role p = assigned_at (place_of role p.roles) user p
 
 -- the change of the command, given by this session
@@ -50,7 +51,7 @@ changed p entry = changed_by entry.command entry.session p
 
 -- one more entry is counted, and each session ends that has a role for which its user is not authorized
 abbrev pub swept : Policy → Policy
-swept p = record p { version = (p.version + 1) % 2 ^ 64; sessions = map (session_kept p.users p.juniors) p.sessions }
+swept p = record p { version = (p.version + 1) % (LAST_VERSION + 1); sessions = map (session_kept p.users p.juniors) p.sessions }
 
 -- the policy after the entry
 unfoldable pub absorbed : Policy → Entry → Policy

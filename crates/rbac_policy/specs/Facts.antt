@@ -5,103 +5,103 @@ use Rattle.rbac_policy.specs.declared.objects.Operation.{Operation}
 use Rattle.rbac_policy.specs.declared.objects.Object.{Object}
 use Rattle.rbac_policy.specs.declared.commands.AdminCommand.TheVariants.{AddUser, DeleteUser, AddRole, DeleteRole, AssignUser, DeassignUser, GrantPermission, RevokePermission, AddInheritance, DeleteInheritance, CreateDsdSet, DeleteDsdSet, CreateSession, DeleteSession, AddActiveRole, DropActiveRole}
 use Rattle.rbac_policy.specs.declared.commands.Entry.{Entry}
-use Rattle.rbac_policy.specs.Names.{Text}
+use Rattle.rbac_policy.specs.Names.{NameText}
 use Rattle.rbac_policy.specs.Entries.{InForce, logins}
 use Rattle.rbac_policy.specs.Order.{Chain}
 use Rattle.rbac_policy.specs.Limits.{HasAtLeast}
 
 -- the user was added, and not deleted since (USERS of the standard)
-abbrev pub IsUser : List Entry → Text → Type 0
+abbrev pub IsUser : List Entry → NameText → Type 0
 IsUser entries user = InForce (λ before e. e.command ≡ AddUser user) (λ e. e.command ≡ DeleteUser user) entries
 
 -- the role was added, and not deleted since (ROLES)
-abbrev pub IsRole : List Entry → Text → Type 0
+abbrev pub IsRole : List Entry → NameText → Type 0
 IsRole entries role = InForce (λ before e. e.command ≡ AddRole role) (λ e. e.command ≡ DeleteRole role) entries
 
 -- the separation set of this name, number and roles was created by the entry at this place, and not deleted since
-abbrev pub IsSet : List Entry → ℕ → Text → ℕ → List Text → Type 0
+abbrev pub IsSet : List Entry → ℕ → NameText → ℕ → List NameText → Type 0
 IsSet entries place set count roles =
     InForce (λ before e. (length before ≡ place) × (e.command ≡ CreateDsdSet set count roles)) (λ e. e.command ≡ DeleteDsdSet set) entries
 
 -- the entry takes the role from the user
-abbrev pub Unassigns : Text → Text → Entry → Type 0
+abbrev pub Unassigns : NameText → NameText → Entry → Type 0
 Unassigns user role e = (e.command ≡ DeassignUser user role) ⊎ (e.command ≡ DeleteUser user) ⊎ (e.command ≡ DeleteRole role)
 
 -- the user has the role, not through other roles (user assignment)
-abbrev pub IsAssigned : List Entry → Text → Text → Type 0
+abbrev pub IsAssigned : List Entry → NameText → NameText → Type 0
 IsAssigned entries user role = InForce (λ before e. e.command ≡ AssignUser user role) (Unassigns user role) entries
 
 -- the entry takes the permission from the role
-abbrev pub Revokes : Text → Operation → Object → Entry → Type 0
+abbrev pub Revokes : NameText → Operation → Object → Entry → Type 0
 Revokes role op object e = (e.command ≡ RevokePermission role op object) ⊎ (e.command ≡ DeleteRole role)
 
 -- the role itself has the permission (permission assignment)
-abbrev pub IsGranted : List Entry → Text → Operation → Object → Type 0
+abbrev pub IsGranted : List Entry → NameText → Operation → Object → Type 0
 IsGranted entries role op object = InForce (λ before e. e.command ≡ GrantPermission role op object) (Revokes role op object) entries
 
 -- some role itself has the permission
 abbrev pub IsPairGranted : List Entry → Operation → Object → Type 0
-IsPairGranted entries op object = (role : Text) × IsGranted entries role op object
+IsPairGranted entries op object = (role : NameText) × IsGranted entries role op object
 
 -- the entry takes the edge away
-abbrev pub Disinherits : Text → Text → Entry → Type 0
+abbrev pub Disinherits : NameText → NameText → Entry → Type 0
 Disinherits senior junior e =
     (e.command ≡ DeleteInheritance senior junior) ⊎ (e.command ≡ DeleteRole senior) ⊎ (e.command ≡ DeleteRole junior)
 
 -- an edge leads from the senior to the junior (AddInheritance; this project keeps the pairs as they were given)
-abbrev pub IsEdge : List Entry → Text → Text → Type 0
+abbrev pub IsEdge : List Entry → NameText → NameText → Type 0
 IsEdge entries senior junior = InForce (λ before e. e.command ≡ AddInheritance senior junior) (Disinherits senior junior) entries
 
 -- the entry makes the session of this number: the n-th that makes one makes number n, so that no number is used again
-pub record Creates (session : ℕ) (user : Text) (roles : List Text) (before : List Entry) (e : Entry) : Type 0 where
+pub record Creates (session : ℕ) (user : NameText) (roles : List NameText) (before : List Entry) (e : Entry) : Type 0 where
   pub login : e.command ≡ CreateSession user roles
   pub number : session ≡ logins before + 1
 
 -- the entry makes the session, and lists the role
-pub record CreatesWith (session : ℕ) (role : Text) (before : List Entry) (e : Entry) : Type 0 where
-  pub user : Text
-  pub roles : List Text
+pub record CreatesWith (session : ℕ) (role : NameText) (before : List Entry) (e : Entry) : Type 0 where
+  pub user : NameText
+  pub roles : List NameText
   pub creates : Creates session user roles before e
   pub listed : Contains roles role
 
 -- the session takes the role up
-abbrev pub TakesUp : ℕ → Text → Entry → Type 0
+abbrev pub TakesUp : ℕ → NameText → Entry → Type 0
 TakesUp session role e = (e.session ≡ Some session) × (e.command ≡ AddActiveRole role)
 
 -- the session lays the role down
-abbrev pub LaysDown : ℕ → Text → Entry → Type 0
+abbrev pub LaysDown : ℕ → NameText → Entry → Type 0
 LaysDown session role e = (e.session ≡ Some session) × (e.command ≡ DropActiveRole role)
 
 -- the role was given to the session when it was made, or taken up by it, and not laid down since (session_roles)
-abbrev pub IsActive : List Entry → ℕ → Text → Type 0
+abbrev pub IsActive : List Entry → ℕ → NameText → Type 0
 IsActive entries session role =
     InForce (λ before e. CreatesWith session role before e ⊎ TakesUp session role e) (LaysDown session role) entries
 
 -- a chain of edges, possibly empty, leads from the senior to the junior (the inheritance relation)
-abbrev pub IsAtOrBelow : List Entry → Text → Text → Type 0
+abbrev pub IsAtOrBelow : List Entry → NameText → NameText → Type 0
 IsAtOrBelow entries junior senior = Chain (IsEdge entries) senior junior
 
 -- a role at or above this one is assigned to the user (authorized_users)
-pub record IsAuthorized (entries : List Entry) (user role : Text) : Type 0 where
+pub record IsAuthorized (entries : List Entry) (user role : NameText) : Type 0 where
   pub exists : IsRole entries role
-  pub by : Text
+  pub by : NameText
   pub assigned : IsAssigned entries user by
   pub order : IsAtOrBelow entries role by
 
 -- each role that is active in the session is one for which the user is authorized
-abbrev pub HasOnlyAuthorized : List Entry → ℕ → Text → Type 0
-HasOnlyAuthorized entries session user = (role : Text) → IsActive entries session role → IsAuthorized entries user role
+abbrev pub HasOnlyAuthorized : List Entry → ℕ → NameText → Type 0
+HasOnlyAuthorized entries session user = (role : NameText) → IsActive entries session role → IsAuthorized entries user role
 
 -- the entry logs the session out, or deletes its user
-abbrev pub Ends : ℕ → Text → Entry → Type 0
+abbrev pub Ends : ℕ → NameText → Entry → Type 0
 Ends session user e = ((e.session ≡ Some session) × (e.command ≡ DeleteSession)) ⊎ (e.command ≡ DeleteUser user)
 
 -- the session was made for the user and not ended since, and at each time since it had only roles for which the user was authorized
 -- (this project's form: the command that takes the authorization away ends the session)
-pub record Lives (entries : List Entry) (session : ℕ) (user : Text) : Type 0 where
+pub record Lives (entries : List Entry) (session : ℕ) (user : NameText) : Type 0 where
   pub at : ℕ
   pub entry : Entry
-  pub roles : List Text
+  pub roles : List NameText
   pub there : slice_get entries at ≡ Some entry
   pub made : Creates session user roles (take at entries) entry
   pub kept : (later : ℕ) (e : Entry) → at < later → slice_get entries later ≡ Some e → ¬ (Ends session user e)
@@ -109,25 +109,25 @@ pub record Lives (entries : List Entry) (session : ℕ) (user : Text) : Type 0 w
 
 -- the session lives, whoever its user is
 abbrev pub IsLive : List Entry → ℕ → Type 0
-IsLive entries session = (user : Text) × Lives entries session user
+IsLive entries session = (user : NameText) × Lives entries session user
 
 -- the session lives, and a role at or below one that is active in it has the permission (CheckAccess)
 pub record May (entries : List Entry) (session : ℕ) (op : Operation) (object : Object) : Type 0 where
-  pub user : Text
+  pub user : NameText
   pub lives : Lives entries session user
-  pub active : Text
+  pub active : NameText
   pub is_active : IsActive entries session active
-  pub role : Text
+  pub role : NameText
   pub below : IsAtOrBelow entries role active
   pub granted : IsGranted entries role op object
 
 -- the role is active in the session, or lies below one that is
-pub record IsActiveOrBelow (entries : List Entry) (session : ℕ) (role : Text) : Type 0 where
-  pub active : Text
+pub record IsActiveOrBelow (entries : List Entry) (session : ℕ) (role : NameText) : Type 0 where
+  pub active : NameText
   pub is_active : IsActive entries session active
   pub below : IsAtOrBelow entries role active
 
 -- the session lives, and so many of the roles are active in it or lie below one that is (this project's form of dynamic separation: those below count)
-pub record Violates (entries : List Entry) (session count : ℕ) (roles : List Text) : Type 0 where
+pub record Violates (entries : List Entry) (session count : ℕ) (roles : List NameText) : Type 0 where
   pub lives : IsLive entries session
-  pub many : HasAtLeast {A = Text} count (λ role. Contains roles role × IsActiveOrBelow entries session role)
+  pub many : HasAtLeast {A = NameText} count (λ role. Contains roles role × IsActiveOrBelow entries session role)

@@ -1,57 +1,58 @@
 -- What an entry asks of the entries before it, so that a policy that stands for them can take it in. Each accepted entry of these six
 -- commands fits; the tables of a policy don't follow the other commands yet.
-use Rattle.std.specs.Prelude.{◌≡◌, ℕ, ◌+◌, ◌<◌, ◌≤◌, ◌^◌, List, Option, Some, None, Contains, length}
+use Rattle.std.specs.Prelude.{◌≡◌, ℕ, ◌<◌, ◌≤◌, List, Option, Some, None, Contains, length}
 use Rattle.rbac_policy.specs.declared.objects.Operation.{Operation}
 use Rattle.rbac_policy.specs.declared.objects.Object.{Object}
 use Rattle.rbac_policy.specs.declared.commands.AdminCommand.{AdminCommand}
 use Rattle.rbac_policy.specs.declared.commands.AdminCommand.TheVariants.{AddUser, AssignUser, AddRole, GrantPermission, CreateSession, DeleteSession}
 use Rattle.rbac_policy.specs.declared.commands.Entry.{Entry}
-use Rattle.rbac_policy.specs.Names.{Text}
+use Rattle.rbac_policy.specs.declared.sizes.TheConstants.{USERS, ROLES, GRANTS, SESSIONS, LAST_SESSION, LAST_VERSION}
+use Rattle.rbac_policy.specs.Names.{NameText}
 use Rattle.rbac_policy.specs.Entries.{logins}
 use Rattle.rbac_policy.specs.Facts.{IsUser, IsRole, IsLive, IsPairGranted}
 use Rattle.rbac_policy.specs.Limits.{HasAtLeast}
 
 -- the table of users is full
 abbrev pub UsersFull : List Entry → Type 0
-UsersFull entries = HasAtLeast 64 (IsUser entries)
+UsersFull entries = HasAtLeast USERS (IsUser entries)
 
 -- the table of roles is full
 abbrev pub RolesFull : List Entry → Type 0
-RolesFull entries = HasAtLeast 32 (IsRole entries)
+RolesFull entries = HasAtLeast ROLES (IsRole entries)
 
 -- as many pairs of an operation and an object as there is room for are granted to some role
 abbrev pub PermissionsFull : List Entry → Type 0
-PermissionsFull entries = HasAtLeast {A = Operation × Object} 256 (λ pair. IsPairGranted entries pair.0 pair.1)
+PermissionsFull entries = HasAtLeast {A = Operation × Object} GRANTS (λ pair. IsPairGranted entries pair.0 pair.1)
 
 -- as many sessions live as there is room for
 abbrev pub SessionsFull : List Entry → Type 0
-SessionsFull entries = HasAtLeast 64 (IsLive entries)
+SessionsFull entries = HasAtLeast SESSIONS (IsLive entries)
 
 -- all session numbers were given
 abbrev pub NumbersExhausted : List Entry → Type 0
-NumbersExhausted entries = 65535 ≤ logins entries
+NumbersExhausted entries = LAST_SESSION ≤ logins entries
 
-pub record FitsAddUser (entries : List Entry) (user : Text) : Type 0 where
+pub record FitsAddUser (entries : List Entry) (user : NameText) : Type 0 where
   pub absent : ¬ (IsUser entries user)
   pub room : ¬ (UsersFull entries)
 
-pub record FitsAddRole (entries : List Entry) (role : Text) : Type 0 where
+pub record FitsAddRole (entries : List Entry) (role : NameText) : Type 0 where
   pub absent : ¬ (IsRole entries role)
   pub room : ¬ (RolesFull entries)
 
-pub record FitsAssignUser (entries : List Entry) (user role : Text) : Type 0 where
+pub record FitsAssignUser (entries : List Entry) (user role : NameText) : Type 0 where
   pub is_user : IsUser entries user
   pub is_role : IsRole entries role
 
-pub record FitsGrantPermission (entries : List Entry) (role : Text) (op : Operation) (object : Object) : Type 0 where
+pub record FitsGrantPermission (entries : List Entry) (role : NameText) (op : Operation) (object : Object) : Type 0 where
   pub is_role : IsRole entries role
   pub room : ¬ (IsPairGranted entries op object) → ¬ (PermissionsFull entries)
 
-pub record FitsCreateSession (entries : List Entry) (session : Option ℕ) (roles : List Text) : Type 0 where
+pub record FitsCreateSession (entries : List Entry) (session : Option ℕ) (roles : List NameText) : Type 0 where
   pub by_none : session ≡ None
-  pub are_roles : (role : Text) → Contains roles role → IsRole entries role
+  pub are_roles : (role : NameText) → Contains roles role → IsRole entries role
   pub room : ¬ (SessionsFull entries)
-  pub numbers : logins entries < 65535
+  pub numbers : logins entries < LAST_SESSION
 
 pub record FitsDeleteSession (session : Option ℕ) : Type 0 where
   pub number : ℕ
@@ -69,5 +70,5 @@ FitsCommand _ session entries = ⊥
 
 -- there is a version for the longer list, and what the command asks holds
 pub record Fits (entries : List Entry) (entry : Entry) : Type 0 where
-  pub few : length entries + 1 < 2 ^ 64
+  pub few : length entries < LAST_VERSION
   pub command : FitsCommand entry.command entry.session entries

@@ -4,10 +4,10 @@ use Rattle.rbac_policy.specs.declared.objects.Operation.TheVariants.{Administer}
 use Rattle.rbac_policy.specs.declared.objects.Object.TheVariants.{Policy}
 use Rattle.rbac_policy.specs.declared.commands.AdminCommand.TheVariants.{AddUser, AddRole, AssignUser, GrantPermission}
 use Rattle.rbac_policy.specs.declared.commands.Entry.{Entry}
-use Rattle.rbac_policy.specs.Names.{Text}
+use Rattle.rbac_policy.specs.Names.{NameText}
 
 -- the name of the first user, and of its role
-abbrev pub root : Text
+abbrev pub root : NameText
 root = codes "root"
 
 -- the user root, the role root, the one assigned to the other, and the right to administer

@@ -2,6 +2,7 @@
 use Rattle.std.specs.Prelude.{◌≡◌, ℕ, zero, suc, ◌<◌, ◌^◌, ◌==◌, List, slice_index, if◌then◌else◌}
 use Rattle.std.specs.Int.{bit_at}
 use Rattle.std.specs.Int.RustNames.{bit_or}
+use Rattle.rbac_policy.specs.declared.sizes.TheConstants.{ROLES}
 
 -- a chain of edges, possibly empty, leads from the first to the second
 pub data Chain {A : Type 0} (Edge : A → A → Type 0) : A → A → Type 0 where
@@ -14,7 +15,7 @@ Has mask place = bit_at mask place ≡ 1
 
 -- the row of the senior has the junior
 abbrev pub IsRowEdge : List ℕ → ℕ → ℕ → Type 0
-IsRowEdge juniors senior junior = (senior < 32) × Has (slice_index juniors senior) junior
+IsRowEdge juniors senior junior = (senior < ROLES) × Has (slice_index juniors senior) junior
 
 -- the place is in the mask, or below one that is
 pub record IsBelowSome (juniors : List ℕ) (mask place : ℕ) : Type 0 where
@@ -34,7 +35,7 @@ with_rows (suc many) juniors mask =
 
 -- the mask, and the juniors of all of its places
 unfoldable pub widened : List ℕ → ℕ → ℕ
-widened juniors mask = with_rows 32 juniors mask
+widened juniors mask = with_rows ROLES juniors mask
 
 -- the mask, widened this many times
 unfoldable pub widened_often : ℕ → List ℕ → ℕ → ℕ
@@ -43,4 +44,4 @@ widened_often (suc many) juniors mask = widened juniors (widened_often many juni
 
 -- the mask, and all that lies below one of its places: it is widened as often as there are masks, so that nothing is left to add
 unfoldable pub below : List ℕ → ℕ → ℕ
-below juniors mask = widened_often (2 ^ 32) juniors mask
+below juniors mask = widened_often (2 ^ ROLES) juniors mask

@@ -8,7 +8,8 @@ use Rattle.rbac_policy.specs.declared.rows.Grant.{Grant}
 use Rattle.rbac_policy.specs.declared.rows.Session.{Session}
 use Rattle.rbac_policy.specs.declared.rows.DsdSet.{DsdSet}
 use Rattle.rbac_policy.specs.declared.policy.Policy.{Policy}
-use Rattle.rbac_policy.specs.Names.{Text}
+use Rattle.rbac_policy.specs.declared.sizes.TheConstants.{USERS, ROLES, GRANTS, SESSIONS, SETS}
+use Rattle.rbac_policy.specs.Names.{NameText}
 use Rattle.rbac_policy.specs.Order.{Has}
 use Rattle.rbac_policy.specs.Entries.{logins}
 use Rattle.rbac_policy.specs.Facts.{IsUser, IsRole, IsSet, IsAssigned, IsGranted, IsEdge, IsActive, Lives}
@@ -26,58 +27,58 @@ abbrev pub IsKeyed : {X A : Type 0} → (X → A) → List (Option X) → Type 0
 IsKeyed {X = X} key slots = (p q : ℕ) (x y : X) → At slots p x → At slots q y → key x ≡ key y → p ≡ q
 
 -- the mask has the place of the role
-pub record InMask (roles : List (Option Text)) (mask : ℕ) (role : Text) : Type 0 where
+pub record InMask (roles : List (Option NameText)) (mask : ℕ) (role : NameText) : Type 0 where
   pub place : ℕ
   pub there : At roles place role
   pub bit : Has mask place
 
 -- each place of the mask has a role
-abbrev pub IsNamed : List (Option Text) → ℕ → Type 0
-IsNamed roles mask = (place : ℕ) → Has mask place → (role : Text) × At roles place role
+abbrev pub IsNamed : List (Option NameText) → ℕ → Type 0
+IsNamed roles mask = (place : ℕ) → Has mask place → (role : NameText) × At roles place role
 
 -- the users and their assigned roles
-pub record UsersStand (roles : List (Option Text)) (users : List (Option User)) (entries : List Entry) : Type 0 where
-  pub exist : (user : Text) → IsUser entries user ↔ Holds (λ x. x.name ≡ user) users
-  pub assigned : (at : ℕ) (x : User) → At users at x → (role : Text) → IsAssigned entries x.name role ↔ InMask roles x.roles role
-  pub only_users : (user role : Text) → IsAssigned entries user role → IsUser entries user
+pub record UsersStand (roles : List (Option NameText)) (users : List (Option User)) (entries : List Entry) : Type 0 where
+  pub exist : (user : NameText) → IsUser entries user ↔ Holds (λ x. x.name ≡ user) users
+  pub assigned : (at : ℕ) (x : User) → At users at x → (role : NameText) → IsAssigned entries x.name role ↔ InMask roles x.roles role
+  pub only_users : (user role : NameText) → IsAssigned entries user role → IsUser entries user
   pub named : (at : ℕ) (x : User) → At users at x → IsNamed roles x.roles
   pub unique : IsKeyed (λ (x : User). x.name) users
-  pub places : length users ≡ 64
+  pub places : length users ≡ USERS
 
 -- the roles and the edges between them
-pub record RolesStand (roles : List (Option Text)) (juniors : List ℕ) (entries : List Entry) : Type 0 where
-  pub exist : (role : Text) → IsRole entries role ↔ Holds (λ x. x ≡ role) roles
-  pub unique : (p q : ℕ) (role : Text) → At roles p role → At roles q role → p ≡ q
-  pub edges : (place : ℕ) (role : Text) → At roles place role → (junior : Text) → IsEdge entries role junior ↔ InMask roles (slice_index juniors place) junior
-  pub only_roles : (senior junior : Text) → IsEdge entries senior junior → IsRole entries senior
+pub record RolesStand (roles : List (Option NameText)) (juniors : List ℕ) (entries : List Entry) : Type 0 where
+  pub exist : (role : NameText) → IsRole entries role ↔ Holds (λ x. x ≡ role) roles
+  pub unique : (p q : ℕ) (role : NameText) → At roles p role → At roles q role → p ≡ q
+  pub edges : (place : ℕ) (role : NameText) → At roles place role → (junior : NameText) → IsEdge entries role junior ↔ InMask roles (slice_index juniors place) junior
+  pub only_roles : (senior junior : NameText) → IsEdge entries senior junior → IsRole entries senior
   pub named : (place : ℕ) → IsNamed roles (slice_index juniors place)
   pub empty : (place : ℕ) → slice_get roles place ≡ Some None → (junior : ℕ) → Has (slice_index juniors place) junior → ⊥
-  pub places : length roles ≡ 32
+  pub places : length roles ≡ ROLES
 
 -- the pairs of an operation and an object that are granted to some role, with these roles
-pub record GrantsStand (roles : List (Option Text)) (grants : List (Option Grant)) (entries : List Entry) : Type 0 where
-  pub granted : (at : ℕ) (x : Grant) → At grants at x → (role : Text) → IsGranted entries role x.operation x.object ↔ InMask roles x.roles role
-  pub only_pairs : (role : Text) (op : Operation) (object : Object) → IsGranted entries role op object → Holds (λ x. (x.operation ≡ op) × (x.object ≡ object)) grants
+pub record GrantsStand (roles : List (Option NameText)) (grants : List (Option Grant)) (entries : List Entry) : Type 0 where
+  pub granted : (at : ℕ) (x : Grant) → At grants at x → (role : NameText) → IsGranted entries role x.operation x.object ↔ InMask roles x.roles role
+  pub only_pairs : (role : NameText) (op : Operation) (object : Object) → IsGranted entries role op object → Holds (λ x. (x.operation ≡ op) × (x.object ≡ object)) grants
   pub named : (at : ℕ) (x : Grant) → At grants at x → IsNamed roles x.roles
   pub used : (at : ℕ) (x : Grant) → At grants at x → (place : ℕ) × Has x.roles place
   pub unique : (p q : ℕ) (x y : Grant) → At grants p x → At grants q y → x.operation ≡ y.operation → x.object ≡ y.object → p ≡ q
-  pub places : length grants ≡ 256
+  pub places : length grants ≡ GRANTS
 
 -- the living sessions and their active roles
-pub record SessionsStand (roles : List (Option Text)) (sessions : List (Option Session)) (entries : List Entry) : Type 0 where
-  pub exist : (number : ℕ) (user : Text) → Lives entries number user ↔ Holds (λ x. (x.number ≡ number) × (x.user ≡ user)) sessions
-  pub active : (at : ℕ) (x : Session) → At sessions at x → (role : Text) → IsActive entries x.number role ↔ InMask roles x.active role
+pub record SessionsStand (roles : List (Option NameText)) (sessions : List (Option Session)) (entries : List Entry) : Type 0 where
+  pub exist : (number : ℕ) (user : NameText) → Lives entries number user ↔ Holds (λ x. (x.number ≡ number) × (x.user ≡ user)) sessions
+  pub active : (at : ℕ) (x : Session) → At sessions at x → (role : NameText) → IsActive entries x.number role ↔ InMask roles x.active role
   pub named : (at : ℕ) (x : Session) → At sessions at x → IsNamed roles x.active
   pub numbers : (at : ℕ) (x : Session) → At sessions at x → x.number ≤ logins entries
-  pub made : (number : ℕ) (role : Text) → IsActive entries number role → number ≤ logins entries
+  pub made : (number : ℕ) (role : NameText) → IsActive entries number role → number ≤ logins entries
   pub unique : IsKeyed (λ (x : Session). x.number) sessions
-  pub places : length sessions ≡ 64
+  pub places : length sessions ≡ SESSIONS
 
 -- The separation sets. No command fills their table yet, so that a policy stands only for lists without sets.
 pub record SetsStand (sets : List (Option DsdSet)) (entries : List Entry) : Type 0 where
-  pub none : (place : ℕ) (set : Text) (count : ℕ) (roles : List Text) → IsSet entries place set count roles → ⊥
+  pub none : (place : ℕ) (set : NameText) (count : ℕ) (roles : List NameText) → IsSet entries place set count roles → ⊥
   pub empty : (at : ℕ) (x : DsdSet) → At sets at x → ⊥
-  pub places : length sets ≡ 16
+  pub places : length sets ≡ SETS
 
 -- the policy stands for the entries
 pub record StandsFor (policy : Policy) (entries : List Entry) : Type 0 where

@@ -10,7 +10,8 @@ use Rattle.rbac_policy.specs.declared.objects.Object.{Object}
 use Rattle.rbac_policy.specs.declared.rows.User.{User}
 use Rattle.rbac_policy.specs.declared.rows.Grant.{Grant}
 use Rattle.rbac_policy.specs.declared.rows.Session.{Session}
-use Rattle.rbac_policy.specs.Names.{Text}
+use Rattle.rbac_policy.specs.declared.sizes.TheConstants.{ROLES}
+use Rattle.rbac_policy.specs.Names.{NameText}
 use Rattle.rbac_policy.specs.Objects.{same_operation, same_object}
 use Rattle.rbac_policy.specs.Order.{below}
 
@@ -19,22 +20,22 @@ abbrev pub At : {X : Type 0} → List (Option X) → ℕ → X → Type 0
 At slots place x = slice_get slots place ≡ Some (Some x)
 
 -- the slot has this user
-abbrev pub user_is : Text → Option User → Bool
+abbrev pub user_is : NameText → Option User → Bool
 user_is name None = false
 user_is name (Some user) = bytes_eq user.name name
 
 -- the slot has this role
-abbrev pub role_is : Text → Option Text → Bool
+abbrev pub role_is : NameText → Option NameText → Bool
 role_is name None = false
 role_is name (Some role) = bytes_eq role name
 
 -- where the role stands
-abbrev pub place_of : Text → List (Option Text) → Option ℕ
+abbrev pub place_of : NameText → List (Option NameText) → Option ℕ
 place_of name roles = position (role_is name) roles
 
 -- the mask with the bit of this place
 abbrev pub with_bit : ℕ → ℕ → ℕ
-with_bit mask place = bit_or mask (1 * 2 ^ place % 2 ^ 32)
+with_bit mask place = bit_or mask (1 * 2 ^ place % 2 ^ ROLES)
 
 -- the value in the place, if there is one
 abbrev pub put_at : {X : Type 0} → X → List (Option X) → Option ℕ → List (Option X)
@@ -46,12 +47,12 @@ abbrev pub put_free : {X : Type 0} → X → List (Option X) → List (Option X)
 put_free x slots = put_at x slots (position is_none slots)
 
 -- the user of this name has the role at this place, too
-abbrev pub user_given : Text → ℕ → Option User → Option User
+abbrev pub user_given : NameText → ℕ → Option User → Option User
 user_given name place None = None
 user_given name place (Some user) = if bytes_eq user.name name then Some (record { name = user.name; roles = with_bit user.roles place }) else Some user
 
 -- the mask of the first slot with this user
-abbrev pub roles_of : Text → List (Option User) → ℕ
+abbrev pub roles_of : NameText → List (Option User) → ℕ
 roles_of name [] = 0
 roles_of name (None ∷ slots) = roles_of name slots
 roles_of name (Some user ∷ slots) = if bytes_eq user.name name then user.roles else roles_of name slots
@@ -96,7 +97,7 @@ with_place mask None = mask
 with_place mask (Some place) = with_bit mask place
 
 -- the mask with the places of the listed roles
-abbrev pub mask_of : List (Option Text) → List Text → ℕ
+abbrev pub mask_of : List (Option NameText) → List NameText → ℕ
 mask_of roles names = fold (λ mask name. with_place mask (place_of name roles)) 0 names
 
 -- the first value that passes

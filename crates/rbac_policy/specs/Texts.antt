@@ -6,6 +6,7 @@ use Rattle.rbac_policy.specs.declared.objects.Operation.{Operation}
 use Rattle.rbac_policy.specs.declared.objects.Operation.TheVariants as operation
 use Rattle.rbac_policy.specs.declared.objects.Object.{Object}
 use Rattle.rbac_policy.specs.declared.objects.Object.TheVariants as object
+use Rattle.rbac_policy.specs.declared.objects.TheConstants.{SLOTS}
 
 -- the name of an operation
 abbrev pub operation_text : Operation → List ℕ
@@ -22,11 +23,11 @@ object_text object.Policy = codes "policy"
 object_text (object.Slot k) = decimal k
 object_text (object.Signal k signal) = decimal k ++ 46 ∷ signal
 
--- there are sixteen slots, and signals are named by identifiers
+-- a slot is one of those that there are, and signals are named by identifiers
 abbrev pub IsObject : Object → Type 0
 IsObject object.Policy = Unit {0}
-IsObject (object.Slot k) = k < 16
-IsObject (object.Signal k signal) = (k < 16) × IsTrue (is_identifier signal)
+IsObject (object.Slot k) = k < SLOTS
+IsObject (object.Signal k signal) = (k < SLOTS) × IsTrue (is_identifier signal)
 
 -- the operation of a name
 unfoldable pub operation_of : List ℕ → Option Operation

@@ -3,12 +3,11 @@ ghost use Rattle.std.specs.Prelude.{◌≡◌, ◌↔◌, ◌<◌, ◌==◌, IsT
 ghost use Rattle.std.specs.Int.{bit_at};
 ghost use Rattle.rbac_policy.specs.Order.{Meets, widened, below};
 
-/// Places in the table of roles.
-pub const ROLES: usize = 32;
+use crate::sizes::ROLES;
 
 /// Whether the mask has the place.
 pub fn has(mask: u32, place: u32) -> bool
-    requires { place < 32 }
+    requires { place < ROLES }
     ensures { result ≡ (bit_at mask place == 1) }
 {
     (mask >> place) & 1 == 1

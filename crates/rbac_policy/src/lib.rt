@@ -12,5 +12,6 @@ pub mod opening;
 pub mod policy;
 pub mod readers;
 mod rows;
+pub mod sizes;
 mod tables;
 pub mod texts;

@@ -12,24 +12,26 @@ pub const NAME_BYTES: usize = 24;
 /// The most roles that one command may list.
 pub const LISTED_ROLES: usize = 32;
 
-/// A name of a user, a role or a separation set: 1 to 24 letters, digits, `_` and `-`. A contract sees the list of its bytes.
+/// A name of a user, a role or a separation set: letters, digits, `_` and `-`, at least one and at most `NAME_BYTES`. A contract sees the list of its bytes.
 #[derive(Clone, Copy, PartialEq, Eq, Debug)]
 pub struct Name {
-    bytes: [u8; 24],
+    bytes: [u8; NAME_BYTES],
     count: u8,
 }
 
 impl Model for Name {
     ghost use Rattle.std.specs.Prelude.{List, ℕ, ◌-◌, ◌++◌, length, take, replicate, IsTrue};
-    ghost use Rattle.rbac_policy.specs.Names.{is_name, IsFilled};
+    ghost use Rattle.est_kernel.specs.Identifiers.{IsFilled};
+    ghost use Rattle.rbac_policy.specs.Names.{is_name};
+    ghost use Rattle.rbac_policy.specs.declared.names.TheConstants.{NAME_BYTES};
 
     ghost Value = { List ℕ };
 
     ghost view = { λ n. take n.count n.bytes };
 
-    ghost invariant = { λ n. IsFilled 24 n.bytes n.count × IsTrue (is_name (take n.count n.bytes)) };
+    ghost invariant = { λ n. IsFilled NAME_BYTES n.bytes n.count × IsTrue (is_name (take n.count n.bytes)) };
 
-    ghost inverse = { λ s. record { bytes = s ++ replicate (24 - length s) 0; count = length s } };
+    ghost inverse = { λ s. record { bytes = s ++ replicate (NAME_BYTES - length s) 0; count = length s } };
 }
 
 fn is_name_byte(byte: u8) -> bool
@@ -62,7 +64,7 @@ impl Name {
         if !is_name(text) {
             return None;
         }
-        let mut bytes = [0u8; 24];
+        let mut bytes = [0; NAME_BYTES];
         bytes[..text.len()].copy_from_slice(text);
         Some(Name {
             bytes,
@@ -80,7 +82,7 @@ impl Name {
         }
     }
 
-    /// Its bytes, 1 to 24, all of them ASCII.
+    /// Its bytes, at least one and at most `NAME_BYTES`, all of them ASCII.
     pub fn as_bytes(&self) -> &[u8]
         ensures { result.now ≡ self.now }
     {
@@ -104,24 +106,25 @@ impl Name {
     }
 }
 
-/// The roles that a command lists, at most 32, in the order of the command. A contract sees the list of their names.
+/// The roles that a command lists, at most `LISTED_ROLES`, in the order of the command. A contract sees the list of their names.
 #[derive(Clone, Copy, PartialEq, Eq, Debug)]
 pub struct RoleNames {
-    names: [Option<Name>; 32],
+    names: [Option<Name>; LISTED_ROLES],
     count: u8,
 }
 
 impl Model for RoleNames {
     ghost use Rattle.std.specs.Prelude.{List, ℕ, ◌-◌, ◌++◌, length, map, replicate, Some, None};
     ghost use Rattle.rbac_policy.specs.Names.{present, IsPacked};
+    ghost use Rattle.rbac_policy.specs.declared.names.TheConstants.{LISTED_ROLES};
 
     ghost Value = { List (List ℕ) };
 
     ghost view = { λ r. present r.names };
 
-    ghost invariant = { λ r. IsPacked 32 r.names r.count };
+    ghost invariant = { λ r. IsPacked LISTED_ROLES r.names r.count };
 
-    ghost inverse = { λ s. record { names = map Some s ++ replicate (32 - length s) None; count = length s } };
+    ghost inverse = { λ s. record { names = map Some s ++ replicate (LISTED_ROLES - length s) None; count = length s } };
 }
 
 impl RoleNames {
@@ -130,15 +133,15 @@ impl RoleNames {
         ensures { result ≡ [] }
     {
         RoleNames {
-            names: [None; 32],
+            names: [None; LISTED_ROLES],
             count: 0,
         }
     }
 
-    /// How many there are, 0 to 32.
+    /// How many there are, at most `LISTED_ROLES`.
     pub fn len(&self) -> usize
         ensures same { result ≡ length self.now }
-        ensures short { result ≤ 32 }
+        ensures short { result ≤ LISTED_ROLES }
     {
         self.count as usize
     }
@@ -152,7 +155,7 @@ impl RoleNames {
 
     /// Whether there is no place for another.
     pub fn is_full(&self) -> bool
-        ensures { IsTrue result ↔ (length self.now ≡ 32) }
+        ensures { IsTrue result ↔ (length self.now ≡ LISTED_ROLES) }
     {
         self.count as usize == LISTED_ROLES
     }
@@ -170,7 +173,7 @@ impl RoleNames {
 
     /// Adds the role at the end.
     pub fn push(&mut self, role: Name)
-        requires { length self.old < 32 }
+        requires { length self.old < LISTED_ROLES }
         ensures { self.new ≡ self.old ++ role ∷ [] }
     {
         self.names[self.count as usize] = Some(role);

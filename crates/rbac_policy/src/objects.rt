@@ -19,7 +19,7 @@ pub enum Operation {
 /// How many slots there are.
 pub const SLOTS: u8 = 16;
 
-/// The number of a slot, 0 to 15. A contract sees the number.
+/// The number of a slot, under `SLOTS`. A contract sees the number.
 #[derive(Clone, Copy, PartialEq, Eq, Debug)]
 pub struct SlotNumber {
     number: u8,
@@ -27,12 +27,13 @@ pub struct SlotNumber {
 
 impl Model for SlotNumber {
     ghost use Rattle.std.specs.Prelude.{ℕ, ◌<◌};
+    ghost use Rattle.rbac_policy.specs.declared.objects.TheConstants.{SLOTS};
 
     ghost Value = { ℕ };
 
     ghost view = { λ s. s.number };
 
-    ghost invariant = { λ s. s.number < 16 };
+    ghost invariant = { λ s. s.number < SLOTS };
 
     ghost inverse = { λ n. record { number = n } };
 }
@@ -70,7 +71,7 @@ impl Operation {
 impl SlotNumber {
     /// The slot of this number, if there is one.
     pub fn new(number: u8) -> Option<SlotNumber>
-        ensures { result ≡ (if nat_lt number 16 then Some number else None) }
+        ensures { result ≡ (if nat_lt number SLOTS then Some number else None) }
     {
         if number < SLOTS {
             Some(SlotNumber { number })
@@ -79,10 +80,10 @@ impl SlotNumber {
         }
     }
 
-    /// Its number, 0 to 15.
+    /// Its number, under `SLOTS`.
     pub fn number(&self) -> u8
         ensures same { result ≡ self.now }
-        ensures below { result < 16 }
+        ensures below { result < SLOTS }
     {
         self.number
     }

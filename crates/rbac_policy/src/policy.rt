@@ -8,15 +8,16 @@ ghost use Rattle.rbac_policy.specs.Opening.{opening_entries};
 ghost use Rattle.rbac_policy.specs.StandsFor.{StandsFor};
 ghost use Rattle.rbac_policy.specs.Change.{absorbed, assigned, changed, granted, logged_in, logged_out};
 
-use crate::closure::{ROLES, below, meets};
+use crate::closure::{below, meets};
 use crate::commands::{AdminCommand, Entry, SessionId};
 use crate::names::{Name, RoleNames};
 use crate::objects::{Object, Operation};
 use crate::opening::opening_entries;
 use crate::rows::{DsdSet, Grant, Session, User};
+use crate::sizes::{GRANTS, ROLES, SESSIONS, SETS, USERS};
 use crate::tables::{
-    GRANTS, SESSIONS, SETS, USERS, end_session, end_unauthorized, give_grant, give_role, grant_of,
-    mask_of, place_of, put_role, put_session, put_user, session_of,
+    end_session, end_unauthorized, give_grant, give_role, grant_of, mask_of, place_of, put_role,
+    put_session, put_user, session_of,
 };
 
 /// What a list of accepted entries says, in tables of fixed size. It takes no memory.

@@ -10,6 +10,7 @@ use crate::commands::SessionId;
 use crate::names::Name;
 use crate::objects::{Object, Operation};
 use crate::policy::Policy;
+use crate::sizes::LAST_SESSION;
 use crate::tables::{free_grant, free_session, grant_of, has_user, place_of, roles_of, session_of};
 
 impl Policy {
@@ -74,7 +75,7 @@ impl Policy {
     pub fn are_numbers_exhausted(&self) -> bool
         ensures { (entries : List Entry) → StandsFor self.now entries → (IsTrue result ↔ NumbersExhausted entries) }
     {
-        self.logins == u16::MAX
+        self.logins == LAST_SESSION
     }
 
     /// Whether as many sessions live as there is room for.

@@ -4,23 +4,12 @@ ghost use Rattle.std.specs.List.{list_any};
 ghost use Rattle.std.specs.Option.{ForSome};
 ghost use Rattle.rbac_policy.specs.Tables.{first_of, grant_given, grant_is, grant_of, grants_given, has_only_authorized, mask_of, place_of, put_free, role_is, roles_of, session_of, session_kept, session_without, user_given, user_is, with_bit, with_place};
 
-use crate::closure::{ROLES, below};
+use crate::closure::below;
 use crate::commands::SessionId;
 use crate::names::{Name, RoleNames};
 use crate::objects::{Object, Operation};
 use crate::rows::{Grant, Session, User};
-
-/// Places in the table of users.
-pub const USERS: usize = 64;
-
-/// Places in the table of granted pairs of an operation and an object.
-pub const GRANTS: usize = 256;
-
-/// Places in the table of live sessions.
-pub const SESSIONS: usize = 64;
-
-/// Places in the table of separation sets.
-pub const SETS: usize = 16;
+use crate::sizes::{GRANTS, ROLES, SESSIONS, USERS};
 
 fn user_is(slot: &Option<User>, name: &Name) -> bool
     ensures { result ≡ user_is name.now slot.now }
@@ -50,14 +39,14 @@ pub fn has_user(users: &[Option<User>; USERS], name: &Name) -> bool
 /// The place of the role.
 pub fn place_of(roles: &[Option<Name>; ROLES], name: &Name) -> Option<usize>
     ensures place { result ≡ place_of name.now roles.now }
-    ensures below { IfSome result (λ p. p < 32) }
+    ensures below { IfSome result (λ p. p < ROLES) }
 {
     roles.iter().position(|slot| role_is(slot, name))
 }
 
 /// The mask with the bit of this place.
 pub fn with_bit(mask: u32, place: u32) -> u32
-    requires { place < 32 }
+    requires { place < ROLES }
     ensures { result ≡ with_bit mask place }
 {
     mask | 1 << place
@@ -96,7 +85,7 @@ pub fn put_role(roles: &mut [Option<Name>; ROLES], role: Name)
 }
 
 fn user_given(slot: &Option<User>, name: &Name, place: u32) -> Option<User>
-    requires { place < 32 }
+    requires { place < ROLES }
     ensures { result ≡ user_given name.now place slot.now }
 {
     match slot {
@@ -110,7 +99,7 @@ fn user_given(slot: &Option<User>, name: &Name, place: u32) -> Option<User>
 
 /// Assigns the role at this place to the user.
 pub fn give_role(users: &mut [Option<User>; USERS], name: &Name, place: u32)
-    requires { place < 32 }
+    requires { place < ROLES }
     ensures { users.new ≡ map (user_given name.now place) users.old }
 {
     for at in 0..USERS {
@@ -161,7 +150,7 @@ fn grant_given(
     object: &Object,
     place: u32,
 ) -> Option<Grant>
-    requires { place < 32 }
+    requires { place < ROLES }
     ensures { result ≡ grant_given operation.now object.now place slot.now }
 {
     match slot {
@@ -180,7 +169,7 @@ fn widen_grants(
     object: &Object,
     place: u32,
 )
-    requires { place < 32 }
+    requires { place < ROLES }
     ensures { grants.new ≡ map (grant_given operation.now object.now place) grants.old }
 {
     for at in 0..GRANTS {
@@ -195,7 +184,7 @@ pub fn give_grant(
     object: &Object,
     place: u32,
 )
-    requires { place < 32 }
+    requires { place < ROLES }
     ensures { grants.new ≡ grants_given operation.now object.now place grants.old }
 {
     if has_grant(grants, operation, object) {
@@ -314,7 +303,7 @@ pub fn session_of(sessions: &[Option<Session>; SESSIONS], number: SessionId) -> 
 }
 
 fn with_place(mask: u32, place: Option<usize>) -> u32
-    requires { ForSome place (λ p. p < 32) }
+    requires { ForSome place (λ p. p < ROLES) }
     ensures { result ≡ with_place mask place }
 {
     match place {

@@ -1,6 +1,6 @@
 use Rattle.std.proofs.Common.{◌≡◌, sym, ◌∙◌, subst, arith}
 use Rattle.std.proofs.lemmas.Option.{same_Some}
-use Rattle.rbac_policy.specs.Names.{Text}
+use Rattle.rbac_policy.specs.Names.{NameText}
 use Rattle.rbac_policy.specs.Facts.{IsAuthorized}
 use Rattle.rbac_admin.proofs.Answering.{not_so, is_so}
 use Rattle.rbac_admin.proofs.Listing.{first_here, none_further, none_at_all}
@@ -18,7 +18,7 @@ loop-place-preserved c = λ L st.
     elim c.match-get.branch [
       | in-Some+else-not-is_authorized w ↦
           (let same : w.in-Some.role ≡ name = same_Some w.in-Some.role name (sym w.in-Some.is ∙ c.get.ensures ∙ there) in
-          let Known : Text → Type 0 = λ name. IsAuthorized L c.args.user.now name in
+          let Known : NameText → Type 0 = λ name. IsAuthorized L c.args.user.now name in
           no (subst Known same (is_so (w.is_authorized.ensures L st) w.if-not-is_authorized.false)))
       | in_default w ↦ (let e = w.in_default.is in let g = c.get.ensures in cc)
     ])
