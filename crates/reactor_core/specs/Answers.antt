@@ -12,10 +12,11 @@ use Rattle.reactor_core.specs.declared.entry.Instant.{Instant}
 use Rattle.reactor_core.specs.declared.entry.Action.TheVariants.{Load, Offer, Step}
 use Rattle.reactor_core.specs.declared.entry.SlotEntry.{SlotEntry}
 use Rattle.reactor_core.specs.declared.refusal.Refusal.{Refusal}
-use Rattle.reactor_core.specs.declared.refusal.Refusal.TheVariants.{UnknownSignal, NotInput, AlreadyOffered, NoInstant, JournalFull, Stuck, Lexical, Syntax, UnknownModule, UnknownName, DuplicateName, EmitInput, InstantLoop, TooLarge, Memory}
+use Rattle.reactor_core.specs.declared.refusal.Refusal.TheVariants.{UnknownSignal, NotInput, AlreadyOffered, NoInstant, JournalFull, Stuck, Memory}
 use Rattle.reactor_core.specs.declared.journal.TheConstants.{JOURNAL_ENTRIES}
 use Rattle.reactor_core.specs.declared.reactor.Shown.{Shown}
 use Rattle.reactor_core.specs.Reacting.{ReactsWith, HasReaction, IsStuck}
+use Rattle.reactor_core.specs.Loading.{IsKernelOf, IsLoadFault}
 use Rattle.reactor_core.specs.Meaning.{entry, instant, Running, running_of, place_of, Leaves}
 
 -- the journal may take another entry
@@ -78,34 +79,29 @@ StepAnswer before stamp answer after =
     × (after ≡ before ++ entry stamp (Step (instant r.pending outputs)) ∷ [])))
     (λ e. RefusesStep before r term e × (after ≡ before))
 
--- what is wrong with a module text, or with its size
-abbrev pub IsTextFault : Refusal → Type 0
-IsTextFault (Lexical place) = Unit {0}
-IsTextFault (Syntax place) = Unit {0}
-IsTextFault (UnknownModule name) = Unit {0}
-IsTextFault (UnknownName name) = Unit {0}
-IsTextFault (DuplicateName name) = Unit {0}
-IsTextFault (EmitInput name) = Unit {0}
-IsTextFault InstantLoop = Unit {0}
-IsTextFault (TooLarge limit) = Unit {0}
-IsTextFault _ = ⊥
+-- why a load of the text's module of this name is refused: it gives no kernel, or else by the journal
+pub data RefusesLoad (journal : List SlotEntry) (main text : List ℕ) : Refusal → Type 0 where
+  by_text : (e : Refusal) → IsLoadFault main text e → RefusesLoad journal main text e
+  by_journal : (kernel : Kernel) → IsKernelOf main text kernel → (e : Refusal) → RefusesEntry journal e → RefusesLoad journal main text e
 
--- a fault of the text, or want of memory
-abbrev pub IsReadFault : Refusal → Type 0
-IsReadFault Memory = Unit {0}
-IsReadFault e = IsTextFault e
+-- a load is accepted: the text's module of this name has this kernel, and its entry is added
+pub record AcceptsLoad (before : List SlotEntry) (stamp : Stamp) (main text : List ℕ) (after : List SlotEntry) : Type 0 where
+  pub kernel : Kernel
+  pub read : IsKernelOf main text kernel
+  pub room : HasRoom before
+  pub added : after ≡ before ++ entry stamp (Load (record { main = main; text = text; kernel = kernel })) ∷ []
 
--- why a load is refused: by the text, or for want of memory, or else by the journal
-abbrev pub RefusesLoad : List SlotEntry → Refusal → Type 0
-RefusesLoad journal e = IsReadFault e ⊎ RefusesEntry journal e
+-- a load is refused, and the journal is given back as it was
+pub record RejectsLoad (before : List SlotEntry) (main text : List ℕ) (refusal : Refusal) (after : List SlotEntry) : Type 0 where
+  pub why : RefusesLoad before main text refusal
+  pub stays : after ≡ before
 
 -- the answer to a load of the text's module of this name: the reactor, with the journal afterwards, or the refusal and the journal
 abbrev pub LoadAnswer : (before : List SlotEntry) → Stamp → (main text : List ℕ) → Result (List SlotEntry) (Refusal × List SlotEntry) → Type 0
 LoadAnswer before stamp main text answer =
     MatchResult answer
-    (λ after. HasRoom before
-    × ((kernel : Kernel) × (after ≡ before ++ entry stamp (Load (record { main = main; text = text; kernel = kernel })) ∷ [])))
-    (λ refused. RefusesLoad before refused.0 × (refused.1 ≡ before))
+    (AcceptsLoad before stamp main text)
+    (λ refused. RejectsLoad before main text refused.0 refused.1)
 
 -- the n-th instant since the load
 abbrev pub IsInstant : Running → ℕ → Instant → Type 0

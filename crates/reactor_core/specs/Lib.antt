@@ -10,3 +10,4 @@ pub mod Syntax
 pub mod Trees
 pub mod Modules
 pub mod Reading
+pub mod Loading

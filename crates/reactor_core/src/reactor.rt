@@ -1,5 +1,5 @@
 //! A running module with its journal.
-ghost use Rattle.std.specs.Prelude.{◌≡◌, ◌⊎◌, ◌<◌, ◌-◌, ◌^◌, ◌++◌, ◌∷◌, [], length, bit_or, Some, MatchResult, MatchOption, IfErr, ℕ, true, false, slice_get};
+ghost use Rattle.std.specs.Prelude.{◌≡◌, ◌⊎◌, ◌<◌, ◌-◌, ◌^◌, ◌++◌, ◌∷◌, [], length, bit_or, Some, MatchResult, MatchOption, ℕ, true, false, slice_get};
 ghost use Rattle.est_kernel.specs.Bits.{bits};
 ghost use Rattle.est_kernel.specs.declared.interface.Kind.TheVariants.{Input};
 ghost use Rattle.est_kernel.specs.Term.{Term};
@@ -8,11 +8,11 @@ ghost use Rattle.est_meaning.specs.States.{IsState};
 ghost use Rattle.est_rounds.specs.Contract.{AreInputs, IsReaction, HasNoReaction};
 ghost use Rattle.reactor_core.specs.Meaning.{Running, running_of, entry};
 ghost use Rattle.reactor_core.specs.Standing.{LoadsAt, IsRunning};
-ghost use Rattle.reactor_core.specs.Answers.{LoadAnswer, IsReadFault, OfferAnswer, StepAnswer, ShownAnswer, HasRoom, RefusesEntry, RefusesName, IsSignal};
+ghost use Rattle.reactor_core.specs.Answers.{LoadAnswer, OfferAnswer, StepAnswer, ShownAnswer, HasRoom, RefusesEntry, RefusesName, IsSignal};
 
 use crate::entry::{Action, Instant, Load, SlotEntry, Stamp};
 use crate::journal::{JOURNAL_ENTRIES, Journal};
-use crate::reader::read_module;
+use crate::reader::read_kernel;
 use crate::refusal::Refusal;
 use crate::text::Text;
 use est_kernel::identifier::Identifier;
@@ -154,15 +154,6 @@ fn append_step(
     journal.append(entry)?;
     instants.push_reserved(instant);
     Ok(())
-}
-
-/// The kernel of the module `main` of a text.
-fn read_kernel(alloc: Global, main: &Identifier, text: &str) -> Result<Kernel, Refusal>
-    ensures { IfErr result IsReadFault }
-{
-    let (interface, root) = read_module(alloc, main, text)?;
-    let kernel = Kernel::build(interface, root)?;
-    Ok(kernel)
 }
 
 impl Reactor {

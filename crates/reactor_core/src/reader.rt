@@ -12,6 +12,7 @@ ghost use Rattle.est_kernel.specs.Scope.{IsClosed};
 ghost use Rattle.est_kernel.specs.View.{term_of};
 ghost use Rattle.reactor_core.specs.Reading.{AreRead, IsReading, IsNameFault, IsReadFaultOf};
 ghost use Rattle.reactor_core.specs.Lexical.{IsLexicalFault};
+ghost use Rattle.reactor_core.specs.Loading.{IsKernelOf, IsLoadFault};
 
 mod checks;
 mod cursor;
@@ -35,9 +36,10 @@ use crate::reader::parser::{SyntaxFault, parse};
 use crate::reader::place::{front, place_after};
 use crate::reader::token::Located;
 use crate::reader::translation::{interface_of, statement_of};
-use crate::refusal::Limit;
+use crate::refusal::{Limit, Refusal};
 use est_kernel::identifier::Identifier;
 use est_kernel::interface::Interface;
+use est_kernel::kernel::Kernel;
 use est_kernel::statement::Statement;
 use std::alloc::Global;
 
@@ -102,6 +104,16 @@ pub fn read_module(
         Ok(tokens) => read_tokens(alloc, main, text, &tokens),
         Err(fault) => Err(lexical_fault(text, fault)),
     }
+}
+
+/// The kernel of the text of one module, whose name is that of the main module.
+pub fn read_kernel(alloc: Global, main: &Identifier, text: &str) -> Result<Kernel, Refusal>
+    ensures kernel { IfOk result (IsKernelOf main.now text.now) }
+    ensures fault { IfErr result (IsLoadFault main.now text.now) }
+{
+    let (interface, root) = read_module(alloc, main, text)?;
+    let kernel = Kernel::build(interface, root)?;
+    Ok(kernel)
 }
 
 #[cfg(test)]
