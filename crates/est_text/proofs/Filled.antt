@@ -1,0 +1,22 @@
+-- A text at the front of an array of zeros.
+use Rattle.std.proofs.Common.{◌≡◌, ℕ, ◌≤◌, List, [], ◌∷◌, ◌++◌, length, take, drop, refl, arith, true}
+use Rattle.std.specs.Prelude.{replicate}
+use Rattle.std.proofs.lemmas.List.{length-replicate, drop-replicate}
+use Rattle.std.proofs.lemmas.Bool.Decides.{nat_tests}
+use Rattle.std.proofs.lemmas.Grind.{common_steps}
+use Rattle.est_text.specs.Identifiers.{IsFilled, is_identifier}
+
+pub front : (text rest : List ℕ) (n : ℕ) → length text ≡ n → take n (text ++ rest) ≡ text
+front text rest n e = grind (arith, common_steps)
+
+pub filled : (m : ℕ) (text : List ℕ) (n : ℕ) → length text ≡ n → n ≤ m → IsFilled m (text ++ drop n (replicate m 0)) n
+filled m text n e h = record {
+  whole = grind (arith, common_steps, length-replicate {A = ℕ} m 0);
+  fits = h;
+  rest = rw (front text (drop n (replicate m 0)) n e, drop-replicate {X = ℕ} n m 0) refl;
+}
+
+-- an identifier has at most 48 bytes
+pub short_identifier : (text : List ℕ) → is_identifier text ≡ true → length text ≤ 48
+short_identifier [] h = grind arith
+short_identifier (b ∷ bs) h = grind (arith, nat_tests, common_steps)

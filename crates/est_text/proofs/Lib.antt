@@ -1,0 +1,3 @@
+mod Ascii
+mod Filled
+mod Spans

@@ -1,0 +1,5 @@
+pub mod Identifiers
+pub mod Keywords
+pub mod Pieces
+pub mod Places
+pub mod TokenLists
