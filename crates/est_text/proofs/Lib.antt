@@ -1,3 +1,5 @@
 mod Ascii
 mod Filled
+mod Fronts
+mod Runs
 mod Spans

@@ -1,5 +1,6 @@
 pub mod Identifiers
 pub mod Keywords
+pub mod Lexing
 pub mod Pieces
 pub mod Places
 pub mod TokenLists

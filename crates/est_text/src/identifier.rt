@@ -29,7 +29,8 @@ impl Model for Identifier {
     ghost inverse = { λ s. record { bytes = s ++ replicate (48 - length s) 0; count = length s } };
 }
 
-fn is_identifier_byte(byte: u8) -> bool
+/// Letters, digits and `_`, of ASCII.
+pub fn is_identifier_byte(byte: u8) -> bool
     ensures { result ≡ is_identifier_byte byte }
 {
     byte.is_ascii_alphanumeric() || byte == b'_'

@@ -8,7 +8,9 @@
 
 pub mod identifier;
 pub mod keyword;
+pub mod lex;
 pub mod piece;
 pub mod place;
+mod scan;
 pub mod token;
 pub mod tokens;

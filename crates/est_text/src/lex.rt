@@ -1,0 +1,75 @@
+//! From a text to its tokens.
+ghost use Rattle.std.specs.Prelude.{◌≡◌, ◌++◌, IfOk, IfErr, OnOk, ◌<◌, ◌+◌, ◌^◌};
+ghost use Rattle.est_text.specs.Pieces.{AreTokens, located};
+ghost use Rattle.est_text.specs.Lexing.{IsLexFault};
+
+use crate::piece::{Piece, first_piece};
+use crate::place::{Place, Span, place_after};
+use crate::token::Located;
+use crate::tokens::{Tokens, front};
+use std::alloc::{AllocError, Global};
+
+/// Why a text has no tokens.
+#[derive(Clone, Copy, PartialEq, Eq, Debug)]
+pub enum LexFault {
+    /// The first place where no blank, no comment and no token can stand.
+    Lexical(Place),
+    /// Memory was refused.
+    Memory,
+}
+
+impl From<AllocError> for LexFault {
+    ghost use Rattle.std.specs.Prelude.{◌≡◌};
+    ghost use Rattle.est_text.specs.declared.lex.LexFault.TheVariants.{Memory};
+
+    ghost from_gives = { λ _ e. e ≡ Memory };
+
+    fn from(_e: AllocError) -> LexFault {
+        LexFault::Memory
+    }
+}
+
+/// Adds the token that a piece of so many bytes is, if it is one.
+fn add(
+    tokens: &mut Vec<Located>,
+    piece: Piece,
+    start: usize,
+    count: usize,
+) -> Result<(), AllocError>
+    requires { start + count < 2 ^ 64 }
+    ensures { OnOk result (tokens.new.items ≡ tokens.old.items ++ located piece start count) }
+{
+    if let Piece::Token(token) = piece {
+        let end = start + count;
+        tokens.push(Located {
+            token,
+            span: Span { start, end },
+        })?;
+    }
+    Ok(())
+}
+
+/// The tokens of a text, or the first place where neither a token nor a blank or a comment stands.
+pub fn lex(alloc: Global, text: &str) -> Result<Tokens<'_>, LexFault>
+    ensures source { IfOk result (λ tokens. tokens.source ≡ text.now) }
+    ensures tokens { IfOk result (λ tokens. AreTokens text.now tokens.located) }
+    ensures fault { IfErr result (λ fault. IsLexFault text.now fault) }
+{
+    // The end of a text as long as memory itself has no number; no text leaves so little room.
+    if text.len() == usize::MAX {
+        return Err(LexFault::Memory);
+    }
+    let mut tokens = Vec::new(alloc);
+    let mut start = 0;
+    let mut rest = text.as_bytes();
+    while !rest.is_empty() {
+        let Some((piece, count)) = first_piece(rest) else {
+            let place = place_after(front(text.as_bytes(), start));
+            return Err(LexFault::Lexical(place));
+        };
+        add(&mut tokens, piece, start, count)?;
+        start += count;
+        rest = rest.split_at(count).1;
+    }
+    Ok(Tokens::new(text, tokens))
+}
