@@ -11,6 +11,7 @@ use Rattle.est_kernel.specs.declared.interface.Declaration.{Declaration}
 use Rattle.est_kernel.specs.declared.statement.Statement.{Statement}
 use Rattle.est_kernel.specs.declared.statement.Statement.TheVariants.{Nothing, Pause, Emit, Present', Suspend', Seq', Loop', Par', Trap', Exit, Local' as Binder'}
 
+-- that no two pauses have one number
 pub IsNumbered-prop : (s : Statement) → IsProp (IsNumbered s)
 IsNumbered-prop Nothing = Unit-prop
 IsNumbered-prop (Pause n) = Unit-prop
@@ -24,6 +25,7 @@ IsNumbered-prop (Trap' x p) = IsNumbered-prop p
 IsNumbered-prop (Exit k) = Unit-prop
 IsNumbered-prop (Binder' s x p) = IsNumbered-prop p
 
+-- that loops' bodies take time
 pub IsLoopSafe-prop : (t : Term) → IsProp (IsLoopSafe t)
 IsLoopSafe-prop nothing = Unit-prop
 IsLoopSafe-prop pause = Unit-prop
@@ -38,18 +40,22 @@ IsLoopSafe-prop (trap p) = IsLoopSafe-prop p
 IsLoopSafe-prop (exit k) = Unit-prop
 IsLoopSafe-prop (signal s p) = IsLoopSafe-prop p
 
+-- that a signal is there
 IsVisible-prop : (i : List Declaration) (n : ℕ) (s : Name) → IsProp (IsVisible i n s)
 IsVisible-prop i n (outer m) = le_prop
 IsVisible-prop i n (inner m) = le_prop
 
+-- that what is asked is there
 IsAsked-prop : (i : List Declaration) (n : ℕ) (s : Query) → IsProp (IsAsked i n s)
 IsAsked-prop i n tick = Unit-prop
 IsAsked-prop i n (of s) = IsVisible-prop i n s
 
+-- that a signal may be emitted
 IsEmitted-prop : (i : List Declaration) (n : ℕ) (s : Name) → IsProp (IsEmitted i n s)
 IsEmitted-prop i n (outer m) = hlevel Bool-set
 IsEmitted-prop i n (inner m) = le_prop
 
+-- that each name has its binder
 pub IsClosed-prop : (i : List Declaration) (m n : ℕ) (t : Term) → IsProp (IsClosed i m n t)
 IsClosed-prop i m n nothing = Unit-prop
 IsClosed-prop i m n pause = Unit-prop

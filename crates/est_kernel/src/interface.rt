@@ -17,7 +17,9 @@ pub const MOST_SIGNALS: usize = 64;
 /// Whether a signal comes from outside or goes there.
 #[derive(Clone, Copy, PartialEq, Eq, Debug)]
 pub enum Kind {
+    /// It may be offered, and isn't emitted.
     Input,
+    /// It may be emitted, and isn't offered.
     Output,
 }
 
@@ -36,7 +38,9 @@ impl Kind {
 /// A signal of an interface.
 #[derive(Clone, Copy, PartialEq, Eq, Debug)]
 pub struct Declaration {
+    /// Its name.
     pub name: Identifier,
+    /// Whether it is an input or an output.
     pub kind: Kind,
 }
 

@@ -18,9 +18,13 @@ pub const MOST_LOCALS: u16 = 6;
 /// What a kernel has too many of.
 #[derive(Clone, Copy, PartialEq, Eq, Debug)]
 pub enum Limit {
+    /// Statements, over `MOST_STATEMENTS`.
     Statements,
+    /// Loops in one another, over `MOST_LOOPS`.
     Loops,
+    /// Traps in one another, over `MOST_TRAPS`.
     Traps,
+    /// Local signals in one another, over `MOST_LOCALS`.
     Locals,
 }
 
@@ -94,7 +98,7 @@ fn nesting_of(s: &Statement) -> Depths
     }
 }
 
-/// What is left of a room for statements, if they fit.
+/// What is left of a room for statements, if they fit. It goes no deeper than the room, whatever statement comes.
 fn room_after(s: &Statement, room: u16) -> Option<u16>
     ensures { MatchOption result (room < statement_count (term_of s.now)) (λ r. r + statement_count (term_of s.now) ≡ room) }
 {

@@ -1,12 +1,18 @@
 -- Rounds only learn, and there are enough of them.
-use Rattle.std.proofs.Common.{◌≡◌, ◌≤◌, ◌<◌, ℕ, zero, suc, ◌+◌, Bool, true, false, cond, ◌&&◌, inl, inr, refl, ap, sym, ◌∙◌, arith}
-use Rattle.std.proofs.lemmas.Bool.{and_parts, cases_eq, cases_lt}
+use Rattle.std.proofs.Common.{◌≡◌, ◌≤◌, ◌<◌, ℕ, zero, suc, ◌+◌, Bool, true, false, cond, ◌&&◌, inl, inr, refl, ap, sym, ◌∙◌, arith, List, length}
+use Rattle.std.proofs.lemmas.Bool.{and_parts, both_ways, cases_eq, cases_lt}
 use mathlib.Core.Path.{fun_ext}
+use Rattle.est_kernel.proofs.Interfaces.{declares_beyond}
+use Rattle.est_kernel.specs.Interfaces.{outputs_of}
 use Rattle.est_kernel.specs.Term.{outer, inner, Term}
-use Rattle.est_meaning.specs.Status.{Status, on, off, unknown, Env, verdict, is_unknown}
+use Rattle.est_kernel.specs.declared.interface.Declaration.{Declaration}
+use Rattle.est_kernel.specs.declared.interface.Kind.TheVariants.{Output}
+use Rattle.est_meaning.specs.declared.status.Status.{Status}
+use Rattle.est_meaning.specs.declared.status.Status.TheVariants.{Present, Absent, Unknown}
+use Rattle.est_meaning.specs.Status.{Env, verdict, is_unknown}
 use Rattle.est_meaning.specs.MustCan.{sure, must, can}
 use Rattle.est_meaning.specs.Knowledge.{IsBelow, KnowsLess}
-use Rattle.est_meaning.specs.Rounds.{JudgedSignals, first_env, round, env_after, how_many, last_env}
+use Rattle.est_meaning.specs.Rounds.{JudgedSignals, judged_outputs, first_env, round, env_after, how_many, last_env}
 use Rattle.est_meaning.specs.Laws.{IsWithinPlaces}
 use Rattle.est_meaning.proofs.Monotony.{verdict_below, monotone, must_can}
 use Rattle.est_meaning.proofs.Settled.{settled}
@@ -29,7 +35,7 @@ first_below : (j : JudgedSignals) (inputs : ℕ → Bool) (t : Term) → KnowsLe
 unfolding round first_env
 first_below j inputs t (outer n) = go (j.has n) _
   where
-    go : (b : Bool) (v : Status) → IsBelow (cond b unknown (verdict (inputs n) false)) (cond b v (cond b unknown (verdict (inputs n) false)))
+    go : (b : Bool) (v : Status) → IsBelow (cond b Unknown (verdict (inputs n) false)) (cond b v (cond b Unknown (verdict (inputs n) false)))
     go true v = inl refl
     go false v = inr refl
 first_below j inputs t (inner n) = inr refl
@@ -86,10 +92,10 @@ known_same : (v w : Status) → IsBelow v w → is_unknown v ≡ is_unknown w �
 known_same v w (inr h) g = h
 known_same v w (inl h) g = h ∙ sym (is_it w (sym g ∙ ap is_unknown h))
   where
-    is_it : (w : Status) → is_unknown w ≡ true → w ≡ unknown
-    is_it on e = cc
-    is_it off e = cc
-    is_it unknown e = refl
+    is_it : (w : Status) → is_unknown w ≡ true → w ≡ Unknown
+    is_it Present e = cc
+    is_it Absent e = cc
+    is_it Unknown e = refl
 
 when_has : (b x y : Bool) → b ≡ true → (b && x) ≡ (b && y) → x ≡ y
 when_has b x y e h = rw e at h
@@ -138,3 +144,10 @@ settles j w inputs t m l =
     let c : rounds + 0 ≡ rounds = omega arith in
     let still = rw c at (enough j w inputs t rounds 0 few) in
     sym (settled m rounds l j t (first_env j inputs) still)
+
+-- the outputs of an interface have places of it
+pub outputs_within : (interface : List Declaration) → IsWithinPlaces (judged_outputs interface)
+outputs_within interface n h = elim (cases_lt n (length interface)) [
+  | inl l ↦ l
+  | inr g ↦ absurd (both_ways (outputs_of interface n) (declares_beyond Output interface n g) h)
+]

@@ -5,7 +5,9 @@ use Rattle.std.proofs.lemmas.Bool.{or_cases, and_parts, both_ways}
 use Rattle.est_kernel.specs.Term.{inner, Query, tick, of, Term, nothing, pause, emit, present, suspend, held, seq, loop, par, trap, exit, signal}
 use Rattle.est_kernel.specs.Codes.{Codes, no_codes, code, either_code, but_zero, max_codes, some_up_to, down}
 use Rattle.est_meaning.specs.Signals.{Signals, no_signals, union, without, same_name}
-use Rattle.est_meaning.specs.Status.{Status, on, off, unknown, Env, status_of, with_local, verdict, by_status}
+use Rattle.est_meaning.specs.declared.status.Status.{Status}
+use Rattle.est_meaning.specs.declared.status.Status.TheVariants.{Present, Absent, Unknown}
+use Rattle.est_meaning.specs.Status.{Env, status_of, with_local, verdict, by_status}
 use Rattle.est_meaning.specs.MustCan.{Acts, no_acts, ends, either, together, trapped, hide, may_stay, must_then, can_then, Mode, sure, maybe, next_mode, must, can, env_within}
 use Rattle.est_meaning.specs.Rules.{outside}
 use Rattle.est_meaning.specs.Knowledge.{IsBelow, KnowsLess, IsIn, IsWithin}
@@ -127,9 +129,9 @@ one_down a f i j h l =
     x.2 ∙ (ap outside (f x.0 y.0 x.1 y.1) ∙ sym y.2)
 
 one_chosen : (v : Status) (a b : Acts) → IsOne a.codes → IsOne b.codes → IsOne (by_status v a b no_acts).codes
-one_chosen on a b f g = f
-one_chosen off a b f g = g
-one_chosen unknown a b f g = one_none
+one_chosen Present a b f g = f
+one_chosen Absent a b f g = g
+one_chosen Unknown a b f g = one_none
 
 one_then : (x : Bool) (a b : Acts) → IsOne a.codes → IsOne b.codes → IsOne (cond x (record { signals = union a.signals b.signals; codes = b.codes }) a).codes
 one_then true a b f g = g
@@ -204,9 +206,9 @@ local_below e f s v w k b t = go (same_name (inner s) t)
     go false = k t
 
 must_can_chosen : (v : Status) (a b c d x : Acts) → IsWithin a c → IsWithin b d → IsWithin (by_status v a b no_acts) (by_status v c d x)
-must_can_chosen on a b c d x f g = f
-must_can_chosen off a b c d x f g = g
-must_can_chosen unknown a b c d x f g = none_within x
+must_can_chosen Present a b c d x f g = f
+must_can_chosen Absent a b c d x f g = g
+must_can_chosen Unknown a b c d x f g = none_within x
 
 -- what must be done can be done
 pub must_can : (t : Term) (e : Env) → IsWithin (must t e) (can t sure e)
@@ -244,24 +246,24 @@ must_chosen v w a b c d (inl h) f g = rw h (none_within _)
 must_chosen v w a b c d (inr h) f g = rw h (same w)
   where
     same : (w : Status) → IsWithin (by_status w a b no_acts) (by_status w c d no_acts)
-    same on = f
-    same off = g
-    same unknown = same_within _
+    same Present = f
+    same Absent = g
+    same Unknown = same_within _
 
 can_chosen : (v w : Status) (a b x c d y : Acts) → IsBelow v w → IsWithin c a → IsWithin d b → IsWithin y x → IsWithin c x → IsWithin d x
     → IsWithin (by_status w c d y) (by_status v a b x)
 can_chosen v w a b x c d y (inr h) f g i j k = rw h (same w)
   where
     same : (w : Status) → IsWithin (by_status w c d y) (by_status w a b x)
-    same on = f
-    same off = g
-    same unknown = i
+    same Present = f
+    same Absent = g
+    same Unknown = i
 can_chosen v w a b x c d y (inl h) f g i j k = rw h (any w)
   where
     any : (w : Status) → IsWithin (by_status w c d y) x
-    any on = j
-    any off = k
-    any unknown = i
+    any Present = j
+    any Absent = k
+    any Unknown = i
 
 -- what a local signal is, with more knowledge
 pub verdict_below : (b c b' c' : Bool) → (b ≡ true → b' ≡ true) → (c' ≡ true → c ≡ true) → (b' ≡ true → c' ≡ true) → IsBelow (verdict b c) (verdict b' c')
@@ -283,11 +285,11 @@ modes maybe b b' f q e h = same_within _
 -- the environment of a local signal's body, with more knowledge
 sure_below : (s : ℕ) (p : Term) → Monotone p → (e f : Env) → KnowsLess e f → KnowsLess (env_within sure s p e) (env_within sure s p f)
 sure_below s p P e f k =
-    let kk = local_below e f s unknown unknown k (inr refl) in
+    let kk = local_below e f s Unknown Unknown k (inr refl) in
     local_below e f s _ _ k (verdict_below _ _ _ _
-    ((P.must_up (with_local e s unknown) (with_local f s unknown) kk).signals (inner s))
-    ((P.can_down sure (with_local e s unknown) (with_local f s unknown) kk).signals (inner s))
-    ((must_can p (with_local f s unknown)).signals (inner s)))
+    ((P.must_up (with_local e s Unknown) (with_local f s Unknown) kk).signals (inner s))
+    ((P.can_down sure (with_local e s Unknown) (with_local f s Unknown) kk).signals (inner s))
+    ((must_can p (with_local f s Unknown)).signals (inner s)))
 
 no_true : {A : Type 0} → false ≡ true → A
 no_true h = cc
@@ -295,18 +297,18 @@ no_true h = cc
 signal_down : (s : ℕ) (p : Term) → Monotone p → (m : Mode) (e f : Env) → KnowsLess e f → IsWithin (can (signal s p) m f) (can (signal s p) m e)
 signal_down s p P sure e f k = hide_within s _ _ (P.can_down sure _ _ (sure_below s p P e f k))
 signal_down s p P maybe e f k =
-    let kk = local_below e f s unknown unknown k (inr refl) in
+    let kk = local_below e f s Unknown Unknown k (inr refl) in
     hide_within s _ _ (P.can_down maybe _ _ (local_below e f s _ _ k (verdict_below _ _ _ _
     (λ h. no_true h)
-    ((P.can_down maybe (with_local e s unknown) (with_local f s unknown) kk).signals (inner s))
+    ((P.can_down maybe (with_local e s Unknown) (with_local f s Unknown) kk).signals (inner s))
     (λ h. no_true h))))
 
 signal_eased : (s : ℕ) (p : Term) → Monotone p → (e : Env) → IsWithin (can (signal s p) sure e) (can (signal s p) maybe e)
 signal_eased s p P e =
     hide_within s _ _ (then_within (P.eased _) (P.can_down maybe _ _ (local_below e e s _ _ (less_same e) (verdict_below _ _ _ _
     (λ h. no_true h)
-    ((P.eased (with_local e s unknown)).signals (inner s))
-    ((must_can p (with_local e s unknown)).signals (inner s))))))
+    ((P.eased (with_local e s Unknown)).signals (inner s))
+    ((must_can p (with_local e s Unknown)).signals (inner s))))))
 
 pub monotone : (t : Term) → Monotone t
 monotone nothing = record { must_up = λ e f k. same_within _; can_down = λ m e f k. same_within _; eased = λ e. same_within _ }

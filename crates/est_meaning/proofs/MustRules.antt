@@ -5,11 +5,13 @@ use Rattle.std.proofs.lemmas.Bool.{eq-eqb, or_cases, and_parts, both_ways}
 use Rattle.est_kernel.specs.Term.{inner, Query, Term, nothing, pause, emit, present, suspend, held, seq, loop, par, trap, exit, signal}
 use Rattle.est_kernel.specs.Codes.{Codes, no_codes, code, either_code, but_zero, max_codes, some_up_to, down}
 use Rattle.est_meaning.specs.Signals.{Signals, no_signals, only, union, without}
-use Rattle.est_meaning.specs.Status.{Status, on, off, unknown, Env, status_of, with_local, verdict, by_status}
+use Rattle.est_meaning.specs.declared.status.Status.{Status}
+use Rattle.est_meaning.specs.declared.status.Status.TheVariants.{Present, Absent, Unknown}
+use Rattle.est_meaning.specs.Status.{Env, status_of, with_local, verdict, by_status}
 use Rattle.est_meaning.specs.MustCan.{Acts, no_acts, ends, must_then, sure, must, can, status_within, env_within}
 use Rattle.est_kernel.specs.StartCodes.{start_codes, IsLoopSafe}
-use Rattle.est_meaning.specs.Rules.{Gives, HasNoRule, rest_of, outside, takes_first, takes_second, held_on, held_off, goes_on, ends_then}
-use Rattle.est_meaning.specs.Laws.{just, HasRule}
+use Rattle.est_meaning.specs.Rules.{Gives, HasNoRule, rest_of, outside, takes_first, takes_second, is_held, is_resumed, goes_on, ends_then}
+use Rattle.est_meaning.specs.Laws.{just, HasRule, HasNoCode}
 use Rattle.est_meaning.proofs.CodeSets.{both_true, code_at, code_zero, max_of_codes, down_code, later_code, up_to_found, max_mono, down_mono, code_true, none_true}
 
 -- the rules against Must
@@ -21,8 +23,8 @@ gives_must (exit n) e o k u g = rw (g.signals, g.code) refl
 gives_must (present s p q) e o k u (takes_first v g) = rw v (gives_must p e o k u g)
 gives_must (present s p q) e o k u (takes_second v g) = rw v (gives_must q e o k u g)
 gives_must (suspend s p) e o k u g = gives_must p e o k g.left g.gives
-gives_must (held s p) e o k u (held_on v g) = rw (v, g.signals, g.code) refl
-gives_must (held s p) e o k u (held_off v g) = rw v (gives_must p e o k g.left g.gives)
+gives_must (held s p) e o k u (is_held v g) = rw (v, g.signals, g.code) refl
+gives_must (held s p) e o k u (is_resumed v g) = rw v (gives_must p e o k g.left g.gives)
 gives_must (seq p q) e o k u (goes_on d g) = rw (gives_must p e o k g.left g.gives, code_zero k d) refl
 gives_must (seq p q) e o k u (ends_then a b v x y z) = rw (gives_must p e a 0 v x, gives_must q e b k u y, code_at 0 0, z) refl
 gives_must (loop p) e o k u g = gives_must p e o k g.inside.left g.inside.gives
@@ -46,8 +48,8 @@ gives_can (exit n) e o k u g = rw (g.signals, g.code) refl
 gives_can (present s p q) e o k u (takes_first v g) = rw v (gives_can p e o k u g)
 gives_can (present s p q) e o k u (takes_second v g) = rw v (gives_can q e o k u g)
 gives_can (suspend s p) e o k u g = gives_can p e o k g.left g.gives
-gives_can (held s p) e o k u (held_on v g) = rw (v, g.signals, g.code) refl
-gives_can (held s p) e o k u (held_off v g) = rw v (gives_can p e o k g.left g.gives)
+gives_can (held s p) e o k u (is_held v g) = rw (v, g.signals, g.code) refl
+gives_can (held s p) e o k u (is_resumed v g) = rw v (gives_can p e o k g.left g.gives)
 gives_can (seq p q) e o k u (goes_on d g) = rw (gives_can p e o k g.left g.gives, code_zero k d) refl
 gives_can (seq p q) e o k u (ends_then a b v x y z) =
     rw (gives_can p e a 0 v x, gives_must p e a 0 v x, code_at 0 0, gives_can q e b k u y, later_code k, z) refl
@@ -66,16 +68,16 @@ gives_can (signal s p) e o k u g = rw (gives_can p (env_within sure s p e) g.bod
 chosen_starts : (v : Status) (a b : Acts) (c d : Codes) (k : ℕ) → (a.codes k ≡ true → c k ≡ true) → (b.codes k ≡ true → d k ≡ true)
     → (by_status v a b no_acts).codes k ≡ true → either_code c d k ≡ true
 unfolding either_code no_codes
-chosen_starts on a b c d k f g h = rw (f h) refl
-chosen_starts off a b c d k f g h = both_true (c k) (d k) (g h)
-chosen_starts unknown a b c d k f g h = cc
+chosen_starts Present a b c d k f g h = rw (f h) refl
+chosen_starts Absent a b c d k f g h = both_true (c k) (d k) (g h)
+chosen_starts Unknown a b c d k f g h = cc
 
 held_starts : (v : Status) (a : Acts) (c : Codes) (k : ℕ) → (a.codes k ≡ true → c k ≡ true)
     → (by_status v (ends 1) a no_acts).codes k ≡ true → either_code c (code 1) k ≡ true
 unfolding either_code no_codes
-held_starts on a c k f h = both_true (c k) (code 1 k) h
-held_starts off a c k f h = rw (f h) refl
-held_starts unknown a c k f h = cc
+held_starts Present a c k f h = both_true (c k) (code 1 k) h
+held_starts Absent a c k f h = rw (f h) refl
+held_starts Unknown a c k f h = cc
 
 seq_starts : (a b : Acts) (c d : Codes) (k : ℕ) → ((i : ℕ) → a.codes i ≡ true → c i ≡ true) → (b.codes k ≡ true → d k ≡ true)
     → (must_then a b).codes k ≡ true → cond (c 0) (either_code (but_zero c) d) c k ≡ true
@@ -108,17 +110,17 @@ must_starts (signal s p) e k h = must_starts p _ k h
 
 present_has : (s : Query) (p q : Term) (e : Env) (k : ℕ) (v : Status) → status_of e s ≡ v → ((must p e).codes k ≡ true → HasRule p e k) → ((must q e).codes k ≡ true → HasRule q e k)
     → (by_status v (must p e) (must q e) no_acts).codes k ≡ true → HasRule (present s p q) e k
-present_has s p q e k on d f g h = let r = f h in record { signals = r.signals; rest = r.rest; gives = takes_first d r.gives }
-present_has s p q e k off d f g h = let r = g h in record { signals = r.signals; rest = r.rest; gives = takes_second d r.gives }
-present_has s p q e k unknown d f g h = none_true k h
+present_has s p q e k Present d f g h = let r = f h in record { signals = r.signals; rest = r.rest; gives = takes_first d r.gives }
+present_has s p q e k Absent d f g h = let r = g h in record { signals = r.signals; rest = r.rest; gives = takes_second d r.gives }
+present_has s p q e k Unknown d f g h = none_true k h
 
 held_has : (s : Query) (p : Term) (e : Env) (k : ℕ) (v : Status) → status_of e s ≡ v → ((must p e).codes k ≡ true → HasRule p e k)
     → (by_status v (ends 1) (must p e) no_acts).codes k ≡ true → HasRule (held s p) e k
-held_has s p e k on d f h = record { signals = no_signals; rest = held s p; gives = held_on d (record { signals = refl; code = code_true 1 k h; rest = refl }) }
-held_has s p e k off d f h =
+held_has s p e k Present d f h = record { signals = no_signals; rest = held s p; gives = is_held d (record { signals = refl; code = code_true 1 k h; rest = refl }) }
+held_has s p e k Absent d f h =
     let r = f h in
-    record { signals = r.signals; rest = rest_of k (held s r.rest); gives = held_off d (record { left = r.rest; gives = r.gives; rest = refl }) }
-held_has s p e k unknown d f h = none_true k h
+    record { signals = r.signals; rest = rest_of k (held s r.rest); gives = is_resumed d (record { left = r.rest; gives = r.gives; rest = refl }) }
+held_has s p e k Unknown d f h = none_true k h
 
 seq_has : (p q : Term) (e : Env) (k : ℕ) (b : Bool) → (must p e).codes 0 ≡ b → ((i : ℕ) → (must p e).codes i ≡ true → HasRule p e i) → ((must q e).codes k ≡ true → HasRule q e k)
     → (cond b (record { signals = union (must p e).signals (must q e).signals; codes = (must q e).codes }) (must p e)).codes k ≡ true → HasRule (seq p q) e k
@@ -183,7 +185,7 @@ trap_has p e zero f h = elim (or_cases ((must p e).codes 0) ((must p e).codes 2)
 trap_has p e (suc zero) f h = trap_with p e 1 1 (f 1 h) refl
 trap_has p e (suc (suc k)) f h = trap_with p e (suc (suc (suc k))) (suc (suc k)) (f (suc (suc (suc k))) h) refl
 
-verdict_known : (b c : Bool) → b ≡ c → verdict b c ≢ unknown
+verdict_known : (b c : Bool) → b ≡ c → verdict b c ≢ Unknown
 verdict_known true c e h = cc
 verdict_known false true e h = cc
 verdict_known false false e h = cc
@@ -195,10 +197,10 @@ signal_has s p e k r = record {
   gives = record { decided = known; body_signals = r.signals; left = r.rest; gives = r.gives; signals = refl; rest = refl };
 }
   where
-    known : status_within sure s p e ≢ unknown
+    known : status_within sure s p e ≢ Unknown
     known h =
         let g = rw h at r.gives in
-        let open_env = with_local e s unknown in
+        let open_env = with_local e s Unknown in
         let m = ap (λ (a : Acts). a.signals (inner s)) (gives_must p open_env r.signals k r.rest g) in
         let c = ap (λ (a : Acts). a.signals (inner s)) (gives_can p open_env r.signals k r.rest g) in
         verdict_known _ _ (m ∙ sym c) h
@@ -224,8 +226,12 @@ must_gives (par p q) e k i h = par_has p q e k (λ j. must_gives p e j i.0) (λ 
 must_gives (trap p) e k i h = trap_has p e k (λ j. must_gives p e j i) h
 must_gives (signal s p) e k i h = signal_has s p e k (must_gives p (env_within sure s p e) k i h)
 
+-- where the rules react with a code, Must has it
+pub rule_has_code : (t : Term) (e : Env) (k : ℕ) → HasRule t e k → (must t e).codes k ≡ true
+rule_has_code t e k r = ap (λ (a : Acts). a.codes k) (gives_must t e r.signals k r.rest r.gives) ∙ (code_at k k ∙ eq-eqb k k refl)
+
 -- where the rules give nothing, Must has no code
-pub must_silent : (t : Term) (e : Env) → IsLoopSafe t → HasNoRule t e → (k : ℕ) → (must t e).codes k ≡ false
+pub must_silent : (t : Term) (e : Env) → IsLoopSafe t → HasNoRule t e → HasNoCode (must t e)
 must_silent t e i none k = go ((must t e).codes k) refl
   where
     go : (b : Bool) → (must t e).codes k ≡ b → b ≡ false
@@ -233,6 +239,5 @@ must_silent t e i none k = go ((must t e).codes k) refl
     go false h = refl
 
 -- where Must has no code, the rules give nothing
-pub silent_none : (t : Term) (e : Env) → ((k : ℕ) → (must t e).codes k ≡ false) → HasNoRule t e
-silent_none t e f o k u g =
-    both_ways (code k k) (sym (ap (λ (a : Acts). a.codes k) (gives_must t e o k u g)) ∙ f k) (code_at k k ∙ eq-eqb k k refl)
+pub silent_none : (t : Term) (e : Env) → HasNoCode (must t e) → HasNoRule t e
+silent_none t e f o k u g = both_ways ((must t e).codes k) (f k) (rule_has_code t e k (record { signals = o; rest = u; gives = g }))

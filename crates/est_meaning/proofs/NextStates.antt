@@ -7,11 +7,12 @@ use Rattle.est_kernel.specs.declared.statement.Statement.{Statement}
 use Rattle.est_kernel.specs.declared.statement.Statement.TheVariants.{Nothing, Pause, Emit, Present', Suspend', Seq', Loop', Par', Trap', Exit, Local' as Binder'}
 use Rattle.est_kernel.specs.declared.statement.LocalSignal.{LocalSignal}
 use Rattle.est_meaning.specs.Signals.{Signals, no_signals, union, without}
-use Rattle.est_meaning.specs.Status.{Env, unknown}
+use Rattle.est_meaning.specs.declared.status.Status.TheVariants.{Unknown}
+use Rattle.est_meaning.specs.Status.{Env}
 use Rattle.est_meaning.specs.MustCan.{sure, status_within, env_within}
-use Rattle.est_meaning.specs.Rules.{Gives, rest_of, outside, takes_first, takes_second, held_on, held_off, goes_on, ends_then}
+use Rattle.est_meaning.specs.Rules.{Gives, rest_of, outside, takes_first, takes_second, is_held, is_resumed, goes_on, ends_then}
 use Rattle.est_meaning.specs.Steps.{StepsTo}
-use Rattle.est_meaning.specs.Laws.{SomeStateFor}
+use Rattle.est_meaning.specs.Laws.{IsStateFor, SomeStateFor}
 use Rattle.est_meaning.specs.States.{HasPausedAt, IsState, state_term}
 use Rattle.est_kernel.specs.Pauses.{pauses_of}
 use Rattle.est_kernel.specs.declared.state.State.{State}
@@ -93,7 +94,7 @@ traps {p = p} {t = t} {e = e} {o = o} {i = i} {k = k} z n = record {
   own = n.own;
 }
 
-binds : {a : _} {x : LocalSignal} {p : Statement} {t : Term} {e : Env} {o r : Signals} {k : ℕ} → status_within sure x.index t e ≢ unknown → r ≡ without x.index o
+binds : {a : _} {x : LocalSignal} {p : Statement} {t : Term} {e : Env} {o r : Signals} {k : ℕ} → status_within sure x.index t e ≢ Unknown → r ≡ without x.index o
     → Next p t (env_within sure x.index t e) o k → Next (Binder' x a p) (signal x.index t) e r k
 binds {x = x} {p = p} {o = o} {k = k} d z n = record {
   next = n.next;
@@ -220,7 +221,7 @@ loop_on {a} p num t e o k u f (ends_then before after v x y w) =
 held_goes : {a : _} {x : _} (p : Statement) (b : ℕ → Bool) (e : Env) (o : Signals) (k : ℕ) (u : Term) → is_live p b ≡ true → IsExclusive p b
     → ((v : Term) → Gives (term_at p b) e o k v → Next p (term_at p b) e o k)
     → Gives (held (query_of x) (term_at p b)) e o k u → Next (Suspend' x a p) (held (query_of x) (term_at p b)) e o k
-held_goes {a} {x} p b e o k u live excl f (held_on v g) =
+held_goes {a} {x} p b e o k u live excl f (is_held v g) =
     record {
       next = λ i. has_pause p i && b i;
       steps = subst (λ (z : Signals). StepsTo (Suspend' x a p) (held (query_of x) (term_at p b)) e z k (λ i. has_pause p i && b i)) (sym g.signals)
@@ -232,11 +233,11 @@ held_goes {a} {x} p b e o k u live excl f (held_on v g) =
     kept : (y z : Bool) → (y && z) ≡ cond y z false
     kept true z = refl
     kept false z = refl
-held_goes {a} {x} p b e o k u live excl f (held_off v g) =
+held_goes {a} {x} p b e o k u live excl f (is_resumed v g) =
     let n = f g.left g.gives in
     record {
       next = n.next;
-      steps = record { gives = held_off v (record { left = rest_of k (term_at p n.next); gives = n.steps.gives; rest = rest_in (λ u. held (query_of x) u) k (term_at p n.next) }); live = n.steps.live; exclusive = n.steps.exclusive };
+      steps = record { gives = is_resumed v (record { left = rest_of k (term_at p n.next); gives = n.steps.gives; rest = rest_in (λ u. held (query_of x) u) k (term_at p n.next) }); live = n.steps.live; exclusive = n.steps.exclusive };
       own = n.own;
     }
 
@@ -272,19 +273,28 @@ paused_after s t e o u g n =
     let members = sym (has_members n.next (λ i l. n.own i (no_pause_above s i l))) in
     record {
       state = Paused (record { words = words_from n.next 0 32 });
-      is_state = same_paused s n.next _ members (record { live = n.steps.live; exclusive = n.steps.exclusive; own = n.own });
-      term = ap (λ f. term_at s f) (sym members) ∙ (unique t e o 1 (term_at s n.next) o 1 u n.steps.gives g).rest;
+      stands = record {
+        is_state = same_paused s n.next _ members (record { live = n.steps.live; exclusive = n.steps.exclusive; own = n.own });
+        term = ap (λ f. term_at s f) (sym members) ∙ (unique t e o 1 (term_at s n.next) o 1 u n.steps.gives g).rest;
+      };
     }
+
+done_for : (s : Statement) (u : Term) → nothing ≡ u → SomeStateFor s u
+done_for s u e = record { state = Done; stands = record { is_state = tt; term = e } }
 
 -- the state after a step
 state_after : (s : Statement) (t : Term) (e : Env) (o : Signals) (k : ℕ) (u : Term) → Gives t e o k u → Next s t e o k → SomeStateFor s u
-state_after s t e o zero u g n = record { state = Done; is_state = tt; term = (unique t e o 0 nothing o 0 u n.steps.gives g).rest }
+state_after s t e o zero u g n = done_for s u (unique t e o 0 nothing o 0 u n.steps.gives g).rest
 state_after s t e o (suc zero) u g n = paused_after s t e o u g n
-state_after s t e o (suc (suc k)) u g n = record { state = Done; is_state = tt; term = (unique t e o (suc (suc k)) nothing o (suc (suc k)) u n.steps.gives g).rest }
+state_after s t e o (suc (suc k)) u g n = done_for s u (unique t e o (suc (suc k)) nothing o (suc (suc k)) u n.steps.gives g).rest
 
 -- what is left of a state's term has a state
-pub next_stands : (s : Statement) → IsNumbered s → (x : State) → IsState s x → (e : Env) (o : Signals) (k : ℕ) (u : Term) → Gives (state_term s x) e o k u → SomeStateFor s u
+next_stands : (s : Statement) → IsNumbered s → (x : State) → IsState s x → (e : Env) (o : Signals) (k : ℕ) (u : Term) → Gives (state_term s x) e o k u → SomeStateFor s u
 next_stands s num Fresh h e o k u g = state_after s (term_of s) e o k u g (begins s num e o k u g)
-next_stands s num Done h e o k u g = record { state = Done; is_state = tt; term = sym g.rest }
+next_stands s num Done h e o k u g = done_for s u (sym g.rest)
 next_stands s num (Paused p) h e o k u g =
     state_after s (term_at s (pauses_of p)) e o k u g (resumes s num (pauses_of p) h.live h.exclusive e o k u g)
+
+-- what is left of the term that a state stands for has a state
+pub goes_on_from : (s : Statement) → IsNumbered s → (x : State) (t : Term) → IsStateFor s x t → (e : Env) (o : Signals) (k : ℕ) (u : Term) → Gives t e o k u → SomeStateFor s u
+goes_on_from s num x t h e o k u g = next_stands s num x h.is_state e o k u (subst (λ (v : Term). Gives v e o k u) (sym h.term) g)

@@ -5,8 +5,9 @@ use Rattle.est_kernel.specs.Term.{Term, nothing, present, held, seq, loop, par}
 use Rattle.est_kernel.specs.declared.statement.Statement.{Statement}
 use Rattle.est_kernel.specs.declared.statement.Statement.TheVariants.{Present', Suspend', Seq', Loop', Par'}
 use Rattle.est_meaning.specs.Signals.{Signals, no_signals, union}
-use Rattle.est_meaning.specs.Status.{Env, on, off, status_of}
-use Rattle.est_meaning.specs.Rules.{Gives, HasNoRule, rest_of, takes_first, takes_second, held_on, goes_on, ends_then}
+use Rattle.est_meaning.specs.declared.status.Status.TheVariants.{Present, Absent}
+use Rattle.est_meaning.specs.Status.{Env, status_of}
+use Rattle.est_meaning.specs.Rules.{Gives, HasNoRule, rest_of, takes_first, takes_second, is_held, goes_on, ends_then}
 use Rattle.est_meaning.proofs.Uniqueness.{unique}
 use Rattle.std.proofs.lemmas.Bool.{cases_eq, ne_eqb, or_parts}
 use Rattle.est_meaning.specs.Steps.{StepsTo}
@@ -103,7 +104,7 @@ none_from None P p = p
 none_from (Some x) P p = tt
 
 pub present_on : {a b : _} {s : _} {p q : Statement} {e : Env} {o : Signals} {k : ℕ} {n : ℕ → Bool}
-    → on ≡ status_of e (query_of s) → StepsTo p (term_of p) e o k n → is_live q n ≡ false → StepsTo (Present' s a p b q) (present (query_of s) (term_of p) (term_of q)) e o k n
+    → Present ≡ status_of e (query_of s) → StepsTo p (term_of p) e o k n → is_live q n ≡ false → StepsTo (Present' s a p b q) (present (query_of s) (term_of p) (term_of q)) e o k n
 present_on {p = p} {q = q} {e = e} {o = o} {k = k} {n = n} d h dead = record {
   gives = takes_first (sym d) (subst (λ u. Gives (term_of p) e o k u) (rest_in (λ u. u) k (term_at p n) ∙ sym (rest_chosen (λ u. u) k (is_live p n) (term_at p n) (term_at q n) h.live)) h.gives);
   live = rw (dead, or_false (is_live p n)) h.live;
@@ -111,7 +112,7 @@ present_on {p = p} {q = q} {e = e} {o = o} {k = k} {n = n} d h dead = record {
 }
 
 pub present_off : {a b : _} {s : _} {p q : Statement} {e : Env} {o : Signals} {k : ℕ} {n : ℕ → Bool}
-    → off ≡ status_of e (query_of s) → StepsTo q (term_of q) e o k n → is_live p n ≡ false → StepsTo (Present' s a p b q) (present (query_of s) (term_of p) (term_of q)) e o k n
+    → Absent ≡ status_of e (query_of s) → StepsTo q (term_of q) e o k n → is_live p n ≡ false → StepsTo (Present' s a p b q) (present (query_of s) (term_of p) (term_of q)) e o k n
 present_off {p = p} {q = q} {e = e} {o = o} {k = k} {n = n} d h dead = record {
   gives = takes_second (sym d) (rw dead h.gives);
   live = rw dead h.live;
@@ -217,12 +218,12 @@ loop_none_in p e none o k u h = none o k h.inside.left h.inside.gives
 
 -- a suspended statement that stays as it is
 pub stays_held : {a : _} {s : _} {p : Statement} {e : Env} {n : ℕ → Bool} (b m : ℕ → Bool)
-    → on ≡ status_of e (query_of s) → is_live p b ≡ true → IsExclusive p b → ((i : ℕ) → n i ≡ cond (has_pause p i) (b i) (m i))
+    → Present ≡ status_of e (query_of s) → is_live p b ≡ true → IsExclusive p b → ((i : ℕ) → n i ≡ cond (has_pause p i) (b i) (m i))
     → StepsTo (Suspend' s a p) (held (query_of s) (term_at p b)) e no_signals 1 n
 stays_held {s = s} {p = p} {n = n} b m d live excl f =
     let same : Agree p b n = λ i h. sym (f i ∙ rw h refl) in
     record {
-      gives = held_on (sym d) (record { signals = refl; code = refl; rest = ap (λ u. held (query_of s) u) (sym (at_same p b n same)) });
+      gives = is_held (sym d) (record { signals = refl; code = refl; rest = ap (λ u. held (query_of s) u) (sym (at_same p b n same)) });
       live = sym (live_same p b n same) ∙ live;
       exclusive = exclusive_same p b n same excl;
     }

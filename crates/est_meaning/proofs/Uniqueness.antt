@@ -2,15 +2,17 @@
 use Rattle.std.proofs.Common.{◌≡◌, ℕ, max, ap, sym, ◌∙◌}
 use Rattle.est_kernel.specs.Term.{Term, nothing, pause, emit, present, suspend, held, seq, loop, par, trap, exit, signal}
 use Rattle.est_meaning.specs.Signals.{Signals, union, without}
-use Rattle.est_meaning.specs.Status.{Status, on, off, Env, status_of}
+use Rattle.est_meaning.specs.declared.status.Status.{Status}
+use Rattle.est_meaning.specs.declared.status.Status.TheVariants.{Present, Absent}
+use Rattle.est_meaning.specs.Status.{Env, status_of}
 use Rattle.est_meaning.specs.MustCan.{sure, env_within}
-use Rattle.est_meaning.specs.Rules.{Gives, Behaviour, rest_of, outside, IsJust, Inside, takes_first, takes_second, held_on, held_off, goes_on, ends_then}
+use Rattle.est_meaning.specs.Rules.{Gives, Behaviour, rest_of, outside, IsJust, Inside, takes_first, takes_second, is_held, is_resumed, goes_on, ends_then}
 use Rattle.est_meaning.specs.Laws.{IsSame}
 
-on_off : {A : Type 0} (s : Status) → s ≡ on → s ≡ off → A
-on_off s p q = absurd (no (sym p ∙ q))
+not_both : {A : Type 0} (s : Status) → s ≡ Present → s ≡ Absent → A
+not_both s p q = absurd (no (sym p ∙ q))
   where
-    no : on ≡ off → ⊥
+    no : Present ≡ Absent → ⊥
     no e = cc
 
 just_same : {a : Signals} {j : ℕ} {t : Term} {o : Signals} {k : ℕ} {u : Term} {o' : Signals} {k' : ℕ} {u' : Term}
@@ -31,14 +33,14 @@ unique pause e o k u o' k' u' g h = just_same g h
 unique (emit s) e o k u o' k' u' g h = just_same g h
 unique (exit n) e o k u o' k' u' g h = just_same g h
 unique (present s p q) e o k u o' k' u' (takes_first v g) (takes_first w h) = unique p e o k u o' k' u' g h
-unique (present s p q) e o k u o' k' u' (takes_first v g) (takes_second w h) = on_off (status_of e s) v w
-unique (present s p q) e o k u o' k' u' (takes_second v g) (takes_first w h) = on_off (status_of e s) w v
+unique (present s p q) e o k u o' k' u' (takes_first v g) (takes_second w h) = not_both (status_of e s) v w
+unique (present s p q) e o k u o' k' u' (takes_second v g) (takes_first w h) = not_both (status_of e s) w v
 unique (present s p q) e o k u o' k' u' (takes_second v g) (takes_second w h) = unique q e o k u o' k' u' g h
 unique (suspend s p) e o k u o' k' u' g h = inside_same g h (unique p e o k g.left o' k' h.left g.gives h.gives)
-unique (held s p) e o k u o' k' u' (held_on v g) (held_on w h) = just_same g h
-unique (held s p) e o k u o' k' u' (held_on v g) (held_off w h) = on_off (status_of e s) v w
-unique (held s p) e o k u o' k' u' (held_off v g) (held_on w h) = on_off (status_of e s) w v
-unique (held s p) e o k u o' k' u' (held_off v g) (held_off w h) = inside_same g h (unique p e o k g.left o' k' h.left g.gives h.gives)
+unique (held s p) e o k u o' k' u' (is_held v g) (is_held w h) = just_same g h
+unique (held s p) e o k u o' k' u' (is_held v g) (is_resumed w h) = not_both (status_of e s) v w
+unique (held s p) e o k u o' k' u' (is_resumed v g) (is_held w h) = not_both (status_of e s) w v
+unique (held s p) e o k u o' k' u' (is_resumed v g) (is_resumed w h) = inside_same g h (unique p e o k g.left o' k' h.left g.gives h.gives)
 unique (seq p q) e o k u o' k' u' (goes_on d g) (goes_on c h) = inside_same g h (unique p e o k g.left o' k' h.left g.gives h.gives)
 unique (seq p q) e o k u o' k' u' (goes_on d g) (ends_then a b v x y z) = absurd (d (unique p e o k g.left a 0 v g.gives x).code)
 unique (seq p q) e o k u o' k' u' (ends_then a b v x y z) (goes_on d g) = absurd (d (unique p e o' k' g.left a 0 v g.gives x).code)

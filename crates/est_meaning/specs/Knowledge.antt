@@ -1,12 +1,14 @@
 -- More and less defined environments, and larger and smaller acts (Berry, The Constructive Semantics of Pure Esterel).
 use Rattle.std.specs.Prelude.{◌≡◌, Bool, true, ◌⊎◌}
 use Rattle.est_kernel.specs.Term.{Name}
-use Rattle.est_meaning.specs.Status.{Status, unknown, Env}
+use Rattle.est_meaning.specs.declared.status.Status.{Status}
+use Rattle.est_meaning.specs.declared.status.Status.TheVariants.{Unknown}
+use Rattle.est_meaning.specs.Status.{Env}
 use Rattle.est_meaning.specs.MustCan.{Acts}
 
 -- nothing is known yet, or it is the same
 abbrev pub IsBelow : Status → Status → Type 0
-IsBelow v w = (v ≡ unknown) ⊎ (v ≡ w)
+IsBelow v w = (v ≡ Unknown) ⊎ (v ≡ w)
 
 -- f is at least as defined as e: what e knows, f knows too
 abbrev pub KnowsLess : Env → Env → Type 0

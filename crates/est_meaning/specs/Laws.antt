@@ -1,18 +1,20 @@
--- The laws of the meaning, as they are promised by the functions of the module of laws.
-use Rattle.std.specs.Prelude.{◌≡◌, ◌≤◌, ◌<◌, ℕ, suc, Bool, true, false}
-use Rattle.est_kernel.specs.Term.{Term}
+-- The laws of the meaning, as the functions of the module of laws promise them (after Berry, The Constructive Semantics of
+-- Pure Esterel; the rounds and the states of fixed size are this project's own form).
+use Rattle.std.specs.Prelude.{◌≡◌, ◌≤◌, ◌<◌, ◌↔◌, ℕ, suc, Bool, true, false, List}
 use Rattle.est_kernel.specs.Codes.{code}
-use Rattle.est_meaning.specs.Signals.{Signals}
-use Rattle.est_meaning.specs.Status.{Env}
-use Rattle.est_meaning.specs.MustCan.{Acts, Mode, sure, maybe, must, can}
 use Rattle.est_kernel.specs.StartCodes.{IsLoopSafe}
-use Rattle.est_meaning.specs.Rules.{Gives, HasNoRule}
-use Rattle.est_meaning.specs.Rounds.{JudgedSignals, first_env, env_after, how_many, last_env}
-use Rattle.est_meaning.specs.Knowledge.{KnowsLess, IsWithin}
-use Rattle.est_meaning.specs.States.{IsState, state_term}
+use Rattle.est_kernel.specs.Term.{Term}
 use Rattle.est_kernel.specs.View.{term_of, IsNumbered}
-use Rattle.est_kernel.specs.declared.statement.Statement.{Statement}
+use Rattle.est_kernel.specs.declared.interface.Declaration.{Declaration}
 use Rattle.est_kernel.specs.declared.state.State.{State}
+use Rattle.est_kernel.specs.declared.statement.Statement.{Statement}
+use Rattle.est_meaning.specs.Knowledge.{KnowsLess, IsWithin}
+use Rattle.est_meaning.specs.MustCan.{Acts, Mode, sure, maybe, must, can}
+use Rattle.est_meaning.specs.Rounds.{JudgedSignals, judged_outputs, first_env, env_after, how_many, last_env}
+use Rattle.est_meaning.specs.Rules.{Gives, HasNoRule}
+use Rattle.est_meaning.specs.Signals.{Signals}
+use Rattle.est_meaning.specs.States.{IsState, state_term}
+use Rattle.est_meaning.specs.Status.{Env}
 
 -- these signals and this code alone
 abbrev pub just : Signals → ℕ → Acts
@@ -24,13 +26,19 @@ pub record HasRule (t : Term) (e : Env) (k : ℕ) : Type 0 where
   pub rest : Term
   pub gives : Gives t e signals k rest
 
--- where the rules react, Must and Can are exactly that reaction; and where loops are safe the rules react just where Must has a code
+-- no code is among the acts
+abbrev pub HasNoCode : Acts → Type 0
+HasNoCode a = (k : ℕ) → a.codes k ≡ false
+
+-- DECIDED BY MUST. Why care: whether a step is refused, and what it shows, depends on nothing but what must be emitted. No guess
+-- is ever tried, and a refused step is one in which the program itself leaves something open.
+-- In every environment: in a term whose loops' bodies take time the rules react just where Must has a code, with that code; they
+-- have none just where Must has none; and where they react, Must, and Can too, is that reaction and nothing else
 pub record DecidedByMust : Type 0 where
+  pub reacts : (t : Term) (e : Env) → IsLoopSafe t → (k : ℕ) → HasRule t e k ↔ ((must t e).codes k ≡ true)
+  pub none : (t : Term) (e : Env) → IsLoopSafe t → HasNoRule t e ↔ HasNoCode (must t e)
   pub must_is : (t : Term) (e : Env) (o : Signals) (k : ℕ) (u : Term) → Gives t e o k u → must t e ≡ just o k
   pub can_is : (t : Term) (e : Env) (o : Signals) (k : ℕ) (u : Term) → Gives t e o k u → can t sure e ≡ just o k
-  pub reacts : (t : Term) (e : Env) (k : ℕ) → IsLoopSafe t → (must t e).codes k ≡ true → HasRule t e k
-  pub no_code : (t : Term) (e : Env) → IsLoopSafe t → HasNoRule t e → (k : ℕ) → (must t e).codes k ≡ false
-  pub no_rule : (t : Term) (e : Env) → ((k : ℕ) → (must t e).codes k ≡ false) → HasNoRule t e
 
 -- two steps are the same
 pub record IsSame (o : Signals) (k : ℕ) (u : Term) (o' : Signals) (k' : ℕ) (u' : Term) : Type 0 where
@@ -38,11 +46,18 @@ pub record IsSame (o : Signals) (k : ℕ) (u : Term) (o' : Signals) (k' : ℕ) (
   pub code : k ≡ k'
   pub rest : u ≡ u'
 
--- in one environment a term reacts in one way at most
-abbrev pub OneReactionAtMost : Type 0
-OneReactionAtMost = (t : Term) (e : Env) (o : Signals) (k : ℕ) (u : Term) (o' : Signals) (k' : ℕ) (u' : Term) → Gives t e o k u → Gives t e o' k' u' → IsSame o k u o' k' u'
+-- ONE REACTION AT MOST. Why care: the same program with the same inputs shows the same outputs, in this instant and in all that
+-- follow, whichever engine runs it.
+-- In one environment a term reacts with one set of signals, one code and one next term at most; and a next term's loops take
+-- time again, so that the laws which ask for that hold from instant to instant
+pub record OneReactionAtMost : Type 0 where
+  pub same : (t : Term) (e : Env) (o : Signals) (k : ℕ) (u : Term) (o' : Signals) (k' : ℕ) (u' : Term) → Gives t e o k u → Gives t e o' k' u' → IsSame o k u o' k' u'
+  pub safe_again : (t : Term) (e : Env) (o : Signals) (k : ℕ) (u : Term) → IsLoopSafe t → Gives t e o k u → IsLoopSafe u
 
--- what is learned never has to be taken back: with more known, more must and less can be done
+-- KNOWLEDGE IS MONOTONE. Why care: what an engine has found out stays true, in whatever order it looks, and nothing that it
+-- shows has to be taken back.
+-- With more known, more must and less can be done, surely reached or in doubt; what must be done can be done; and what can be
+-- done where a term is surely reached can be done where that is in doubt
 pub record KnowledgeIsMonotone : Type 0 where
   pub must_grows : (t : Term) (e f : Env) → KnowsLess e f → IsWithin (must t e) (must t f)
   pub can_shrinks : (t : Term) (m : Mode) (e f : Env) → KnowsLess e f → IsWithin (can t m f) (can t m e)
@@ -53,22 +68,30 @@ pub record KnowledgeIsMonotone : Type 0 where
 abbrev pub IsWithinPlaces : JudgedSignals → Type 0
 IsWithinPlaces j = (n : ℕ) → j.has n ≡ true → n < j.places
 
--- a round never takes back what was decided, and after as many rounds as there are judged signals nothing changes
+-- ROUNDS COME TO REST. Why care: an instant takes a bounded number of rounds, and an output that is called undecided is one
+-- that no further look at the program would decide.
+-- From the first environment on a round never takes back what was decided; after as many rounds as there are judged signals
+-- nothing changes; and the outputs of an interface are signals that may be judged so
 pub record RoundsComeToRest : Type 0 where
   pub learns : (j : JudgedSignals) (inputs : ℕ → Bool) (t : Term) (n : ℕ) → KnowsLess (env_after n j t (first_env j inputs)) (env_after (suc n) j t (first_env j inputs))
   pub settles : (j : JudgedSignals) → IsWithinPlaces j → (inputs : ℕ → Bool) (t : Term) (m : ℕ) → how_many j.has j.places ≤ m → env_after m j t (first_env j inputs) ≡ last_env j inputs t
+  pub outputs : (interface : List Declaration) → IsWithinPlaces (judged_outputs interface)
 
--- in a term whose loops' bodies take time, they still do after each step, and in each state of a statement
-pub record LoopsStaySafe : Type 0 where
-  pub after_a_step : (t : Term) (e : Env) (o : Signals) (k : ℕ) (u : Term) → IsLoopSafe t → Gives t e o k u → IsLoopSafe u
-  pub in_a_state : (s : Statement) → IsLoopSafe (term_of s) → (x : State) → IsLoopSafe (state_term s x)
+-- the state x of s stands for t
+pub record IsStateFor (s : Statement) (x : State) (t : Term) : Type 0 where
+  pub is_state : IsState s x
+  pub term : state_term s x ≡ t
 
--- some state of s stands for u
-pub record SomeStateFor (s : Statement) (u : Term) : Type 0 where
+-- some state of s stands for t
+pub record SomeStateFor (s : Statement) (t : Term) : Type 0 where
   pub state : State
-  pub is_state : IsState s state
-  pub term : state_term s state ≡ u
+  pub stands : IsStateFor s state t
 
--- one bit for each pause is enough: wherever the term of a state has a step, some state of the statement stands for what is left
-abbrev pub PausesAreEnough : Type 0
-PausesAreEnough = (s : Statement) → IsNumbered s → (x : State) → IsState s x → (e : Env) (o : Signals) (k : ℕ) (u : Term) → Gives (state_term s x) e o k u → SomeStateFor s u
+-- PAUSES ARE ENOUGH. Why care: what a running module has left to do is kept in one bit for each of its pauses, however long it
+-- runs, so a slot never grows and a step asks for no memory.
+-- Where no two pauses of a statement have one number: wherever the term of a state reacts, in whatever environment and with
+-- whatever code, some state stands for what is left. A state stands for one term, and in a state loops' bodies still take time
+pub record PausesAreEnough : Type 0 where
+  pub goes_on : (s : Statement) → IsNumbered s → (x : State) (t : Term) → IsStateFor s x t → (e : Env) (o : Signals) (k : ℕ) (u : Term) → Gives t e o k u → SomeStateFor s u
+  pub one_term : (s : Statement) (x : State) (t u : Term) → IsStateFor s x t → IsStateFor s x u → t ≡ u
+  pub safe : (s : Statement) → IsLoopSafe (term_of s) → (x : State) (t : Term) → IsStateFor s x t → IsLoopSafe t

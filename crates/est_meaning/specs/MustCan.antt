@@ -3,7 +3,9 @@ use Rattle.std.specs.Prelude.{ℕ, ◌+◌, Bool, true, false, cond}
 use Rattle.est_kernel.specs.Term.{inner, Term, nothing, pause, emit, present, suspend, held, seq, loop, par, trap, exit, signal}
 use Rattle.est_kernel.specs.Codes.{Codes, no_codes, code, either_code, but_zero, max_codes, down}
 use Rattle.est_meaning.specs.Signals.{Signals, no_signals, only, union, without}
-use Rattle.est_meaning.specs.Status.{Status, unknown, Env, status_of, with_local, verdict, by_status}
+use Rattle.est_meaning.specs.declared.status.Status.{Status}
+use Rattle.est_meaning.specs.declared.status.Status.TheVariants.{Unknown}
+use Rattle.est_meaning.specs.Status.{Env, status_of, with_local, verdict, by_status}
 
 -- signals that are emitted, and codes that are given
 pub record Acts : Type 0 where
@@ -77,7 +79,7 @@ abbrev mutual
   must (trap p) e = trapped (must p e)
   must (exit k) e = ends (k + 2)
   must (signal s p) e =
-      let open_env = with_local e s unknown in
+      let open_env = with_local e s Unknown in
       hide s (must p (with_local e s (local_status sure s (must p open_env) (can p sure open_env))))
 
   pub can : Term → Mode → Env → Acts
@@ -93,13 +95,13 @@ abbrev mutual
   can (trap p) m e = trapped (can p m e)
   can (exit k) m e = ends (k + 2)
   can (signal s p) m e =
-      let open_env = with_local e s unknown in
+      let open_env = with_local e s Unknown in
       hide s (can p m (with_local e s (local_status m s (must p open_env) (can p m open_env))))
 
 -- the status of local signal s in the body p of its binder
 abbrev pub status_within : Mode → ℕ → Term → Env → Status
 status_within m s p e =
-    let open_env = with_local e s unknown in
+    let open_env = with_local e s Unknown in
     local_status m s (must p open_env) (can p m open_env)
 
 -- the environment of the body p of local signal s

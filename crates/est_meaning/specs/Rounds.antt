@@ -1,7 +1,10 @@
 -- Rounds: the judging of the interface's signals, as outermost local signals (this project's own form).
-use Rattle.std.specs.Prelude.{ℕ, zero, suc, ◌+◌, Bool, false, cond}
+use Rattle.std.specs.Prelude.{ℕ, zero, suc, ◌+◌, Bool, false, cond, List, length}
+use Rattle.est_kernel.specs.Interfaces.{outputs_of}
 use Rattle.est_kernel.specs.Term.{outer, inner, Term}
-use Rattle.est_meaning.specs.Status.{off, unknown, Env, verdict}
+use Rattle.est_kernel.specs.declared.interface.Declaration.{Declaration}
+use Rattle.est_meaning.specs.declared.status.Status.TheVariants.{Absent, Unknown}
+use Rattle.est_meaning.specs.Status.{Env, verdict}
 use Rattle.est_meaning.specs.MustCan.{must, can, sure}
 
 -- the interface signals that the rounds judge: those below `places` for which the test holds
@@ -9,10 +12,14 @@ pub record JudgedSignals : Type 0 where
   pub places : ℕ
   pub has : ℕ → Bool
 
+-- the outputs of an interface, as the signals that the rounds judge
+abbrev pub judged_outputs : List Declaration → JudgedSignals
+judged_outputs interface = record { places = length interface; has = outputs_of interface }
+
 -- the first environment: judged signals are unknown, all others are present just where they are inputs of the instant
 unfoldable pub first_env : JudgedSignals → (ℕ → Bool) → Env
-first_env j inputs (outer n) = cond (j.has n) unknown (verdict (inputs n) false)
-first_env j inputs (inner n) = off
+first_env j inputs (outer n) = cond (j.has n) Unknown (verdict (inputs n) false)
+first_env j inputs (inner n) = Absent
 
 -- a round gives each judged signal the verdict on what the term must emit and can emit
 unfoldable pub round : JudgedSignals → Term → Env → Env

@@ -2,7 +2,9 @@
 use Rattle.std.specs.Prelude.{◌≡◌, ◌≢◌, ℕ, zero, suc, ◌+◌, max}
 use Rattle.est_kernel.specs.Term.{Query, Term, nothing, pause, emit, present, suspend, held, seq, loop, par, trap, exit, signal}
 use Rattle.est_meaning.specs.Signals.{Signals, no_signals, only, union, without}
-use Rattle.est_meaning.specs.Status.{Status, on, off, unknown, Env, status_of}
+use Rattle.est_meaning.specs.declared.status.Status.{Status}
+use Rattle.est_meaning.specs.declared.status.Status.TheVariants.{Present, Absent, Unknown}
+use Rattle.est_meaning.specs.Status.{Env, status_of}
 use Rattle.est_meaning.specs.MustCan.{sure, status_within, env_within}
 
 -- what is left where a code is given: only code 1 leaves something to go on with
@@ -36,13 +38,13 @@ pub record Inside (body : Behaviour) (around : Term → Term) (o : Signals) (k :
 
 -- `present`: the branch that the status chooses; none while it is unknown
 pub data PresentRule (v : Status) (first second : Behaviour) (o : Signals) (k : ℕ) (u : Term) : Type 0 where
-  takes_first : v ≡ on → first o k u → PresentRule v first second o k u
-  takes_second : v ≡ off → second o k u → PresentRule v first second o k u
+  takes_first : v ≡ Present → first o k u → PresentRule v first second o k u
+  takes_second : v ≡ Absent → second o k u → PresentRule v first second o k u
 
 -- a suspended statement that has paused: it stays as it is, or its body goes on
 pub data HeldRule (v : Status) (s : Query) (p : Term) (body : Behaviour) (o : Signals) (k : ℕ) (u : Term) : Type 0 where
-  held_on : v ≡ on → IsJust no_signals 1 (held s p) o k u → HeldRule v s p body o k u
-  held_off : v ≡ off → Inside body (λ t. held s t) o k u → HeldRule v s p body o k u
+  is_held : v ≡ Present → IsJust no_signals 1 (held s p) o k u → HeldRule v s p body o k u
+  is_resumed : v ≡ Absent → Inside body (λ t. held s t) o k u → HeldRule v s p body o k u
 
 -- `;`: the first part does not end and the second waits; or it ends and the second is begun
 pub data SeqRule (first second : Behaviour) (q : Term) (o : Signals) (k : ℕ) (u : Term) : Type 0 where
@@ -78,7 +80,7 @@ pub record TrapRule (body : Behaviour) (o : Signals) (k : ℕ) (u : Term) : Type
 
 -- `signal`: the body reacts once the local signal's status is decided, and the signal is not seen outside
 pub record LocalRule (v : Status) (s : ℕ) (body : Behaviour) (o : Signals) (k : ℕ) (u : Term) : Type 0 where
-  pub decided : v ≢ unknown
+  pub decided : v ≢ Unknown
   pub body_signals : Signals
   pub left : Term
   pub gives : body body_signals k left

@@ -1,33 +1,41 @@
 //! The laws of the meaning. Each function does nothing: its contract is the law.
+//!
+//! They are stated in `specs/Laws` over the definitions that a reaction engine's contract names, and ask nothing of a caller.
 
-ghost use Rattle.est_meaning.specs.Laws.{DecidedByMust, OneReactionAtMost, KnowledgeIsMonotone, PausesAreEnough, RoundsComeToRest, LoopsStaySafe};
+ghost use Rattle.est_meaning.specs.Laws.{DecidedByMust, OneReactionAtMost, KnowledgeIsMonotone, RoundsComeToRest, PausesAreEnough};
 
-/// Where Must has no code there is no reaction, and where it has one, the reaction is Must's: so an engine may judge by Must alone.
+/// Whether a step is refused, and what it shows, depends on nothing but what must be emitted: no guess is ever tried.
+///
+/// Where loops' bodies take time, the rules have a reaction exactly where Must has a code; its signals and code are Must's.
 pub fn decided_by_must()
     ensures { DecidedByMust }
 {}
 
-/// A term reacts in one way at most: what a step shows does not depend on how it was found.
+/// The same program with the same inputs shows the same outputs, in this instant and in all that follow.
+///
+/// A term reacts in one way at most, and the loops of what is left of it take time again: what is checked once, when a
+/// kernel is built, holds in every instant.
 pub fn one_reaction_at_most()
     ensures { OneReactionAtMost }
 {}
 
-/// More knowledge never takes back what was decided.
+/// What an engine has found out stays true, in whatever order it looks: nothing that it shows has to be taken back.
+///
+/// With more known, more must and less can be done; what must be done can be done.
 pub fn knowledge_is_monotone()
     ensures { KnowledgeIsMonotone }
 {}
 
-/// A state of fixed size is enough: what a kernel that pauses has left to do is always some set of its own pauses.
-pub fn pauses_are_enough()
-    ensures { PausesAreEnough }
-{}
-
-/// The rounds come to rest: after as many as there are outputs another one would decide nothing, so what is then unknown stays so.
+/// An instant takes a bounded number of rounds, and an undecided output is one that no further round would decide.
+///
+/// Rounds only learn, and after as many as there are outputs nothing changes.
 pub fn rounds_come_to_rest()
     ensures { RoundsComeToRest }
 {}
 
-/// What is checked once, when a kernel is built, holds in every instant: no loop's body can end at once.
-pub fn loops_stay_safe()
-    ensures { LoopsStaySafe }
+/// What a running module has left to do is kept in one bit for each of its pauses, however long it runs.
+///
+/// After each step of a state's term some state stands for what is left, and a state stands for one term.
+pub fn pauses_are_enough()
+    ensures { PausesAreEnough }
 {}

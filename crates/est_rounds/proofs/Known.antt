@@ -6,13 +6,15 @@ use Rattle.est_kernel.specs.Codes.{either_code}
 use Rattle.est_kernel.specs.Term.{outer, inner, Term}
 use Rattle.est_kernel.proofs.Masks.{bits_zero}
 use Rattle.est_meaning.specs.Status as meaning
+use Rattle.est_meaning.specs.declared.status.Status.TheVariants.{Unknown}
 use Rattle.est_meaning.specs.MustCan.{must, can, sure}
 use Rattle.est_meaning.specs.Rounds.{first_env, round}
 use Rattle.est_rounds.specs.Views.{set_of, env_of, judged_by}
 use Rattle.est_rounds.specs.declared.judged.JudgedSignals.{JudgedSignals}
+use Rattle.est_rounds.specs.declared.signal_set.Env.{Env}
 use Rattle.est_rounds.specs.declared.signal_set.SignalSet.{SignalSet}
 
-first_verdict : (o i : Bool) → meaning.verdict (i && not o) (o || i) ≡ cond o meaning.unknown (meaning.verdict i false)
+first_verdict : (o i : Bool) → meaning.verdict (i && not o) (o || i) ≡ cond o Unknown (meaning.verdict i false)
 first_verdict true true = refl
 first_verdict true false = refl
 first_verdict false true = refl
@@ -72,10 +74,7 @@ left_open false false true = refl
 left_open false false false = refl
 
 -- what is left undecided
-pub undecided_is : (e : meaning.Env) (o a u : ℕ) (p q : SignalSet) → env_of (record { present = p; possible = q }) ≡ e
-    → ((n : ℕ) → bits a n ≡ (bits o n && bits q.interface n)) → ((n : ℕ) → bits u n ≡ (bits a n && not (bits p.interface n)))
-    → (n : ℕ) → bits u n ≡ (bits o n && meaning.is_unknown (e (outer n)))
+pub undecided_is : (e : Env) (o u : ℕ) → ((n : ℕ) → bits u n ≡ ((bits o n && bits e.possible.interface n) && not (bits e.present.interface n)))
+    → (n : ℕ) → bits u n ≡ (bits o n && meaning.is_unknown (env_of e (outer n)))
 unfolding env_of set_of
-undecided_is e o a u p q ee fa fu n =
-    fu n ∙ (ap (λ x. x && not (bits p.interface n)) (fa n) ∙ (left_open (bits o n) (bits p.interface n) (bits q.interface n)
-    ∙ ap (λ h. bits o n && meaning.is_unknown (h (outer n))) ee))
+undecided_is e o u f n = f n ∙ left_open (bits o n) (bits e.present.interface n) (bits e.possible.interface n)

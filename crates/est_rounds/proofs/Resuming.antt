@@ -5,7 +5,8 @@ use Rattle.est_kernel.specs.Term.{nothing}
 use Rattle.est_kernel.specs.declared.statement.Statement.{Statement}
 use Rattle.est_kernel.specs.declared.statement.Statement.TheVariants.{Present', Suspend', Seq', Loop', Par'}
 use Rattle.est_meaning.specs.Signals.{Signals, no_signals, union}
-use Rattle.est_meaning.specs.Status.{Env, on, status_of}
+use Rattle.est_meaning.specs.declared.status.Status.TheVariants.{Present}
+use Rattle.est_meaning.specs.Status.{Env, status_of}
 use Rattle.est_meaning.specs.Rules.{HasNoRule}
 use Rattle.est_meaning.specs.Steps.{StepsTo}
 use Rattle.est_meaning.proofs.Agree.{apart_left}
@@ -90,7 +91,7 @@ loop_moves again z h d g es ec = record { live = h.live; steps = rw (es, ec) (lo
 
 -- a suspended statement whose signal is present stays where it is
 pub held_moves : {x : _} {s : _} {p : Statement} {e : Env} {n : ℕ → Bool} {step : Step} (a m : ℕ → Bool)
-    → on ≡ status_of e (query_of s) → is_live p a ≡ true → IsExclusive p a → ((i : ℕ) → n i ≡ cond (has_pause p i) (a i) (m i))
+    → Present ≡ status_of e (query_of s) → is_live p a ≡ true → IsExclusive p a → ((i : ℕ) → n i ≡ cond (has_pause p i) (a i) (m i))
     → set_of step.signals ≡ no_signals → step.code ≡ 1 → Moves (Suspend' s x p) a e step n
 held_moves a m d live x f es ec = record { live = live; steps = rw (es, ec) (stays_held a m d live x f) }
 

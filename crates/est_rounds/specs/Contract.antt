@@ -1,20 +1,20 @@
 -- What an engine answers for a kernel, a state of it and the inputs of an instant.
-use Rattle.std.specs.Prelude.{◌≡◌, ℕ, length}
+use Rattle.std.specs.Prelude.{◌≡◌, ℕ}
 use Rattle.est_kernel.specs.Bits.{bits}
-use Rattle.est_kernel.specs.Interfaces.{inputs_of, outputs_of}
+use Rattle.est_kernel.specs.Interfaces.{inputs_of}
 use Rattle.est_kernel.specs.declared.kernel.Kernel.{Kernel}
 use Rattle.est_kernel.specs.declared.state.State.{State}
 use Rattle.est_kernel.specs.declared.state.Inputs.{Inputs}
 use Rattle.est_kernel.specs.declared.state.Outcome.{Outcome}
 use Rattle.est_kernel.specs.declared.state.Stuck.{Stuck}
 use Rattle.est_meaning.specs.Knowledge.{IsIn}
-use Rattle.est_meaning.specs.Rounds.{JudgedSignals}
+use Rattle.est_meaning.specs.Rounds.{JudgedSignals, judged_outputs}
 use Rattle.est_meaning.specs.Reaction.{Reacts, CannotReact, is_undecided}
 use Rattle.est_meaning.specs.States.{IsState, state_term}
 
 -- the signals that the rounds judge for a kernel: its outputs
 abbrev pub judged_of : Kernel → JudgedSignals
-judged_of k = record { places = length k.interface; has = outputs_of k.interface }
+judged_of k = judged_outputs k.interface
 
 -- each signal in the mask is an input of the kernel
 abbrev pub AreInputs : Kernel → Inputs → Type 0

@@ -7,8 +7,6 @@ use Rattle.est_meaning.specs.Status as meaning
 use Rattle.est_meaning.specs.MustCan as must_can
 use Rattle.est_rounds.specs.declared.signal_set.SignalSet.{SignalSet}
 use Rattle.est_rounds.specs.declared.signal_set.Env.{Env}
-use Rattle.est_rounds.specs.declared.signal_set.Status.{Status}
-use Rattle.est_rounds.specs.declared.signal_set.Status.TheVariants.{Present, Absent, Unknown}
 use Rattle.est_meaning.specs.Rounds as rounds
 use Rattle.est_rounds.specs.declared.acts.Acts.{Acts}
 use Rattle.est_rounds.specs.declared.judged.JudgedSignals.{JudgedSignals}
@@ -25,12 +23,6 @@ with_member a s is_in t = cond (same_name (inner s) t) is_in (a t)
 -- what is present and what is possible, as an environment
 unfoldable pub env_of : Env → meaning.Env
 env_of e s = meaning.verdict (set_of e.present s) (set_of e.possible s)
-
--- what is known of a signal, as a status
-abbrev pub status_of_code : Status → meaning.Status
-status_of_code Present = meaning.on
-status_of_code Absent = meaning.off
-status_of_code Unknown = meaning.unknown
 
 -- two sets of signals and a mask of codes, as the acts of a statement
 abbrev pub acts_of : Acts → must_can.Acts

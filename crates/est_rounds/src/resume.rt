@@ -7,10 +7,11 @@ ghost use Rattle.est_rounds.specs.Judging.{CanDo, IsJudged};
 ghost use Rattle.est_rounds.specs.Views.{env_of};
 
 use crate::acts::{Acts, Judgement};
-use crate::signal_set::{self, Env, Status};
+use crate::signal_set::{self, Env};
 use crate::start::{start_maybe, then_start};
 use est_kernel::pause_set::PauseSet;
 use est_kernel::statement::Statement;
+use est_meaning::status::Status;
 
 /// What a statement can do as it goes on, in doubt whether it is reached; none where it has no pause in the set.
 pub fn resume_maybe(s: &Statement, pauses: &PauseSet, env: &Env) -> Option<Acts>

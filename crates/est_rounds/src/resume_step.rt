@@ -7,10 +7,11 @@ ghost use Rattle.est_rounds.specs.Views.{env_of};
 ghost use Rattle.est_rounds.specs.Steps.{IsResumed};
 
 use crate::resume::resume_sure;
-use crate::signal_set::{self, Env, Status};
+use crate::signal_set::{self, Env};
 use crate::step::{Step, both, out_of_trap, quiet, start_step};
 use est_kernel::pause_set::PauseSet;
 use est_kernel::statement::Statement;
+use est_meaning::status::Status;
 
 /// What a statement does that goes on from its pauses.
 #[derive(Clone, Copy)]

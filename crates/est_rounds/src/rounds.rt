@@ -1,6 +1,6 @@
 //! Reactions by rounds over the outputs.
 
-ghost use Rattle.std.specs.Prelude.{◌≡◌, ◌≤◌, length, IfSome, IfNone, ℕ, false, cond};
+ghost use Rattle.std.specs.Prelude.{◌≡◌, ◌≤◌, length, IfSome, IfNone, ℕ, false, not, cond, ◌&&◌};
 ghost use Rattle.est_kernel.specs.Bits.{bits};
 ghost use Rattle.est_kernel.specs.Pauses.{pauses_of};
 ghost use Rattle.est_kernel.specs.View.{has_pause, is_live};
@@ -125,6 +125,16 @@ fn last_known(kernel: &Kernel, state: &State, judged: JudgedSignals, inputs: u64
     env
 }
 
+/// The judged signals that may be present and aren't known to be.
+fn undecided_of(judged: JudgedSignals, env: &Env) -> u64
+    ensures { (n : ℕ) → bits result n ≡ ((bits judged.signals n && bits env.now.possible.interface n) && not (bits env.now.present.interface n)) }
+{
+    mask::minus(
+        mask::common(judged.signals, env.possible.interface),
+        env.present.interface,
+    )
+}
+
 /// The step of a kernel from this state, if the rules give one. The pauses at which it then stands are put into `next`.
 fn step_of(kernel: &Kernel, state: &State, env: &Env, next: &mut PauseSet) -> Option<Step>
     requires state { IsState kernel.now.root state.now }
@@ -174,10 +184,7 @@ impl Engine for Rounds {
                 },
             }),
             None => Err(Stuck {
-                undecided: mask::minus(
-                    mask::common(judged.signals, env.possible.interface),
-                    env.present.interface,
-                ),
+                undecided: undecided_of(judged, &env),
             }),
         }
     }

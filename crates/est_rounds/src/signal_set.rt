@@ -5,10 +5,11 @@ ghost use Rattle.est_kernel.specs.Term.{inner};
 ghost use Rattle.est_kernel.specs.View.{name_of, query_of};
 ghost use Rattle.est_meaning.specs.Signals.{no_signals, only, union, without};
 ghost use Rattle.est_meaning.specs.Status.{verdict, status_of, with_local};
-ghost use Rattle.est_rounds.specs.Views.{set_of, env_of, status_of_code, with_member};
+ghost use Rattle.est_rounds.specs.Views.{set_of, env_of, with_member};
 
 use est_kernel::mask;
 use est_kernel::statement::{LocalSignal, Signal, Test};
+use est_meaning::status::Status;
 
 /// A set of signals.
 #[derive(Clone, Copy, PartialEq, Eq)]
@@ -82,14 +83,6 @@ pub fn has_signal(a: SignalSet, s: Signal) -> bool
     }
 }
 
-/// What is known of a signal.
-#[derive(Clone, Copy, PartialEq, Eq)]
-pub enum Status {
-    Present,
-    Absent,
-    Unknown,
-}
-
 /// What is known of each signal: those that are present, and those that may be.
 #[derive(Clone, Copy, PartialEq, Eq)]
 pub struct Env {
@@ -99,7 +92,7 @@ pub struct Env {
 
 /// What is known of that which a test asks.
 pub fn answer_to(env: &Env, test: Test) -> Status
-    ensures { status_of_code result ≡ status_of (env_of env.now) (query_of test) }
+    ensures { result ≡ status_of (env_of env.now) (query_of test) }
 {
     match test {
         Test::Tick => Status::Present,

@@ -7,9 +7,10 @@ ghost use Rattle.est_meaning.specs.MustCan.{must, can, sure, maybe, must_then, c
 ghost use Rattle.est_rounds.specs.Views.{acts_of, env_of};
 
 use crate::acts::{Acts, Judgement};
-use crate::signal_set::{self, Env, Status};
+use crate::signal_set::{self, Env};
 use est_kernel::mask;
 use est_kernel::statement::Statement;
+use est_meaning::status::Status;
 
 /// What a statement can do, in doubt whether it is reached.
 pub fn start_maybe(s: &Statement, env: &Env) -> Acts

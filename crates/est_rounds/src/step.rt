@@ -8,10 +8,11 @@ ghost use Rattle.est_meaning.specs.Signals.{no_signals, union};
 ghost use Rattle.est_meaning.specs.Steps.{StepsTo};
 ghost use Rattle.est_rounds.specs.Views.{set_of, env_of};
 
-use crate::signal_set::{self, Env, SignalSet, Status};
+use crate::signal_set::{self, Env, SignalSet};
 use crate::start::start_sure;
 use est_kernel::pause_set::PauseSet;
 use est_kernel::statement::Statement;
+use est_meaning::status::Status;
 
 /// The signals that are emitted, and the completion code.
 #[derive(Clone, Copy)]

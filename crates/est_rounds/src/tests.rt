@@ -198,15 +198,98 @@ fn run(kernel: &Kernel, inputs: [bool; 4]) -> [Shown; 4] {
     shown
 }
 
-/// Runs a statement for four instants, each with or without `I`.
-fn shown(
-    rt: &impl Abort,
-    alloc: Global,
-    root: Statement,
-    inputs: [bool; 4],
-) -> Result<[Shown; 4], AllocError> {
-    let kernel = build(rt, alloc, root)?.ok().expect(rt, "a kernel");
-    Ok(run(&kernel, inputs))
+/// The programs of the table.
+#[derive(Clone, Copy)]
+enum Program {
+    Opening,
+    Suspended,
+    Restarted,
+    Instantaneous,
+    LeftAtOnce,
+    LeftWhilePaused,
+    LeftAgain,
+    ParallelLocal,
+    EitherBranch,
+    OnlyItself,
+    EmittedAfter,
+    Ticking,
+}
+
+fn opening(a: Global) -> Result<Statement, AllocError> {
+    seq(a, emit(O), seq(a, pause(), emit(P))?)
+}
+
+fn suspended(a: Global) -> Result<Statement, AllocError> {
+    suspend(a, I, seq(a, pause(), emit(O))?)
+}
+
+fn restarted(a: Global) -> Result<Statement, AllocError> {
+    let asks = present(a, Test::Status(S), emit(O), emit(P))?;
+    let body = seq(a, asks, seq(a, pause(), emit(S))?)?;
+    again(a, local(a, body)?)
+}
+
+fn instantaneous(a: Global) -> Result<Statement, AllocError> {
+    again(a, present(a, I, pause(), Statement::Nothing)?)
+}
+
+fn left_at_once(a: Global) -> Result<Statement, AllocError> {
+    let left = seq(a, emit(O), exit())?;
+    let right = seq(a, pause(), emit(P))?;
+    seq(a, trap(a, par(a, left, right)?)?, emit(Q))
+}
+
+fn left_while_paused(a: Global) -> Result<Statement, AllocError> {
+    let right = seq(a, emit(O), seq(a, pause(), emit(P))?)?;
+    seq(a, trap(a, par(a, exit(), right)?)?, emit(P))
+}
+
+fn left_again(a: Global) -> Result<Statement, AllocError> {
+    let body = trap(a, seq(a, pause(), exit())?)?;
+    again(a, seq(a, body, emit(O))?)
+}
+
+fn parallel_local(a: Global) -> Result<Statement, AllocError> {
+    let asks = present(a, Test::Status(S), emit(O), Statement::Nothing)?;
+    local(a, par(a, asks, emit(S))?)
+}
+
+fn either_branch(a: Global) -> Result<Statement, AllocError> {
+    present(a, Test::Status(O), emit(O), emit(O))
+}
+
+fn only_itself(a: Global) -> Result<Statement, AllocError> {
+    local(a, present(a, Test::Status(S), emit(S), Statement::Nothing)?)
+}
+
+fn emitted_after(a: Global) -> Result<Statement, AllocError> {
+    let asks = present(a, Test::Status(S), emit(O), Statement::Nothing)?;
+    local(a, seq(a, asks, emit(S))?)
+}
+
+fn ticking(a: Global) -> Result<Statement, AllocError> {
+    again(
+        a,
+        present(a, Test::Tick, seq(a, emit(O), pause())?, pause())?,
+    )
+}
+
+/// The statement of a program.
+fn statement(a: Global, program: Program) -> Result<Statement, AllocError> {
+    match program {
+        Program::Opening => opening(a),
+        Program::Suspended => suspended(a),
+        Program::Restarted => restarted(a),
+        Program::Instantaneous => instantaneous(a),
+        Program::LeftAtOnce => left_at_once(a),
+        Program::LeftWhilePaused => left_while_paused(a),
+        Program::LeftAgain => left_again(a),
+        Program::ParallelLocal => parallel_local(a),
+        Program::EitherBranch => either_branch(a),
+        Program::OnlyItself => only_itself(a),
+        Program::EmittedAfter => emitted_after(a),
+        Program::Ticking => ticking(a),
+    }
 }
 
 const NONE: Shown = Ok(0);
@@ -223,110 +306,105 @@ const STUCK_AT_O: Shown = Err(0b0010);
 
 const STUCK_INSIDE: Shown = Err(0);
 
-const SILENT: [bool; 4] = [false; 4];
+const NEVER: [bool; 4] = [false; 4];
 
-#[test]
-fn sequences_and_suspension(rt: HostRuntime) -> Result<(), Fail> {
-    let a = rt.alloc();
-    let opening = seq(a, emit(O), seq(a, pause(), emit(P))?)?;
-    assert_eq!(rt;
-        shown(&rt, a, opening, SILENT)?,
-        [ONLY_O, ONLY_P, NONE, NONE]
-    );
-    let body = seq(a, pause(), emit(O))?;
-    let suspended = suspend(a, I, body)?;
-    assert_eq!(rt;
-        shown(&rt, a, suspended, [true, true, true, false])?,
-        [NONE, NONE, NONE, ONLY_O],
-        "suspend [pause; emit O] when I"
-    );
-    Ok(())
+/// A program, the instants in which `I` is present, and what it shows in each, or why it makes no kernel.
+#[derive(Clone, Copy)]
+struct Example {
+    text: &'static str,
+    program: Program,
+    inputs: [bool; 4],
+    shown: Result<[Shown; 4], LoadFault>,
 }
 
-#[test]
-fn traps(rt: HostRuntime) -> Result<(), Fail> {
-    let a = rt.alloc();
-    let left = seq(a, emit(O), exit())?;
-    let right = seq(a, pause(), emit(P))?;
-    let root = seq(a, trap(a, par(a, left, right)?)?, emit(Q))?;
-    assert_eq!(rt;
-        shown(&rt, a, root, SILENT)?,
-        [O_AND_Q, NONE, NONE, NONE],
-        "trap T in [emit O; exit T || pause; emit P] end; emit Q"
-    );
-    let right = seq(a, emit(O), seq(a, pause(), emit(P))?)?;
-    let root = seq(a, trap(a, par(a, exit(), right)?)?, emit(P))?;
-    assert_eq!(rt;
-        shown(&rt, a, root, SILENT)?,
-        [O_AND_P, NONE, NONE, NONE],
-        "trap T in [exit T || emit O; pause; emit P] end; emit P"
-    );
-    let body = trap(a, seq(a, pause(), exit())?)?;
-    let root = again(a, seq(a, body, emit(O))?)?;
-    assert_eq!(rt;
-        shown(&rt, a, root, SILENT)?,
-        [NONE, ONLY_O, ONLY_O, ONLY_O],
-        "loop trap T in pause; exit T end; emit O end"
-    );
-    Ok(())
-}
+const EXAMPLES: [Example; 12] = [
+    Example {
+        text: "emit O; pause; emit P",
+        program: Program::Opening,
+        inputs: NEVER,
+        shown: Ok([ONLY_O, ONLY_P, NONE, NONE]),
+    },
+    Example {
+        text: "suspend [pause; emit O] when I",
+        program: Program::Suspended,
+        inputs: [true, true, true, false],
+        shown: Ok([NONE, NONE, NONE, ONLY_O]),
+    },
+    Example {
+        text: "loop signal S in present S then emit O else emit P end; pause; emit S end end",
+        program: Program::Restarted,
+        inputs: NEVER,
+        shown: Ok([ONLY_P; 4]),
+    },
+    Example {
+        text: "loop present I then pause end end",
+        program: Program::Instantaneous,
+        inputs: NEVER,
+        shown: Err(LoadFault::InstantLoop),
+    },
+    Example {
+        text: "trap T in [emit O; exit T || pause; emit P] end; emit Q",
+        program: Program::LeftAtOnce,
+        inputs: NEVER,
+        shown: Ok([O_AND_Q, NONE, NONE, NONE]),
+    },
+    Example {
+        text: "trap T in [exit T || emit O; pause; emit P] end; emit P",
+        program: Program::LeftWhilePaused,
+        inputs: NEVER,
+        shown: Ok([O_AND_P, NONE, NONE, NONE]),
+    },
+    Example {
+        text: "loop trap T in pause; exit T end; emit O end",
+        program: Program::LeftAgain,
+        inputs: NEVER,
+        shown: Ok([NONE, ONLY_O, ONLY_O, ONLY_O]),
+    },
+    Example {
+        text: "signal S in [present S then emit O end || emit S] end",
+        program: Program::ParallelLocal,
+        inputs: NEVER,
+        shown: Ok([ONLY_O, NONE, NONE, NONE]),
+    },
+    Example {
+        text: "present O then emit O else emit O end",
+        program: Program::EitherBranch,
+        inputs: NEVER,
+        shown: Ok([STUCK_AT_O; 4]),
+    },
+    Example {
+        text: "signal S in present S then emit S end end",
+        program: Program::OnlyItself,
+        inputs: NEVER,
+        shown: Ok([STUCK_INSIDE; 4]),
+    },
+    Example {
+        text: "signal S in [present S then emit O end; emit S] end",
+        program: Program::EmittedAfter,
+        inputs: NEVER,
+        shown: Ok([STUCK_AT_O; 4]),
+    },
+    Example {
+        text: "loop present tick then emit O; pause else pause end end",
+        program: Program::Ticking,
+        inputs: NEVER,
+        shown: Ok([ONLY_O; 4]),
+    },
+];
 
+/// Runs the table's programs for four instants each.
 #[test]
-fn local_signals(rt: HostRuntime) -> Result<(), Fail> {
-    let a = rt.alloc();
-    let asks = present(a, Test::Status(S), emit(O), Statement::Nothing)?;
-    let root = local(a, par(a, asks, emit(S))?)?;
-    assert_eq!(rt;
-        shown(&rt, a, root, SILENT)?,
-        [ONLY_O, NONE, NONE, NONE],
-        "signal S in [present S then emit O end || emit S] end"
-    );
-    let asks = present(a, Test::Status(S), emit(O), emit(P))?;
-    let body = seq(a, asks, seq(a, pause(), emit(S))?)?;
-    let root = again(a, local(a, body)?)?;
-    assert_eq!(rt;
-        shown(&rt, a, root, SILENT)?,
-        [ONLY_P; 4],
-        "loop signal S in present S then emit O else emit P end; pause; emit S end end"
-    );
-    Ok(())
-}
-
-#[test]
-fn not_constructive(rt: HostRuntime) -> Result<(), Fail> {
-    let a = rt.alloc();
-    let root = present(a, Test::Status(O), emit(O), emit(O))?;
-    assert_eq!(rt;
-        shown(&rt, a, root, SILENT)?,
-        [STUCK_AT_O; 4],
-        "present O then emit O else emit O end"
-    );
-    let asks = present(a, Test::Status(S), emit(S), Statement::Nothing)?;
-    assert_eq!(rt;
-        shown(&rt, a, local(a, asks)?, SILENT)?,
-        [STUCK_INSIDE; 4],
-        "signal S in present S then emit S end end"
-    );
-    let asks = present(a, Test::Status(S), emit(O), Statement::Nothing)?;
-    let root = local(a, seq(a, asks, emit(S))?)?;
-    assert_eq!(rt;
-        shown(&rt, a, root, SILENT)?,
-        [STUCK_AT_O; 4],
-        "signal S in [present S then emit O end; emit S] end"
-    );
-    Ok(())
-}
-
-#[test]
-fn instant_loop(rt: HostRuntime) -> Result<(), Fail> {
-    let a = rt.alloc();
-    let asks = present(a, I, pause(), Statement::Nothing)?;
-    let root = again(a, asks)?;
-    assert_eq!(rt;
-        build(&rt, a, root)?.err(),
-        Some(LoadFault::InstantLoop),
-        "loop present I then pause end end"
-    );
+fn worked_examples(rt: HostRuntime) -> Result<(), Fail> {
+    let alloc = rt.alloc();
+    for example in EXAMPLES {
+        let root = statement(alloc, example.program)?;
+        let shown = match build(&rt, alloc, root)? {
+            Ok(kernel) => Ok(run(&kernel, example.inputs)),
+            Err(fault) => Err(fault),
+        };
+        let text = example.text;
+        assert_eq!(rt; shown, example.shown, "{text}");
+    }
     Ok(())
 }
 
@@ -344,6 +422,7 @@ fn long_sequences(rt: HostRuntime) -> Result<(), Fail> {
     for outer in 0..6u8 {
         root = Statement::Local(LocalSignal { index: 5 - outer }, Box::new(a, root)?);
     }
-    assert_eq!(rt; shown(&rt, a, root, SILENT)?, [NONE; 4]);
+    let kernel = build(&rt, a, root)?.ok().expect(&rt, "a kernel");
+    assert_eq!(rt; run(&kernel, NEVER), [NONE; 4]);
     Ok(())
 }

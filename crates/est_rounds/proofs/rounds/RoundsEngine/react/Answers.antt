@@ -40,6 +40,7 @@ returns-in-None-clause-stuck c =
     record {
       cannot = subst (λ (e : Env). HasNoRule (state_term c.args.kernel.now.root c.args.state.now) e) known c.in-None.ensures.none;
       undecided = λ n.
-          undecided_is last c.judged_signals-judged.result.signals _ _ c.last_known-env.result.present c.last_known-env.result.possible known c.common.ensures c.minus.ensures n
-          ∙ ap (λ (j : JudgedSignals). j.has n && is_unknown (last (outer n))) c.judged_signals-judged.ensures;
+          undecided_is c.last_known-env.result c.judged_signals-judged.result.signals _ c.undecided_of.ensures n
+          ∙ (ap (λ (e : Env). bits c.judged_signals-judged.result.signals n && is_unknown (e (outer n))) known
+          ∙ ap (λ (j : JudgedSignals). j.has n && is_unknown (last (outer n))) c.judged_signals-judged.ensures);
     }
