@@ -1,5 +1,6 @@
 -- The facts that decide a policy command, over the list of accepted entries (ANSI INCITS 359-2004, what its functions ask before they act).
-use Rattle.std.specs.Prelude.{◌≡◌, ℕ, ◌<◌, ◌⊎◌, List, Option, Some, length}
+use Rattle.std.specs.Prelude.{◌≡◌, ◌≢◌, ℕ, ◌<◌, ◌⊎◌, List, Option, Some, length}
+use Rattle.std.specs.List.{AllPairs}
 use Rattle.rbac_policy.specs.declared.objects.Operation.{Operation}
 use Rattle.rbac_policy.specs.declared.objects.Operation.TheVariants.{Administer}
 use Rattle.rbac_policy.specs.declared.objects.Object.{Object}
@@ -9,7 +10,7 @@ use Rattle.rbac_policy.specs.declared.sizes.TheConstants.{SETS}
 use Rattle.rbac_policy.specs.Names.{NameText}
 use Rattle.rbac_policy.specs.Facts.{IsSet, IsPairGranted, IsActive, IsAuthorized, Lives, May}
 use Rattle.rbac_policy.specs.Fits.{PermissionsFull}
-use Rattle.rbac_policy.specs.Limits.{HasAtLeast, IsDistinct}
+use Rattle.rbac_policy.specs.Counting.{HasAtLeast}
 
 -- the command is given by the session of this number, which lives
 pub record IsGivenBy (entries : List Entry) (session : Option ℕ) (number : ℕ) : Type 0 where
@@ -57,4 +58,4 @@ SetsFull entries = HasAtLeast SETS (IsSetName entries)
 
 -- no separation set has this number and these roles: a role stands twice, or the number is under 2 or over that of the roles
 abbrev pub IsNoShape : ℕ → List NameText → Type 0
-IsNoShape count roles = (IsDistinct roles → ⊥) ⊎ (count < 2) ⊎ (length roles < count)
+IsNoShape count roles = (AllPairs (λ one other. one ≢ other) roles → ⊥) ⊎ (count < 2) ⊎ (length roles < count)

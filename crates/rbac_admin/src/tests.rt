@@ -5,7 +5,7 @@ ghost use Rattle.rbac_admin.specs.PolicyStep.{is_decided};
 use crate::decisions::{decide, is_decided};
 use crate::refusals::Refusal;
 use rbac_policy::commands::{AdminCommand, Entry, SessionId, Table};
-use rbac_policy::names::{Name, RoleNames};
+use rbac_policy::names::{LISTED_ROLES, Name, RoleNames};
 use rbac_policy::objects::{Object, Operation};
 use rbac_policy::policy::Policy;
 use std::process::Abort;
@@ -17,7 +17,7 @@ fn name(rt: &impl Abort, text: &str) -> Name {
 fn names(rt: &impl Abort, texts: &[&str]) -> RoleNames {
     let mut roles = RoleNames::new();
     for text in texts {
-        if roles.len() < 32 {
+        if roles.len() < LISTED_ROLES {
             roles.push(name(rt, text));
         }
     }

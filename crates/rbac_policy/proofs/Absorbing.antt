@@ -17,7 +17,7 @@ use Rattle.rbac_policy.specs.declared.sizes.TheConstants.{USERS, ROLES, GRANTS, 
 use Rattle.rbac_policy.specs.Names.{NameText}
 use Rattle.rbac_policy.specs.Entries.{logins}
 use Rattle.rbac_policy.specs.Facts.{IsUser, IsRole, IsPairGranted, IsLive}
-use Rattle.rbac_policy.specs.Limits.{HasAtLeast}
+use Rattle.rbac_policy.specs.Counting.{HasAtLeast}
 use Rattle.rbac_policy.specs.Tables.{At, put_at, mask_of, session_without, grant_is}
 use Rattle.rbac_policy.specs.Change.{absorbed, swept, changed, assigned_at, granted_at}
 use Rattle.rbac_policy.specs.Fits.{Fits, FitsCommand, FitsAddUser, FitsAddRole, FitsAssignUser, FitsGrantPermission, FitsCreateSession}
@@ -26,7 +26,7 @@ use Rattle.rbac_policy.proofs.Ended.{Unswept, swept_stand}
 use Rattle.rbac_policy.proofs.Untouched.{untouched_users, untouched_roles, untouched_grants, untouched_sessions, untouched_sets, logins_push, logins_other}
 use Rattle.rbac_policy.proofs.Slots.{free}
 use Rattle.rbac_policy.proofs.Equality.{operations, objects, both}
-use Rattle.rbac_policy.proofs.Limits.{room, keeps_users, keeps_roles, keeps_grants, keeps_sessions, pair_of}
+use Rattle.rbac_policy.proofs.Room.{room, keeps_users, keeps_roles, keeps_grants, keeps_sessions, pair_of}
 use Rattle.rbac_policy.proofs.Listed.{Placed, placed}
 use Rattle.rbac_policy.proofs.Adding.{adding}
 use Rattle.rbac_policy.proofs.Assigning.{assigning}

@@ -6,6 +6,7 @@ use Rattle.std.proofs.lemmas.Slice.Eq.{bytes_eq-Decides}
 use Rattle.std.proofs.lemmas.Bool.{false≢true}
 use Rattle.std.proofs.lemmas.Option.{same_Some}
 use Rattle.std.proofs.lemmas.List.{length-map}
+use Rattle.rbac_policy.specs.declared.sizes.TheConstants.{ROLES}
 use Rattle.rbac_policy.specs.declared.commands.AdminCommand.TheVariants.{AddUser, DeleteUser, DeleteRole, AssignUser, DeassignUser}
 use Rattle.rbac_policy.specs.declared.commands.Entry.{Entry}
 use Rattle.rbac_policy.specs.declared.rows.User.{User}
@@ -18,7 +19,7 @@ use Rattle.rbac_policy.proofs.Untouched.{through, untouched}
 use Rattle.rbac_policy.proofs.Granting.{flip, sums}
 use Rattle.rbac_policy.proofs.Slots.{mapped, map_at, in_with_bit, named_with_bit}
 
-module _ (roles : List (Option NameText)) (unique : (p q : ℕ) (r : NameText) → At roles p r → At roles q r → p ≡ q) (p0 : ℕ) (r0 : NameText) (there0 : At roles p0 r0) (low : p0 < 32)
+module _ (roles : List (Option NameText)) (unique : (p q : ℕ) (r : NameText) → At roles p r → At roles q r → p ≡ q) (p0 : ℕ) (r0 : NameText) (there0 : At roles p0 r0) (low : p0 < ROLES)
     (users : List (Option User)) (L : List Entry) (s : Option ℕ) (u0 : NameText) (us : UsersStand roles users L) (exists : IsUser L u0) where
   abbrev pub the_assignment : Entry
   the_assignment = record { session = s; command = AssignUser u0 r0 }

@@ -1,5 +1,6 @@
 -- Empty tables stand for no entries, and each opening entry fits those before it.
 use Rattle.std.proofs.Common.{◌≡◌, ℕ, zero, suc, List, [], ◌∷◌, ◌++◌, length, inl, inr, arith, refl, sym, ◌∙◌, subst}
+use Rattle.std.specs.List.{All}
 use Rattle.std.specs.Prelude.{slice_get, slice_index, replicate, Option, Some, None}
 use Rattle.std.proofs.lemmas.Option.{slice_get_within}
 use Rattle.std.proofs.lemmas.List.{length-replicate}
@@ -12,7 +13,7 @@ use Rattle.rbac_policy.specs.declared.rows.DsdSet.{DsdSet}
 use Rattle.rbac_policy.specs.declared.policy.Policy as tables
 use Rattle.rbac_policy.specs.declared.sizes.TheConstants.{USERS, ROLES, GRANTS, SESSIONS, SETS}
 use Rattle.rbac_policy.specs.Names.{NameText}
-use Rattle.rbac_policy.specs.Limits.{HasAtLeast}
+use Rattle.rbac_policy.specs.Counting.{HasAtLeast}
 use Rattle.rbac_policy.specs.Opening.{root}
 use Rattle.rbac_policy.specs.Fits.{Fits}
 use Rattle.rbac_policy.specs.declared.objects.Operation.{Operation}
@@ -99,9 +100,9 @@ permits = record { session = None; command = GrantPermission root Administer Pol
 -- what nothing has isn't had by many
 few : {A : Type 0} (n : ℕ) (P : A → Type 0) → ((x : A) → P x → ⊥) → HasAtLeast (suc n) P → ⊥
 few {A = A} n P none h = by_values h.values h.have h.enough where
-  by_values : (xs : List A) → ((p : ℕ) (x : A) → slice_get xs p ≡ Some x → P x) → length xs ≡ suc n → ⊥
+  by_values : (xs : List A) → All P xs → length xs ≡ suc n → ⊥
   by_values [] have e = cc
-  by_values (x ∷ xs) have e = none x (have 0 x refl)
+  by_values (x ∷ xs) have e = none x (have 0 x (omega arith))
 
 no_role : (r : NameText) → IsRole (adds_user ∷ []) r → ⊥
 no_role r h = elim ((in_force_push (λ before e. e.command ≡ AddRole r) (λ e. e.command ≡ DeleteRole r) [] adds_user).0 h) [

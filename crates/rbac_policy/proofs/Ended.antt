@@ -2,6 +2,7 @@
 use Rattle.std.proofs.Common.{◌≡◌, ℕ, ◌≤◌, ◌<◌, ◌^◌, ◌↔◌, List, [], ◌∷◌, ◌++◌, length, map, sym, ◌∙◌, subst, arith}
 use Rattle.std.specs.Prelude.{Option, Some}
 use Rattle.std.proofs.lemmas.Option.{slice_get_within}
+use Rattle.rbac_policy.specs.declared.sizes.TheConstants.{ROLES, SESSIONS}
 use Rattle.rbac_policy.specs.Order.{Has, IsBelowSome, below}
 use Rattle.rbac_policy.specs.declared.commands.Entry.{Entry}
 use Rattle.rbac_policy.specs.declared.rows.User.{User}
@@ -25,9 +26,9 @@ pub record Unswept (before : List (Option NameText)) (sessions : List (Option Se
   pub numbers : (at : ℕ) (x : Session) → At sessions at x → x.number ≤ logins (L ++ e ∷ [])
   pub made : (number : ℕ) (role : NameText) → IsActive (L ++ e ∷ []) number role → number ≤ logins (L ++ e ∷ [])
   pub unique : (p q : ℕ) (role : NameText) → At before p role → At before q role → p ≡ q
-  pub many : length before ≡ 32
+  pub many : length before ≡ ROLES
   pub once : IsKeyed (λ (x : Session). x.number) sessions
-  pub places : length sessions ≡ 64
+  pub places : length sessions ≡ SESSIONS
 
 module _ (before roles : List (Option NameText)) (keeps : (p : ℕ) (r : NameText) → At roles p r → At before p r) (juniors : List ℕ) (users : List (Option User)) (mid : List (Option Session)) (L : List Entry) (e : Entry)
     (rs : RolesStand roles juniors (L ++ e ∷ [])) (us : UsersStand roles users (L ++ e ∷ [])) (un : Unswept before mid L e) where
@@ -35,10 +36,10 @@ module _ (before roles : List (Option NameText)) (keeps : (p : ℕ) (r : NameTex
   new = map (session_kept users juniors) mid
 
   -- active roles, and the roles of a user with those below, lie in the places of the table
-  low : (at : ℕ) (x : Session) → At mid at x → x.active < 2 ^ 32
+  low : (at : ℕ) (x : Session) → At mid at x → x.active < 2 ^ ROLES
   low at x there = low_bits x.active (λ p bit. let r = un.named at x there p bit in omega (arith, slice_get_within before p (Some r.0) r.1, un.many))
 
-  few : (x : Session) → below juniors (roles_of x.user users) < 2 ^ 32
+  few : (x : Session) → below juniors (roles_of x.user users) < 2 ^ ROLES
   few x = low_bits (below juniors (roles_of x.user users)) (λ p bit.
       let r = below_named roles juniors users (L ++ e ∷ []) rs us x.user p (below_sound juniors (roles_of x.user users) p bit) in
       omega (arith, slice_get_within roles p (Some r.0) r.1, rs.places))

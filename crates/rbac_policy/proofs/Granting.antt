@@ -7,6 +7,7 @@ use Rattle.std.proofs.lemmas.Option.{same_Some}
 use Rattle.std.proofs.lemmas.List.{length-map, length-set}
 use Rattle.std.proofs.lemmas.Nat.Bits.{bit_at_set_same}
 use Rattle.std.specs.Int.{w32}
+use Rattle.rbac_policy.specs.declared.sizes.TheConstants.{ROLES}
 use Rattle.rbac_policy.specs.Order.{Has}
 use Rattle.rbac_policy.specs.declared.objects.Operation.{Operation}
 use Rattle.rbac_policy.specs.declared.objects.Object.{Object}
@@ -52,7 +53,7 @@ passes_any p (y ∷ ys) (suc at) x there t = ap (λ b. p y || b) (passes_any p y
   or_true true = refl
   or_true false = refl
 
-module _ (roles : List (Option NameText)) (unique : (p q : ℕ) (r : NameText) → At roles p r → At roles q r → p ≡ q) (p0 : ℕ) (r0 : NameText) (role_there : At roles p0 r0) (low : p0 < 32)
+module _ (roles : List (Option NameText)) (unique : (p q : ℕ) (r : NameText) → At roles p r → At roles q r → p ≡ q) (p0 : ℕ) (r0 : NameText) (role_there : At roles p0 r0) (low : p0 < ROLES)
     (grants : List (Option Grant)) (L : List Entry) (s : Option ℕ) (op : Operation) (ob : Object) (gs : GrantsStand roles grants L) where
   abbrev pub the_grant : Entry
   the_grant = record { session = s; command = GrantPermission r0 op ob }

@@ -17,7 +17,7 @@ pub mod Listed
 pub mod Assigning
 pub mod Naming
 pub mod Sessions
-pub mod Limits
+pub mod Room
 pub mod Asking
 pub mod Adding
 pub mod Absorbing

@@ -7,6 +7,7 @@ use Rattle.std.proofs.lemmas.Bool.{false≢true}
 use Rattle.std.proofs.lemmas.Bool.Decides.{Decides-ltb}
 use Rattle.std.proofs.lemmas.Option.{same_Some, slice_get_within, slice_get-get_or}
 use Rattle.std.proofs.lemmas.List.Quantifiers.{position-Some}
+use Rattle.rbac_policy.specs.declared.sizes.TheConstants.{ROLES}
 use Rattle.rbac_policy.specs.Names.{NameText}
 use Rattle.rbac_policy.specs.Tables.{At, with_place, place_of, role_is, mask_of}
 use Rattle.rbac_policy.specs.StandsFor.{InMask, IsNamed}
@@ -49,17 +50,17 @@ contains_head y ys = (0, omega arith, refl)
 contains_tail : (y : NameText) (ys : List NameText) (x : NameText) → Contains ys x → Contains (y ∷ ys) x
 contains_tail y ys x h = (suc h.0, omega (arith, h.1), h.2)
 
-module _ (roles : List (Option NameText)) (unique : (p q : ℕ) (r : NameText) → At roles p r → At roles q r → p ≡ q) (many : length roles ≡ 32) where
+module _ (roles : List (Option NameText)) (unique : (p q : ℕ) (r : NameText) → At roles p r → At roles q r → p ≡ q) (many : length roles ≡ ROLES) where
   in_step : (m : ℕ) (y r : NameText) (p : ℕ) → At roles p y → InMask roles (with_place m (place_of y roles)) r ↔ ((y ≡ r) ⊎ InMask roles m r)
   in_step m y r p there =
       let q = placed roles p y there in
-      let low : q.place < 32 = omega (arith, slice_get_within roles q.place (Some y) q.there) in
+      let low : q.place < ROLES = omega (arith, slice_get_within roles q.place (Some y) q.there) in
       subst (λ o. InMask roles (with_place m o) r ↔ ((y ≡ r) ⊎ InMask roles m r)) (sym q.found) (in_with_bit roles unique q.place y q.there low m r)
 
   named_step : (m : ℕ) (y : NameText) (p : ℕ) → At roles p y → IsNamed roles m → IsNamed roles (with_place m (place_of y roles))
   named_step m y p there n =
       let q = placed roles p y there in
-      let low : q.place < 32 = omega (arith, slice_get_within roles q.place (Some y) q.there) in
+      let low : q.place < ROLES = omega (arith, slice_get_within roles q.place (Some y) q.there) in
       subst (λ o. IsNamed roles (with_place m o)) (sym q.found) (named_with_bit roles unique q.place y q.there low m n)
 
   in_fold : (names : List NameText) (m : ℕ) → ((r : NameText) → Contains names r → (p : ℕ) × At roles p r) → (r : NameText) → InMask roles (fold (λ mask name. with_place mask (place_of name roles)) m names) r ↔ (Contains names r ⊎ InMask roles m r)

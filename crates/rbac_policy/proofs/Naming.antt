@@ -3,6 +3,7 @@ use Rattle.std.proofs.Common.{◌≡◌, ℕ, ◌⊎◌, ◌↔◌, List, [], �
 use Rattle.std.specs.Prelude.{slice_get, slice_index, Option, Some, None}
 use Rattle.std.proofs.lemmas.Bool.{cases_eq}
 use Rattle.std.proofs.lemmas.List.{length-set}
+use Rattle.rbac_policy.specs.declared.sizes.TheConstants.{ROLES}
 use Rattle.rbac_policy.specs.declared.commands.AdminCommand.TheVariants.{AddRole, DeleteRole, AddInheritance, DeleteInheritance}
 use Rattle.rbac_policy.specs.declared.commands.Entry.{Entry}
 use Rattle.rbac_policy.specs.declared.rows.User.{User}
@@ -40,7 +41,7 @@ module _ (before after : List (Option NameText)) where
     places = s.places;
   }
 
-  pub renamed_sessions : (sessions : List (Option Session)) (L : List Entry) (e : Entry) → ((m : ℕ) → IsNamed before m → (r : NameText) → InMask before m r ↔ InMask after m r) → ((m : ℕ) → IsNamed before m → IsNamed after m) → ((p q : ℕ) (r : NameText) → At after p r → At after q r → p ≡ q) → length after ≡ 32 → Unswept before sessions L e → Unswept after sessions L e
+  pub renamed_sessions : (sessions : List (Option Session)) (L : List Entry) (e : Entry) → ((m : ℕ) → IsNamed before m → (r : NameText) → InMask before m r ↔ InMask after m r) → ((m : ℕ) → IsNamed before m → IsNamed after m) → ((p q : ℕ) (r : NameText) → At after p r → At after q r → p ≡ q) → length after ≡ ROLES → Unswept before sessions L e → Unswept after sessions L e
   renamed_sessions sessions L e same named unique many s = record {
     exist = s.exist;
     active = λ at x there r. through (s.active at x there r) (same x.active (s.named at x there) r);

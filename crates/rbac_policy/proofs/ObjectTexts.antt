@@ -1,5 +1,5 @@
 -- The texts of objects and operations: each is read from its text, and from no other.
-use Rattle.std.proofs.Common.{◌≡◌, ◌∙◌, ◌↔◌, ◌<◌, ◌≤◌, ◌+◌, ◌-◌, ◌++◌, ℕ, zero, suc, List, [], ◌∷◌, codes, Bool, true, false, ◌&&◌, ◌==◌, cond, Option, Some, None, option_and_then, bytes_eq, refl, sym, ap, subst, arith, nat_le, ◌⊎◌, inl, inr}
+use Rattle.std.proofs.Common.{◌≡◌, ◌∙◌, ◌↔◌, ◌<◌, ◌≤◌, ◌+◌, ◌*◌, ◌-◌, ◌++◌, ℕ, zero, suc, List, [], ◌∷◌, codes, Bool, true, false, ◌&&◌, ◌==◌, cond, Option, Some, None, option_and_then, bytes_eq, refl, sym, ap, subst, arith, nat_le, nat_lt, ◌⊎◌, inl, inr}
 use Rattle.std.specs.Prelude.{decimal}
 use Rattle.std.specs.Fmt.{digits}
 use Rattle.std.proofs.lemmas.List.{append-nil}
@@ -8,15 +8,16 @@ use Rattle.std.proofs.lemmas.Grind.{common_steps}
 use Rattle.std.proofs.lemmas.Option.{same_Some}
 use Rattle.std.proofs.lemmas.Slice.Eq.{bytes_eq-Decides}
 use Rattle.est_kernel.specs.Identifiers.{is_identifier}
-use Rattle.rbac_policy.specs.Texts.{operation_text, operation_of, object_text, IsObject, object_of, object_in, slot_at, units_slot_at}
+use Rattle.rbac_policy.specs.Texts.{operation_text, operation_of, object_text, IsObject, object_of, object_in, slot_at, units_slot_at, slot_before}
+use Rattle.rbac_policy.specs.declared.objects.TheConstants.{SLOTS}
 use Rattle.rbac_policy.specs.declared.objects.Operation.{Operation}
 use Rattle.rbac_policy.specs.declared.objects.Operation.TheVariants as operation
 use Rattle.rbac_policy.specs.declared.objects.Object.{Object}
 use Rattle.rbac_policy.specs.declared.objects.Object.TheVariants as object
 
--- the sixteen slots, one by one
+-- the slots, one by one
 
-slot_alone : (k : ℕ) → k < 16 → object_of (decimal k) ≡ Some (object.Slot k)
+slot_alone : (k : ℕ) → k < SLOTS → object_of (decimal k) ≡ Some (object.Slot k)
 unfolding object_of slot_at digits
 slot_alone zero h = refl
 slot_alone (suc zero) h = refl
@@ -36,7 +37,7 @@ slot_alone (suc (suc (suc (suc (suc (suc (suc (suc (suc (suc (suc (suc (suc (suc
 slot_alone (suc (suc (suc (suc (suc (suc (suc (suc (suc (suc (suc (suc (suc (suc (suc zero))))))))))))))) h = refl
 slot_alone (suc (suc (suc (suc (suc (suc (suc (suc (suc (suc (suc (suc (suc (suc (suc (suc k)))))))))))))))) h = absurd (omega arith)
 
-slot_before_stop : (k : ℕ) (signal : List ℕ) → k < 16 → is_identifier signal ≡ true → object_of (decimal k ++ 46 ∷ signal) ≡ Some (object.Signal k signal)
+slot_before_stop : (k : ℕ) (signal : List ℕ) → k < SLOTS → is_identifier signal ≡ true → object_of (decimal k ++ 46 ∷ signal) ≡ Some (object.Signal k signal)
 unfolding object_of slot_at digits
 slot_before_stop zero signal h is = rw is refl
 slot_before_stop (suc zero) signal h is = rw is refl
@@ -86,6 +87,10 @@ guard : {A : Type 0} (b : Bool) (x : A) (y : A) → cond b (Some x) None ≡ Som
 guard true x y h = (refl, same_Some _ _ h)
 guard false x y h = cc
 
+passed : {A : Type 0} (b : Bool) (o : Option A) (y : A) → cond b o None ≡ Some y → (b ≡ true) × (o ≡ Some y)
+passed true o y h = (refl, h)
+passed false o y h = cc
+
 either : {A : Type 0} (b : Bool) (o p : Option A) (y : A) → cond b o p ≡ Some y → ((b ≡ true) × (o ≡ Some y)) ⊎ (p ≡ Some y)
 either true o p y h = inl (refl, h)
 either false o p y h = inr h
@@ -96,18 +101,19 @@ chained f (Some x) y h = (x, refl, h)
 
 -- a slot and what follows it are the whole text
 record Splits (text : List ℕ) (found : ℕ × List ℕ) : Type 0 where
-  pub slot : found.0 < 16
+  pub slot : found.0 < SLOTS
   pub whole : text ≡ decimal found.0 ++ found.1
 
 units_split : (text : List ℕ) (found : ℕ × List ℕ) → units_slot_at text ≡ Some found → Splits text found
 units_split [] found h = cc
 units_split (unit ∷ rest) found h =
-    let g = guard (nat_le 48 unit && nat_le unit 57) (unit - 48, rest) found h in
+    let g = passed (nat_le 48 unit && nat_le unit 57) (slot_before (unit - 48) rest) found h in
     let low : 48 ≤ unit = grind (arith, nat_tests, common_steps, g.0) in
     let high : unit ≤ 57 = grind (arith, nat_tests, common_steps, g.0) in
     let e : 48 + (unit - 48) ≡ unit = omega arith in
-    subst (Splits (unit ∷ rest)) g.1 (record {
-      slot = omega arith;
+    let s = guard (nat_lt (unit - 48) SLOTS) (unit - 48, rest) found g.1 in
+    subst (Splits (unit ∷ rest)) s.1 (record {
+      slot = grind (arith, nat_tests, s.0);
       whole = sym (rw (digit (unit - 48) (omega arith), e) refl);
     })
 
@@ -116,15 +122,20 @@ unfolding slot_at
 slot_splits [] found h = cc
 slot_splits (ten ∷ []) found h = units_split (ten ∷ []) found h
 slot_splits (ten ∷ unit ∷ rest) found h =
-    elim (either ((ten == 49) && (nat_le 48 unit && nat_le unit 53)) (Some (10 + (unit - 48), rest)) (units_slot_at (ten ∷ unit ∷ rest)) found h) [
+    elim (either ((nat_le 49 ten && nat_le ten 57) && (nat_le 48 unit && nat_le unit 57)) (slot_before (10 * (ten - 48) + (unit - 48)) rest) (units_slot_at (ten ∷ unit ∷ rest)) found h) [
       | inl two ↦
-          let first : ten ≡ 49 = grind (arith, nat_tests, common_steps, two.0) in
+          let k = 10 * (ten - 48) + (unit - 48) in
+          let s = guard (nat_lt k SLOTS) (k, rest) found two.1 in
+          let few : k < SLOTS = grind (arith, nat_tests, s.0) in
+          let second : 49 ≤ ten = grind (arith, nat_tests, common_steps, two.0) in
           let low : 48 ≤ unit = grind (arith, nat_tests, common_steps, two.0) in
-          let high : unit ≤ 53 = grind (arith, nat_tests, common_steps, two.0) in
+          let first : ten ≡ 49 = omega (arith, few, second) in
           let e : 48 + (unit - 48) ≡ unit = omega arith in
-          subst (Splits (ten ∷ unit ∷ rest)) (same_Some _ _ two.1) (record {
-            slot = omega arith;
-            whole = sym (rw (two_digits (unit - 48) (omega arith), e, first) refl);
+          let is : 10 + (unit - 48) ≡ k = omega arith in
+          let spelt : 49 ∷ unit ∷ rest ≡ decimal (10 + (unit - 48)) ++ rest = sym (rw (two_digits (unit - 48) (omega (arith, few, is)), e) refl) in
+          subst (Splits (ten ∷ unit ∷ rest)) s.1 (record {
+            slot = few;
+            whole = ap (λ b. b ∷ unit ∷ rest) first ∙ spelt ∙ ap (λ n. decimal n ++ rest) is;
           })
       | inr one ↦ units_split (ten ∷ unit ∷ rest) found one
     ]
@@ -134,7 +145,7 @@ pub record IsTextOf (text : List ℕ) (o : Object) : Type 0 where
   pub is : IsObject o
   pub text_is : text ≡ object_text o
 
-object_in_is : (k : ℕ) (rest : List ℕ) (o : Object) → k < 16 → object_in k rest ≡ Some o → IsTextOf (decimal k ++ rest) o
+object_in_is : (k : ℕ) (rest : List ℕ) (o : Object) → k < SLOTS → object_in k rest ≡ Some o → IsTextOf (decimal k ++ rest) o
 object_in_is k [] o h e = subst (IsTextOf (decimal k ++ [])) (same_Some _ _ e) (record { is = h; text_is = append-nil (decimal k) })
 object_in_is k (stop ∷ signal) o h e =
     let g = guard ((stop == 46) && is_identifier signal) (object.Signal k signal) o e in

@@ -4,6 +4,7 @@ use Rattle.std.specs.Prelude.{Option, Some, None, is_some, is_none, position, no
 use Rattle.std.specs.Int.{bit_at}
 use Rattle.std.proofs.lemmas.Bool.{false≢true}
 use Rattle.std.proofs.lemmas.Bool.Decides.{Decides-eqb}
+use Rattle.rbac_policy.specs.declared.sizes.TheConstants.{ROLES}
 use Rattle.rbac_policy.specs.declared.objects.Operation.{Operation}
 use Rattle.rbac_policy.specs.declared.objects.Object.{Object}
 use Rattle.rbac_policy.specs.declared.commands.Entry.{Entry}
@@ -13,14 +14,14 @@ use Rattle.rbac_policy.specs.Names.{NameText}
 use Rattle.rbac_policy.specs.Objects.{same_operation, same_object}
 use Rattle.rbac_policy.specs.Order.{Has, below}
 use Rattle.rbac_policy.specs.Facts.{IsGranted, IsPairGranted, IsAuthorized}
-use Rattle.rbac_policy.specs.Limits.{HasAtLeast}
+use Rattle.rbac_policy.specs.Counting.{HasAtLeast}
 use Rattle.rbac_policy.specs.Tables.{roles_of, place_of, grant_of}
 use Rattle.rbac_policy.specs.StandsFor.{StandsFor}
 use Rattle.rbac_policy.proofs.Equality.{operations, objects, both}
 use Rattle.rbac_policy.proofs.Walking.{below_sound, below_all}
 use Rattle.rbac_policy.proofs.Order.{authorized_below, below_authorized}
 use Rattle.rbac_policy.proofs.Asking.{reflects, first_cases, role_at, granted_slot, not_granted_pair}
-use Rattle.rbac_policy.proofs.Limits.{Keeps, full_without_room, not_full_with_room}
+use Rattle.rbac_policy.proofs.Room.{Keeps, full_without_room, not_full_with_room}
 
 -- a mask's bit as a test
 bit_test : (b : Bool) (mask place : ℕ) → b ≡ (bit_at mask place == 1) → IsTrue b ↔ Has mask place
@@ -29,7 +30,7 @@ bit_test b mask place is = reflects b (Has mask place)
     (λ f h. false≢true (sym f ∙ is ∙ (Decides-eqb (bit_at mask place) 1).1 h))
 
 module _ (p : Policy) (L : List Entry) (st : StandsFor p L) where
-  pub authorized_test : (u r : NameText) (place all : ℕ) (b : Bool) → place_of r p.roles ≡ Some place → all ≡ below p.juniors (roles_of u p.users) → all < 2 ^ 32
+  pub authorized_test : (u r : NameText) (place all : ℕ) (b : Bool) → place_of r p.roles ≡ Some place → all ≡ below p.juniors (roles_of u p.users) → all < 2 ^ ROLES
       → b ≡ (bit_at all place == 1) → IsTrue b ↔ IsAuthorized L u r
   authorized_test u r place all b found walked fits is =
       let there = role_at p L st r place found in
@@ -39,7 +40,7 @@ module _ (p : Policy) (L : List Entry) (st : StandsFor p L) where
         λ a.
             let h = authorized_below p.roles p.juniors p.users L st.roles st.users u r a in
             let same = st.roles.unique h.0 place r h.1 there in
-            let Fits : ℕ → Type 0 = λ m. m < 2 ^ 32 in
+            let Fits : ℕ → Type 0 = λ m. m < 2 ^ ROLES in
             test.1 (subst (λ m. Has m place) (sym walked) (subst (Has (below p.juniors (roles_of u p.users))) same
             (below_all p.juniors (roles_of u p.users) (subst Fits walked fits) h.0 h.2))),
       )

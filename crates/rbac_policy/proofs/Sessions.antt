@@ -5,6 +5,7 @@ use Rattle.std.proofs.lemmas.Bool.{false≢true}
 use Rattle.std.proofs.lemmas.Bool.Decides.{Decides-eqb}
 use Rattle.std.proofs.lemmas.Option.{same_Some}
 use Rattle.std.proofs.lemmas.List.{length-map, length-set}
+use Rattle.rbac_policy.specs.declared.sizes.TheConstants.{ROLES}
 use Rattle.rbac_policy.specs.declared.commands.AdminCommand.TheVariants.{CreateSession, DeleteSession}
 use Rattle.rbac_policy.specs.declared.commands.Entry.{Entry}
 use Rattle.rbac_policy.specs.declared.rows.Session.{Session}
@@ -20,7 +21,7 @@ use Rattle.rbac_policy.proofs.Untouched.{through, untouched, logins_push}
 use Rattle.rbac_policy.proofs.Slots.{mapped, map_at, written, Free}
 use Rattle.rbac_policy.proofs.Listed.{in_mask_of, named_mask_of}
 
-module _ (roles : List (Option NameText)) (unique : (p q : ℕ) (r : NameText) → At roles p r → At roles q r → p ≡ q) (many : length roles ≡ 32) (sessions : List (Option Session)) (L : List Entry) (ss : SessionsStand roles sessions L) where
+module _ (roles : List (Option NameText)) (unique : (p q : ℕ) (r : NameText) → At roles p r → At roles q r → p ≡ q) (many : length roles ≡ ROLES) (sessions : List (Option Session)) (L : List Entry) (ss : SessionsStand roles sessions L) where
   module _ (user : NameText) (listed : List NameText) (known : (r : NameText) → Contains listed r → (p : ℕ) × At roles p r) (i : ℕ) (fr : Free sessions i) where
     abbrev pub the_login : Entry
     the_login = record { session = None; command = CreateSession user listed }

@@ -6,6 +6,7 @@ use Rattle.std.proofs.lemmas.Bool.{cases_eq, false≢true}
 use Rattle.std.proofs.lemmas.Nat.Bits.{bit_at_set_same, bit_at_set_other, bit_at-zero}
 use Rattle.std.proofs.lemmas.Option.{slice_get-map, same_Some, slice_get-get_or}
 use Rattle.std.proofs.lemmas.List.Quantifiers.{position-Some}
+use Rattle.rbac_policy.specs.declared.sizes.TheConstants.{ROLES}
 use Rattle.rbac_policy.specs.Names.{NameText}
 use Rattle.rbac_policy.specs.Tables.{At, with_bit}
 use Rattle.rbac_policy.specs.StandsFor.{InMask, IsNamed}
@@ -60,7 +61,7 @@ free slots i h =
     let p = position-Some is_none slots i None h in
     record { within = p.0; empty = slice_get-get_or slots i None p.0 ∙ ap Some (is_nothing _ p.1) }
 
-module _ (roles : List (Option NameText)) (unique : (p q : ℕ) (r : NameText) → At roles p r → At roles q r → p ≡ q) (p0 : ℕ) (r0 : NameText) (there : At roles p0 r0) (low : p0 < 32) where
+module _ (roles : List (Option NameText)) (unique : (p q : ℕ) (r : NameText) → At roles p r → At roles q r → p ≡ q) (p0 : ℕ) (r0 : NameText) (there : At roles p0 r0) (low : p0 < ROLES) where
   pub in_with_bit : (m : ℕ) (r : NameText) → InMask roles (with_bit m p0) r ↔ ((r0 ≡ r) ⊎ InMask roles m r)
   in_with_bit m r = (
     λ i. elim (cases_eq i.place p0) [

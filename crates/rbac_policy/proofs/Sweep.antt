@@ -6,6 +6,7 @@ use Rattle.std.specs.Int.Bits.{bit_and}
 use Rattle.std.proofs.lemmas.Bool.Decides.{Decides-eqb}
 use Rattle.std.proofs.lemmas.Option.{same_Some}
 use Rattle.std.proofs.lemmas.List.{length-map}
+use Rattle.rbac_policy.specs.declared.sizes.TheConstants.{ROLES}
 use Rattle.rbac_policy.specs.declared.rows.User.{User}
 use Rattle.rbac_policy.specs.declared.rows.Session.{Session}
 use Rattle.rbac_policy.specs.Order.{Has, IsBelowSome, below}
@@ -25,7 +26,7 @@ pub record IsSwept (users : List (Option User)) (juniors : List ℕ) (old new : 
   pub stays : (place : ℕ) (x : Session) → At old place x → HasOnlyBelow users juniors x → At new place x
 
 module _ (users : List (Option User)) (juniors : List ℕ) (sessions : List (Option Session))
-    (low : (at : ℕ) (x : Session) → At sessions at x → x.active < 2 ^ 32) (few : (x : Session) → below juniors (roles_of x.user users) < 2 ^ 32) where
+    (low : (at : ℕ) (x : Session) → At sessions at x → x.active < 2 ^ ROLES) (few : (x : Session) → below juniors (roles_of x.user users) < 2 ^ ROLES) where
   passes : (at : ℕ) (x : Session) → At sessions at x → has_only_authorized users juniors x ≡ true → HasOnlyBelow users juniors x
   passes at x there t p bit =
       let all = below juniors (roles_of x.user users) in

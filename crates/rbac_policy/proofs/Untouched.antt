@@ -3,6 +3,7 @@ use Rattle.std.proofs.Common.{◌≡◌, ℕ, ◌+◌, ◌≤◌, ◌⊎◌, ◌
 use Rattle.std.specs.Prelude.{Option}
 use Rattle.std.proofs.lemmas.Bool.{false≢true}
 use Rattle.std.proofs.lemmas.List.Sums.{fold_push}
+use Rattle.rbac_policy.specs.declared.sizes.TheConstants.{ROLES}
 use Rattle.rbac_policy.specs.declared.objects.Operation.{Operation}
 use Rattle.rbac_policy.specs.declared.objects.Object.{Object}
 use Rattle.rbac_policy.specs.declared.commands.AdminCommand.{AdminCommand}
@@ -129,7 +130,7 @@ logins_push L e = fold_push (λ (a : ℕ) (x : Entry). a + cond (is_login x) 1 0
 pub logins_other : (L : List Entry) (e : Entry) → is_login e ≡ false → logins (L ++ e ∷ []) ≡ logins L
 logins_other L e h = logins_push L e ∙ ap (λ b. logins L + cond b 1 0) h ∙ add-zero (logins L)
 
-pub untouched_sessions : (roles : List (Option NameText)) (sessions : List (Option Session)) (L : List Entry) (e : Entry) → touches_sessions e.command ≡ false → logins (L ++ e ∷ []) ≡ logins L → ((p q : ℕ) (role : NameText) → At roles p role → At roles q role → p ≡ q) → length roles ≡ 32 → SessionsStand roles sessions L → Unswept roles sessions L e
+pub untouched_sessions : (roles : List (Option NameText)) (sessions : List (Option Session)) (L : List Entry) (e : Entry) → touches_sessions e.command ≡ false → logins (L ++ e ∷ []) ≡ logins L → ((p q : ℕ) (role : NameText) → At roles p role → At roles q role → p ≡ q) → length roles ≡ ROLES → SessionsStand roles sessions L → Unswept roles sessions L e
 untouched_sessions roles sessions L e no_touch count unique many s =
     let out = λ (c : AdminCommand) (t : touches_sessions c ≡ true) (h : e.command ≡ c). not_by touches_sessions e.command c no_touch t h in
     let active : (n : ℕ) (r : NameText) → IsActive (L ++ e ∷ []) n r ↔ IsActive L n r = λ n r. untouched _ _ L e

@@ -7,6 +7,7 @@ use Rattle.std.proofs.lemmas.Bool.{cases_lt, cases_eq}
 use Rattle.std.proofs.lemmas.Bool.Decides.{Decides-eqb}
 use Rattle.std.proofs.lemmas.Nat.{le_or_l}
 use Rattle.std.proofs.lemmas.Nat.Bits.{bit_at_or, bit_at_and, bit_at-lt, bit_at-zero, bit_at-trailing_zeros}
+use Rattle.rbac_policy.specs.declared.sizes.TheConstants.{ROLES}
 use Rattle.rbac_policy.specs.Order.{Has, Meets, IsRowEdge, IsBelowSome, Chain, stay, step, with_rows, widened, widened_often, below}
 
 pub or_left : (a b p : ℕ) → Has a p → Has (bit_or a b) p
@@ -22,7 +23,7 @@ pub or_cases : (a b p : ℕ) → Has (bit_or a b) p → Has a p ⊎ Has b p
 or_cases a b p h = elim (bit_cases a p) [ inl x ↦ inl x | inr x ↦ inr (omega (arith, bit_at_or a b p, bit_at-lt a p, bit_at-lt b p)) ]
 
 -- a number that is not 0 has a bit
-pub common_bit : (a b : ℕ) → bit_and a b < 2 ^ 32 → (bit_and a b ≡ 0 → ⊥) → Meets a b
+pub common_bit : (a b : ℕ) → bit_and a b < 2 ^ ROLES → (bit_and a b ≡ 0 → ⊥) → Meets a b
 common_bit a b fits differs =
     let n = bit_and a b in
     let positive : 0 < n = elim (cases_lt 0 n) [ inl l ↦ l | inr z ↦ absurd (differs (omega arith)) ] in
@@ -57,7 +58,7 @@ module _ (juniors : List ℕ) (mask : ℕ) where
   rows_keep zero p h = h
   rows_keep (suc n) p h = let rest = rows_keep n p h in row (λ m. Has m p) n (λ _. or_left _ _ p rest) rest
 
-  rows_sound : (n : ℕ) → n ≤ 32 → (p : ℕ) → Has (with_rows n juniors mask) p → IsBelowSome juniors mask p
+  rows_sound : (n : ℕ) → n ≤ ROLES → (p : ℕ) → Has (with_rows n juniors mask) p → IsBelowSome juniors mask p
   rows_sound zero few p h = record { top = p; within = h; chain = stay }
   rows_sound (suc n) few p h =
       let rest = rows_sound n (omega arith) in
@@ -84,25 +85,25 @@ module _ (juniors : List ℕ) (mask : ℕ) where
       row (λ m. mask ≤ m) n (λ _. omega (arith, le_or_l (with_rows n juniors mask) (slice_index juniors n), rest)) rest
 
 -- one pass
-pub widened_is : (juniors : List ℕ) (mask n : ℕ) → n ≡ 32 → with_rows n juniors mask ≡ widened juniors mask
+pub widened_is : (juniors : List ℕ) (mask n : ℕ) → n ≡ ROLES → with_rows n juniors mask ≡ widened juniors mask
 unfolding widened
 widened_is juniors mask n e = ap (λ k. with_rows k juniors mask) e
 
 pub widened_keeps : (juniors : List ℕ) (mask p : ℕ) → Has mask p → Has (widened juniors mask) p
 unfolding widened
-widened_keeps juniors mask p h = rows_keep juniors mask 32 p h
+widened_keeps juniors mask p h = rows_keep juniors mask ROLES p h
 
 pub widened_sound : (juniors : List ℕ) (mask p : ℕ) → Has (widened juniors mask) p → IsBelowSome juniors mask p
 unfolding widened
-widened_sound juniors mask p h = rows_sound juniors mask 32 (omega arith) p h
+widened_sound juniors mask p h = rows_sound juniors mask ROLES (omega arith) p h
 
 pub widened_joins : (juniors : List ℕ) (mask s j : ℕ) → Has mask s → IsRowEdge juniors s j → Has (widened juniors mask) j
 unfolding widened
-widened_joins juniors mask s j h e = rows_join juniors mask 32 s e.0 h j e.1
+widened_joins juniors mask s j h e = rows_join juniors mask ROLES s e.0 h j e.1
 
 pub widened_grows : (juniors : List ℕ) (mask : ℕ) → mask ≤ widened juniors mask
 unfolding widened
-widened_grows juniors mask = rows_grow juniors mask 32
+widened_grows juniors mask = rows_grow juniors mask ROLES
 
 -- below what is below the mask is below the mask
 pub sound_twice : (juniors : List ℕ) (mask found : ℕ) → ((p : ℕ) → Has found p → IsBelowSome juniors mask p) → (p : ℕ) → IsBelowSome juniors found p → IsBelowSome juniors mask p
@@ -171,25 +172,25 @@ walk_goes_on juniors mask found w differs = record {
   is = ap (widened juniors) w.is;
 }
 
-pub walk_ends : (juniors : List ℕ) (mask found : ℕ) → Walked juniors mask found → found < 2 ^ 32 → widened juniors found ≡ found → found ≡ below juniors mask
+pub walk_ends : (juniors : List ℕ) (mask found : ℕ) → Walked juniors mask found → found < 2 ^ ROLES → widened juniors found ≡ found → found ≡ below juniors mask
 unfolding below
 walk_ends juniors mask found w fits e =
-    w.is ∙ sym (ended juniors mask w.passes (2 ^ 32) (sym (ap (widened juniors) w.is) ∙ e ∙ w.is) (omega (arith, w.few)))
+    w.is ∙ sym (ended juniors mask w.passes (2 ^ ROLES) (sym (ap (widened juniors) w.is) ∙ e ∙ w.is) (omega (arith, w.few)))
 
 -- what lies below a mask
-pub below_closed : (juniors : List ℕ) (mask : ℕ) → below juniors mask < 2 ^ 32 → widened juniors (below juniors mask) ≡ below juniors mask
+pub below_closed : (juniors : List ℕ) (mask : ℕ) → below juniors mask < 2 ^ ROLES → widened juniors (below juniors mask) ≡ below juniors mask
 unfolding below
-below_closed juniors mask fits = elim (grows_or_ends juniors mask (2 ^ 32)) [ inl e ↦ e | inr g ↦ absurd (omega arith) ]
+below_closed juniors mask fits = elim (grows_or_ends juniors mask (2 ^ ROLES)) [ inl e ↦ e | inr g ↦ absurd (omega arith) ]
 
 pub below_sound : (juniors : List ℕ) (mask p : ℕ) → Has (below juniors mask) p → IsBelowSome juniors mask p
 unfolding below
-below_sound juniors mask p h = often_sound juniors mask (2 ^ 32) p h
+below_sound juniors mask p h = often_sound juniors mask (2 ^ ROLES) p h
 
 pub below_keeps : (juniors : List ℕ) (mask p : ℕ) → Has mask p → Has (below juniors mask) p
 unfolding below
-below_keeps juniors mask p h = often_keeps juniors mask (2 ^ 32) p h
+below_keeps juniors mask p h = often_keeps juniors mask (2 ^ ROLES) p h
 
-pub below_all : (juniors : List ℕ) (mask : ℕ) → below juniors mask < 2 ^ 32 → (p : ℕ) → IsBelowSome juniors mask p → Has (below juniors mask) p
+pub below_all : (juniors : List ℕ) (mask : ℕ) → below juniors mask < 2 ^ ROLES → (p : ℕ) → IsBelowSome juniors mask p → Has (below juniors mask) p
 below_all juniors mask fits p b =
     let all = below juniors mask in
     along juniors all (λ s j h e. subst (λ m. Has m j) (below_closed juniors mask fits) (widened_joins juniors all s j h e)) b.chain (below_keeps juniors mask b.top b.within)

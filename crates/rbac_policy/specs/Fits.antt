@@ -10,7 +10,7 @@ use Rattle.rbac_policy.specs.declared.sizes.TheConstants.{USERS, ROLES, GRANTS, 
 use Rattle.rbac_policy.specs.Names.{NameText}
 use Rattle.rbac_policy.specs.Entries.{logins}
 use Rattle.rbac_policy.specs.Facts.{IsUser, IsRole, IsLive, IsPairGranted}
-use Rattle.rbac_policy.specs.Limits.{HasAtLeast}
+use Rattle.rbac_policy.specs.Counting.{HasAtLeast}
 
 -- the table of users is full
 abbrev pub UsersFull : List Entry → Type 0

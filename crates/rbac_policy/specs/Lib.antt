@@ -3,7 +3,7 @@ pub mod Objects
 pub mod Texts
 pub mod Entries
 pub mod Order
-pub mod Limits
+pub mod Counting
 pub mod Facts
 pub mod Opening
 pub mod Fits

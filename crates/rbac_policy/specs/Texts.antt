@@ -1,5 +1,5 @@
 -- Operations and objects as text.
-use Rattle.std.specs.Prelude.{ℕ, ◌+◌, ◌-◌, ◌<◌, ◌&&◌, ◌==◌, nat_le, IsTrue, List, [], ◌∷◌, ◌++◌, codes, decimal, Option, Some, None, option_and_then, if◌then◌else◌}
+use Rattle.std.specs.Prelude.{ℕ, ◌+◌, ◌-◌, ◌<◌, ◌*◌, ◌&&◌, ◌==◌, nat_le, nat_lt, IsTrue, List, [], ◌∷◌, ◌++◌, codes, decimal, Option, Some, None, option_and_then, if◌then◌else◌}
 use Rattle.std.specs.Str.{bytes_eq}
 use Rattle.est_kernel.specs.Identifiers.{is_identifier}
 use Rattle.rbac_policy.specs.declared.objects.Operation.{Operation}
@@ -40,17 +40,22 @@ operation_of text =
     else (if bytes_eq text (codes "audit") then Some operation.Audit
     else None)))))
 
+-- the slot of this number, if there is one, and what follows it
+abbrev pub slot_before : ℕ → List ℕ → Option (ℕ × List ℕ)
+slot_before k rest = if nat_lt k SLOTS then Some (k, rest) else None
+
 -- the slot of the digit at the front, and what follows it
 abbrev pub units_slot_at : List ℕ → Option (ℕ × List ℕ)
 units_slot_at [] = None
-units_slot_at (unit ∷ rest) = if nat_le 48 unit && nat_le unit 57 then Some (unit - 48, rest) else None
+units_slot_at (unit ∷ rest) = if nat_le 48 unit && nat_le unit 57 then slot_before (unit - 48) rest else None
 
 -- the slot's number at the front, of two digits where they can be taken, and what follows it
 unfoldable pub slot_at : List ℕ → Option (ℕ × List ℕ)
 slot_at [] = None
 slot_at (ten ∷ []) = units_slot_at (ten ∷ [])
 slot_at (ten ∷ unit ∷ rest) =
-    if (ten == 49) && (nat_le 48 unit && nat_le unit 53) then Some (10 + (unit - 48), rest) else units_slot_at (ten ∷ unit ∷ rest)
+    if (nat_le 49 ten && nat_le ten 57) && (nat_le 48 unit && nat_le unit 57) then slot_before (10 * (ten - 48) + (unit - 48)) rest
+    else units_slot_at (ten ∷ unit ∷ rest)
 
 -- the object of a slot, and of what follows it
 abbrev pub object_in : ℕ → List ℕ → Option Object

@@ -65,8 +65,8 @@ fn slot_at(text: &[u8]) -> Option<(SlotNumber, &[u8])>
     ensures { option_map (λ found. (found.0, found.1.now)) result ≡ slot_at text.now }
 {
     match text {
-        [b'1', unit @ b'0'..=b'5', rest @ ..] => Some((
-            SlotNumber::new(10 + (*unit - b'0'))?,
+        [ten @ b'1'..=b'9', unit @ b'0'..=b'9', rest @ ..] => Some((
+            SlotNumber::new(10 * (*ten - b'0') + (*unit - b'0'))?,
             rest,
         )),
         [unit @ b'0'..=b'9', rest @ ..] => Some((SlotNumber::new(*unit - b'0')?, rest)),
@@ -93,7 +93,7 @@ fn object_of(text: &str) -> Option<Object>
 }
 
 impl Object {
-    /// The object of this text, if there is one: `policy`, a slot from `0` to `15` without leading zeros, or a slot, a full stop and an
+    /// The object of this text, if there is one: `policy`, the number of a slot without leading zeros, or that number, a full stop and an
     /// identifier.
     pub fn from_text(text: &str) -> Option<Object>
         ensures value { result ≡ object_of text.now }

@@ -1,4 +1,5 @@
 use Rattle.std.proofs.Common.{arith, sym, ◌∙◌, subst, ◌≤◌, ◌<◌, ◌^◌}
+use Rattle.rbac_policy.specs.declared.sizes.TheConstants.{ROLES}
 use Rattle.rbac_policy.proofs.Walking.{Walked, walk_begins, walk_goes_on, walk_ends, widened_grows}
 use Rattle.rbac_policy.proofs.closure.below.Goals as goal
 
@@ -7,7 +8,7 @@ loop-found-init c = walk_begins c.args.juniors.now c.args.mask
 
 pub returns-then-wide-found : goal.returns-then-wide-found
 returns-then-wide-found c =
-    let fits : c.loop-found.found < 2 ^ 32 = omega arith in
+    let fits : c.loop-found.found < 2 ^ ROLES = omega arith in
     walk_ends c.args.juniors.now c.args.mask c.loop-found.found c.loop-found.invariant fits (sym c.widened-wide.ensures ∙ c.if-wide-found.true)
 
 pub loop-found-smaller : goal.loop-found-smaller

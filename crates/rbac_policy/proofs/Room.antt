@@ -1,8 +1,8 @@
 -- A table has no free slot exactly where as many values as it has slots have the property that it keeps.
-use Rattle.std.proofs.Common.{◌≡◌, ℕ, zero, suc, ◌+◌, ◌≤◌, List, [], ◌∷◌, length, cond, arith, sym, ◌∙◌, ap, refl, subst}
+use Rattle.std.proofs.Common.{◌≡◌, ◌≢◌, ◌<◌, ℕ, zero, suc, ◌+◌, ◌≤◌, List, [], ◌∷◌, length, cond, arith, sym, ◌∙◌, ap, refl, subst}
 use Rattle.std.specs.Prelude.{slice_get, Option, Some, None, position, is_none}
-use Rattle.std.specs.List.{position_or_len}
-use Rattle.std.proofs.lemmas.Option.{same_Some}
+use Rattle.std.specs.List.{All, AllPairs, position_or_len}
+use Rattle.std.proofs.lemmas.Option.{same_Some, slice_get_within, slice_get-get_or, get_or_from_slice_get}
 use Rattle.std.proofs.lemmas.Bool.Decides.{Decides-ltb}
 use Rattle.rbac_policy.specs.declared.objects.Operation.{Operation}
 use Rattle.rbac_policy.specs.declared.objects.Object.{Object}
@@ -12,7 +12,7 @@ use Rattle.rbac_policy.specs.declared.rows.Grant.{Grant}
 use Rattle.rbac_policy.specs.declared.rows.Session.{Session}
 use Rattle.rbac_policy.specs.Names.{NameText}
 use Rattle.rbac_policy.specs.Facts.{IsUser, IsRole, IsPairGranted, IsLive}
-use Rattle.rbac_policy.specs.Limits.{IsDistinct, HasAtLeast}
+use Rattle.rbac_policy.specs.Counting.{HasAtLeast}
 use Rattle.rbac_policy.specs.Tables.{At}
 use Rattle.rbac_policy.specs.StandsFor.{Holds, IsKeyed, UsersStand, RolesStand, GrantsStand, SessionsStand}
 use Rattle.rbac_policy.proofs.Listed.{position_within}
@@ -46,12 +46,12 @@ record Kept {A B : Type 0} (R : A → B → Type 0) (ys : List B) (x : A) : Type
   by : R x value
 
 -- distinct values, each kept in a place of its own, are no more than the places
-pigeons : {A B : Type 0} (R : A → B → Type 0) → ((x y : A) (b : B) → R x b → R y b → x ≡ y) → (xs : List A) (ys : List B) → IsDistinct xs → ((p : ℕ) (x : A) → slice_get xs p ≡ Some x → Kept R ys x) → length xs ≤ length ys
+pigeons : {A B : Type 0} (R : A → B → Type 0) → ((x y : A) (b : B) → R x b → R y b → x ≡ y) → (xs : List A) (ys : List B) → AllPairs (λ x y. x ≢ y) xs → ((p : ℕ) (x : A) → slice_get xs p ≡ Some x → Kept R ys x) → length xs ≤ length ys
 pigeons R one [] ys distinct kept = omega arith
 pigeons {A = A} {B = B} R one (x ∷ xs) ys distinct kept =
     let h = kept 0 x refl in
     let rest = pigeons R one xs (without ys h.at)
-    (λ p q y a b. let e = distinct (suc p) (suc q) y a b in omega arith)
+    (λ p q d low within. distinct (suc p) (suc q) d (omega arith) (omega arith))
     (λ p y there. elsewhere h p y there (kept (suc p) y there)) in
     omega (arith, rest, length-without ys h.at h.value h.there) where
       elsewhere : (h : Kept R ys x) (p : ℕ) (y : A) → slice_get xs p ≡ Some y → Kept R ys y → Kept R (without ys h.at) y
@@ -59,8 +59,8 @@ pigeons {A = A} {B = B} R one (x ∷ xs) ys distinct kept =
           let apart : k.at ≡ h.at → ⊥ = λ e.
           let same : k.value ≡ h.value = same_Some k.value h.value (sym k.there ∙ subst (λ i. slice_get ys i ≡ Some h.value) (sym e) h.there) in
           let one_value : y ≡ x = one y x h.value (subst (R y) same k.by) h.by in
-          let places : suc p ≡ 0 = distinct (suc p) 0 y there (ap Some (sym one_value)) in
-          cc in
+          let within = slice_get_within xs p y there in
+          distinct 0 (suc p) y (omega arith) (omega arith) (sym one_value ∙ sym (get_or_from_slice_get xs p y y there)) in
           let q = still_in ys h.at k.at k.value apart k.there in
           record { at = q.0; value = k.value; there = q.1; by = k.by }
 
@@ -104,11 +104,11 @@ full_without_room key slots P n k many none =
     let full = no_gap slots none in
     record {
       values = keys key slots;
-      distinct = λ p q a there other.
-          let x = keys_at key slots full p a there in
-          let y = keys_at key slots full q a other in
-          k.unique p q x.0 y.0 x.1 y.1 (x.2 ∙ sym y.2);
-      have = λ p a there. let x = keys_at key slots full p a there in subst P x.2 (k.fact p x.0 x.1);
+      distinct = λ p q d low within same.
+          let x = keys_at key slots full p _ (slice_get-get_or (keys key slots) p d (omega arith)) in
+          let y = keys_at key slots full q _ (slice_get-get_or (keys key slots) q d within) in
+          absurd (omega (arith, k.unique p q x.0 y.0 x.1 y.1 (x.2 ∙ same ∙ sym y.2)));
+      have = λ p d within. let x = keys_at key slots full p _ (slice_get-get_or (keys key slots) p d within) in subst P x.2 (k.fact p x.0 x.1);
       enough = keys_many key slots full ∙ many;
     }
 
@@ -129,7 +129,7 @@ elsewhere key slots i empty a h =
 pub not_full_with_room : {X A : Type 0} (key : X → A) (slots : List (Option X)) (P : A → Type 0) (n : ℕ) → Keeps key slots P → length slots ≡ n → (i : ℕ) → position is_none slots ≡ Some i → HasAtLeast n P → ⊥
 not_full_with_room key slots P n k many i room h =
     let fr = free slots i room in
-    let few = pigeons (Stored key) (one_key key) h.values (without slots i) h.distinct (λ p a there. elsewhere key slots i fr.empty a (k.stands a (h.have p a there))) in
+    let few = pigeons (Stored key) (one_key key) h.values (without slots i) h.distinct (λ p a there. elsewhere key slots i fr.empty a (k.stands a (subst P (get_or_from_slice_get h.values p a a there) (h.have p a (slice_get_within h.values p a there))))) in
     absurd (omega (arith, few, h.enough, length-without slots i None fr.empty, many))
 
 -- where the property hasn't been reached so often, there is room
