@@ -1,4 +1,4 @@
--- How the answer to a policy command is read off an ordered list of rules.
+-- How the answer to a policy command is read off an ordered list of rules (this project's own form).
 use Rattle.std.specs.Prelude.{◌≡◌, ℕ, ◌<◌, ◌⊎◌, List, Option, Some, Result, Ok, Err, slice_get, take}
 use Rattle.rbac_policy.specs.Names.{NameText}
 use Rattle.rbac_policy.specs.declared.commands.AdminCommand.{AdminCommand}

@@ -196,7 +196,16 @@ pub fn is_decided(command: &AdminCommand) -> bool
     )
 }
 
-/// The entry of the command that this session gives, or the first refusal. It takes no memory.
+/// The entry of the command that this session gives, which is for one of the commands that `is_decided` knows. It takes no memory.
+///
+/// # Errors
+///
+/// The first refusal, in the order of the policy step:
+///
+/// - of GrantPermission: NoSession, Permission, UnknownRole, AlreadyGranted, Full of permissions;
+/// - of CreateSession: SessionsExhausted, UnknownUser, UnknownRole (the first listed), NotAuthorized (the first listed), AlreadyActive (the
+///   first that stands a second time), Full of sessions;
+/// - of DeleteSession: NoSession.
 pub fn decide(
     policy: &Policy,
     session: Option<SessionId>,

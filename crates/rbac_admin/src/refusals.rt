@@ -34,19 +34,25 @@ pub enum Refusal {
     },
     /// The senior role is the junior one, or lies below it.
     Cycle,
+    /// There is no such user.
     UnknownUser {
         user: Name,
     },
+    /// There is no such role.
     UnknownRole {
         role: Name,
     },
+    /// There is such a user already.
     UserExists {
         user: Name,
     },
+    /// There is such a role already.
     RoleExists {
         role: Name,
     },
+    /// The role is assigned to the user already.
     AlreadyAssigned,
+    /// The role is not assigned to the user.
     NotAssigned,
     /// The role itself has the permission.
     AlreadyGranted,
@@ -56,9 +62,11 @@ pub enum Refusal {
     EdgeExists,
     /// The edge itself isn't there.
     NoEdge,
+    /// There is a separation set of this name already.
     DsdExists {
         set: Name,
     },
+    /// There is no separation set of this name.
     NoDsd {
         set: Name,
     },

@@ -1,7 +1,7 @@
 -- Empty tables stand for no entries, and each opening entry fits those before it.
 use Rattle.std.proofs.Common.{◌≡◌, ℕ, zero, suc, List, [], ◌∷◌, ◌++◌, length, inl, inr, arith, refl, sym, ◌∙◌, subst}
 use Rattle.std.specs.List.{All}
-use Rattle.std.specs.Prelude.{slice_get, slice_index, replicate, Option, Some, None}
+use Rattle.std.specs.Prelude.{slice_index, replicate, Option, None}
 use Rattle.std.proofs.lemmas.Option.{slice_get_within}
 use Rattle.std.proofs.lemmas.List.{length-replicate}
 use Rattle.std.proofs.lemmas.Nat.Bits.{bit_at-zero}

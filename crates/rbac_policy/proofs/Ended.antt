@@ -35,17 +35,14 @@ module _ (before roles : List (Option NameText)) (keeps : (p : ℕ) (r : NameTex
   abbrev new : List (Option Session)
   new = map (session_kept users juniors) mid
 
-  -- active roles, and the roles of a user with those below, lie in the places of the table
-  low : (at : ℕ) (x : Session) → At mid at x → x.active < 2 ^ ROLES
-  low at x there = low_bits x.active (λ p bit. let r = un.named at x there p bit in omega (arith, slice_get_within before p (Some r.0) r.1, un.many))
-
+  -- the roles of a user, with those below, lie in the places of the table
   few : (x : Session) → below juniors (roles_of x.user users) < 2 ^ ROLES
   few x = low_bits (below juniors (roles_of x.user users)) (λ p bit.
       let r = below_named roles juniors users (L ++ e ∷ []) rs us x.user p (below_sound juniors (roles_of x.user users) p bit) in
       omega (arith, slice_get_within roles p (Some r.0) r.1, rs.places))
 
   sw : IsSwept users juniors mid new
-  sw = swept_sessions users juniors mid low few
+  sw = swept_sessions users juniors mid few
 
   -- a role that is active in a slot that was left has its place still
   still : (at : ℕ) (x : Session) → At new at x → (p : ℕ) → Has x.active p → (r : NameText) × At roles p r

@@ -1,7 +1,7 @@
 -- A table has no free slot exactly where as many values as it has slots have the property that it keeps.
-use Rattle.std.proofs.Common.{◌≡◌, ◌≢◌, ◌<◌, ℕ, zero, suc, ◌+◌, ◌≤◌, List, [], ◌∷◌, length, cond, arith, sym, ◌∙◌, ap, refl, subst}
+use Rattle.std.proofs.Common.{◌≡◌, ◌≢◌, ℕ, zero, suc, ◌+◌, ◌≤◌, List, [], ◌∷◌, length, cond, arith, sym, ◌∙◌, ap, refl, subst}
 use Rattle.std.specs.Prelude.{slice_get, Option, Some, None, position, is_none}
-use Rattle.std.specs.List.{All, AllPairs, position_or_len}
+use Rattle.std.specs.List.{AllPairs, position_or_len}
 use Rattle.std.proofs.lemmas.Option.{same_Some, slice_get_within, slice_get-get_or, get_or_from_slice_get}
 use Rattle.std.proofs.lemmas.Bool.Decides.{Decides-ltb}
 use Rattle.rbac_policy.specs.declared.objects.Operation.{Operation}

@@ -1,8 +1,7 @@
 -- The sweep through the slots of sessions, which empties those that have a role for which their user is not authorized.
 use Rattle.std.proofs.Common.{◌≡◌, ℕ, ◌^◌, ◌<◌, List, length, map, cond, sym, ◌∙◌, ap, subst, refl, true, false, Bool}
 use Rattle.std.specs.Prelude.{Option, Some, None}
-use Rattle.std.specs.Int.{bit_not, w32}
-use Rattle.std.specs.Int.Bits.{bit_and}
+use Rattle.std.specs.Int.Bits.{bit_or}
 use Rattle.std.proofs.lemmas.Bool.Decides.{Decides-eqb}
 use Rattle.std.proofs.lemmas.Option.{same_Some}
 use Rattle.std.proofs.lemmas.List.{length-map}
@@ -26,18 +25,18 @@ pub record IsSwept (users : List (Option User)) (juniors : List ℕ) (old new : 
   pub stays : (place : ℕ) (x : Session) → At old place x → HasOnlyBelow users juniors x → At new place x
 
 module _ (users : List (Option User)) (juniors : List ℕ) (sessions : List (Option Session))
-    (low : (at : ℕ) (x : Session) → At sessions at x → x.active < 2 ^ ROLES) (few : (x : Session) → below juniors (roles_of x.user users) < 2 ^ ROLES) where
+    (few : (x : Session) → below juniors (roles_of x.user users) < 2 ^ ROLES) where
   passes : (at : ℕ) (x : Session) → At sessions at x → has_only_authorized users juniors x ≡ true → HasOnlyBelow users juniors x
   passes at x there t p bit =
       let all = below juniors (roles_of x.user users) in
       below_sound juniors (roles_of x.user users) p
-      (inside_from_test x.active all (low at x there) (few x) ((Decides-eqb (bit_and x.active (bit_not w32 all)) 0).0 t) p bit)
+      (inside_from_test x.active all ((Decides-eqb (bit_or all x.active) all).0 t) p bit)
 
   passes_by : (at : ℕ) (x : Session) → At sessions at x → HasOnlyBelow users juniors x → has_only_authorized users juniors x ≡ true
   passes_by at x there only =
       let all = below juniors (roles_of x.user users) in
-      (Decides-eqb (bit_and x.active (bit_not w32 all)) 0).1
-      (test_from_inside x.active all (low at x there) (few x) (λ p bit. below_all juniors (roles_of x.user users) (few x) p (only p bit)))
+      (Decides-eqb (bit_or all x.active) all).1
+      (test_from_inside x.active all (λ p bit. below_all juniors (roles_of x.user users) (few x) p (only p bit)))
 
   kept_from : (x y : Session) → session_kept users juniors (Some x) ≡ Some y → (x ≡ y) × (has_only_authorized users juniors x ≡ true)
   kept_from x y gives = by_test (has_only_authorized users juniors x) refl where

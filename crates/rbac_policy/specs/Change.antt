@@ -1,4 +1,4 @@
--- What an entry makes of the policy's tables, as it is computed.
+-- What an entry makes of the policy's tables, as it is computed (this project's own form).
 use Rattle.std.specs.Prelude.{ℕ, ◌+◌, ◌%◌, List, Option, Some, None, map}
 use Rattle.rbac_policy.specs.declared.objects.Operation.{Operation}
 use Rattle.rbac_policy.specs.declared.objects.Object.{Object}
@@ -15,15 +15,17 @@ abbrev pub granted_at : Option ℕ → Operation → Object → Policy → Polic
 granted_at None operation object p = p
 granted_at (Some place) operation object p = record p { grants = grants_given operation object place p.grants }
 
+-- the pair is granted to the role of this name, if there is one
 abbrev pub granted : NameText → Operation → Object → Policy → Policy
 granted role operation object p = granted_at (place_of role p.roles) operation object p
 
--- the session has the next number
+-- a session of the user, with these roles and the next number
 abbrev pub logged_in : NameText → List NameText → Policy → Policy
 logged_in user roles p =
     let number = (p.logins + 1) % (LAST_SESSION + 1) in
     record p { logins = number; sessions = put_free (record { number = number; user = user; active = mask_of p.roles roles }) p.sessions }
 
+-- the session of this number ends, if a session gives the command
 abbrev pub logged_out : Option ℕ → Policy → Policy
 logged_out None p = p
 logged_out (Some number) p = record p { sessions = map (session_without number) p.sessions }
@@ -33,6 +35,7 @@ abbrev pub assigned_at : Option ℕ → NameText → Policy → Policy
 assigned_at None user p = p
 assigned_at (Some place) user p = record p { users = map (user_given user place) p.users }
 
+-- the role of this name is assigned to the user, if there is one
 abbrev pub assigned : NameText → NameText → Policy → Policy
 assigned user role p = assigned_at (place_of role p.roles) user p
 
@@ -46,6 +49,7 @@ changed_by (CreateSession user roles) session p = logged_in user roles p
 changed_by DeleteSession session p = logged_out session p
 changed_by _ session p = p
 
+-- the change of the entry
 abbrev pub changed : Policy → Entry → Policy
 changed p entry = changed_by entry.command entry.session p
 

@@ -1,4 +1,4 @@
--- How many values have a property.
+-- How many values have a property (this project's own form).
 use Rattle.std.specs.Prelude.{◌≡◌, ◌≢◌, ℕ, List, length}
 use Rattle.std.specs.List.{All, AllPairs}
 

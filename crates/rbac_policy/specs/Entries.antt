@@ -1,4 +1,4 @@
--- Facts that a list of accepted entries makes and undoes. The oldest entry stands first.
+-- Facts that a list of accepted entries makes and undoes; the oldest entry stands first (this project's own form).
 use Rattle.std.specs.Prelude.{◌≡◌, ℕ, ◌<◌, List, Some, slice_get, take, Bool, true, false, count_by}
 use Rattle.rbac_policy.specs.declared.commands.AdminCommand.{AdminCommand}
 use Rattle.rbac_policy.specs.declared.commands.AdminCommand.TheVariants.{CreateSession}
@@ -12,7 +12,7 @@ pub record InForce (Makes : List Entry → Entry → Type 0) (Undoes : Entry →
   pub made : Makes (take at entries) entry
   pub kept : (later : ℕ) (e : Entry) → at < later → slice_get entries later ≡ Some e → ¬ (Undoes e)
 
--- the entry makes a session
+-- the entry makes a session (CreateSession of ANSI INCITS 359-2004)
 abbrev pub is_login : Entry → Bool
 is_login e = makes_session e.command where
   makes_session : AdminCommand → Bool

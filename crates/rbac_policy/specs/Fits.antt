@@ -1,5 +1,5 @@
--- What an entry asks of the entries before it, so that a policy that stands for them can take it in. Each accepted entry of these six
--- commands fits; the tables of a policy don't follow the other commands yet.
+-- What an entry asks of the entries before it, so that a policy that stands for them can take it in (this project's own form). Each accepted
+-- entry of these six commands fits; the tables of a policy don't follow the other commands yet.
 use Rattle.std.specs.Prelude.{◌≡◌, ℕ, ◌<◌, ◌≤◌, List, Option, Some, None, Contains, length}
 use Rattle.rbac_policy.specs.declared.objects.Operation.{Operation}
 use Rattle.rbac_policy.specs.declared.objects.Object.{Object}
@@ -32,28 +32,34 @@ SessionsFull entries = HasAtLeast SESSIONS (IsLive entries)
 abbrev pub NumbersExhausted : List Entry → Type 0
 NumbersExhausted entries = LAST_SESSION ≤ logins entries
 
+-- the user is new, and there is room
 pub record FitsAddUser (entries : List Entry) (user : NameText) : Type 0 where
   pub absent : ¬ (IsUser entries user)
   pub room : ¬ (UsersFull entries)
 
+-- the role is new, and there is room
 pub record FitsAddRole (entries : List Entry) (role : NameText) : Type 0 where
   pub absent : ¬ (IsRole entries role)
   pub room : ¬ (RolesFull entries)
 
+-- user and role are there
 pub record FitsAssignUser (entries : List Entry) (user role : NameText) : Type 0 where
   pub is_user : IsUser entries user
   pub is_role : IsRole entries role
 
+-- the role is there, and there is room where the pair is new
 pub record FitsGrantPermission (entries : List Entry) (role : NameText) (op : Operation) (object : Object) : Type 0 where
   pub is_role : IsRole entries role
   pub room : ¬ (IsPairGranted entries op object) → ¬ (PermissionsFull entries)
 
+-- no session gives the command, its roles are there, and there is room and a number
 pub record FitsCreateSession (entries : List Entry) (session : Option ℕ) (roles : List NameText) : Type 0 where
   pub by_none : session ≡ None
   pub are_roles : (role : NameText) → Contains roles role → IsRole entries role
   pub room : ¬ (SessionsFull entries)
   pub numbers : logins entries < LAST_SESSION
 
+-- a session gives the command
 pub record FitsDeleteSession (session : Option ℕ) : Type 0 where
   pub number : ℕ
   pub given : session ≡ Some number

@@ -1,4 +1,4 @@
--- What a text must be to be a name, and how names lie in fixed space.
+-- What a text must be to be a name, and how names lie in fixed space (this project's own form).
 use Rattle.std.specs.Prelude.{◌≡◌, ℕ, ◌-◌, ◌≤◌, Bool, false, ◌||◌, ◌&&◌, ◌==◌, nat_le, List, [], ◌∷◌, ◌++◌, length, replicate, Option, Some, None, map}
 use Rattle.std.specs.List.{list_all, filter_map}
 use Rattle.std.specs.Char.{is_ascii_alphanumeric}
@@ -12,7 +12,7 @@ NameText = List ℕ
 abbrev pub is_name_byte : ℕ → Bool
 is_name_byte b = is_ascii_alphanumeric b || b == 95 || b == 45
 
--- at least one byte and at most as many as a name may have, each of them fit for a name (this project's own form)
+-- at least one byte and at most as many as a name may have, each of them fit for a name
 abbrev pub is_name : List ℕ → Bool
 is_name [] = false
 is_name (b ∷ bs) = nat_le (length (b ∷ bs)) NAME_BYTES && list_all is_name_byte (b ∷ bs)

@@ -1,4 +1,4 @@
--- When two operations, and two objects, are one.
+-- When two operations, and two objects, are one (OPS and OBS of ANSI INCITS 359-2004; which there are is this project's own form).
 use Rattle.std.specs.Prelude.{ℕ, Bool, true, false, ◌&&◌, ◌==◌}
 use Rattle.std.specs.Str.{bytes_eq}
 use Rattle.rbac_policy.specs.declared.objects.Operation.{Operation}

@@ -1,4 +1,4 @@
--- The entries that a policy opens with.
+-- The entries that a policy opens with (this project's own form).
 use Rattle.std.specs.Prelude.{List, [], ◌∷◌, None, codes}
 use Rattle.rbac_policy.specs.declared.objects.Operation.TheVariants.{Administer}
 use Rattle.rbac_policy.specs.declared.objects.Object.TheVariants.{Policy}

@@ -1,4 +1,5 @@
--- The order that inheritance edges make (ANSI INCITS 359-2004, general role hierarchies), also on roles that are named by their places in a table.
+-- The order that inheritance edges make (RH of ANSI INCITS 359-2004, general role hierarchies), also on roles that are named by their places in
+-- a table, in masks with a bit for each place (this project's own form).
 use Rattle.std.specs.Prelude.{◌≡◌, ℕ, zero, suc, ◌<◌, ◌^◌, ◌==◌, List, slice_index, if◌then◌else◌}
 use Rattle.std.specs.Int.{bit_at}
 use Rattle.std.specs.Int.RustNames.{bit_or}

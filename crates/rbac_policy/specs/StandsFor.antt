@@ -1,4 +1,4 @@
--- When the tables of a policy say what a list of accepted entries says.
+-- When the tables of a policy say what a list of accepted entries says (this project's own form).
 use Rattle.std.specs.Prelude.{◌≡◌, ℕ, ◌≤◌, ◌↔◌, List, Option, Some, None, slice_get, length, slice_index}
 use Rattle.rbac_policy.specs.declared.objects.Operation.{Operation}
 use Rattle.rbac_policy.specs.declared.objects.Object.{Object}

@@ -1,8 +1,6 @@
--- What each step on a table leaves, as it is computed.
+-- What each step on a table leaves, as it is computed (this project's own form).
 use Rattle.std.specs.Prelude.{◌≡◌, ℕ, ◌*◌, ◌^◌, ◌%◌, Bool, false, List, [], ◌∷◌, Option, Some, None, if◌then◌else◌, position, slice_set, slice_get, is_none, map, fold, ◌==◌, ◌&&◌}
 use Rattle.std.specs.Int.RustNames.{bit_or}
-use Rattle.std.specs.Int.Bits.{bit_and}
-use Rattle.std.specs.Int.{bit_not, w32}
 use Rattle.std.specs.Str.{bytes_eq}
 use Rattle.std.specs.List.{list_any}
 use Rattle.rbac_policy.specs.declared.objects.Operation.{Operation}
@@ -79,7 +77,8 @@ grants_given operation object place grants =
 
 -- each active role is one that is assigned to the user, or below one
 abbrev pub has_only_authorized : List (Option User) → List ℕ → Session → Bool
-has_only_authorized users juniors session = bit_and session.active (bit_not w32 (below juniors (roles_of session.user users))) == 0
+has_only_authorized users juniors session =
+    let authorized = below juniors (roles_of session.user users) in bit_or authorized session.active == authorized
 
 -- the session, if it has only authorized roles
 abbrev pub session_kept : List (Option User) → List ℕ → Option Session → Option Session

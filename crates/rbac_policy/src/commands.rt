@@ -48,60 +48,76 @@ impl SessionId {
 /// order of roles, sets of dynamic separation of duty, and sessions.
 #[derive(Clone, Copy, PartialEq, Eq, Debug)]
 pub enum AdminCommand {
+    /// Makes the name one of a user.
     AddUser {
         user: Name,
     },
+    /// Removes the user, its assignments and its sessions.
     DeleteUser {
         user: Name,
     },
+    /// Makes the name one of a role.
     AddRole {
         role: Name,
     },
+    /// Removes the role, its assignments, its permissions and its edges.
     DeleteRole {
         role: Name,
     },
+    /// Gives the role to the user.
     AssignUser {
         user: Name,
         role: Name,
     },
+    /// Takes the role from the user.
     DeassignUser {
         user: Name,
         role: Name,
     },
+    /// Lets the role do the operation on the object.
     GrantPermission {
         role: Name,
         operation: Operation,
         object: Object,
     },
+    /// Takes that permission from the role.
     RevokePermission {
         role: Name,
         operation: Operation,
         object: Object,
     },
+    /// Gives the senior what the junior has.
     AddInheritance {
         senior: Name,
         junior: Name,
     },
+    /// Takes that edge away.
     DeleteInheritance {
         senior: Name,
         junior: Name,
     },
+    /// Lets no session hold this number of these roles at once.
     CreateDsdSet {
         set: Name,
         count: u64,
         roles: RoleNames,
     },
+    /// Takes the separation set away.
     DeleteDsdSet {
         set: Name,
     },
+    /// Makes a session of the user, in which these roles are active.
     CreateSession {
         user: Name,
         roles: RoleNames,
     },
+    /// Ends the session that gives the command.
     DeleteSession,
+    /// Makes the role active in the session that gives the command.
     AddActiveRole {
         role: Name,
     },
+    /// Makes the role inactive in the session that gives the command.
     DropActiveRole {
         role: Name,
     },
@@ -110,16 +126,23 @@ pub enum AdminCommand {
 /// An accepted command, with the session that gave it. A CreateSession has none.
 #[derive(Clone, Copy, PartialEq, Eq, Debug)]
 pub struct Entry {
+    /// The session that gave the command.
     pub session: Option<SessionId>,
+    /// The command.
     pub command: AdminCommand,
 }
 
 /// The tables of the policy, by the limit of which a command may be refused.
 #[derive(Clone, Copy, PartialEq, Eq, Debug)]
 pub enum Table {
+    /// Users, at most `USERS`.
     Users,
+    /// Roles, at most `ROLES`.
     Roles,
+    /// Pairs of an operation and an object that are granted to some role, at most `GRANTS`.
     Permissions,
+    /// Live sessions, at most `SESSIONS`.
     Sessions,
+    /// Separation sets, at most `SETS`.
     Sets,
 }

@@ -171,7 +171,7 @@ impl RoleNames {
         }
     }
 
-    /// Adds the role at the end.
+    /// Adds the role at the end. There must be room for it.
     pub fn push(&mut self, role: Name)
         requires { length self.old < LISTED_ROLES }
         ensures { self.new ≡ self.old ++ role ∷ [] }

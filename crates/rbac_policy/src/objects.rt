@@ -8,11 +8,17 @@ use std::marker::Model;
 /// What a permission allows to do.
 #[derive(Clone, Copy, PartialEq, Eq, Debug)]
 pub enum Operation {
+    /// To put an input signal into the next instant.
     Offer,
+    /// To be shown whether a signal was present.
     Observe,
+    /// To run the module in a slot through an instant.
     Step,
+    /// To put a module into a slot, or take it out.
     Load,
+    /// To change the policy.
     Administer,
+    /// To ask for the numbers of a slot's journal.
     Audit,
 }
 
@@ -41,8 +47,11 @@ impl Model for SlotNumber {
 /// What a permission is for: the policy, a slot, or a signal of the module in a slot.
 #[derive(Clone, Copy, PartialEq, Eq, Debug)]
 pub enum Object {
+    /// The policy itself.
     Policy,
+    /// The slot of this number.
     Slot(SlotNumber),
+    /// The signal of this name, in the slot of this number.
     Signal(SlotNumber, Identifier),
 }
 

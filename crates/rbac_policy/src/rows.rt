@@ -6,31 +6,43 @@ use crate::objects::{Object, Operation};
 /// A user, with the roles that are assigned to it.
 #[derive(Clone, Copy, PartialEq, Eq, Debug)]
 pub struct User {
+    /// Its name.
     pub name: Name,
+    /// The roles that are assigned to it.
     pub roles: u32,
 }
 
 /// A pair of an operation and an object, with the roles that are granted it.
 #[derive(Clone, Copy, PartialEq, Eq, Debug)]
 pub struct Grant {
+    /// What may be done.
     pub operation: Operation,
+    /// On what.
     pub object: Object,
+    /// The roles that may.
     pub roles: u32,
 }
 
 /// A live session, with the roles that are active in it.
 #[derive(Clone, Copy, PartialEq, Eq, Debug)]
 pub struct Session {
+    /// Its number.
     pub number: SessionId,
+    /// Its user.
     pub user: Name,
+    /// The roles that are active in it.
     pub active: u32,
 }
 
 /// A separation set: its name, its number, its roles, and the place of its entry in the list, which orders the sets.
 #[derive(Clone, Copy, PartialEq, Eq, Debug)]
 pub struct DsdSet {
+    /// Its name.
     pub name: Name,
+    /// How many of its roles no session may hold.
     pub count: u64,
+    /// Its roles.
     pub roles: u32,
+    /// The place of the entry that made it.
     pub place: u64,
 }

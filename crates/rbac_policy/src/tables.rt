@@ -225,7 +225,7 @@ fn has_only_authorized(
     ensures { result ≡ has_only_authorized users.now juniors.now session.now }
 {
     let authorized = below(juniors, roles_of(users, &session.user));
-    session.active & !authorized == 0
+    authorized | session.active == authorized
 }
 
 fn session_kept(

@@ -102,7 +102,11 @@ impl Object {
         object_of(text)
     }
 
-    /// Its text, or the error where memory was refused.
+    /// Its text, as `from_text` reads it.
+    ///
+    /// # Errors
+    ///
+    /// `AllocError` where memory was refused.
     pub fn text(&self, alloc: Global) -> Result<String, AllocError>
         ensures { IfOk result (λ text. string_bytes text ≡ object_text self.now) }
     {
