@@ -4,8 +4,7 @@ use Rattle.std.specs.Prelude.{replicate}
 use Rattle.std.proofs.lemmas.List.{length-replicate, drop-replicate}
 use Rattle.std.proofs.lemmas.Bool.Decides.{nat_tests}
 use Rattle.std.proofs.lemmas.Grind.{common_steps}
-use Rattle.est_kernel.specs.FixedSpace.{IsFilled}
-use Rattle.est_kernel.specs.Identifiers.{is_identifier}
+use Rattle.est_kernel.specs.Identifiers.{IsFilled, is_identifier}
 
 -- the text before anything is the front
 pub front : (text rest : List ℕ) (n : ℕ) → length text ≡ n → take n (text ++ rest) ≡ text

@@ -1,5 +1,6 @@
--- What may be called an identifier (The Esterel v5 Language Primer; the length is this project's own form).
-use Rattle.std.specs.Prelude.{ℕ, List, [], ◌∷◌, length, Bool, false, ◌&&◌, ◌||◌, ◌==◌, nat_le}
+-- What may be called an identifier (The Esterel v5 Language Primer; the length is this project's own form), and how a text
+-- lies in fixed space.
+use Rattle.std.specs.Prelude.{◌≡◌, ℕ, ◌-◌, ◌≤◌, List, [], ◌∷◌, ◌++◌, length, take, replicate, Bool, false, ◌&&◌, ◌||◌, ◌==◌, nat_le}
 use Rattle.std.specs.List.{list_all}
 use Rattle.std.specs.Char.{is_ascii_alphanumeric, is_ascii_alphabetic}
 
@@ -11,3 +12,9 @@ is_identifier_byte b = is_ascii_alphanumeric b || b == 95
 abbrev pub is_identifier : List ℕ → Bool
 is_identifier [] = false
 is_identifier (b ∷ bs) = is_ascii_alphabetic b && nat_le (length (b ∷ bs)) 48 && list_all is_identifier_byte (b ∷ bs)
+
+-- the text is the first so many of these places, and zeros stand behind it (this project's own form)
+pub record IsFilled (places : ℕ) (bytes : List ℕ) (count : ℕ) : Type 0 where
+  pub whole : length bytes ≡ places
+  pub fits : count ≤ places
+  pub rest : bytes ≡ take count bytes ++ replicate (places - count) 0

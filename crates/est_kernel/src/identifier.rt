@@ -18,8 +18,7 @@ pub struct Identifier {
 
 impl Model for Identifier {
     ghost use Rattle.std.specs.Prelude.{List, ℕ, ◌-◌, ◌++◌, length, take, replicate, IsTrue};
-    ghost use Rattle.est_kernel.specs.FixedSpace.{IsFilled};
-    ghost use Rattle.est_kernel.specs.Identifiers.{is_identifier};
+    ghost use Rattle.est_kernel.specs.Identifiers.{is_identifier, IsFilled};
 
     ghost Value = { List ℕ };
 
