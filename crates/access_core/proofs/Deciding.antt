@@ -4,11 +4,16 @@ use Rattle.rbac_policy.specs.declared.commands.Entry.{Entry}
 use Rattle.rbac_policy.specs.declared.objects.Operation.{Operation}
 use Rattle.rbac_policy.specs.declared.objects.Object.{Object}
 use Rattle.rbac_policy.specs.Facts.{IsLive, May}
+use Rattle.reactor_core.specs.declared.entry.SlotEntry.{SlotEntry}
+use Rattle.access_core.specs.declared.command.SlotCommand.{SlotCommand}
+use Rattle.access_core.specs.declared.command.SlotCommand.TheVariants.{Load, Offer, Step, Look}
 use Rattle.access_core.specs.declared.refusal.Refusal.{Refusal}
 use Rattle.access_core.specs.declared.reply.Reply.{Reply}
 use Rattle.access_core.specs.declared.reply.Reply.TheVariants.{Refused}
 use Rattle.access_core.specs.Rules.{◌▸◌, Applies}
-use Rattle.access_core.specs.SlotStep.{no_session, no_permission}
+use Rattle.access_core.specs.SlotStep.{no_session, no_permission, SlotStep}
+use Rattle.access_core.specs.Allowed.{permission_of, Has, Lacks}
+use Rattle.access_core.specs.Needs.{Needs}
 
 -- the rule gives this refusal
 pub refused_by : {S : Type 0} (Rule : Refusal → Type 0) (before : S) (refusal : Refusal) → Rule refusal → Applies Rule before (Refused refusal) before
@@ -37,3 +42,21 @@ denied entries session operation object Next before refusal (inl given) = inl (r
 denied entries session operation object Next before refusal (inr given) =
     living entries session (no_permission entries session operation object ▸ Next) before (Refused refusal) before given.0
     (inl (refused_by (no_permission entries session operation object) before refusal given.1))
+
+-- a command that one of the two rules refuses
+pub not_allowed : (entries : List Entry) (slot session : ℕ) (command : SlotCommand) (journal : List SlotEntry) (refusal : Refusal)
+    → no_session entries session refusal ⊎ (IsLive entries session × Lacks entries session (permission_of slot command) refusal)
+    → SlotStep entries slot session command journal (Refused refusal) journal
+not_allowed entries slot session (Load main text) journal refusal why = denied _ _ _ _ _ _ _ why
+not_allowed entries slot session (Offer signal) journal refusal why = denied _ _ _ _ _ _ _ why
+not_allowed entries slot session Step journal refusal why = denied _ _ _ _ _ _ _ why
+not_allowed entries slot session (Look n) journal refusal (inl given) = inl (refused_by (no_session entries session) journal refusal given)
+not_allowed entries slot session (Look n) journal refusal (inr given) = absurd given.1
+
+-- one that neither refuses has what it needs
+pub has_needed : (entries : List Entry) (slot session : ℕ) (command : SlotCommand)
+    → IsLive entries session × Has entries session (permission_of slot command) → Needs entries slot session command
+has_needed entries slot session (Load main text) given = given.1
+has_needed entries slot session (Offer signal) given = given.1
+has_needed entries slot session Step given = given.1
+has_needed entries slot session (Look n) given = given.0

@@ -1,5 +1,5 @@
 -- Walking the places of an interface in order.
-use Rattle.std.proofs.Common.{◌≡◌, ◌≢◌, ◌↔◌, ⊎_elim, ℕ, ◌+◌, ◌<◌, Bool, true, false, cond, ◌&&◌, IsTrue, List, [], ◌∷◌, ◌++◌, length, map, filter, Some, slice_get, option_map, get_or, refl, sym, ap, ◌∙◌, subst, arith, append-nil}
+use Rattle.std.proofs.Common.{◌≡◌, ◌≢◌, ◌↔◌, ⊎_elim, ℕ, ◌+◌, ◌<◌, Bool, true, false, cond, IsTrue, List, [], ◌∷◌, ◌++◌, length, map, filter, Some, slice_get, option_map, get_or, sym, ap, ◌∙◌, subst, arith, append-nil}
 use Rattle.std.specs.List.{range_with_len}
 use Rattle.std.proofs.lemmas.List.{map-id, map-append}
 use Rattle.std.proofs.lemmas.List.FromFn.{filter_of_map_range_with_len_more}
@@ -104,19 +104,6 @@ same_more f p n before after off so_far same = same ∙ so_far ∙ sym (passed_p
 pub read_there : (ds all : List Declaration) (place : ℕ) (d : Declaration) → ds ≡ all → place < length ds
     → slice_get all place ≡ Some (get_or ds place d)
 read_there ds all place d same below = ap (λ xs. slice_get xs place) (sym same) ∙ slice_get-get_or ds place d below
-
-pub both_on : (a b : Bool) → a ≡ true → b ≡ true → (a && b) ≡ true
-both_on a b x y = ap (λ a. a && b) x ∙ y
-
-pub one_off : (a b : Bool) → a ≡ false → (a && b) ≡ false
-one_off a b x = ap (λ a. a && b) x
-
-and_false : (a : Bool) → (a && false) ≡ false
-and_false true = refl
-and_false false = refl
-
-pub other_off : (a b : Bool) → b ≡ false → (a && b) ≡ false
-other_off a b x = ap (λ b. a && b) x ∙ and_false a
 
 pub marks_of : {D : Type 0} {P : D → Type 0} {xs : List D} {n a b : ℕ} → a ≡ b → Marks P xs n (bits b) → Marks P xs n (bits a)
 marks_of {P = P} {xs = xs} {n = n} e m = subst (λ s. Marks P xs n (bits s)) (sym e) m

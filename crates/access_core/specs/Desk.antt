@@ -4,6 +4,7 @@ use Rattle.std.specs.List.{range_with_len}
 use Rattle.rbac_policy.specs.declared.commands.AdminCommand.{AdminCommand}
 use Rattle.rbac_policy.specs.declared.commands.AdminCommand.TheVariants.{AddUser, DeleteUser, AddRole, DeleteRole, AssignUser, DeassignUser, GrantPermission, RevokePermission, AddInheritance, DeleteInheritance, CreateDsdSet, DeleteDsdSet, CreateSession, DeleteSession, AddActiveRole, DropActiveRole}
 use Rattle.rbac_policy.specs.declared.commands.Entry.{Entry}
+use Rattle.rbac_policy.specs.declared.objects.TheConstants.{SLOTS}
 use Rattle.rbac_policy.specs.Entries.{logins}
 use Rattle.rbac_policy.specs.Opening.{opening_entries}
 use Rattle.rbac_admin.specs.declared.refusals.Refusal.{Refusal as PolicyRefusal}
@@ -16,6 +17,7 @@ use Rattle.access_core.specs.declared.reply.Change.{Change}
 use Rattle.access_core.specs.declared.reply.Change.TheVariants as change
 use Rattle.access_core.specs.declared.reply.Reply.{Reply}
 use Rattle.access_core.specs.declared.reply.Reply.TheVariants.{Login, Changed}
+use Rattle.access_core.specs.declared.single.TheConstants.{POLICY_ENTRIES, ENDING_ENTRIES}
 use Rattle.access_core.specs.Rules.{◌▸◌, ◌▹◌, Says, Refuses}
 use Rattle.access_core.specs.Conversions.{of_policy}
 use Rattle.access_core.specs.SlotState.{SlotState}
@@ -32,17 +34,17 @@ empty_slot number = record { number = number; journal = [] }
 
 -- the opening entries, and sixteen empty slots
 abbrev pub opening_desk : Desk
-opening_desk = record { entries = opening_entries; slots = map empty_slot (range_with_len 0 16) }
+opening_desk = record { entries = opening_entries; slots = map empty_slot (range_with_len 0 SLOTS) }
 
 -- there are sixteen slots, and each stands at its number
 pub record AreSlots (slots : List SlotState) : Type 0 where
-  pub sixteen : length slots ≡ 16
+  pub sixteen : length slots ≡ SLOTS
   pub numbered : (number : ℕ) (slot : SlotState) → slice_get slots number ≡ Some slot → slot.number ≡ number
 
--- the most entries with which the policy list takes this command; the last 64 places are for DeleteSession alone
+-- the most entries with which the policy list takes this command; the last places are for DeleteSession alone
 abbrev pub most_entries : AdminCommand → ℕ
-most_entries DeleteSession = 262144
-most_entries _ = 262080
+most_entries DeleteSession = POLICY_ENTRIES + ENDING_ENTRIES
+most_entries _ = POLICY_ENTRIES
 
 -- the policy list has no place for the entry
 abbrev pub list_full : List Entry → Entry → Refusal → Type 0
@@ -90,7 +92,7 @@ pub record AdminStep (session : Option ℕ) (command : AdminCommand) (before : D
 
 -- there is no slot of this number
 abbrev pub no_slot : ℕ → Refusal → Type 0
-no_slot number = Says NoSlot (16 ≤ number)
+no_slot number = Says NoSlot (SLOTS ≤ number)
 
 -- the slot of this number answers by the slot step, and nothing but its journal is changed
 pub record InSlot (number session : ℕ) (command : SlotCommand) (before : Desk) (reply : Reply) (after : Desk) : Type 0 where

@@ -1,17 +1,28 @@
 //! What a session is shown of a module's signals.
-ghost use Rattle.std.specs.Prelude.{◌≡◌, ◌&&◌, List, IfOk, map, filter};
+ghost use Rattle.std.specs.Prelude.{◌≡◌, ◌↔◌, ◌&&◌, ℕ, List, IsTrue, IfOk, map, filter};
 ghost use Rattle.est_kernel.specs.Bits.{bits};
 ghost use Rattle.rbac_policy.specs.declared.commands.Entry.{Entry};
+ghost use Rattle.rbac_policy.specs.declared.objects.Operation.TheVariants.{Observe};
+ghost use Rattle.rbac_policy.specs.declared.objects.Object.TheVariants.{Signal};
+ghost use Rattle.rbac_policy.specs.Facts.{May};
 ghost use Rattle.rbac_policy.specs.StandsFor.{StandsFor};
-ghost use Rattle.access_core.specs.Shown.{Sees, places_of, name_at, present_at, names_of};
+ghost use Rattle.access_core.specs.Shown.{Sees, places_of, name_at, present_at};
 
 use crate::reply::{ShownSignal, ShownSignals, SignalNames};
+use est_kernel::identifier::Identifier;
 use est_kernel::interface::Interface;
 use est_kernel::mask;
 use rbac_policy::commands::SessionId;
 use rbac_policy::objects::{Object, Operation, SlotNumber};
 use rbac_policy::policy::Policy;
 use std::alloc::{AllocError, Global};
+
+/// Whether the session may observe the signal of this name in the slot.
+fn may_observe(policy: &Policy, slot: SlotNumber, session: SessionId, name: &Identifier) -> bool
+    ensures { (entries : List Entry) → StandsFor policy.now entries → (IsTrue result ↔ May entries session Observe (Signal slot name.now)) }
+{
+    policy.may(session, &Operation::Observe, &Object::Signal(slot, *name))
+}
 
 /// The signals of the interface that the session may observe in the slot, as a mask.
 pub fn observed(policy: &Policy, slot: SlotNumber, session: SessionId, interface: &Interface) -> u64
@@ -20,8 +31,7 @@ pub fn observed(policy: &Policy, slot: SlotNumber, session: SessionId, interface
     let declarations = interface.declarations();
     let mut seen = 0;
     for place in 0..declarations.len() {
-        let object = Object::Signal(slot, declarations[place].name);
-        if policy.may(session, &Operation::Observe, &object) {
+        if may_observe(policy, slot, session, &declarations[place].name) {
             seen = mask::with(seen, place as u8);
         }
     }
@@ -49,19 +59,21 @@ pub fn statuses(
     Ok(shown)
 }
 
-/// The names of those of the signals that are seen, in the order of declaration.
-pub fn names(
-    alloc: Global,
-    interface: &Interface,
-    seen: u64,
-    signals: u64,
-) -> Result<SignalNames, AllocError>
-    ensures { IfOk result (λ names. names ≡ names_of interface.now (bits seen) signals) }
+/// Those of the signals that are seen.
+pub fn seen_of(seen: u64, signals: u64) -> u64
+    ensures { (place : ℕ) → bits result place ≡ (bits seen place && bits signals place) }
+{
+    mask::common(seen, signals)
+}
+
+/// The names of the signals, in the order of declaration.
+pub fn names(alloc: Global, interface: &Interface, signals: u64) -> Result<SignalNames, AllocError>
+    ensures { IfOk result (λ names. names ≡ map (name_at interface.now) (filter (bits signals) (places_of interface.now))) }
 {
     let declarations = interface.declarations();
     let mut names = SignalNames::new(alloc);
     for place in 0..declarations.len() {
-        if mask::has(seen, place as u8) && mask::has(signals, place as u8) {
+        if mask::has(signals, place as u8) {
             names.push(declarations[place].name)?;
         }
     }

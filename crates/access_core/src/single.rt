@@ -1,5 +1,5 @@
 //! A policy with its list, and sixteen slots, in one hand.
-ghost use Rattle.std.specs.Prelude.{◌≡◌, ◌↔◌, ◌+◌, ◌<◌, ◌^◌, ◌++◌, ◌∷◌, [], List, IsTrue, IfOk, length};
+ghost use Rattle.std.specs.Prelude.{◌≡◌, ◌↔◌, ◌+◌, ◌<◌, ◌≤◌, ◌^◌, ◌++◌, ◌∷◌, [], List, IsTrue, IfOk, MatchOption, length};
 ghost use Rattle.rbac_policy.specs.declared.commands.Entry.{Entry};
 ghost use Rattle.rbac_policy.specs.Facts.{May};
 ghost use Rattle.rbac_policy.specs.Fits.{Fits};
@@ -33,7 +33,7 @@ pub const ENDING_ENTRIES: usize = 64;
 pub struct Single {
     policy: Policy,
     entries: Vec<Entry>,
-    slots: [Slot; 16],
+    slots: [Slot; SLOTS as usize],
 }
 
 impl Model for Single {
@@ -103,7 +103,7 @@ fn accepted(policy: &Policy, entry: &Entry) -> Reply
 
 /// An empty slot.
 fn empty(alloc: Global, number: u8) -> Slot
-    requires { number < 16 }
+    requires { number < SLOTS }
     ensures { result ≡ empty_slot number }
 {
     match SlotNumber::new(number) {
@@ -112,8 +112,20 @@ fn empty(alloc: Global, number: u8) -> Slot
     }
 }
 
+/// Where the slot of this number stands, if there is one.
+fn slot_at(number: u64) -> Option<usize>
+    ensures { MatchOption result (SLOTS ≤ number) (λ place. (place ≡ number) × (number < SLOTS)) }
+{
+    let place = number;
+    if place < u64::from(SLOTS) {
+        Some(place as usize)
+    } else {
+        None
+    }
+}
+
 /// Sixteen empty slots.
-fn empty_slots(alloc: Global) -> [Slot; 16]
+fn empty_slots(alloc: Global) -> [Slot; SLOTS as usize]
     ensures { result ≡ opening_desk.slots }
 {
     [
@@ -205,10 +217,10 @@ impl Single {
         if !self.policy.lives(session) {
             return Reply::Refused(Refusal::NoSession);
         }
-        if number >= u64::from(SLOTS) {
+        let Some(place) = slot_at(number) else {
             return Reply::Refused(Refusal::NoSlot);
-        }
-        let slot = &mut self.slots[number as usize];
+        };
+        let slot = &mut self.slots[place];
         decide_slot(&self.policy, slot, session, command)
     }
 

@@ -5,14 +5,14 @@ ghost use Rattle.rbac_policy.specs.StandsFor.{StandsFor};
 ghost use Rattle.access_core.specs.Rules.{◌▸◌, ◌▹◌};
 ghost use Rattle.access_core.specs.SlotStep.{SlotStep, no_memory, no_instant, stamp_of, undecided_of, Offers, Steps, Looks, RefusesStep};
 ghost use Rattle.reactor_core.specs.Meaning.{Running, running_of};
-ghost use Rattle.access_core.specs.Allowed.{IsAllowed};
+ghost use Rattle.access_core.specs.Allowed.{IsAllowed, permission_of};
 ghost use Rattle.access_core.specs.Needs.{Needs, IsAccepted};
 
 use crate::command::SlotCommand;
 use crate::conversions::of_reactor;
 use crate::refusal::Refusal;
 use crate::reply::{Reply, SignalNames};
-use crate::shown::{names, observed, statuses};
+use crate::shown::{names, observed, seen_of, statuses};
 use est_kernel::identifier::Identifier;
 use rbac_policy::commands::SessionId;
 use rbac_policy::objects::{Object, Operation, SlotNumber};
@@ -119,7 +119,8 @@ fn refused_step(
 {
     let interface = reactor.interface();
     let seen = observed(policy, slot, session, interface);
-    match names(alloc, interface, seen, undecided(&refusal)) {
+    let undecided = seen_of(seen, undecided(&refusal));
+    match names(alloc, interface, undecided) {
         Ok(names) => Reply::Refused(of_reactor(names, refusal)),
         Err(_) => Reply::Refused(Refusal::Memory),
     }
@@ -264,22 +265,37 @@ impl Slot {
     }
 }
 
-/// Whether the session lives and may do the operation on the object, and else why not.
+/// The permission that a command on the slot needs; a look needs none.
+fn permission_of(slot: SlotNumber, command: &SlotCommand) -> Option<(Operation, Object)>
+    ensures { result ≡ permission_of slot command.now }
+{
+    match command {
+        SlotCommand::Load { .. } => Some((Operation::Load, Object::Slot(slot))),
+        SlotCommand::Offer { signal } => Some((Operation::Offer, Object::Signal(slot, *signal))),
+        SlotCommand::Step => Some((Operation::Step, Object::Slot(slot))),
+        SlotCommand::Look { .. } => None,
+    }
+}
+
+/// Whether the session lives and may give the command to the slot, and else why not.
 fn allowed(
     policy: &Policy,
     session: SessionId,
-    operation: Operation,
-    object: Object,
+    slot: SlotNumber,
+    command: &SlotCommand,
 ) -> Result<(), Refusal>
-    ensures { (entries : List Entry) → StandsFor policy.now entries → IsAllowed entries session operation object result }
+    ensures { (entries : List Entry) → StandsFor policy.now entries → IsAllowed entries slot session command.now result }
 {
     if !policy.lives(session) {
         return Err(Refusal::NoSession);
     }
-    if !policy.may(session, &operation, &object) {
-        return Err(Refusal::Permission { operation, object });
+    let Some((operation, object)) = permission_of(slot, command) else {
+        return Ok(());
+    };
+    if policy.may(session, &operation, &object) {
+        return Ok(());
     }
-    Ok(())
+    Err(Refusal::Permission { operation, object })
 }
 
 /// Answers a command, which this session gives to the slot, at the policy as it is.
@@ -299,46 +315,13 @@ pub fn decide_slot(
     ensures allowed { (entries : List Entry) → StandsFor policy.now entries → IsAccepted result
         → Needs entries slot.old.number session command }
 {
+    if let Err(refusal) = allowed(policy, session, slot.number(), &command) {
+        return Reply::Refused(refusal);
+    }
     match command {
-        SlotCommand::Load { main, text } => {
-            match allowed(
-                policy,
-                session,
-                Operation::Load,
-                Object::Slot(slot.number()),
-            ) {
-                Ok(()) => slot.load(stamp(policy, session), main, text),
-                Err(refusal) => Reply::Refused(refusal),
-            }
-        }
-        SlotCommand::Offer { signal } => {
-            match allowed(
-                policy,
-                session,
-                Operation::Offer,
-                Object::Signal(slot.number(), signal),
-            ) {
-                Ok(()) => slot.offer(stamp(policy, session), &signal),
-                Err(refusal) => Reply::Refused(refusal),
-            }
-        }
-        SlotCommand::Step => {
-            match allowed(
-                policy,
-                session,
-                Operation::Step,
-                Object::Slot(slot.number()),
-            ) {
-                Ok(()) => slot.step(policy, session),
-                Err(refusal) => Reply::Refused(refusal),
-            }
-        }
-        SlotCommand::Look { instant } => {
-            if policy.lives(session) {
-                slot.look(policy, session, instant)
-            } else {
-                Reply::Refused(Refusal::NoSession)
-            }
-        }
+        SlotCommand::Load { main, text } => slot.load(stamp(policy, session), main, text),
+        SlotCommand::Offer { signal } => slot.offer(stamp(policy, session), &signal),
+        SlotCommand::Step => slot.step(policy, session),
+        SlotCommand::Look { instant } => slot.look(policy, session, instant),
     }
 }

@@ -3,7 +3,7 @@ use Rattle.std.proofs.lemmas.Option.{slice_get_within}
 use Rattle.est_kernel.specs.Bits.{bits}
 use Rattle.access_core.proofs.Places.{marks_with, marks_without, marks_none, marks_of, read_there}
 use Rattle.est_kernel.proofs.Masks.{bits_zero}
-use Rattle.access_core.proofs.shown.observed.Goals.{then-may, else-may}
+use Rattle.access_core.proofs.shown.observed.Goals.{then-may_observe, else-may_observe}
 use Rattle.access_core.proofs.shown.observed.Goals as goal
 
 pub loop-place-init : goal.loop-place-init
@@ -12,16 +12,16 @@ loop-place-init c = record { none = λ place h. bits_zero place; marks = λ entr
 pub loop-place-preserved : goal.loop-place-preserved
 loop-place-preserved c =
     let there = read_there _ _ c.loop-place.place c.index-declarations-place.result refl c.loop-place-test.true in
-    elim c.if-may.branch [
-      | then-may w ↦ record {
+    elim c.if-may_observe.branch [
+      | then-may_observe w ↦ record {
         none = λ place h. ap (λ s. bits s place) w.seen-is ∙ (w.with-seen.ensures.other place (λ e. omega arith) ∙ c.loop-place.invariant.none place (omega arith));
         marks = λ entries stands. marks_of w.seen-is
-            (marks_with (c.loop-place.invariant.marks entries stands) _ there ((c.may.ensures entries stands).0 w.if-may.true) w.with-seen.ensures.same w.with-seen.ensures.other);
+            (marks_with (c.loop-place.invariant.marks entries stands) _ there ((c.may_observe.ensures entries stands).0 w.if-may_observe.true) w.with-seen.ensures.same w.with-seen.ensures.other);
       }
-      | else-may w ↦ record {
+      | else-may_observe w ↦ record {
         none = λ place h. ap (λ s. bits s place) w.seen-is ∙ c.loop-place.invariant.none place (omega arith);
         marks = λ entries stands. marks_of w.seen-is
-            (marks_without (c.loop-place.invariant.marks entries stands) _ there (λ may. let yes : c.may.result ≡ true = (c.may.ensures entries stands).1 may in cc) (c.loop-place.invariant.none _ (omega arith)));
+            (marks_without (c.loop-place.invariant.marks entries stands) _ there (λ may. let yes : c.may_observe.result ≡ true = (c.may_observe.ensures entries stands).1 may in cc) (c.loop-place.invariant.none _ (omega arith)));
       }
     ]
 
