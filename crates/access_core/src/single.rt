@@ -1,5 +1,5 @@
 //! A policy with its list, and sixteen slots, in one hand.
-ghost use Rattle.std.specs.Prelude.{◌≡◌, ◌↔◌, ◌+◌, ◌<◌, ◌≤◌, ◌^◌, ◌++◌, ◌∷◌, [], List, IsTrue, IfOk, MatchOption, length};
+ghost use Rattle.std.specs.Prelude.{◌≡◌, ◌↔◌, ◌<◌, ◌≤◌, ◌++◌, ◌∷◌, [], List, IsTrue, IfOk, MatchOption, length};
 ghost use Rattle.rbac_policy.specs.declared.commands.Entry.{Entry};
 ghost use Rattle.rbac_policy.specs.Facts.{May};
 ghost use Rattle.rbac_policy.specs.Fits.{Fits};
@@ -19,6 +19,7 @@ use rbac_policy::commands::{AdminCommand, Entry, SessionId};
 use rbac_policy::objects::{Object, Operation, SLOTS, SlotNumber};
 use rbac_policy::opening::opening_entries;
 use rbac_policy::policy::Policy;
+use rbac_policy::sizes::LAST_VERSION;
 use std::alloc::{AllocError, Global};
 use std::marker::Model;
 
@@ -182,7 +183,7 @@ impl Single {
 
     // Adds an entry to the list and takes it into the policy, or refuses it as JournalFull or Memory.
     fn append(&mut self, entry: Entry) -> Reply
-        requires { length self.old.entries + 1 < 2 ^ 64 → Fits self.old.entries entry }
+        requires { length self.old.entries < LAST_VERSION → Fits self.old.entries entry }
         ensures { (list_full self.old.entries entry ▸ no_memory ▹ Appends entry) self.old result self.new }
     {
         if self.entries.len() >= most_entries(&entry.command) {
