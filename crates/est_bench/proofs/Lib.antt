@@ -1,0 +1,2 @@
+mod Closed
+mod Steps

@@ -1,0 +1,4 @@
+pub mod Outputs
+pub mod Runs
+pub mod Terms
+pub mod Workloads

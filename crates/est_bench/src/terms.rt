@@ -1,0 +1,201 @@
+//! The statements that are measured, built up from small ones.
+
+ghost use Rattle.std.specs.Prelude.{◌≡◌, ◌<◌, ◌≤◌, IfOk};
+ghost use Rattle.est_kernel.specs.Term.{outer, inner, of, nothing, pause, emit, present, seq, loop, par, signal};
+ghost use Rattle.est_kernel.specs.View.{term_of};
+ghost use Rattle.est_bench.specs.Terms.{opening, blinker, blinkers, told, chain, part, nested_right, nested_left, under_locals, emissions};
+
+use est_kernel::statement::{InterfaceSignal, LocalSignal, PauseIndex, Signal, Statement, Test};
+use std::alloc::{AllocError, Global};
+
+/// `pause`
+pub fn pause() -> Statement
+    ensures { term_of result ≡ pause }
+{
+    Statement::Pause(PauseIndex { index: 0 })
+}
+
+/// `emit O`, of an output.
+fn emit(n: u8) -> Statement
+    requires { n < 64 }
+    ensures { term_of result ≡ emit (outer n) }
+{
+    Statement::Emit(Signal::Interface(InterfaceSignal { index: n }))
+}
+
+/// `emit S`, of a local signal.
+fn emit_local(n: u8) -> Statement
+    requires { n < 64 }
+    ensures { term_of result ≡ emit (inner n) }
+{
+    Statement::Emit(Signal::Local(LocalSignal { index: n }))
+}
+
+/// `p; q`
+pub fn sequence(alloc: Global, p: Statement, q: Statement) -> Result<Statement, AllocError>
+    ensures { IfOk result (λ s. term_of s ≡ seq (term_of p) (term_of q)) }
+{
+    Ok(Statement::Seq(Box::new(alloc, p)?, Box::new(alloc, q)?))
+}
+
+/// `p || q`
+fn beside(alloc: Global, p: Statement, q: Statement) -> Result<Statement, AllocError>
+    ensures { IfOk result (λ s. term_of s ≡ par (term_of p) (term_of q)) }
+{
+    Ok(Statement::Par(Box::new(alloc, p)?, Box::new(alloc, q)?))
+}
+
+/// `loop p end`
+pub fn again(alloc: Global, p: Statement) -> Result<Statement, AllocError>
+    ensures { IfOk result (λ s. term_of s ≡ loop (term_of p)) }
+{
+    Ok(Statement::Loop(Box::new(alloc, p)?))
+}
+
+/// `signal S in p end`
+fn local(alloc: Global, n: u8, p: Statement) -> Result<Statement, AllocError>
+    requires { n < 64 }
+    ensures { IfOk result (λ s. term_of s ≡ signal n (term_of p)) }
+{
+    Ok(Statement::Local(LocalSignal { index: n }, Box::new(alloc, p)?))
+}
+
+/// `present S then p end`, of a local signal.
+fn where_present(alloc: Global, n: u8, p: Statement) -> Result<Statement, AllocError>
+    requires { n < 64 }
+    ensures { IfOk result (λ s. term_of s ≡ present (of (inner n)) (term_of p) nothing) }
+{
+    let test = Test::Status(Signal::Local(LocalSignal { index: n }));
+    Ok(Statement::Present(
+        test,
+        Box::new(alloc, p)?,
+        Box::new(alloc, Statement::Nothing)?,
+    ))
+}
+
+/// The module of the opening script.
+pub fn opening(alloc: Global) -> Result<Statement, AllocError>
+    ensures { IfOk result (λ s. term_of s ≡ opening) }
+{
+    let rest = sequence(alloc, pause(), emit(1))?;
+    sequence(alloc, emit(0), rest)
+}
+
+/// A loop of two states, over so many outputs.
+fn blinker(alloc: Global, outputs: u8, n: u8) -> Result<Statement, AllocError>
+    requires some { 0 < outputs }
+    requires few { outputs ≤ 64 }
+    ensures { IfOk result (λ s. term_of s ≡ blinker outputs n) }
+{
+    let outputs = u16::from(outputs);
+    let first = (2 * u16::from(n) % outputs) as u8;
+    let second = ((2 * u16::from(n) + 1) % outputs) as u8;
+    let last = sequence(alloc, emit(second), pause())?;
+    let rest = sequence(alloc, pause(), last)?;
+    let body = sequence(alloc, emit(first), rest)?;
+    again(alloc, body)
+}
+
+/// The loops with the numbers 0 to `last`, side by side.
+#[tactic(auto, unfolding(crate::specs::Terms::blinkers))]
+pub fn blinkers(alloc: Global, outputs: u8, last: u8) -> Result<Statement, AllocError>
+    requires some { 0 < outputs }
+    requires few { outputs ≤ 64 }
+    ensures { IfOk result (λ s. term_of s ≡ blinkers outputs last) }
+{
+    let mut whole = blinker(alloc, outputs, 0)?;
+    'grow: for n in 0..last {
+        whole = beside(alloc, whole, blinker(alloc, outputs, n + 1)?)?;
+    }
+    Ok(whole)
+}
+
+/// What makes a local signal present.
+fn told(alloc: Global, n: u8) -> Result<Statement, AllocError>
+    requires { n < 64 }
+    ensures { IfOk result (λ s. term_of s ≡ told n) }
+{
+    if n == 0 {
+        Ok(emit_local(0))
+    } else {
+        where_present(alloc, n - 1, emit_local(n))
+    }
+}
+
+/// Six local signals in one another, each of which makes the next one present.
+#[tactic(auto, unfolding(crate::specs::Terms::chain))]
+pub fn chain(alloc: Global) -> Result<Statement, AllocError>
+    ensures { IfOk result (λ s. term_of s ≡ chain 6) }
+{
+    let mut whole = where_present(alloc, 5, emit(0))?;
+    'wrap: for d in 0..6u8 {
+        whole = local(alloc, 5 - d, beside(alloc, told(alloc, 5 - d)?, whole)?)?;
+    }
+    Ok(whole)
+}
+
+/// A part of a long sequence.
+fn part(alloc: Global, n: u16) -> Result<Statement, AllocError>
+    ensures { IfOk result (λ s. term_of s ≡ part n) }
+{
+    where_present(alloc, (n % 6) as u8, emit((n % 64) as u8))
+}
+
+/// The parts with the numbers `last` to 0, nested to the right.
+#[tactic(auto, unfolding(crate::specs::Terms::nested_right))]
+pub fn nested_right(alloc: Global, last: u16) -> Result<Statement, AllocError>
+    ensures { IfOk result (λ s. term_of s ≡ nested_right last) }
+{
+    let mut whole = part(alloc, 0)?;
+    'grow: for n in 0..last {
+        whole = sequence(alloc, part(alloc, n + 1)?, whole)?;
+    }
+    Ok(whole)
+}
+
+/// The parts with the numbers 0 to `last`, nested to the left.
+#[tactic(auto, unfolding(crate::specs::Terms::nested_left))]
+pub fn nested_left(alloc: Global, last: u16) -> Result<Statement, AllocError>
+    ensures { IfOk result (λ s. term_of s ≡ nested_left last) }
+{
+    let mut whole = part(alloc, 0)?;
+    'grow: for n in 0..last {
+        whole = sequence(alloc, whole, part(alloc, n + 1)?)?;
+    }
+    Ok(whole)
+}
+
+/// Six local signals round a statement, each emitted first.
+#[tactic(auto, unfolding(crate::specs::Terms::under_locals))]
+fn under_locals(alloc: Global, body: Statement) -> Result<Statement, AllocError>
+    ensures { IfOk result (λ s. term_of s ≡ under_locals 6 (term_of body)) }
+{
+    let mut whole = body;
+    'wrap: for d in 0..6u8 {
+        let emitted = sequence(alloc, emit_local(5 - d), whole)?;
+        whole = local(alloc, 5 - d, emitted)?;
+    }
+    Ok(whole)
+}
+
+/// A loop of six local signals round these parts and a pause.
+pub fn looped_under_locals(alloc: Global, parts: Statement) -> Result<Statement, AllocError>
+    ensures { IfOk result (λ s. term_of s ≡ loop (under_locals 6 (seq (term_of parts) pause))) }
+{
+    let body = sequence(alloc, parts, pause())?;
+    again(alloc, under_locals(alloc, body)?)
+}
+
+/// So many emissions, of each of the outputs in turn, and then a pause.
+#[tactic(auto, unfolding(crate::specs::Terms::emissions))]
+pub fn emissions(alloc: Global, outputs: u8, count: u8) -> Result<Statement, AllocError>
+    requires some { 0 < outputs }
+    requires few { outputs ≤ 64 }
+    ensures { IfOk result (λ s. term_of s ≡ emissions outputs count) }
+{
+    let mut whole = pause();
+    'grow: for n in 0..count {
+        whole = sequence(alloc, emit(n % outputs), whole)?;
+    }
+    Ok(whole)
+}
