@@ -7,6 +7,7 @@ use Rattle.std.specs.List.{list_all}
 use Rattle.std.specs.Bool.{◌==◌}
 use Rattle.std.specs.Char.{is_ascii_alphabetic}
 use Rattle.est_text.specs.Identifiers.{is_identifier, is_identifier_byte}
+use Rattle.est_text.proofs.Heads.{Head, AtPercent, AtLetter, head_of_piece, head_of_letter, same_head, both}
 use Rattle.est_text.specs.Keywords.{keyword_of}
 use Rattle.est_text.specs.Pieces.{is_blank, is_in_line, StopsAt, ClosesAt, IsPiece, IsPieceOf, IsFault, symbol_text}
 use Rattle.est_text.specs.declared.keyword.Keyword.{Keyword}
@@ -15,32 +16,6 @@ use Rattle.est_text.specs.declared.token.Symbol.TheVariants as symbol
 use Rattle.est_text.specs.declared.token.Token.TheVariants as token
 use Rattle.est_text.specs.declared.piece.Piece.{Piece}
 use Rattle.est_text.specs.declared.piece.Piece.TheVariants as piece
-
-both : (a b : Bool) → (a && b) ≡ true → (a ≡ true) × (b ≡ true)
-both true b h = (refl, h)
-both false b h = cc
-
-letter_no_blank : (b : ℕ) → is_ascii_alphabetic b ≡ true → is_blank b ≡ true → ⊥
-letter_no_blank b h k = grind (arith, nat_tests)
-
-not_a_letter : (b : ℕ) (bs : List ℕ) (c : ℕ) (cs : List ℕ) → is_ascii_alphabetic b ≡ true → b ∷ bs ≡ c ∷ cs → is_ascii_alphabetic c ≡ false → ⊥
-not_a_letter b bs c cs h e other =
-    let same : b ≡ c = cc in
-    let yes : is_ascii_alphabetic c ≡ true = subst (λ (x : ℕ). is_ascii_alphabetic x ≡ true) same h in
-    cc
-
-letter_no_symbol : (s : Symbol) (b : ℕ) (bs more : List ℕ) → is_ascii_alphabetic b ≡ true → b ∷ bs ≡ symbol_text s ++ more → ⊥
-letter_no_symbol symbol.Colon b bs more h e = not_a_letter b bs 58 more h e refl
-letter_no_symbol symbol.Semicolon b bs more h e = not_a_letter b bs 59 more h e refl
-letter_no_symbol symbol.Comma b bs more h e = not_a_letter b bs 44 more h e refl
-letter_no_symbol symbol.Slash b bs more h e = not_a_letter b bs 47 more h e refl
-letter_no_symbol symbol.OpenBracket b bs more h e = not_a_letter b bs 91 more h e refl
-letter_no_symbol symbol.CloseBracket b bs more h e = not_a_letter b bs 93 more h e refl
-letter_no_symbol symbol.OpenParenthesis b bs more h e = not_a_letter b bs 40 more h e refl
-letter_no_symbol symbol.CloseParenthesis b bs more h e = not_a_letter b bs 41 more h e refl
-letter_no_symbol symbol.Hash b bs more h e = not_a_letter b bs 35 more h e refl
-letter_no_symbol symbol.Parallel b bs more h e = not_a_letter b bs 124 (124 ∷ more) h e refl
-letter_no_symbol symbol.Implies b bs more h e = not_a_letter b bs 61 (62 ∷ more) h e refl
 
 -- two runs of bytes with p that end where p stops are one
 pub same_run : (p : ℕ → Bool) (xs ys m n : List ℕ) → list_all p xs ≡ true → list_all p ys ≡ true → StopsAt p m → StopsAt p n → xs ++ m ≡ ys ++ n → xs ≡ ys
@@ -62,35 +37,21 @@ same_run p (x ∷ xs) (y ∷ ys) m n a b s t e =
     cc
 
 -- an identifier's bytes may all stand in one
-all_in_word : (bytes : List ℕ) → is_identifier bytes ≡ true → list_all is_identifier_byte bytes ≡ true
+pub all_in_word : (bytes : List ℕ) → is_identifier bytes ≡ true → list_all is_identifier_byte bytes ≡ true
 all_in_word [] h = cc
 all_in_word (b ∷ bs) h = (both _ _ h).1
 
-first_letter : (b : ℕ) (bs : List ℕ) → is_identifier (b ∷ bs) ≡ true → is_ascii_alphabetic b ≡ true
-first_letter b bs h = (both (is_ascii_alphabetic b) _ (both _ _ h).0).0
-
-word_is_no_other : (p : Piece) (b : ℕ) (bs bytes more : List ℕ) → is_ascii_alphabetic b ≡ true → b ∷ bs ≡ bytes ++ more → IsPiece p bytes more → (is_identifier bytes ≡ true) × StopsAt is_identifier_byte more
-word_is_no_other piece.Blank b bs bytes more h e p =
-    let e2 : b ∷ bs ≡ p.0 ∷ more = e ∙ ap (λ (l : List ℕ). l ++ more) p.1 in
-    let same : b ≡ p.0 = cc in
-    absurd (letter_no_blank p.0 (subst (λ (x : ℕ). is_ascii_alphabetic x ≡ true) same h) p.2)
-word_is_no_other piece.LineComment b bs bytes more h e p =
-    let e2 : b ∷ bs ≡ 37 ∷ (p.0.0 ++ more) = e ∙ ap (λ (l : List ℕ). l ++ more) p.0.1 in
-    let same : b ≡ 37 = cc in
-    let no : false ≡ true = subst (λ (x : ℕ). is_ascii_alphabetic x ≡ true) same h in cc
-word_is_no_other piece.BlockComment b bs bytes more h e p =
-    let e2 : b ∷ bs ≡ 37 ∷ ((123 ∷ (p.0 ++ 125 ∷ 37 ∷ [])) ++ more) = e ∙ ap (λ (l : List ℕ). l ++ more) p.1 in
-    let same : b ≡ 37 = cc in
-    let no : false ≡ true = subst (λ (x : ℕ). is_ascii_alphabetic x ≡ true) same h in cc
-word_is_no_other (piece.Token (token.Keyword k)) b bs bytes more h e p = (p.0, p.2)
-word_is_no_other (piece.Token (token.Identifier name)) b bs bytes more h e p = (p.0, p.2)
-word_is_no_other (piece.Token (token.Symbol s)) b bs bytes more h e p = absurd (letter_no_symbol s b bs more h (e ∙ ap (λ (l : List ℕ). l ++ more) p))
+-- what begins with a letter is a word
+word_is_no_other : (p : Piece) (bytes more : List ℕ) → head_of_piece p ≡ AtLetter → IsPiece p bytes more → (is_identifier bytes ≡ true) × StopsAt is_identifier_byte more
+word_is_no_other (piece.Token (token.Keyword k)) bytes more h p = (p.0, p.2)
+word_is_no_other (piece.Token (token.Identifier name)) bytes more h p = (p.0, p.2)
+word_is_no_other other bytes more h p = cc
 
 fault_at : (b : ℕ) (bs : List ℕ) (n : ℕ) → is_ascii_alphabetic b ≡ true → list_all is_identifier_byte (take n (b ∷ bs)) ≡ true → StopsAt is_identifier_byte (drop n (b ∷ bs)) → is_identifier (take n (b ∷ bs)) ≡ false → IsFault (b ∷ bs)
 fault_at b bs n h same stops long = (
   λ e. cc,
   λ p bytes more e k.
-      let w = word_is_no_other p b bs bytes more h e k in
+      let w = word_is_no_other p bytes more (sym (same_head b bs p bytes more k e) ∙ head_of_letter b h) k in
       let cut : take n (b ∷ bs) ++ drop n (b ∷ bs) ≡ bytes ++ more = take-append-drop n (b ∷ bs) ∙ e in
       let one = same_run is_identifier_byte (take n (b ∷ bs)) bytes (drop n (b ∷ bs)) more same (all_in_word bytes w.0) stops w.1 cut in
       let no : false ≡ true = sym long ∙ ap is_identifier one ∙ w.0 in cc,
@@ -156,24 +117,8 @@ block_found cs at l h none =
       ),
     )
 
--- two texts whose first bytes differ
-unlike : (b : ℕ) (bs : List ℕ) (c : ℕ) (cs : List ℕ) → b ∷ bs ≡ c ∷ cs → (b == c) ≡ false → ⊥
-unlike b bs c cs e other = let same : b ≡ c = cc in grind (arith, nat_tests)
-
-percent_no_symbol : (s : Symbol) (bs more : List ℕ) → 37 ∷ bs ≡ symbol_text s ++ more → ⊥
-percent_no_symbol symbol.Colon bs more e = unlike 37 bs 58 more e refl
-percent_no_symbol symbol.Semicolon bs more e = unlike 37 bs 59 more e refl
-percent_no_symbol symbol.Comma bs more e = unlike 37 bs 44 more e refl
-percent_no_symbol symbol.Slash bs more e = unlike 37 bs 47 more e refl
-percent_no_symbol symbol.OpenBracket bs more e = unlike 37 bs 91 more e refl
-percent_no_symbol symbol.CloseBracket bs more e = unlike 37 bs 93 more e refl
-percent_no_symbol symbol.OpenParenthesis bs more e = unlike 37 bs 40 more e refl
-percent_no_symbol symbol.CloseParenthesis bs more e = unlike 37 bs 41 more e refl
-percent_no_symbol symbol.Hash bs more e = unlike 37 bs 35 more e refl
-percent_no_symbol symbol.Parallel bs more e = unlike 37 bs 124 (124 ∷ more) e refl
-percent_no_symbol symbol.Implies bs more e = unlike 37 bs 61 (62 ∷ more) e refl
-
-brace_in_line : (ds more cs : List ℕ) → 123 ∷ cs ≡ ds ++ more → StopsAt (λ b. b == 123) ds → StopsAt is_in_line more → ⊥
+-- a comment that begins with `%{` is none to the end of its line
+pub brace_in_line : (ds more cs : List ℕ) → 123 ∷ cs ≡ ds ++ more → StopsAt (λ b. b == 123) ds → StopsAt is_in_line more → ⊥
 brace_in_line [] [] cs e s t = cc
 brace_in_line [] (m ∷ ms) cs e s t =
     let same : m ≡ 123 = cc in
@@ -190,31 +135,21 @@ no_close cs ds more none e =
       ap (λ (xs : List ℕ). get_or xs (length ds + 1) 0) f ∙ get_or-append-add ds (125 ∷ 37 ∷ more) 1 0,
     )
 
-percent_no_word : (bs bytes more : List ℕ) → 37 ∷ bs ≡ bytes ++ more → is_identifier bytes ≡ true → ⊥
-percent_no_word bs [] more e h = cc
-percent_no_word bs (c ∷ cs) more e h =
-    let same : c ≡ 37 = cc in
-    let no : false ≡ true = subst (λ (x : ℕ). is_ascii_alphabetic x ≡ true) same (first_letter c cs h) in cc
-
-block_is_no_piece : (cs : List ℕ) → ((i : ℕ) → i + 1 < length cs → ¬ (ClosesAt cs i)) → (k : Piece) (bytes more : List ℕ) → 37 ∷ 123 ∷ cs ≡ bytes ++ more → IsPiece k bytes more → ⊥
-block_is_no_piece cs none piece.Blank bytes more e p =
-    let e2 : 37 ∷ 123 ∷ cs ≡ p.0 ∷ more = e ∙ ap (λ (l : List ℕ). l ++ more) p.1 in
-    let same : p.0 ≡ 37 = cc in
-    let h : false ≡ true = subst (λ (x : ℕ). is_blank x ≡ true) same p.2 in cc
-block_is_no_piece cs none piece.LineComment bytes more e p =
+block_is_no_piece : (cs : List ℕ) → ((i : ℕ) → i + 1 < length cs → ¬ (ClosesAt cs i)) → (k : Piece) (bytes more : List ℕ) → head_of_piece k ≡ AtPercent → 37 ∷ 123 ∷ cs ≡ bytes ++ more → IsPiece k bytes more → ⊥
+block_is_no_piece cs none piece.LineComment bytes more h e p =
     let e2 : 37 ∷ 123 ∷ cs ≡ 37 ∷ (p.0.0 ++ more) = e ∙ ap (λ (l : List ℕ). l ++ more) p.0.1 in
     let e3 : 123 ∷ cs ≡ p.0.0 ++ more = cc in
     brace_in_line p.0.0 more cs e3 p.0.2 p.1
-block_is_no_piece cs none piece.BlockComment bytes more e p =
+block_is_no_piece cs none piece.BlockComment bytes more h e p =
     let e2 : 37 ∷ 123 ∷ cs ≡ 37 ∷ 123 ∷ ((p.0 ++ 125 ∷ 37 ∷ []) ++ more) = e ∙ ap (λ (l : List ℕ). l ++ more) p.1 in
     let e3 : cs ≡ (p.0 ++ 125 ∷ 37 ∷ []) ++ more = cc in
     no_close cs p.0 more none e3
-block_is_no_piece cs none (piece.Token (token.Keyword k)) bytes more e p = percent_no_word (123 ∷ cs) bytes more e p.0
-block_is_no_piece cs none (piece.Token (token.Identifier name)) bytes more e p = percent_no_word (123 ∷ cs) bytes more e p.0
-block_is_no_piece cs none (piece.Token (token.Symbol s)) bytes more e p = percent_no_symbol s (123 ∷ cs) more (e ∙ ap (λ (l : List ℕ). l ++ more) p)
+block_is_no_piece cs none (piece.Token (token.Keyword k)) bytes more h e p = cc
+block_is_no_piece cs none (piece.Token (token.Identifier name)) bytes more h e p = cc
+block_is_no_piece cs none other bytes more h e p = cc
 
 pub block_fault : (cs : List ℕ) → ((i : ℕ) → i + 1 < length cs → ¬ (ClosesAt cs i)) → IsFault (37 ∷ 123 ∷ cs)
-block_fault cs none = (λ e. cc, block_is_no_piece cs none)
+block_fault cs none = (λ e. cc, λ k bytes more e p. block_is_no_piece cs none k bytes more (sym (same_head 37 (123 ∷ cs) k bytes more p e)) e p)
 
 pub block_found_in : (rest : List ℕ) (at : ℕ) → 1 < length rest → slice_index rest 0 ≡ 37 → slice_index rest 1 ≡ 123 → at + 1 < length (drop 2 rest) → ClosesAt (drop 2 rest) at → ((i : ℕ) → i < at → ¬ (ClosesAt (drop 2 rest) i)) → IsPieceOf piece.BlockComment (at + 4) rest
 block_found_in [] at some first second l h none = absurd (omega arith)

@@ -1,5 +1,7 @@
 mod Ascii
 mod Filled
 mod Fronts
+mod Heads
+mod OneCut
 mod Runs
 mod Spans

@@ -8,9 +8,12 @@
 
 pub mod identifier;
 pub mod keyword;
+pub mod laws;
 pub mod lex;
 pub mod piece;
 pub mod place;
 mod scan;
+#[cfg(test)]
+mod tests;
 pub mod token;
 pub mod tokens;
