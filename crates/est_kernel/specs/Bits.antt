@@ -1,4 +1,4 @@
--- A mask as the set of its bits.
+-- A mask as the set of its bits (this project's own form).
 use Rattle.std.specs.Prelude.{ℕ, Bool, nat_eq, ◌/◌, ◌%◌, ◌^◌}
 
 -- whether bit n of the mask x is set

@@ -1,4 +1,4 @@
--- Facts of a kernel have one proof each, so that they can be kept in it.
+-- Facts of a kernel have one proof each, so that they can be kept in it (this project's own form).
 use Rattle.std.specs.Prelude.{ℕ, List, ◌+◌}
 use mathlib.Core.Bool.{Bool-set}
 use Rattle.std.proofs.Math.Nat.{ℕ_set}

@@ -1,4 +1,4 @@
--- A set of pauses as the set of its bits.
+-- A set of pauses as the set of its bits (this project's own form).
 use Rattle.std.specs.Prelude.{ℕ, Bool, ◌/◌, ◌%◌, slice_index}
 use Rattle.est_kernel.specs.Bits.{bits}
 use Rattle.est_kernel.specs.declared.pause_set.PauseSet.{PauseSet}

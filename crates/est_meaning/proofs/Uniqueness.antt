@@ -1,24 +1,30 @@
 -- A term reacts in one way at most.
-use Rattle.std.proofs.Common.{◌≡◌, ℕ, max, ap, sym, ◌∙◌}
-use Rattle.est_kernel.specs.Term.{Term, nothing, pause, emit, present, suspend, held, seq, loop, par, trap, exit, signal}
+use Rattle.std.proofs.Common.{◌≡◌, ℕ, Bool, max, ap, sym, ◌∙◌}
+use mathlib.Core.Path.{fun_ext}
+use Rattle.est_kernel.specs.Term.{outer, Term, nothing, pause, emit, present, suspend, held, seq, loop, par, trap, exit, signal}
 use Rattle.est_meaning.specs.Signals.{Signals, union, without}
 use Rattle.est_meaning.specs.declared.status.Status.{Status}
 use Rattle.est_meaning.specs.declared.status.Status.TheVariants.{Present, Absent}
 use Rattle.est_meaning.specs.Status.{Env, status_of}
 use Rattle.est_meaning.specs.MustCan.{sure, env_within}
 use Rattle.est_meaning.specs.Rules.{Gives, Behaviour, rest_of, outside, IsJust, Inside, takes_first, takes_second, is_held, is_resumed, goes_on, ends_then}
-use Rattle.est_meaning.specs.Laws.{IsSame}
+use Rattle.est_meaning.specs.Laws.{IsSame, IsSameReaction}
+use Rattle.est_meaning.specs.Reaction.{Reacts}
+use Rattle.est_meaning.specs.Rounds.{JudgedSignals, last_env}
 
+-- no status is both
 not_both : {A : Type 0} (s : Status) → s ≡ Present → s ≡ Absent → A
 not_both s p q = absurd (no (sym p ∙ q))
   where
     no : Present ≡ Absent → ⊥
     no e = cc
 
+-- a step that is exactly this
 just_same : {a : Signals} {j : ℕ} {t : Term} {o : Signals} {k : ℕ} {u : Term} {o' : Signals} {k' : ℕ} {u' : Term}
     → IsJust a j t o k u → IsJust a j t o' k' u' → IsSame o k u o' k' u'
 just_same g h = record { signals = g.signals ∙ sym h.signals; code = g.code ∙ sym h.code; rest = g.rest ∙ sym h.rest }
 
+-- a step inside the same statement
 inside_same : {body : Behaviour} {around : Term → Term} {o : Signals} {k : ℕ} {u : Term} {o' : Signals} {k' : ℕ} {u' : Term}
     → (g : Inside body around o k u) (h : Inside body around o' k' u') → IsSame o k g.left o' k' h.left → IsSame o k u o' k' u'
 inside_same {around = around} {k = k} g h s = record {
@@ -27,6 +33,7 @@ inside_same {around = around} {k = k} g h s = record {
   rest = g.rest ∙ (ap (λ t. rest_of k (around t)) s.rest ∙ (ap (λ i. rest_of i (around h.left)) s.code ∙ sym h.rest));
 }
 
+-- signals, code and rest
 pub unique : (t : Term) (e : Env) (o : Signals) (k : ℕ) (u : Term) (o' : Signals) (k' : ℕ) (u' : Term) → Gives t e o k u → Gives t e o' k' u' → IsSame o k u o' k' u'
 unique nothing e o k u o' k' u' g h = just_same g h
 unique pause e o k u o' k' u' g h = just_same g h
@@ -78,3 +85,10 @@ unique (signal s p) e o k u o' k' u' g h =
       code = x.code;
       rest = g.rest ∙ (ap (λ i. rest_of i (signal s g.left)) x.code ∙ (ap (λ t. rest_of k' (signal s t)) x.rest ∙ sym h.rest));
     }
+
+-- to the inputs of an instant too
+pub one_reaction : (j : JudgedSignals) (inputs : ℕ → Bool) (t : Term) (outputs : ℕ → Bool) (u : Term) (outputs' : ℕ → Bool) (u' : Term)
+    → Reacts j inputs t outputs u → Reacts j inputs t outputs' u' → IsSameReaction outputs u outputs' u'
+one_reaction j inputs t outputs u outputs' u' g h =
+    let s = unique t (last_env j inputs t) g.signals g.code u h.signals h.code u' g.gives h.gives in
+    record { shown = fun_ext (λ n. g.seen n ∙ (ap (λ (f : Signals). f (outer n)) s.signals ∙ sym (h.seen n))); next = s.rest }

@@ -10,6 +10,7 @@ use Rattle.est_kernel.specs.declared.state.State.{State}
 use Rattle.est_kernel.specs.declared.statement.Statement.{Statement}
 use Rattle.est_meaning.specs.Knowledge.{KnowsLess, IsWithin}
 use Rattle.est_meaning.specs.MustCan.{Acts, Mode, sure, maybe, must, can}
+use Rattle.est_meaning.specs.Reaction.{Reacts}
 use Rattle.est_meaning.specs.Rounds.{JudgedSignals, judged_outputs, first_env, env_after, how_many, last_env}
 use Rattle.est_meaning.specs.Rules.{Gives, HasNoRule}
 use Rattle.est_meaning.specs.Signals.{Signals}
@@ -30,7 +31,7 @@ pub record HasRule (t : Term) (e : Env) (k : ℕ) : Type 0 where
 abbrev pub HasNoCode : Acts → Type 0
 HasNoCode a = (k : ℕ) → a.codes k ≡ false
 
--- DECIDED BY MUST. Why care: whether a step is refused, and what it shows, depends on nothing but what must be emitted. No guess
+-- Decided by Must. Why care: whether a step is refused, and what it shows, depends on nothing but what must be emitted. No guess
 -- is ever tried, and a refused step is one in which the program itself leaves something open.
 -- In every environment: in a term whose loops' bodies take time the rules react just where Must has a code, with that code; they
 -- have none just where Must has none; and where they react, Must, and Can too, is that reaction and nothing else
@@ -46,15 +47,21 @@ pub record IsSame (o : Signals) (k : ℕ) (u : Term) (o' : Signals) (k' : ℕ) (
   pub code : k ≡ k'
   pub rest : u ≡ u'
 
--- ONE REACTION AT MOST. Why care: the same program with the same inputs shows the same outputs, in this instant and in all that
+-- two reactions show the same outputs and go on as the same term
+pub record IsSameReaction (outputs : ℕ → Bool) (u : Term) (outputs' : ℕ → Bool) (u' : Term) : Type 0 where
+  pub shown : outputs ≡ outputs'
+  pub next : u ≡ u'
+
+-- One reaction at most. Why care: the same program with the same inputs shows the same outputs, in this instant and in all that
 -- follow, whichever engine runs it.
--- In one environment a term reacts with one set of signals, one code and one next term at most; and a next term's loops take
--- time again, so that the laws which ask for that hold from instant to instant
+-- In one environment a term reacts with one set of signals, one code and one next term at most, and so to the inputs of an
+-- instant; and a next term's loops take time again, so that the laws which ask for that hold from instant to instant
 pub record OneReactionAtMost : Type 0 where
   pub same : (t : Term) (e : Env) (o : Signals) (k : ℕ) (u : Term) (o' : Signals) (k' : ℕ) (u' : Term) → Gives t e o k u → Gives t e o' k' u' → IsSame o k u o' k' u'
+  pub same_reaction : (j : JudgedSignals) (inputs : ℕ → Bool) (t : Term) (outputs : ℕ → Bool) (u : Term) (outputs' : ℕ → Bool) (u' : Term) → Reacts j inputs t outputs u → Reacts j inputs t outputs' u' → IsSameReaction outputs u outputs' u'
   pub safe_again : (t : Term) (e : Env) (o : Signals) (k : ℕ) (u : Term) → IsLoopSafe t → Gives t e o k u → IsLoopSafe u
 
--- KNOWLEDGE IS MONOTONE. Why care: what an engine has found out stays true, in whatever order it looks, and nothing that it
+-- Knowledge is monotone. Why care: what an engine has found out stays true, in whatever order it looks, and nothing that it
 -- shows has to be taken back.
 -- With more known, more must and less can be done, surely reached or in doubt; what must be done can be done; and what can be
 -- done where a term is surely reached can be done where that is in doubt
@@ -68,7 +75,7 @@ pub record KnowledgeIsMonotone : Type 0 where
 abbrev pub IsWithinPlaces : JudgedSignals → Type 0
 IsWithinPlaces j = (n : ℕ) → j.has n ≡ true → n < j.places
 
--- ROUNDS COME TO REST. Why care: an instant takes a bounded number of rounds, and an output that is called undecided is one
+-- Rounds come to rest. Why care: an instant takes a bounded number of rounds, and an output that is called undecided is one
 -- that no further look at the program would decide.
 -- From the first environment on a round never takes back what was decided; after as many rounds as there are judged signals
 -- nothing changes; and the outputs of an interface are signals that may be judged so
@@ -87,7 +94,7 @@ pub record SomeStateFor (s : Statement) (t : Term) : Type 0 where
   pub state : State
   pub stands : IsStateFor s state t
 
--- PAUSES ARE ENOUGH. Why care: what a running module has left to do is kept in one bit for each of its pauses, however long it
+-- Pauses are enough. Why care: what a running module has left to do is kept in one bit for each of its pauses, however long it
 -- runs, so a slot never grows and a step asks for no memory.
 -- Where no two pauses of a statement have one number: wherever the term of a state reacts, in whatever environment and with
 -- whatever code, some state stands for what is left. A state stands for one term, and in a state loops' bodies still take time

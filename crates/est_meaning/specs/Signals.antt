@@ -1,8 +1,8 @@
--- Sets of signals, by their tests.
+-- Sets of signals, by their tests (this project's own form).
 use Rattle.std.specs.Prelude.{ℕ, Bool, false, not, ◌&&◌, ◌||◌, nat_eq}
 use Rattle.est_kernel.specs.Term.{Name, outer, inner}
 
--- a set of signals answers for each name whether it is a member (this project's own form)
+-- a set of signals answers for each name whether it is a member
 abbrev pub Signals : Type 0
 Signals = Name → Bool
 

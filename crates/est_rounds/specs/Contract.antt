@@ -1,4 +1,5 @@
--- What an engine answers for a kernel, a state of it and the inputs of an instant.
+-- What an engine answers for a kernel, a state of it and the inputs of an instant (this project's own form, over the
+-- definitions of est_meaning).
 use Rattle.std.specs.Prelude.{◌≡◌, ℕ}
 use Rattle.est_kernel.specs.Bits.{bits}
 use Rattle.est_kernel.specs.Interfaces.{inputs_of}

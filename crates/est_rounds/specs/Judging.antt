@@ -1,4 +1,4 @@
--- What is judged of a statement that goes on from its pauses.
+-- What is judged of a statement that goes on from its pauses (this project's own form).
 use Rattle.std.specs.Prelude.{◌≡◌, ℕ, Bool, true}
 use Rattle.est_kernel.specs.View.{is_live, term_at}
 use Rattle.est_kernel.specs.declared.statement.Statement.{Statement}

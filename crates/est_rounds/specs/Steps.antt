@@ -1,4 +1,4 @@
--- What the going on of a statement answers.
+-- What the going on of a statement answers (this project's own form).
 use Rattle.std.specs.Prelude.{◌≡◌, ℕ, Bool, true, false}
 use Rattle.est_kernel.specs.View.{is_live, term_at}
 use Rattle.est_kernel.specs.declared.statement.Statement.{Statement}

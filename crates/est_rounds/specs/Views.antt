@@ -1,4 +1,4 @@
--- What the values of the code stand for.
+-- What the values of the code stand for (this project's own form).
 use Rattle.std.specs.Prelude.{ℕ, Bool, cond}
 use Rattle.est_kernel.specs.Bits.{bits}
 use Rattle.est_kernel.specs.Term.{outer, inner}

@@ -1,6 +1,6 @@
 use Rattle.est_meaning.proofs.SafeLoops.{safe_after}
-use Rattle.est_meaning.proofs.Uniqueness.{unique}
+use Rattle.est_meaning.proofs.Uniqueness.{unique, one_reaction}
 use Rattle.est_meaning.proofs.laws.one_reaction_at_most.Goals as goal
 
 pub returns : goal.returns
-returns c = record { same = unique; safe_again = safe_after }
+returns c = record { same = unique; same_reaction = one_reaction; safe_again = safe_after }
