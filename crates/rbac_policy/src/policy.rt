@@ -16,8 +16,8 @@ use crate::opening::opening_entries;
 use crate::rows::{DsdSet, Grant, Session, User};
 use crate::sizes::{GRANTS, ROLES, SESSIONS, SETS, USERS};
 use crate::tables::{
-    end_session, end_unauthorized, give_grant, give_role, grant_of, mask_of, place_of, put_role,
-    put_session, put_user, session_of,
+    end_session, end_unauthorized, give_grant, give_role, grant_of, mask_of, place_of, put,
+    session_of,
 };
 
 /// What a list of accepted entries says, in tables of fixed size. It takes no memory.
@@ -89,7 +89,7 @@ impl Policy {
             user: *user,
             active,
         };
-        put_session(&mut self.sessions, session);
+        put(&mut self.sessions, session);
     }
 
     fn log_out(&mut self, session: Option<SessionId>)
@@ -104,14 +104,14 @@ impl Policy {
         ensures { self.new ≡ changed self.old entry.now }
     {
         match &entry.command {
-            AdminCommand::AddUser { user } => put_user(
+            AdminCommand::AddUser { user } => put(
                 &mut self.users,
                 User {
                     name: *user,
                     roles: 0,
                 },
             ),
-            AdminCommand::AddRole { role } => put_role(&mut self.roles, *role),
+            AdminCommand::AddRole { role } => put(&mut self.roles, *role),
             AdminCommand::AssignUser { user, role } => self.assign(user, role),
             AdminCommand::GrantPermission {
                 role,

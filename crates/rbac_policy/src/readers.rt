@@ -11,7 +11,7 @@ use crate::names::Name;
 use crate::objects::{Object, Operation};
 use crate::policy::Policy;
 use crate::sizes::LAST_SESSION;
-use crate::tables::{free_grant, free_session, grant_of, has_user, place_of, roles_of, session_of};
+use crate::tables::{free, grant_of, has_user, place_of, roles_of, session_of};
 
 impl Policy {
     /// Whether the session lives.
@@ -82,13 +82,13 @@ impl Policy {
     pub fn are_sessions_full(&self) -> bool
         ensures { (entries : List Entry) → StandsFor self.now entries → (IsTrue result ↔ SessionsFull entries) }
     {
-        free_session(&self.sessions).is_none()
+        free(&self.sessions).is_none()
     }
 
     /// Whether as many pairs of an operation and an object as there is room for are granted to some role.
     pub fn are_permissions_full(&self) -> bool
         ensures { (entries : List Entry) → StandsFor self.now entries → (IsTrue result ↔ PermissionsFull entries) }
     {
-        free_grant(&self.grants).is_none()
+        free(&self.grants).is_none()
     }
 }

@@ -11,6 +11,22 @@ use crate::objects::{Object, Operation};
 use crate::rows::{Grant, Session, User};
 use crate::sizes::{GRANTS, ROLES, SESSIONS, USERS};
 
+/// The first free place of a table.
+pub fn free<X, const N: usize>(slots: &[Option<X>; N]) -> Option<usize>
+    ensures { result ≡ position is_none slots.now }
+{
+    slots.iter().position(|slot| slot.is_none())
+}
+
+/// Puts the value into the first free place of a table, if there is one.
+pub fn put<X: Copy, const N: usize>(slots: &mut [Option<X>; N], value: X)
+    ensures { slots.new ≡ put_free value slots.old }
+{
+    if let Some(place) = free(slots) {
+        slots[place] = Some(value);
+    }
+}
+
 fn user_is(slot: &Option<User>, name: &Name) -> bool
     ensures { result ≡ user_is name.now slot.now }
 {
@@ -50,38 +66,6 @@ pub fn with_bit(mask: u32, place: u32) -> u32
     ensures { result ≡ with_bit mask place }
 {
     mask | 1 << place
-}
-
-/// The first free place for a user.
-pub fn free_user(users: &[Option<User>; USERS]) -> Option<usize>
-    ensures { result ≡ position is_none users.now }
-{
-    users.iter().position(|slot| slot.is_none())
-}
-
-/// Puts the user into the first free place, if there is one.
-pub fn put_user(users: &mut [Option<User>; USERS], user: User)
-    ensures { users.new ≡ put_free user users.old }
-{
-    if let Some(place) = free_user(users) {
-        users[place] = Some(user);
-    }
-}
-
-/// The first free place for a role.
-pub fn free_role(roles: &[Option<Name>; ROLES]) -> Option<usize>
-    ensures { result ≡ position is_none roles.now }
-{
-    roles.iter().position(|slot| slot.is_none())
-}
-
-/// Puts the role into the first free place, if there is one.
-pub fn put_role(roles: &mut [Option<Name>; ROLES], role: Name)
-    ensures { roles.new ≡ put_free role roles.old }
-{
-    if let Some(place) = free_role(roles) {
-        roles[place] = Some(role);
-    }
 }
 
 fn user_given(slot: &Option<User>, name: &Name, place: u32) -> Option<User>
@@ -137,13 +121,6 @@ pub fn has_grant(grants: &[Option<Grant>; GRANTS], operation: &Operation, object
     grants.iter().any(|slot| grant_is(slot, operation, object))
 }
 
-/// The first free place for a granted pair.
-pub fn free_grant(grants: &[Option<Grant>; GRANTS]) -> Option<usize>
-    ensures { result ≡ position is_none grants.now }
-{
-    grants.iter().position(|slot| slot.is_none())
-}
-
 fn grant_given(
     slot: &Option<Grant>,
     operation: &Operation,
@@ -189,12 +166,13 @@ pub fn give_grant(
 {
     if has_grant(grants, operation, object) {
         widen_grants(grants, operation, object, place);
-    } else if let Some(at) = free_grant(grants) {
-        grants[at] = Some(Grant {
+    } else {
+        let row = Grant {
             operation: *operation,
             object: *object,
             roles: with_bit(0, place),
-        });
+        };
+        put(grants, row);
     }
 }
 
@@ -251,22 +229,6 @@ pub fn end_unauthorized(
 {
     for at in 0..SESSIONS {
         sessions[at] = session_kept(&sessions[at], users, juniors);
-    }
-}
-
-/// The first free place for a session.
-pub fn free_session(sessions: &[Option<Session>; SESSIONS]) -> Option<usize>
-    ensures { result ≡ position is_none sessions.now }
-{
-    sessions.iter().position(|slot| slot.is_none())
-}
-
-/// Puts the session into the first free place, if there is one.
-pub fn put_session(sessions: &mut [Option<Session>; SESSIONS], session: Session)
-    ensures { sessions.new ≡ put_free session sessions.old }
-{
-    if let Some(place) = free_session(sessions) {
-        sessions[place] = Some(session);
     }
 }
 

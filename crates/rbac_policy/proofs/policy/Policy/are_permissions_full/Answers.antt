@@ -10,4 +10,4 @@ pub returns : goal.returns
 returns c = λ L st.
     let p = c.args.self.now in
     full_test pair_of p.grants (λ pair. IsPairGranted L pair.0 pair.1) GRANTS c.is_none.result
-    (keeps_grants p.roles p.grants L st.grants) st.grants.places (sym (ap is_some c.free_grant.ensures) ∙ c.is_none.ensures)
+    (keeps_grants p.roles p.grants L st.grants) st.grants.places (sym (ap is_some c.free.ensures) ∙ c.is_none.ensures)
