@@ -9,5 +9,7 @@ pub mod Places
 pub mod Syntax
 pub mod Trees
 pub mod Modules
+pub mod Checks
+pub mod Resolved
 pub mod Reading
 pub mod Loading

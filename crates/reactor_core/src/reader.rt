@@ -10,7 +10,8 @@
 ghost use Rattle.std.specs.Prelude.{IfOk, IfErr, List, ℕ};
 ghost use Rattle.est_kernel.specs.Scope.{IsClosed};
 ghost use Rattle.est_kernel.specs.View.{term_of};
-ghost use Rattle.reactor_core.specs.Reading.{AreRead, IsReading, IsNameFault, IsReadFaultOf};
+ghost use Rattle.reactor_core.specs.Reading.{AreRead, IsReading, IsFaultOfTokens, IsReadFaultOf};
+ghost use Rattle.reactor_core.specs.declared.reader.token.Located.{Located as LocatedToken};
 ghost use Rattle.reactor_core.specs.Lexical.{IsLexicalFault};
 ghost use Rattle.reactor_core.specs.Loading.{IsKernelOf, IsLoadFault};
 
@@ -56,7 +57,7 @@ fn lexical_fault(text: &str, fault: LexicalFault) -> ReadFault
 
 /// The fault of a text whose tokens are no module.
 fn syntax_fault(text: &str, fault: SyntaxFault) -> ReadFault
-    ensures { (main : List ℕ) → IsNameFault main result }
+    ensures { (main : List ℕ) (tokens : List LocatedToken) → IsFaultOfTokens main tokens result }
 {
     let start = match fault {
         SyntaxFault::Unexpected { start } => start,
@@ -76,7 +77,7 @@ fn read_tokens(
 ) -> Result<(Interface, Statement), ReadFault>
     ensures closed { IfOk result (λ p. IsClosed p.0 0 0 (term_of p.1)) }
     ensures reading { IfOk result (λ p. AreRead main.now tokens.now p.0 (term_of p.1)) }
-    ensures err { IfErr result (IsNameFault main.now) }
+    ensures fault { IfErr result (IsFaultOfTokens main.now tokens.now) }
 {
     let module = match parse(alloc, tokens) {
         Ok(module) => module,
@@ -98,7 +99,7 @@ pub fn read_module(
     ensures closed { IfOk result (λ p. IsClosed p.0 0 0 (term_of p.1)) }
     // The text is that of the main module, with this interface and this body.
     ensures reading { IfOk result (λ p. IsReading main.now text.now p.0 (term_of p.1)) }
-    ensures err { IfErr result (IsReadFaultOf main.now text.now) }
+    ensures fault { IfErr result (IsReadFaultOf main.now text.now) }
 {
     match lex(alloc, text) {
         Ok(tokens) => read_tokens(alloc, main, text, &tokens),

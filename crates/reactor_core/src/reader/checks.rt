@@ -1,8 +1,8 @@
 //! The checks of a module's names and sizes, in their order.
-ghost use Rattle.std.specs.Prelude.{◌≡◌, ◌≤◌, length, OnOk, IfErr, IfNone};
-ghost use Rattle.std.specs.List.{list_any};
-ghost use Rattle.est_kernel.specs.Interfaces.{is_named};
-ghost use Rattle.reactor_core.specs.Reading.{is_tick, HasOwnNames, IsNameFault};
+ghost use Rattle.std.specs.Prelude.{◌≡◌, ◌⊎◌, OnOk, IfErr, Some, None};
+ghost use Rattle.reactor_core.specs.Checks.{is_tick, is_declared, is_input, is_unknown, emits_input, first_duplicate, first_unknown, first_emitted_input, mention_fault, name_fault, module_fault};
+ghost use Rattle.reactor_core.specs.Trees.{sequence_view};
+ghost use Rattle.reactor_core.specs.declared.reader.fault.ReadFault.TheVariants.{Memory};
 
 use crate::reader::fault::ReadFault;
 use crate::reader::names::{Mention, mentions_of};
@@ -21,26 +21,44 @@ pub fn is_tick(name: &Identifier) -> bool
     name.as_bytes() == b"tick".as_slice()
 }
 
-/// The kind that a name is declared with, if it is declared.
-fn kind_of(declarations: &[Declaration], name: &Identifier) -> Option<Kind> {
-    let declaration = declarations
-        .iter()
-        .find(|declaration| declaration.name.is(name))?;
-    Some(declaration.kind)
-}
-
 /// Whether a signal of this name is declared.
 fn is_declared(declarations: &[Declaration], name: &Identifier) -> bool
-    ensures { result ≡ list_any (is_named name.now) declarations.now }
+    ensures { result ≡ is_declared declarations.now name.now }
 {
     declarations
         .iter()
         .any(|declaration| declaration.name.is(name))
 }
 
+/// Whether an input of this name is declared.
+fn is_input(declarations: &[Declaration], name: &Identifier) -> bool
+    ensures { result ≡ is_input declarations.now name.now }
+{
+    declarations.iter().any(|declaration| declaration.name.is(name)
+        && declaration.kind.is(Kind::Input))
+}
+
+/// Whether the mentioned name is neither declared nor `tick`.
+fn is_unknown(declarations: &[Declaration], mention: &Mention) -> bool
+    ensures { result ≡ is_unknown declarations.now mention.now }
+{
+    let name = mention.name();
+    !(is_tick(&name) || is_declared(declarations, &name))
+}
+
+/// Whether an input, or `tick`, is emitted.
+fn emits_input(declarations: &[Declaration], mention: &Mention) -> bool
+    ensures { result ≡ emits_input declarations.now mention.now }
+{
+    match mention {
+        Mention::Emitted(name) => is_tick(name) || is_input(declarations, name),
+        Mention::Tested(_) => false,
+    }
+}
+
 /// The first name that is declared a second time, or is `tick`.
 fn first_duplicate(declarations: &[Declaration]) -> Option<Identifier>
-    ensures { IfNone result (HasOwnNames declarations.now) }
+    ensures { result ≡ first_duplicate declarations.now }
 {
     for at in 0..declarations.len() {
         let name = declarations[at].name;
@@ -52,33 +70,46 @@ fn first_duplicate(declarations: &[Declaration]) -> Option<Identifier>
 }
 
 /// The first mentioned name that is neither declared nor `tick`.
-fn first_unknown(declarations: &[Declaration], mentions: &[Mention]) -> Option<Identifier> {
+fn first_unknown(declarations: &[Declaration], mentions: &[Mention]) -> Option<Identifier>
+    ensures { result ≡ first_unknown declarations.now mentions.now }
+{
     for mention in mentions {
-        let (Mention::Emitted(name) | Mention::Tested(name)) = mention;
-        if !is_tick(name) && !is_declared(declarations, name) {
-            return Some(*name);
+        if is_unknown(declarations, mention) {
+            return Some(mention.name());
         }
     }
     None
 }
 
 /// The first emitted name that is an input, or `tick`.
-fn first_emitted_input(declarations: &[Declaration], mentions: &[Mention]) -> Option<Identifier> {
+fn first_emitted_input(declarations: &[Declaration], mentions: &[Mention]) -> Option<Identifier>
+    ensures { result ≡ first_emitted_input declarations.now mentions.now }
+{
     for mention in mentions {
-        if let Mention::Emitted(name) = mention {
-            if is_tick(name) || kind_of(declarations, name) == Some(Kind::Input) {
-                return Some(*name);
-            }
+        if emits_input(declarations, mention) {
+            return Some(mention.name());
         }
     }
     None
 }
 
-/// The names of a module, against its interface and the name of the main module.
+/// The first fault of the mentioned names.
+fn mention_fault(declarations: &[Declaration], mentions: &[Mention]) -> Option<ReadFault>
+    ensures { result ≡ mention_fault declarations.now mentions.now }
+{
+    if let Some(name) = first_unknown(declarations, mentions) {
+        return Some(ReadFault::UnknownName(name));
+    }
+    match first_emitted_input(declarations, mentions) {
+        Some(name) => Some(ReadFault::EmitInput(name)),
+        None => None,
+    }
+}
+
+/// The first fault of a module's names, against the name of the main module.
 fn check_names(alloc: Global, main: &Identifier, module: &Module) -> Result<(), ReadFault>
-    ensures main { OnOk result («module».now.name ≡ main.now) }
-    ensures own { OnOk result (HasOwnNames «module».now.declarations.items) }
-    ensures err { IfErr result (IsNameFault main.now) }
+    ensures right { OnOk result (name_fault main.now «module».now.name «module».now.declarations.items (sequence_view «module».now.body) ≡ None) }
+    ensures fault { IfErr result (λ e. (e ≡ Memory) ⊎ (name_fault main.now «module».now.name «module».now.declarations.items (sequence_view «module».now.body) ≡ Some e)) }
 {
     if let Some(name) = first_duplicate(&module.declarations) {
         return Err(ReadFault::DuplicateName(name));
@@ -87,21 +118,16 @@ fn check_names(alloc: Global, main: &Identifier, module: &Module) -> Result<(), 
         return Err(ReadFault::UnknownModule(*main));
     }
     let mentions = mentions_of(alloc, &module.body)?;
-    if let Some(name) = first_unknown(&module.declarations, &mentions) {
-        return Err(ReadFault::UnknownName(name));
+    match mention_fault(&module.declarations, &mentions) {
+        Some(fault) => Err(fault),
+        None => Ok(()),
     }
-    if let Some(name) = first_emitted_input(&module.declarations, &mentions) {
-        return Err(ReadFault::EmitInput(name));
-    }
-    Ok(())
 }
 
-/// The names of a module, and then its sizes.
+/// The first fault of a module: of its names, or else of its size.
 pub fn check(alloc: Global, main: &Identifier, module: &Module) -> Result<(), ReadFault>
-    ensures main { OnOk result («module».now.name ≡ main.now) }
-    ensures own { OnOk result (HasOwnNames «module».now.declarations.items) }
-    ensures few { OnOk result (length «module».now.declarations.items ≤ MOST_SIGNALS) }
-    ensures err { IfErr result (IsNameFault main.now) }
+    ensures right { OnOk result (module_fault main.now «module».now.name «module».now.declarations.items (sequence_view «module».now.body) ≡ None) }
+    ensures fault { IfErr result (λ e. (e ≡ Memory) ⊎ (module_fault main.now «module».now.name «module».now.declarations.items (sequence_view «module».now.body) ≡ Some e)) }
 {
     check_names(alloc, main, module)?;
     if module.declarations.len() > MOST_SIGNALS {

@@ -21,7 +21,7 @@ kernel_fault term answer InstantLoop is too_large instant_loop = instant_loop.0 
 pub returns-in_err-interface-clause-fault : goal.returns-in_err-interface-clause-fault
 returns-in_err-interface-clause-fault c =
     let p = err_from_is_err_and c.from_residual.result c.from_residual.ensures.1 in
-    rw (p.1, p.2) (in_text c.in_err-interface.field-0.0 c.in_err-interface.ensures.err)
+    rw (p.1, p.2) (in_text c.in_err-interface.field-0.0 c.in_err-interface.ensures.fault)
 
 pub returns-in_err-kernel-clause-fault : goal.returns-in_err-kernel-clause-fault
 returns-in_err-kernel-clause-fault c =
