@@ -12,6 +12,7 @@ use est_kernel::statement::LocalSignal;
 /// Signals that are emitted, and completion codes that are given.
 #[derive(Clone, Copy)]
 pub struct Acts {
+    /// The signals.
     pub signals: SignalSet,
     /// A bit for each code.
     pub codes: u64,
@@ -122,7 +123,9 @@ impl Acts {
 /// What must be done and what can be done.
 #[derive(Clone, Copy)]
 pub struct Judgement {
+    /// What must be done.
     pub must: Acts,
+    /// What can be done.
     pub can: Acts,
 }
 

@@ -86,7 +86,9 @@ pub fn has_signal(a: SignalSet, s: Signal) -> bool
 /// What is known of each signal: those that are present, and those that may be.
 #[derive(Clone, Copy, PartialEq, Eq)]
 pub struct Env {
+    /// Those that are present.
     pub present: SignalSet,
+    /// Those that may be.
     pub possible: SignalSet,
 }
 

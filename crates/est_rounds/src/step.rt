@@ -17,7 +17,9 @@ use est_meaning::status::Status;
 /// The signals that are emitted, and the completion code.
 #[derive(Clone, Copy)]
 pub struct Step {
+    /// The signals that are emitted.
     pub signals: SignalSet,
+    /// The completion code.
     pub code: u8,
 }
 
@@ -72,6 +74,13 @@ pub fn quiet(code: u8) -> Step
     }
 }
 
+/// The code of a parallel, by those of its sides: the greater.
+fn greater_code(left: u8, right: u8) -> u8
+    ensures { result ≡ max left right }
+{
+    left.max(right)
+}
+
 /// The step of both sides of a parallel: where it doesn't pause, a side that has paused is left.
 pub fn both(p: &Statement, q: &Statement, left: Step, right: Step, next: &mut PauseSet) -> Step
     requires apart { AreApart p.now q.now }
@@ -84,7 +93,7 @@ pub fn both(p: &Statement, q: &Statement, left: Step, right: Step, next: &mut Pa
     ensures right_ended { result.code ≢ 1 → is_live q.now (pauses_of next.new) ≡ false }
     ensures others { (i : ℕ) → has_pause p.now i ≡ false → has_pause q.now i ≡ false → pauses_of next.new i ≡ pauses_of next.old i }
 {
-    let code = left.code.max(right.code);
+    let code = greater_code(left.code, right.code);
     if code != 1 {
         if left.code == 1 {
             clear(p, next);

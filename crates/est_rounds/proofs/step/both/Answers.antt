@@ -17,7 +17,7 @@ returns-clause-left_ended c d = elim c.if-code-ne1.branch [
 pub returns-clause-right_ended : goal.returns-clause-right_ended
 returns-clause-right_ended c d = elim c.if-code-ne1.branch [
   | then-code-ne1+then-left-eq1 w ↦
-      let more : c.args.right.code ≢ 1 = λ e. d (omega (arith, c.max-code.ensures, w.if-left-eq1.true, e)) in
+      let more : c.args.right.code ≢ 1 = λ e. d (omega (arith, c.greater_code-code.ensures, w.if-left-eq1.true, e)) in
       let dead = c.requires.right ∙ ne_eqb c.args.right.code 1 more in
       rw w.next-is (sym (live_same c.args.q.now _ _ (apart_right c.args.p.now c.args.q.now _ _ c.requires.apart (λ i h. w.clear.ensures i ∙ rw h refl))) ∙ dead)
   | then-code-ne1+else-left-eq1+then-right-eq1 w ↦ rw w.next-is (cleared_dead c.args.q.now _ (λ i h. w.clear-then-right-eq1.ensures i ∙ rw h refl))
