@@ -1,12 +1,13 @@
 //! The answers to policy commands, on policies that a server could come to.
-ghost use Rattle.std.specs.Prelude.{IsTrue};
+ghost use Rattle.std.specs.Prelude.{◌<◌, IsTrue};
 ghost use Rattle.rbac_admin.specs.PolicyStep.{is_decided};
 
 use crate::decisions::{decide, is_decided};
 use crate::refusals::Refusal;
+use est_kernel::identifier::Identifier;
 use rbac_policy::commands::{AdminCommand, Entry, SessionId, Table};
 use rbac_policy::names::{LISTED_ROLES, Name, RoleNames};
-use rbac_policy::objects::{Object, Operation};
+use rbac_policy::objects::{Object, Operation, SlotNumber};
 use rbac_policy::policy::Policy;
 use std::process::Abort;
 
@@ -165,4 +166,63 @@ fn limits(rt: HostRuntime) {
         give(&mut policy, None, &command),
         Err(Refusal::SessionsExhausted)
     );
+}
+
+/// The operations that a role may be granted.
+const OPERATIONS: [Operation; 6] = [
+    Operation::Offer,
+    Operation::Observe,
+    Operation::Step,
+    Operation::Load,
+    Operation::Administer,
+    Operation::Audit,
+];
+
+/// One of 48 objects: the sixteen slots, and two signals in each.
+fn object(rt: &impl Abort, index: usize) -> Object {
+    let slot = SlotNumber::new((index % 16) as u8).expect(rt, "a slot");
+    match index / 16 {
+        0 => Object::Slot(slot),
+        1 => Object::Signal(slot, Identifier::from_text("O").expect(rt, "a signal")),
+        _ => Object::Signal(slot, Identifier::from_text("P").expect(rt, "a signal")),
+    }
+}
+
+/// A grant of one of 288 pairs to the role.
+fn grant_pair(rt: &impl Abort, role: &str, index: usize) -> AdminCommand
+    requires { index < 288 }
+    ensures { IsTrue (is_decided result) }
+{
+    AdminCommand::GrantPermission {
+        role: name(rt, role),
+        operation: OPERATIONS[index / 48],
+        object: object(rt, index % 48),
+    }
+}
+
+#[test]
+fn full_of_permissions(rt: HostRuntime) {
+    let mut policy = Policy::opening();
+    policy.absorb(&Entry {
+        session: None,
+        command: AdminCommand::AddRole {
+            role: name(&rt, "driver"),
+        },
+    });
+    let first = SessionId::new(1);
+    let login = login(&rt, "root", &["root"]);
+    assert!(rt; give(&mut policy, None, &login).is_ok());
+
+    // The opening policy grants one pair.
+    for index in 0..255 {
+        let command = grant_pair(&rt, "root", index);
+        assert!(rt; give(&mut policy, Some(first), &command).is_ok(), "{index}");
+    }
+    let full = Refusal::Full {
+        table: Table::Permissions,
+    };
+    let another = grant_pair(&rt, "root", 255);
+    assert_eq!(rt; give(&mut policy, Some(first), &another), Err(full));
+    let granted = grant_pair(&rt, "driver", 0);
+    assert!(rt; give(&mut policy, Some(first), &granted).is_ok());
 }
