@@ -1,6 +1,6 @@
 -- What a module without a fault has, and what the faults are.
 use Rattle.std.proofs.Common.{◌≡◌, ◌∙◌, ℕ, ◌<◌, ◌≤◌, List, [], ◌∷◌, ◌++◌, length, get_or, map, zero, suc, Bool, true, false, ◌||◌, refl, sym, ap, arith, inl, inr, ◌⊎◌, ⊎_elim}
-use Rattle.std.specs.Prelude.{Option, Some, None, Result, Ok, Err, IfErr, option_map, cond, not, nat_lt, if◌then◌else◌}
+use Rattle.std.specs.Prelude.{Option, Some, None, Result, Ok, Err, IfErr, option_map, cond, not, nat_lt}
 use Rattle.std.specs.Option.{option_or}
 use Rattle.std.specs.List.{find}
 use Rattle.std.specs.Str.{bytes_eq}
@@ -10,7 +10,7 @@ use Rattle.est_kernel.specs.Interfaces.{HasDistinctNames}
 use Rattle.est_kernel.specs.declared.interface.Declaration.{Declaration}
 use Rattle.est_kernel.specs.declared.interface.TheConstants.{MOST_SIGNALS}
 use Rattle.est_kernel.specs.declared.limits.TheConstants.{MOST_STATEMENTS}
-use Rattle.reactor_core.specs.Checks.{is_tick, is_declared, is_input, unit_mentions, branches_mentions, sequence_mentions, units_mentions, mentioned, is_unknown, emits_input, sequence_size, first_duplicate, first_unknown, first_emitted_input, mention_fault, name_fault, size_fault, module_fault}
+use Rattle.reactor_core.specs.Checks.{is_tick, is_declared, is_input, unit_mentions, branches_mentions, sequence_mentions, units_mentions, mentioned, is_unknown, emits_input, sequence_size, first_duplicate, first_unknown, first_emitted_input, mention_fault, module_name_fault, name_fault, size_fault, module_fault}
 use Rattle.reactor_core.specs.Modules.{IsModule}
 use Rattle.reactor_core.proofs.Declared.{distinct_names}
 use Rattle.reactor_core.specs.Lexical.{AreTokens}
@@ -54,24 +54,18 @@ second_of (Some a) y h = absurd cc
 
 -- the first fault of the mentioned names is that of the names, where those of the module have none
 pub mention_is : (main name : List ℕ) (interface : List Declaration) (body : SequenceTree) (mentions : List Mention) (e : ReadFault) → first_duplicate interface ≡ None
-    → bytes_eq name main ≡ true → mentions ≡ sequence_mentions body → mention_fault interface mentions ≡ Some e → name_fault main name interface body ≡ Some e
+    → module_name_fault main name ≡ None → mentions ≡ sequence_mentions body → mention_fault interface mentions ≡ Some e → name_fault main name interface body ≡ Some e
 mention_is main name interface body mentions e none named same given =
     second_of (option_map DuplicateName (first_duplicate interface)) _ (ap (option_map DuplicateName) none)
-    ∙ second_of (if bytes_eq name main then None else Some (UnknownModule main)) (mention_fault interface (sequence_mentions body))
-    (ap (λ (b : Bool). if b then None else Some (UnknownModule main)) named)
+    ∙ second_of (module_name_fault main name) (mention_fault interface (sequence_mentions body)) named
     ∙ ap (mention_fault interface) (sym same) ∙ given
 
 -- a module without a fault
 pub record IsRight (main name : List ℕ) (interface : List Declaration) (body : SequenceTree) : Type 0 where
   pub distinct : first_duplicate interface ≡ None
-  pub named : bytes_eq name main ≡ true
   pub known : find (is_unknown interface) (sequence_mentions body) ≡ None
   pub outputs : find (emits_input interface) (sequence_mentions body) ≡ None
   pub few : length interface ≤ MOST_SIGNALS
-
-named_so : (b : Bool) (e : ReadFault) → cond b None (Some e) ≡ None → b ≡ true
-named_so true e h = refl
-named_so false e h = absurd cc
 
 few_signals : (interface : List Declaration) (body : SequenceTree) → size_fault interface body ≡ None → length interface ≤ MOST_SIGNALS
 few_signals interface body h = at (nat_lt MOST_SIGNALS (length interface)) refl h
@@ -85,10 +79,9 @@ pub right_of : (main name : List ℕ) (interface : List Declaration) (body : Seq
 right_of main name interface body h =
     let names = no_first (name_fault main name interface body) (size_fault interface body) h in
     let behind = no_second (option_map DuplicateName (first_duplicate interface)) _ names in
-    let mentions = no_second (if bytes_eq name main then None else Some (UnknownModule main)) _ behind in
+    let mentions = no_second (module_name_fault main name) _ behind in
     record {
       distinct = no_image DuplicateName (first_duplicate interface) (no_first _ _ names);
-      named = named_so (bytes_eq name main) (UnknownModule main) (no_first _ _ behind);
       known = no_image mentioned _ (no_image UnknownName (first_unknown interface (sequence_mentions body)) (no_first _ _ mentions));
       outputs = no_image mentioned _ (no_image EmitInput (first_emitted_input interface (sequence_mentions body)) (no_second _ _ mentions));
       few = few_signals interface body (no_second (name_fault main name interface body) (size_fault interface body) h);
@@ -186,7 +179,7 @@ no_lexical main name interface body place h =
     (no_image_lexical UnknownName (first_unknown interface (sequence_mentions body)) place (λ n e. cc))
     (no_image_lexical EmitInput (first_emitted_input interface (sequence_mentions body)) place (λ n e. cc))
     (one_of (option_map UnknownName (first_unknown interface (sequence_mentions body))) _ (Lexical place) mentions))
-    (one_of (if bytes_eq name main then None else Some (UnknownModule main)) _ (Lexical place) behind))
+    (one_of (module_name_fault main name) _ (Lexical place) behind))
     (one_of (option_map DuplicateName (first_duplicate interface)) _ (Lexical place) names))
     (no_size_lexical (nat_lt MOST_SIGNALS (length interface)) (nat_lt MOST_STATEMENTS (sequence_size body)) place)
     (one_of (name_fault main name interface body) (size_fault interface body) (Lexical place) h)

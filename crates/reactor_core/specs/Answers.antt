@@ -79,10 +79,15 @@ StepAnswer before stamp answer after =
     × (after ≡ before ++ entry stamp (Step (instant r.pending outputs)) ∷ [])))
     (λ e. RefusesStep before r term e × (after ≡ before))
 
--- why a load of the text's module of this name is refused: it gives no kernel, or else by the journal
-pub data RefusesLoad (journal : List SlotEntry) (main text : List ℕ) : Refusal → Type 0 where
-  by_text : (e : Refusal) → IsLoadFault main text e → RefusesLoad journal main text e
-  by_journal : (kernel : Kernel) → IsKernelOf main text kernel → (e : Refusal) → RefusesEntry journal e → RefusesLoad journal main text e
+-- the text gives a kernel, but the journal takes no entry
+pub record IsRefusedEntry (journal : List SlotEntry) (main text : List ℕ) (e : Refusal) : Type 0 where
+  pub kernel : Kernel
+  pub read : IsKernelOf main text kernel
+  pub refused : RefusesEntry journal e
+
+-- why a load of the text's module of this name is refused: the text gives no kernel, or else by the journal
+abbrev pub RefusesLoad : List SlotEntry → (main text : List ℕ) → Refusal → Type 0
+RefusesLoad journal main text e = IsLoadFault main text e ⊎ IsRefusedEntry journal main text e
 
 -- a load is accepted: the text's module of this name has this kernel, and its entry is added
 pub record AcceptsLoad (before : List SlotEntry) (stamp : Stamp) (main text : List ℕ) (after : List SlotEntry) : Type 0 where

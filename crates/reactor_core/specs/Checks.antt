@@ -106,11 +106,15 @@ abbrev pub mention_fault : List Declaration → List Mention → Option ReadFaul
 mention_fault interface mentions =
     option_or (option_map UnknownName (first_unknown interface mentions)) (option_map EmitInput (first_emitted_input interface mentions))
 
+-- that the module isn't the main module, if its name is another
+abbrev pub module_name_fault : (main name : List ℕ) → Option ReadFault
+module_name_fault main name = if bytes_eq name main then None else Some (UnknownModule main)
+
 -- the first fault of a module's names, in the order in which they are answered
 abbrev pub name_fault : (main name : List ℕ) → List Declaration → SequenceTree → Option ReadFault
 name_fault main name interface body =
     option_or (option_map DuplicateName (first_duplicate interface)) (
-    option_or (if bytes_eq name main then None else Some (UnknownModule main))
+    option_or (module_name_fault main name)
     (mention_fault interface (sequence_mentions body)))
 
 -- the first limit of size that a module passes

@@ -1,5 +1,5 @@
 //! A running module with its journal.
-ghost use Rattle.std.specs.Prelude.{◌≡◌, ◌⊎◌, ◌<◌, ◌-◌, ◌^◌, ◌++◌, ◌∷◌, [], length, bit_or, Some, MatchResult, MatchOption, ℕ, true, false, slice_get};
+ghost use Rattle.std.specs.Prelude.{◌≡◌, ◌⊎◌, ◌<◌, ◌-◌, ◌^◌, ◌++◌, ◌∷◌, [], length, bit_or, Some, MatchResult, MatchOption, IfOk, IfErr, ℕ, true, false, slice_get};
 ghost use Rattle.est_kernel.specs.Bits.{bits};
 ghost use Rattle.est_kernel.specs.declared.interface.Kind.TheVariants.{Input};
 ghost use Rattle.est_kernel.specs.Term.{Term};
@@ -7,6 +7,7 @@ ghost use Rattle.reactor_core.specs.declared.entry.Load.{Load as LoadEntry};
 ghost use Rattle.est_meaning.specs.States.{IsState};
 ghost use Rattle.est_rounds.specs.Contract.{AreInputs, IsReaction, HasNoReaction};
 ghost use Rattle.reactor_core.specs.Meaning.{Running, running_of, entry};
+ghost use Rattle.reactor_core.specs.Loading.{IsKernelOf, IsLoadFault};
 ghost use Rattle.reactor_core.specs.Standing.{LoadsAt, IsRunning};
 ghost use Rattle.reactor_core.specs.Answers.{LoadAnswer, OfferAnswer, StepAnswer, ShownAnswer, HasRoom, RefusesEntry, RefusesName, IsSignal};
 
@@ -156,6 +157,16 @@ fn append_step(
     Ok(())
 }
 
+/// The load of the module `main` of a text, with the kernel that is read from it.
+fn read_load(alloc: Global, main: Identifier, text: Text) -> Result<Load, Refusal>
+    ensures load { IfOk result (λ l. (l.main ≡ main) × (l.text ≡ text)) }
+    ensures kernel { IfOk result (λ l. IsKernelOf main text l.kernel) }
+    ensures fault { IfErr result (IsLoadFault main text) }
+{
+    let kernel = read_kernel(alloc, &main, text.as_str())?;
+    Ok(Load { main, text, kernel })
+}
+
 impl Reactor {
     /// The interface of the module that runs.
     pub fn interface(&self) -> &Interface
@@ -204,8 +215,8 @@ impl Reactor {
     ) -> Result<Reactor, (Refusal, Journal)>
         ensures { LoadAnswer journal stamp main text result }
     {
-        match read_kernel(alloc, &main, text.as_str()) {
-            Ok(kernel) => Reactor::begin(alloc, journal, stamp, Load { main, text, kernel }),
+        match read_load(alloc, main, text) {
+            Ok(load) => Reactor::begin(alloc, journal, stamp, load),
             Err(fault) => Err((fault, journal)),
         }
     }

@@ -1,6 +1,6 @@
 //! The checks of a module's names and sizes, in their order.
 ghost use Rattle.std.specs.Prelude.{◌≡◌, ◌⊎◌, OnOk, IfErr, Some, None};
-ghost use Rattle.reactor_core.specs.Checks.{is_tick, is_declared, is_input, is_unknown, emits_input, first_duplicate, first_unknown, first_emitted_input, mention_fault, name_fault, module_fault};
+ghost use Rattle.reactor_core.specs.Checks.{is_tick, is_declared, is_input, is_unknown, emits_input, first_duplicate, first_unknown, first_emitted_input, mention_fault, module_name_fault, name_fault, module_fault};
 ghost use Rattle.reactor_core.specs.Trees.{sequence_view};
 ghost use Rattle.reactor_core.specs.declared.reader.fault.ReadFault.TheVariants.{Memory};
 
@@ -106,6 +106,17 @@ fn mention_fault(declarations: &[Declaration], mentions: &[Mention]) -> Option<R
     }
 }
 
+/// That the module isn't the main module, if its name is another.
+fn module_name_fault(main: &Identifier, name: &Identifier) -> Option<ReadFault>
+    ensures { result ≡ module_name_fault main.now name.now }
+{
+    if name.is(main) {
+        None
+    } else {
+        Some(ReadFault::UnknownModule(*main))
+    }
+}
+
 /// The first fault of a module's names, against the name of the main module.
 fn check_names(alloc: Global, main: &Identifier, module: &Module) -> Result<(), ReadFault>
     ensures right { OnOk result (name_fault main.now «module».now.name «module».now.declarations.items (sequence_view «module».now.body) ≡ None) }
@@ -114,8 +125,8 @@ fn check_names(alloc: Global, main: &Identifier, module: &Module) -> Result<(), 
     if let Some(name) = first_duplicate(&module.declarations) {
         return Err(ReadFault::DuplicateName(name));
     }
-    if !module.name.is(main) {
-        return Err(ReadFault::UnknownModule(*main));
+    if let Some(fault) = module_name_fault(main, &module.name) {
+        return Err(fault);
     }
     let mentions = mentions_of(alloc, &module.body)?;
     match mention_fault(&module.declarations, &mentions) {
