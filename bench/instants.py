@@ -26,6 +26,7 @@ WORKLOADS = {
     "sequence-left": "the same, nested to the left",
     "one-output": "64 emissions of 1 output",
     "many-outputs": "64 emissions of 64 outputs",
+    "relay": "64 outputs, each making the next present: a round finds one of them",
 }
 
 

@@ -1,14 +1,14 @@
 -- Each workload's term is closed over its outputs.
-use Rattle.std.proofs.Common.{◌≡◌, ℕ, zero, suc, ◌+◌, ◌-◌, ◌*◌, ◌%◌, ◌<◌, List, refl, arith, subst, lit<}
+use Rattle.std.proofs.Common.{◌≡◌, ℕ, zero, suc, ◌+◌, ◌-◌, ◌*◌, ◌%◌, ◌<◌, List, length, refl, arith, subst, lit<}
 use Rattle.std.proofs.lemmas.Nat.{mod_below}
 use Rattle.est_kernel.specs.Scope.{IsClosed}
 use Rattle.est_kernel.specs.Term.{Term}
 use Rattle.est_kernel.specs.declared.interface.Declaration.{Declaration}
-use Rattle.est_bench.specs.Outputs.{IsClosedOver}
-use Rattle.est_bench.specs.Terms.{blinker, blinkers, told, chain, part, nested_right, nested_left, under_locals, emissions}
+use Rattle.est_bench.specs.Outputs.{HasOutputs, IsClosedOver}
+use Rattle.est_bench.specs.Terms.{blinker, blinkers, told, chain, part, nested_right, nested_left, under_locals, emissions, relay}
 use Rattle.est_bench.specs.Workloads.{output_count, meant}
 use Rattle.est_bench.specs.declared.workload.Workload.{Workload}
-use Rattle.est_bench.specs.declared.workload.Workload.TheVariants.{Opening, Parallel, Locals, Large, Sequence, SequenceLeft, OneOutput, ManyOutputs}
+use Rattle.est_bench.specs.declared.workload.Workload.TheVariants.{Opening, Parallel, Locals, Large, Sequence, SequenceLeft, OneOutput, ManyOutputs, Relay}
 
 blinker_closed : (outputs n : ℕ) → 0 < outputs → IsClosedOver outputs 0 (blinker outputs n)
 blinker_closed outputs n h i a =
@@ -55,6 +55,15 @@ unfolding emissions
 emissions_closed outputs zero h i a = tt
 emissions_closed outputs (suc n) h i a = (a.each (n % outputs) (mod_below n outputs h), emissions_closed outputs n h i a)
 
+visible_output : (i : List Declaration) (outputs n : ℕ) → n < outputs → HasOutputs outputs i → n < length i
+visible_output i outputs n h a = omega (arith, a.length_is)
+
+relay_closed : (outputs n : ℕ) → n < outputs → IsClosedOver outputs 0 (relay n)
+unfolding relay
+relay_closed outputs zero h i a = a.each 0 h
+relay_closed outputs (suc n) h i a =
+    ((visible_output i outputs n (omega arith) a, a.each (n + 1) (omega arith), tt), relay_closed outputs n (omega arith) i a)
+
 pub workload_closed : (w : Workload) → IsClosedOver (output_count w) 0 (meant w)
 workload_closed Opening i a = (a.each 0 (lit< tt), (tt, a.each 1 (lit< tt)))
 workload_closed Parallel i a = blinkers_closed 32 15 (lit< tt) i a
@@ -64,3 +73,4 @@ workload_closed Sequence i a = under_locals_closed i 6 0 _ refl (nested_right_cl
 workload_closed SequenceLeft i a = under_locals_closed i 6 0 _ refl (nested_left_closed 499 i a, tt)
 workload_closed OneOutput i a = emissions_closed 1 64 (lit< tt) i a
 workload_closed ManyOutputs i a = emissions_closed 64 64 (lit< tt) i a
+workload_closed Relay i a = (relay_closed 64 63 (lit< tt) i a, tt)

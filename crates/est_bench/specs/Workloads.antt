@@ -1,9 +1,9 @@
 -- What each workload runs (this project's own choice of sizes).
 use Rattle.std.specs.Prelude.{ℕ}
 use Rattle.est_kernel.specs.Term.{Term, pause, seq, loop}
-use Rattle.est_bench.specs.Terms.{opening, blinkers, chain, nested_left, nested_right, under_locals, emissions}
+use Rattle.est_bench.specs.Terms.{opening, blinkers, chain, nested_left, nested_right, under_locals, emissions, relay}
 use Rattle.est_bench.specs.declared.workload.Workload.{Workload}
-use Rattle.est_bench.specs.declared.workload.Workload.TheVariants.{Opening, Parallel, Locals, Large, Sequence, SequenceLeft, OneOutput, ManyOutputs}
+use Rattle.est_bench.specs.declared.workload.Workload.TheVariants.{Opening, Parallel, Locals, Large, Sequence, SequenceLeft, OneOutput, ManyOutputs, Relay}
 
 -- how many outputs the interface has
 abbrev pub output_count : Workload → ℕ
@@ -15,6 +15,7 @@ output_count Sequence = 64
 output_count SequenceLeft = 64
 output_count OneOutput = 1
 output_count ManyOutputs = 64
+output_count Relay = 64
 
 -- the term that is run
 abbrev pub meant : Workload → Term
@@ -26,3 +27,4 @@ meant Sequence = loop (under_locals 6 (seq (nested_right 499) pause))
 meant SequenceLeft = loop (under_locals 6 (seq (nested_left 499) pause))
 meant OneOutput = loop (emissions 1 64)
 meant ManyOutputs = loop (emissions 64 64)
+meant Relay = loop (seq (relay 63) pause)

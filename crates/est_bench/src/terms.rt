@@ -2,8 +2,8 @@
 
 ghost use Rattle.std.specs.Prelude.{◌≡◌, ◌<◌, ◌≤◌, IfOk};
 ghost use Rattle.est_kernel.specs.Term.{outer, inner, of, nothing, pause, emit, present, seq, loop, par, signal};
-ghost use Rattle.est_kernel.specs.View.{term_of};
-ghost use Rattle.est_bench.specs.Terms.{opening, blinker, blinkers, told, chain, part, nested_right, nested_left, under_locals, emissions};
+ghost use Rattle.est_kernel.specs.View.{term_of, name_of};
+ghost use Rattle.est_bench.specs.Terms.{opening, blinker, blinkers, told, chain, part, nested_right, nested_left, under_locals, emissions, relay};
 
 use est_kernel::statement::{InterfaceSignal, LocalSignal, PauseIndex, Signal, Statement, Test};
 use std::alloc::{AllocError, Global};
@@ -15,20 +15,27 @@ pub fn pause() -> Statement
     Statement::Pause(PauseIndex { index: 0 })
 }
 
-/// `emit O`, of an output.
-fn emit(n: u8) -> Statement
+/// An output.
+fn output(n: u8) -> Signal
     requires { n < 64 }
-    ensures { term_of result ≡ emit (outer n) }
+    ensures { name_of result ≡ outer n }
 {
-    Statement::Emit(Signal::Interface(InterfaceSignal { index: n }))
+    Signal::Interface(InterfaceSignal { index: n })
 }
 
-/// `emit S`, of a local signal.
-fn emit_local(n: u8) -> Statement
+/// A local signal.
+fn inside(n: u8) -> Signal
     requires { n < 64 }
-    ensures { term_of result ≡ emit (inner n) }
+    ensures { name_of result ≡ inner n }
 {
-    Statement::Emit(Signal::Local(LocalSignal { index: n }))
+    Signal::Local(LocalSignal { index: n })
+}
+
+/// `emit S`
+fn emit(signal: Signal) -> Statement
+    ensures { term_of result ≡ emit (name_of signal) }
+{
+    Statement::Emit(signal)
 }
 
 /// `p; q`
@@ -60,14 +67,12 @@ fn local(alloc: Global, n: u8, p: Statement) -> Result<Statement, AllocError>
     Ok(Statement::Local(LocalSignal { index: n }, Box::new(alloc, p)?))
 }
 
-/// `present S then p end`, of a local signal.
-fn where_present(alloc: Global, n: u8, p: Statement) -> Result<Statement, AllocError>
-    requires { n < 64 }
-    ensures { IfOk result (λ s. term_of s ≡ present (of (inner n)) (term_of p) nothing) }
+/// `present S then p end`
+fn where_present(alloc: Global, signal: Signal, p: Statement) -> Result<Statement, AllocError>
+    ensures { IfOk result (λ s. term_of s ≡ present (of (name_of signal)) (term_of p) nothing) }
 {
-    let test = Test::Status(Signal::Local(LocalSignal { index: n }));
     Ok(Statement::Present(
-        test,
+        Test::Status(signal),
         Box::new(alloc, p)?,
         Box::new(alloc, Statement::Nothing)?,
     ))
@@ -77,8 +82,8 @@ fn where_present(alloc: Global, n: u8, p: Statement) -> Result<Statement, AllocE
 pub fn opening(alloc: Global) -> Result<Statement, AllocError>
     ensures { IfOk result (λ s. term_of s ≡ opening) }
 {
-    let rest = sequence(alloc, pause(), emit(1))?;
-    sequence(alloc, emit(0), rest)
+    let rest = sequence(alloc, pause(), emit(output(1)))?;
+    sequence(alloc, emit(output(0)), rest)
 }
 
 /// A loop of two states, over so many outputs.
@@ -90,9 +95,9 @@ fn blinker(alloc: Global, outputs: u8, n: u8) -> Result<Statement, AllocError>
     let outputs = u16::from(outputs);
     let first = (2 * u16::from(n) % outputs) as u8;
     let second = ((2 * u16::from(n) + 1) % outputs) as u8;
-    let last = sequence(alloc, emit(second), pause())?;
+    let last = sequence(alloc, emit(output(second)), pause())?;
     let rest = sequence(alloc, pause(), last)?;
-    let body = sequence(alloc, emit(first), rest)?;
+    let body = sequence(alloc, emit(output(first)), rest)?;
     again(alloc, body)
 }
 
@@ -116,9 +121,9 @@ fn told(alloc: Global, n: u8) -> Result<Statement, AllocError>
     ensures { IfOk result (λ s. term_of s ≡ told n) }
 {
     if n == 0 {
-        Ok(emit_local(0))
+        Ok(emit(inside(0)))
     } else {
-        where_present(alloc, n - 1, emit_local(n))
+        where_present(alloc, inside(n - 1), emit(inside(n)))
     }
 }
 
@@ -127,7 +132,7 @@ fn told(alloc: Global, n: u8) -> Result<Statement, AllocError>
 pub fn chain(alloc: Global) -> Result<Statement, AllocError>
     ensures { IfOk result (λ s. term_of s ≡ chain 6) }
 {
-    let mut whole = where_present(alloc, 5, emit(0))?;
+    let mut whole = where_present(alloc, inside(5), emit(output(0)))?;
     'wrap: for d in 0..6u8 {
         whole = local(alloc, 5 - d, beside(alloc, told(alloc, 5 - d)?, whole)?)?;
     }
@@ -138,7 +143,7 @@ pub fn chain(alloc: Global) -> Result<Statement, AllocError>
 fn part(alloc: Global, n: u16) -> Result<Statement, AllocError>
     ensures { IfOk result (λ s. term_of s ≡ part n) }
 {
-    where_present(alloc, (n % 6) as u8, emit((n % 64) as u8))
+    where_present(alloc, inside((n % 6) as u8), emit(output((n % 64) as u8)))
 }
 
 /// The parts with the numbers `last` to 0, nested to the right.
@@ -172,7 +177,7 @@ fn under_locals(alloc: Global, body: Statement) -> Result<Statement, AllocError>
 {
     let mut whole = body;
     'wrap: for d in 0..6u8 {
-        let emitted = sequence(alloc, emit_local(5 - d), whole)?;
+        let emitted = sequence(alloc, emit(inside(5 - d)), whole)?;
         whole = local(alloc, 5 - d, emitted)?;
     }
     Ok(whole)
@@ -195,7 +200,21 @@ pub fn emissions(alloc: Global, outputs: u8, count: u8) -> Result<Statement, All
 {
     let mut whole = pause();
     'grow: for n in 0..count {
-        whole = sequence(alloc, emit(n % outputs), whole)?;
+        whole = sequence(alloc, emit(output(n % outputs)), whole)?;
+    }
+    Ok(whole)
+}
+
+/// The outputs `last` to 0, each emitted where the one before it is present.
+#[tactic(auto, unfolding(crate::specs::Terms::relay))]
+pub fn relay(alloc: Global, last: u8) -> Result<Statement, AllocError>
+    requires { last < 64 }
+    ensures { IfOk result (λ s. term_of s ≡ relay last) }
+{
+    let mut whole = emit(output(0));
+    'grow: for n in 0..last {
+        let next = where_present(alloc, output(n), emit(output(n + 1)))?;
+        whole = beside(alloc, next, whole)?;
     }
     Ok(whole)
 }

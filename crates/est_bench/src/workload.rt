@@ -27,10 +27,12 @@ pub enum Workload {
     OneOutput,
     /// 64 emissions, each of another output.
     ManyOutputs,
+    /// 64 outputs, each of which makes the next one present: a round finds one of them.
+    Relay,
 }
 
 /// All workloads.
-pub const WORKLOADS: [Workload; 8] = [
+pub const WORKLOADS: [Workload; 9] = [
     Workload::Opening,
     Workload::Parallel,
     Workload::Locals,
@@ -39,6 +41,7 @@ pub const WORKLOADS: [Workload; 8] = [
     Workload::SequenceLeft,
     Workload::OneOutput,
     Workload::ManyOutputs,
+    Workload::Relay,
 ];
 
 impl Workload {
@@ -53,6 +56,7 @@ impl Workload {
             Workload::SequenceLeft => "sequence-left",
             Workload::OneOutput => "one-output",
             Workload::ManyOutputs => "many-outputs",
+            Workload::Relay => "relay",
         }
     }
 
@@ -64,8 +68,8 @@ impl Workload {
             Workload::Opening => 2,
             Workload::Parallel => 32,
             Workload::Locals | Workload::OneOutput => 1,
-            Workload::Large | Workload::Sequence | Workload::SequenceLeft | Workload::ManyOutputs =>
-                64,
+            Workload::Large | Workload::Sequence | Workload::SequenceLeft => 64,
+            Workload::ManyOutputs | Workload::Relay => 64,
         }
     }
 
@@ -95,6 +99,10 @@ impl Workload {
             }
             Workload::ManyOutputs => {
                 let body = terms::emissions(alloc, 64, 64)?;
+                terms::again(alloc, body)
+            }
+            Workload::Relay => {
+                let body = terms::sequence(alloc, terms::relay(alloc, 63)?, terms::pause())?;
                 terms::again(alloc, body)
             }
         }
