@@ -1,5 +1,5 @@
 -- What the tables answer to a question is what the entries say.
-use Rattle.std.proofs.Common.{◌≡◌, ℕ, zero, suc, ◌⊎◌, ◌↔◌, List, [], ◌∷◌, cond, inl, inr, sym, ◌∙◌, ap, refl, subst, true, false, Bool}
+use Rattle.std.proofs.Common.{◌≡◌, ◌<◌, ◌^◌, arith, ℕ, zero, suc, ◌⊎◌, ◌↔◌, List, [], ◌∷◌, cond, inl, inr, sym, ◌∙◌, ap, refl, subst, true, false, Bool}
 use Rattle.std.specs.Prelude.{slice_get, Option, Some, None}
 use Rattle.std.proofs.lemmas.Bool.{false≢true}
 use Rattle.std.proofs.lemmas.Option.{same_Some}
@@ -8,7 +8,8 @@ use Rattle.std.proofs.lemmas.Bool.Decides.{Decides-eqb}
 use Rattle.rbac_policy.specs.declared.objects.Operation.{Operation}
 use Rattle.rbac_policy.specs.declared.objects.Object.{Object}
 use Rattle.rbac_policy.specs.Objects.{same_operation, same_object}
-use Rattle.rbac_policy.specs.Order.{Has, IsBelowSome}
+use Rattle.rbac_policy.specs.declared.sizes.TheConstants.{ROLES}
+use Rattle.rbac_policy.specs.Order.{Has, IsBelowSome, Meets, below}
 use Rattle.rbac_policy.specs.declared.commands.Entry.{Entry}
 use Rattle.rbac_policy.specs.declared.rows.Session.{Session}
 use Rattle.rbac_policy.specs.declared.rows.Grant.{Grant}
@@ -16,6 +17,8 @@ use Rattle.rbac_policy.specs.declared.policy.Policy.{Policy}
 use Rattle.rbac_policy.specs.Names.{NameText}
 use Rattle.rbac_policy.specs.Facts.{IsUser, IsRole, IsActive, IsGranted, IsLive, May}
 use Rattle.rbac_policy.specs.StandsFor.{Holds, InMask, StandsFor}
+use Rattle.rbac_policy.proofs.Walking.{below_sound, below_all}
+use Rattle.rbac_policy.proofs.Masks.{low_bits}
 use Rattle.rbac_policy.proofs.Order.{chain_up, chain_down}
 use Rattle.rbac_policy.proofs.Equality.{operations, objects, both}
 use Rattle.rbac_policy.specs.Tables.{At, first_of, session_of, grant_of, user_is, role_is, place_of}
@@ -23,7 +26,7 @@ use Rattle.std.proofs.Common.{IsTrue, rules}
 use Rattle.std.specs.Prelude.{is_some}
 use Rattle.std.specs.List.{list_any}
 use Rattle.std.proofs.lemmas.Slice.Eq.{bytes_eq-Decides}
-use Rattle.std.proofs.lemmas.Option.{slice_get-get_or}
+use Rattle.std.proofs.lemmas.Option.{slice_get-get_or, slice_get_within}
 use Rattle.std.proofs.lemmas.List.Quantifiers.{position-Some}
 use Rattle.rbac_policy.specs.declared.rows.User.{User}
 use Rattle.rbac_policy.proofs.Granting.{some_passes, passes_any}
@@ -108,9 +111,9 @@ module _ (p : Policy) (L : List Entry) (st : StandsFor p L) (n : ℕ) (op : Oper
     | inr a ↦ (let e = a.is in cc)
   ]
 
-  pub may_found : (x : Session) (g : Grant) → session_of n p.sessions ≡ Some x → grant_of op ob p.grants ≡ Some g
+  walked : (x : Session) (g : Grant) → session_of n p.sessions ≡ Some x → grant_of op ob p.grants ≡ Some g
       → ((q : ℕ) × IsBelowSome p.juniors x.active q × Has g.roles q) ↔ May L n op ob
-  may_found x g sx sg =
+  walked x g sx sg =
       let a = session_slot x sx in
       let b = grant_slot g sg in (
         λ h.
@@ -132,6 +135,20 @@ module _ (p : Policy) (L : List Entry) (st : StandsFor p L) (n : ℕ) (op : Oper
             let held = (st.grants.granted b.at g b.there m.role).0 (subst (λ o. IsGranted L m.role o g.object) (sym b.pair.0) (subst (IsGranted L m.role op) (sym b.pair.1) m.granted)) in
             let same = st.roles.unique held.place down.0 m.role held.there down.1 in
             (down.0, record { top = top.place; within = top.bit; chain = down.2 }, subst (Has g.roles) same held.bit),
+      )
+
+  -- a place that the walk finds is that of a role
+  pub may_found : (x : Session) (g : Grant) → session_of n p.sessions ≡ Some x → grant_of op ob p.grants ≡ Some g → Meets (below p.juniors x.active) g.roles ↔ May L n op ob
+  may_found x g sx sg =
+      let a = session_slot x sx in
+      let w = walked x g sx sg in
+      let fits : below p.juniors x.active < 2 ^ ROLES = low_bits (below p.juniors x.active) (λ q bit.
+      let b = below_sound p.juniors x.active q bit in
+      let named = st.sessions.named a.at x a.there b.top b.within in
+      let up = chain_up p.roles p.juniors L st.roles b.chain named.0 named.1 in
+      omega (arith, slice_get_within p.roles q (Some up.0) up.1, st.roles.places)) in (
+        λ m. w.0 (m.0, below_sound p.juniors x.active m.0 m.1, m.2),
+        λ may. let h = w.1 may in (h.0, below_all p.juniors x.active fits h.0 h.1, h.2),
       )
 
 -- a test that is right both ways

@@ -4,6 +4,7 @@ ghost use Rattle.rbac_policy.specs.declared.commands.Entry.{Entry};
 ghost use Rattle.rbac_policy.specs.Entries.{logins};
 ghost use Rattle.rbac_policy.specs.Facts.{May};
 ghost use Rattle.rbac_policy.specs.Fits.{Fits};
+ghost use Rattle.rbac_policy.specs.Order.{Meets, below};
 ghost use Rattle.rbac_policy.specs.Opening.{opening_entries};
 ghost use Rattle.rbac_policy.specs.StandsFor.{StandsFor};
 ghost use Rattle.rbac_policy.specs.Change.{absorbed, assigned, changed, granted, logged_in, logged_out};
@@ -145,6 +146,13 @@ impl Policy {
         self.take_in(entry);
     }
 
+    // Whether a role that is active in the session, or lies below one, has the grant.
+    fn has_grant(&self, session: &Session, grant: &Grant) -> bool
+        ensures { IsTrue result ↔ Meets (below self.now.juniors session.now.active) grant.now.roles }
+    {
+        meets(below(&self.juniors, session.active), grant.roles)
+    }
+
     /// Whether the session may do the operation on the object.
     pub fn may(&self, session: SessionId, operation: &Operation, object: &Object) -> bool
         ensures { (entries : List Entry) → StandsFor self.now entries
@@ -152,7 +160,7 @@ impl Policy {
     {
         match session_of(&self.sessions, session) {
             Some(found) => match grant_of(&self.grants, operation, object) {
-                Some(grant) => meets(below(&self.juniors, found.active), grant.roles),
+                Some(grant) => self.has_grant(&found, &grant),
                 None => false,
             },
             None => false,
