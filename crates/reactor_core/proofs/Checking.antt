@@ -192,7 +192,7 @@ module _ (main : List ℕ) (tokens : List Located) (m : Module) where
     name = m.name;
     interface = m.declarations.items;
     body = sequence_view m.body;
-    spelt = record { groups = h.groups; spelt = h.spelt; declared = h.declared };
+    spelt = record { declarations = h.declarations; spelt = h.spelt; declared = h.declared };
     first = ⊎_elim (λ memory. absurd (apart memory)) (λ first. first) given;
   }
 

@@ -4,7 +4,7 @@ use Rattle.std.proofs.Common.{◌≡◌, ◌∙◌, ℕ, List, [], ◌∷◌, �
 use Rattle.est_kernel.specs.declared.interface.Declaration.{Declaration}
 use Rattle.reactor_core.specs.Syntax.{UnitTree, unit_onto, units_onto}
 use Rattle.reactor_core.specs.Trees.{units_of}
-use Rattle.reactor_core.specs.Modules.{Group, names_onto, group_onto, groups_onto, declared_by, all_declared, kind_word, AddsNames, AreDeclared}
+use Rattle.reactor_core.specs.Modules.{DeclarationTree, names_onto, declaration_onto, declarations_onto, declared_by, all_declared, kind_word, AddsNames, AreDeclared}
 use Rattle.est_kernel.specs.declared.interface.Kind.{Kind}
 use Rattle.reactor_core.specs.declared.reader.token.Symbol.TheVariants.{Semicolon, Comma}
 use Rattle.reactor_core.specs.declared.reader.token.Token.{Token}
@@ -18,15 +18,15 @@ pub names_push : (ns : List (List ℕ)) (n : List ℕ) (rest : List Token) → n
 names_push [] n rest = refl
 names_push (m ∷ ns) n rest = ap (λ (l : List Token). Symbol Comma ∷ Identifier m ∷ l) (names_push ns n rest)
 
-pub groups_push : (gs : List Group) (g : Group) (rest : List Token) → groups_onto (gs ++ g ∷ []) rest ≡ groups_onto gs (group_onto g rest)
-groups_push [] g rest = refl
-groups_push (h ∷ gs) g rest = ap (group_onto h) (groups_push gs g rest)
+pub declarations_push : (gs : List DeclarationTree) (g : DeclarationTree) (rest : List Token) → declarations_onto (gs ++ g ∷ []) rest ≡ declarations_onto gs (declaration_onto g rest)
+declarations_push [] g rest = refl
+declarations_push (h ∷ gs) g rest = ap (declaration_onto h) (declarations_push gs g rest)
 
 append_none : (ds : List Declaration) → ds ++ [] ≡ ds
 append_none [] = refl
 append_none (d ∷ ds) = ap (λ (l : List Declaration). d ∷ l) (append_none ds)
 
-pub declared_push : (gs : List Group) (g : Group) → all_declared (gs ++ g ∷ []) ≡ all_declared gs ++ declared_by g.kind (g.name ∷ g.others)
+pub declared_push : (gs : List DeclarationTree) (g : DeclarationTree) → all_declared (gs ++ g ∷ []) ≡ all_declared gs ++ declared_by g.kind (g.name ∷ g.others)
 declared_push [] g = append_none (declared_by g.kind (g.name ∷ g.others))
 declared_push (h ∷ gs) g =
     ap (λ (l : List Declaration). declared_by h.kind (h.name ∷ h.others) ++ l) (declared_push gs g)
@@ -51,9 +51,9 @@ adds_more k before middle after tokens left rest n far e f = record {
 
 pub declares_more : (k : Kind) (middle after : List Declaration) (tokens left inner rest : List Token) → AreDeclared middle tokens left → left ≡ Keyword (kind_word k) ∷ inner → AddsNames k middle after inner (Symbol Semicolon ∷ rest) → AreDeclared after tokens rest
 declares_more k middle after tokens left inner rest far e names =
-    let one : Group = record { kind = k; name = names.name; others = names.others } in
+    let one : DeclarationTree = record { kind = k; name = names.name; others = names.others } in
     record {
-      groups = far.groups ++ one ∷ [];
-      spelt = far.spelt ∙ ap (groups_onto far.groups) (e ∙ ap (λ (l : List Token). Keyword (kind_word k) ∷ l) names.spelt) ∙ sym (groups_push far.groups one rest);
-      all = names.added ∙ ap (λ (l : List Declaration). l ++ declared_by k (names.name ∷ names.others)) far.all ∙ sym (declared_push far.groups one);
+      declarations = far.declarations ++ one ∷ [];
+      spelt = far.spelt ∙ ap (declarations_onto far.declarations) (e ∙ ap (λ (l : List Token). Keyword (kind_word k) ∷ l) names.spelt) ∙ sym (declarations_push far.declarations one rest);
+      all = names.added ∙ ap (λ (l : List Declaration). l ++ declared_by k (names.name ∷ names.others)) far.all ∙ sym (declared_push far.declarations one);
     }

@@ -1,5 +1,5 @@
--- How a text is cut into blanks, comments and tokens (Berry, The Esterel v5 Language Primer; the limit of 48 bytes,
--- and that `%{` begins a comment up to the next `}%`, are this project's own form).
+-- How a text is cut into blanks, comments and tokens (Berry, The Esterel v5 Language Primer; the limit of an
+-- identifier's length, and that `%{` begins a comment up to the next `}%`, are this project's own form).
 use Rattle.std.specs.Prelude.{◌≡◌, ◌≢◌, ◌≤◌, ◌<◌, ◌+◌, ℕ, List, [], ◌∷◌, ◌++◌, length, take, drop, Bool, false, ◌||◌, ◌==◌, nat_lt, IsTrue, slice_index, codes, Some, None}
 use Rattle.std.specs.List.{list_all}
 use Rattle.est_kernel.specs.Identifiers.{is_identifier, is_identifier_byte}
@@ -14,13 +14,26 @@ use Rattle.reactor_core.specs.declared.reader.piece.Piece.TheVariants as piece
 use Rattle.reactor_core.specs.declared.reader.lexer.LexicalFault.{LexicalFault}
 use Rattle.reactor_core.specs.declared.reader.lexer.LexicalFault.TheVariants.{NoToken, Memory}
 
+-- the bytes `%`, `{`, `}` and LF
+abbrev pub percent : ℕ
+percent = 37
+
+abbrev pub open_brace : ℕ
+open_brace = 123
+
+abbrev pub close_brace : ℕ
+close_brace = 125
+
+abbrev pub line_feed : ℕ
+line_feed = 10
+
 -- space, tab, CR, LF, form feed
 abbrev pub is_blank : ℕ → Bool
-is_blank b = b == 32 || b == 9 || b == 13 || b == 10 || b == 12
+is_blank b = b == 32 || b == 9 || b == 13 || b == line_feed || b == 12
 
 -- any byte but LF
 abbrev pub is_in_line : ℕ → Bool
-is_in_line b = nat_lt b 10 || nat_lt 10 b
+is_in_line b = nat_lt b line_feed || nat_lt line_feed b
 
 -- no byte with p stands first
 abbrev pub StopsAt : (ℕ → Bool) → List ℕ → Type 0
@@ -43,15 +56,16 @@ symbol_text symbol.Implies = codes "=>"
 
 -- `%`, and then no `{`, to the end of the line
 abbrev pub IsLineComment : List ℕ → Type 0
-IsLineComment bytes = (cs : List ℕ) × (bytes ≡ 37 ∷ cs) × StopsAt (λ b. b == 123) cs × IsTrue (list_all is_in_line cs)
+IsLineComment bytes = (cs : List ℕ) × (bytes ≡ percent ∷ cs) × StopsAt (λ b. b == open_brace) cs × IsTrue (list_all is_in_line cs)
 
 -- `}%` stands there
 abbrev pub ClosesAt : List ℕ → ℕ → Type 0
-ClosesAt bytes i = (slice_index bytes i ≡ 125) × (slice_index bytes (i + 1) ≡ 37)
+ClosesAt bytes i = (slice_index bytes i ≡ close_brace) × (slice_index bytes (i + 1) ≡ percent)
 
 -- `%{`, up to the next `}%`
 abbrev pub IsBlockComment : List ℕ → Type 0
-IsBlockComment bytes = (cs : List ℕ) × (bytes ≡ 37 ∷ 123 ∷ cs ++ 125 ∷ 37 ∷ []) × ((i : ℕ) → i < length cs → ¬ (ClosesAt (cs ++ 125 ∷ 37 ∷ []) i))
+IsBlockComment bytes = (cs : List ℕ) × (bytes ≡ percent ∷ open_brace ∷ cs ++ close_brace ∷ percent ∷ [])
+    × ((i : ℕ) → i < length cs → ¬ (ClosesAt (cs ++ close_brace ∷ percent ∷ []) i))
 
 -- The bytes spell the token, where the rest follows. A keyword and an identifier go as far as they can.
 abbrev pub IsSpelling : Token → List ℕ → List ℕ → Type 0

@@ -19,7 +19,7 @@ kind_word kind.Input = word.Input
 kind_word kind.Output = word.Output
 
 -- one declaration: its kind, its first name and the others
-pub record Group : Type 0 where
+pub record DeclarationTree : Type 0 where
   pub kind : Kind
   pub name : List ℕ
   pub others : List (List ℕ)
@@ -30,27 +30,27 @@ names_onto [] rest = rest
 names_onto (n ∷ ns) rest = Symbol Comma ∷ Identifier n ∷ names_onto ns rest
 
 -- the tokens of one declaration, and then a rest
-abbrev pub group_onto : Group → List Token → List Token
-group_onto g rest = Keyword (kind_word g.kind) ∷ Identifier g.name ∷ names_onto g.others (Symbol Semicolon ∷ rest)
+abbrev pub declaration_onto : DeclarationTree → List Token → List Token
+declaration_onto d rest = Keyword (kind_word d.kind) ∷ Identifier d.name ∷ names_onto d.others (Symbol Semicolon ∷ rest)
 
 -- the tokens of declarations, and then a rest
-abbrev pub groups_onto : List Group → List Token → List Token
-groups_onto [] rest = rest
-groups_onto (g ∷ gs) rest = group_onto g (groups_onto gs rest)
+abbrev pub declarations_onto : List DeclarationTree → List Token → List Token
+declarations_onto [] rest = rest
+declarations_onto (d ∷ ds) rest = declaration_onto d (declarations_onto ds rest)
 
 -- signals of one kind
 abbrev pub declared_by : Kind → List (List ℕ) → List Declaration
 declared_by k names = map (λ n. record { name = n; kind = k }) names
 
 -- the signals that declarations declare, in the order of the text
-abbrev pub all_declared : List Group → List Declaration
+abbrev pub all_declared : List DeclarationTree → List Declaration
 all_declared [] = []
-all_declared (g ∷ gs) = declared_by g.kind (g.name ∷ g.others) ++ all_declared gs
+all_declared (d ∷ ds) = declared_by d.kind (d.name ∷ d.others) ++ all_declared ds
 
 -- the tokens of a module
-abbrev pub module_tokens : List ℕ → List Group → SequenceTree → List Token
-module_tokens name groups body =
-    Keyword word.Module ∷ Identifier name ∷ Symbol Colon ∷ groups_onto groups (sequence_onto body (Keyword word.End ∷ Keyword word.Module ∷ []))
+abbrev pub module_tokens : List ℕ → List DeclarationTree → SequenceTree → List Token
+module_tokens name declarations body =
+    Keyword word.Module ∷ Identifier name ∷ Symbol Colon ∷ declarations_onto declarations (sequence_onto body (Keyword word.End ∷ Keyword word.Module ∷ []))
 
 -- names stand there with commas between them, and their declarations are added
 pub record AddsNames (k : Kind) (before after : List Declaration) (tokens rest : List Token) : Type 0 where
@@ -61,12 +61,12 @@ pub record AddsNames (k : Kind) (before after : List Declaration) (tokens rest :
 
 -- declarations of these signals stand there
 pub record AreDeclared (declared : List Declaration) (tokens rest : List Token) : Type 0 where
-  pub groups : List Group
-  pub spelt : tokens ≡ groups_onto groups rest
-  pub all : declared ≡ all_declared groups
+  pub declarations : List DeclarationTree
+  pub spelt : tokens ≡ declarations_onto declarations rest
+  pub all : declared ≡ all_declared declarations
 
 -- the tokens spell the module
 pub record IsModule (m : Module) (tokens : List Token) : Type 0 where
-  pub groups : List Group
-  pub spelt : tokens ≡ module_tokens m.name groups (sequence_view m.body)
-  pub declared : m.declarations.items ≡ all_declared groups
+  pub declarations : List DeclarationTree
+  pub spelt : tokens ≡ module_tokens m.name declarations (sequence_view m.body)
+  pub declared : m.declarations.items ≡ all_declared declarations

@@ -1,10 +1,11 @@
 -- Lines and columns of a text.
 use Rattle.std.specs.Prelude.{ℕ, ◌+◌, List, if◌then◌else◌, ◌==◌, fold}
+use Rattle.reactor_core.specs.Lexical.{line_feed}
 use Rattle.reactor_core.specs.declared.refusal.Place.{Place}
 
 -- the place behind one more byte: a line ends with LF
 abbrev pub next_place : Place → ℕ → Place
-next_place p b = if b == 10 then record { line = p.line + 1; column = 1 } else record { line = p.line; column = p.column + 1 }
+next_place p b = if b == line_feed then record { line = p.line + 1; column = 1 } else record { line = p.line; column = p.column + 1 }
 
 -- the place just after a text: a line and a column, both from 1, the column in bytes
 abbrev pub place_after : List ℕ → Place

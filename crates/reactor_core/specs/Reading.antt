@@ -12,7 +12,7 @@ use Rattle.reactor_core.specs.declared.refusal.Limit.TheVariants.{Nesting}
 use Rattle.reactor_core.specs.Checks.{is_tick, module_fault}
 use Rattle.reactor_core.specs.Meaning.{place_of}
 use Rattle.reactor_core.specs.Syntax.{UnitTree, nothing, pause, emit, present, group, BranchesTree, then_only, else_only, both, SequenceTree, sequence, UnitsTree, no_units, units, tokens_of}
-use Rattle.reactor_core.specs.Modules.{Group, all_declared, module_tokens}
+use Rattle.reactor_core.specs.Modules.{DeclarationTree, all_declared, module_tokens}
 use Rattle.reactor_core.specs.declared.reader.token.Located.{Located}
 
 -- the signal that is declared with the name
@@ -51,9 +51,9 @@ abbrev mutual
 
 -- the tokens are those of a module of this name, which declares this interface and has this body
 pub record IsSpelt (tokens : List Located) (name : List ℕ) (interface : List Declaration) (body : SequenceTree) : Type 0 where
-  pub groups : List Group
-  pub spelt : tokens_of tokens ≡ module_tokens name groups body
-  pub declared : interface ≡ all_declared groups
+  pub declarations : List DeclarationTree
+  pub spelt : tokens_of tokens ≡ module_tokens name declarations body
+  pub declared : interface ≡ all_declared declarations
 
 -- the tokens are those of the main module, which declares this interface, has no fault, and has this term as its body
 pub record AreRead (main : List ℕ) (tokens : List Located) (interface : List Declaration) (root : Term) : Type 0 where

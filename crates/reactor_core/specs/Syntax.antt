@@ -8,6 +8,7 @@ use Rattle.reactor_core.specs.declared.reader.token.Token.TheVariants.{Keyword, 
 use Rattle.reactor_core.specs.declared.reader.token.Located.{Located}
 
 mutual
+  -- a unit; a group is a sequence in brackets
   pub data UnitTree : Type 0 where
     nothing : UnitTree
     pause : UnitTree
@@ -15,7 +16,7 @@ mutual
     present : List ℕ → BranchesTree → UnitTree
     group : SequenceTree → UnitTree
 
-  -- the flag: `present` stands again behind `end`
+  -- the branches of a test; the flag: `present` stands again behind `end`
   pub data BranchesTree : Type 0 where
     then_only : SequenceTree → Bool → BranchesTree
     else_only : SequenceTree → Bool → BranchesTree
@@ -25,6 +26,7 @@ mutual
   pub data SequenceTree : Type 0 where
     sequence : UnitsTree → UnitTree → Bool → SequenceTree
 
+  -- units, each with a `;` behind it
   pub data UnitsTree : Type 0 where
     no_units : UnitsTree
     units : UnitTree → UnitsTree → UnitsTree

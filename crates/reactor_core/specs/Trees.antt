@@ -1,4 +1,4 @@
--- The tree that a value is.
+-- The tree that a value of the code is, apart from where it lies in memory (this project's own form).
 use Rattle.std.specs.Prelude.{List, [], ◌∷◌}
 use Rattle.reactor_core.specs.Syntax.{UnitTree, nothing, pause, emit, present, group, BranchesTree, then_only, else_only, both, SequenceTree, sequence, UnitsTree, no_units, units}
 use Rattle.reactor_core.specs.declared.reader.tree.Unit.{Unit, fold-Unit}
@@ -6,10 +6,12 @@ use Rattle.reactor_core.specs.declared.reader.tree.Branches.{Branches, fold-Bran
 use Rattle.reactor_core.specs.declared.reader.tree.Sequence.{Sequence, fold-Sequence}
 use Rattle.reactor_core.specs.declared.reader.tree.Branches.TheOpen.{Unit-F, Branches-F, Sequence-F}
 
+-- a list of units as a tree
 abbrev pub units_of : List UnitTree → UnitsTree
 units_of [] = no_units
 units_of (u ∷ us) = units u (units_of us)
 
+-- the tree of a unit, of branches and of a sequence whose parts are trees already
 abbrev pub unit_step : Unit-F BranchesTree UnitTree SequenceTree → UnitTree
 unit_step Unit-F.Nothing = nothing
 unit_step Unit-F.Pause = pause
