@@ -4,6 +4,7 @@ use Rattle.std.specs.Prelude.{replicate}
 use Rattle.std.proofs.lemmas.List.{length-replicate, drop-replicate}
 use Rattle.std.proofs.lemmas.Bool.Decides.{nat_tests}
 use Rattle.std.proofs.lemmas.Grind.{common_steps}
+use Rattle.est_text.specs.declared.identifier.TheConstants.{IDENTIFIER_BYTES}
 use Rattle.est_text.specs.Identifiers.{IsFilled, is_identifier}
 
 pub front : (text rest : List ℕ) (n : ℕ) → length text ≡ n → take n (text ++ rest) ≡ text
@@ -16,7 +17,7 @@ filled m text n e h = record {
   rest = rw (front text (drop n (replicate m 0)) n e, drop-replicate {X = ℕ} n m 0) refl;
 }
 
--- an identifier has at most 48 bytes
-pub short_identifier : (text : List ℕ) → is_identifier text ≡ true → length text ≤ 48
+-- an identifier fits
+pub short_identifier : (text : List ℕ) → is_identifier text ≡ true → length text ≤ IDENTIFIER_BYTES
 short_identifier [] h = grind arith
 short_identifier (b ∷ bs) h = grind (arith, nat_tests, common_steps)

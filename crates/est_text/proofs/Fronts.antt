@@ -1,5 +1,5 @@
 -- What the scans make of the bytes at the front.
-use Rattle.std.proofs.Common.{◌≡◌, ◌≢◌, ◌∙◌, ℕ, zero, suc, ◌+◌, ◌<◌, ◌≤◌, List, [], ◌∷◌, ◌++◌, length, take, drop, get_or, Bool, true, false, ◌&&◌, slice_index, append_assoc, refl, sym, ap, subst, arith, Option, Some, None, if◌then◌else◌}
+use Rattle.std.proofs.Common.{◌≡◌, ◌≢◌, ◌∙◌, ℕ, zero, suc, ◌+◌, ◌<◌, ◌≤◌, List, [], ◌∷◌, ◌++◌, length, take, drop, get_or, Bool, true, false, slice_index, append_assoc, refl, sym, ap, subst, arith, Option, Some, None, if◌then◌else◌}
 use Rattle.std.proofs.lemmas.List.{get_or-take, take_more, length-append, length-take, get_or-append-add, take-append-drop}
 use Rattle.std.proofs.Math.Seq.{get_or-append_seam}
 use Rattle.std.proofs.lemmas.Bool.Decides.{nat_tests}
@@ -7,12 +7,10 @@ use Rattle.std.specs.List.{list_all}
 use Rattle.std.specs.Bool.{◌==◌}
 use Rattle.std.specs.Char.{is_ascii_alphabetic}
 use Rattle.est_text.specs.Identifiers.{is_identifier, is_identifier_byte}
-use Rattle.est_text.proofs.Heads.{Head, AtPercent, AtLetter, head_of_piece, head_of_letter, same_head, both}
+use Rattle.est_text.proofs.Heads.{AtPercent, AtLetter, head_of_piece, head_of_letter, same_head, both}
 use Rattle.est_text.specs.Keywords.{keyword_of}
-use Rattle.est_text.specs.Pieces.{is_blank, is_in_line, StopsAt, ClosesAt, IsPiece, IsPieceOf, IsFault, symbol_text}
+use Rattle.est_text.specs.Pieces.{is_in_line, StopsAt, ClosesAt, IsPiece, IsPieceOf, IsFault}
 use Rattle.est_text.specs.declared.keyword.Keyword.{Keyword}
-use Rattle.est_text.specs.declared.token.Symbol.{Symbol}
-use Rattle.est_text.specs.declared.token.Symbol.TheVariants as symbol
 use Rattle.est_text.specs.declared.token.Token.TheVariants as token
 use Rattle.est_text.specs.declared.piece.Piece.{Piece}
 use Rattle.est_text.specs.declared.piece.Piece.TheVariants as piece

@@ -1,11 +1,10 @@
 -- The first byte of a piece tells its kind.
-use Rattle.std.proofs.Common.{◌≡◌, ◌∙◌, ℕ, List, [], ◌∷◌, ◌++◌, Bool, true, false, ◌&&◌, refl, sym, ap, subst, arith, Option, Some, None, if◌then◌else◌}
+use Rattle.std.proofs.Common.{◌≡◌, ◌∙◌, ℕ, List, [], ◌∷◌, ◌++◌, Bool, true, false, ◌&&◌, refl, sym, ap, arith, Option, Some, None, if◌then◌else◌}
 use Rattle.std.proofs.lemmas.Bool.Decides.{nat_tests}
-use Rattle.std.specs.List.{list_all}
 use Rattle.std.specs.Bool.{◌==◌}
 use Rattle.std.specs.Char.{is_ascii_alphabetic}
-use Rattle.est_text.specs.Identifiers.{is_identifier, is_identifier_byte}
-use Rattle.est_text.specs.Pieces.{is_blank, IsPiece, IsSpelling, symbol_text}
+use Rattle.est_text.specs.Identifiers.{is_identifier}
+use Rattle.est_text.specs.Pieces.{is_blank, IsPiece, symbol_text}
 use Rattle.est_text.specs.declared.token.Symbol.{Symbol}
 use Rattle.est_text.specs.declared.token.Symbol.TheVariants as symbol
 use Rattle.est_text.specs.declared.token.Token.TheVariants as token

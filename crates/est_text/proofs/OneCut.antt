@@ -1,13 +1,13 @@
 -- A text can be cut in one way.
-use Rattle.std.proofs.Common.{◌≡◌, ◌≢◌, ◌∙◌, ℕ, zero, suc, ◌+◌, ◌<◌, List, [], ◌∷◌, ◌++◌, length, take, Bool, true, false, slice_index, append_assoc, refl, sym, ap, subst, arith, Option, Some, None}
+use Rattle.std.proofs.Common.{◌≡◌, ◌∙◌, ℕ, suc, ◌+◌, ◌<◌, List, [], ◌∷◌, ◌++◌, length, true, slice_index, append_assoc, refl, sym, ap, subst, arith, Some, None}
 use Rattle.std.proofs.lemmas.List.{append_cancel_left}
 use Rattle.std.specs.List.{list_all}
 use Rattle.est_text.proofs.Fronts.{same_run, all_in_word, brace_in_line}
-use Rattle.est_text.proofs.Heads.{Head, AtBlank, AtPercent, head_of_piece, piece_starts, same_heads, symbol_with, symbol_begins}
+use Rattle.est_text.proofs.Heads.{AtBlank, AtPercent, head_of_piece, piece_starts, same_heads, symbol_with, symbol_begins}
 use Rattle.est_text.specs.Identifiers.{is_identifier, is_identifier_byte}
 use Rattle.est_text.specs.Keywords.{keyword_of}
 use Rattle.est_text.specs.Lexing.{IsFirstFault}
-use Rattle.est_text.specs.Pieces.{is_in_line, StopsAt, ClosesAt, IsBlockComment, IsLineComment, IsSpelling, IsPiece, IsFault, Cut, ArePieces, AreTokens, tokens_from, symbol_text}
+use Rattle.est_text.specs.Pieces.{is_in_line, StopsAt, ClosesAt, IsBlockComment, IsLineComment, IsSpelling, IsPiece, Cut, ArePieces, AreTokens, tokens_from, symbol_text}
 use Rattle.est_text.specs.declared.keyword.Keyword.{Keyword}
 use Rattle.est_text.specs.declared.token.Symbol.{Symbol}
 use Rattle.est_text.specs.declared.token.Token.{Token}

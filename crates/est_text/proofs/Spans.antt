@@ -1,14 +1,11 @@
 -- Where the tokens of a text lie in it.
-use Rattle.std.proofs.Common.{◌≡◌, ◌∙◌, ℕ, zero, suc, ◌+◌, ◌-◌, ◌≤◌, List, [], ◌∷◌, ◌++◌, length, take, drop, Option, Some, None, refl, sym, ap, subst, arith}
+use Rattle.std.proofs.Common.{◌≡◌, ◌∙◌, ℕ, zero, suc, ◌+◌, ◌-◌, List, [], ◌∷◌, ◌++◌, length, take, drop, Option, Some, None, refl, sym, ap, subst, arith}
 use Rattle.std.specs.Prelude.{slice_get, slice_range, IfSome}
 use Rattle.std.proofs.lemmas.List.{length-append, drop-drop, drop_at, take_at}
 use Rattle.est_text.specs.Pieces.{Cut, ArePieces, AreTokens, IsPiece, IsSpelling, located, tokens_from}
 use Rattle.est_text.specs.TokenLists.{TokenList, IsTextOf, Lies}
-use Rattle.est_text.specs.Places.{place_after}
 use Rattle.est_text.specs.declared.piece.Piece.{Piece}
 use Rattle.est_text.specs.declared.piece.Piece.TheVariants as piece
-use Rattle.est_text.specs.declared.place.Place.{Place}
-use Rattle.est_text.specs.declared.place.Span.{Span}
 use Rattle.est_text.specs.declared.token.Token.{Token}
 use Rattle.est_text.specs.declared.token.Located.{Located}
 

@@ -55,7 +55,7 @@ pub fn lex(alloc: Global, text: &str) -> Result<Tokens<'_>, LexFault>
     ensures tokens { IfOk result (λ tokens. AreTokens text.now tokens.located) }
     ensures fault { IfErr result (λ fault. IsLexFault text.now fault) }
 {
-    // The end of a text as long as memory itself has no number; no text leaves so little room.
+    // The end of a text of so many bytes would have no number. There is no memory for one.
     if text.len() == usize::MAX {
         return Err(LexFault::Memory);
     }
