@@ -3,11 +3,12 @@
 use Rattle.std.specs.Prelude.{◌≡◌, ℕ, ◌-◌, ◌≤◌, List, [], ◌∷◌, ◌++◌, length, take, replicate, Bool, false, ◌&&◌, ◌||◌, ◌==◌, nat_le}
 use Rattle.std.specs.List.{list_all}
 use Rattle.std.specs.Char.{is_ascii_alphanumeric, is_ascii_alphabetic}
+use Rattle.est_text.specs.Bytes.{underscore}
 use Rattle.est_text.specs.declared.identifier.TheConstants.{IDENTIFIER_BYTES}
 
 -- letters, digits and `_`, of ASCII
 abbrev pub is_identifier_byte : ℕ → Bool
-is_identifier_byte b = is_ascii_alphanumeric b || b == 95
+is_identifier_byte b = is_ascii_alphanumeric b || b == underscore
 
 -- a letter, and then letters, digits and `_`, at most 48 bytes
 abbrev pub is_identifier : List ℕ → Bool

@@ -1,3 +1,4 @@
+pub mod Bytes
 pub mod Identifiers
 pub mod Keywords
 pub mod Lexing

@@ -3,6 +3,7 @@
 -- project's own form).
 use Rattle.std.specs.Prelude.{◌≡◌, ◌≢◌, ◌≤◌, ◌<◌, ◌+◌, ℕ, List, [], ◌∷◌, ◌++◌, length, take, drop, Bool, false, ◌||◌, ◌==◌, nat_lt, IsTrue, slice_index, codes, Some, None}
 use Rattle.std.specs.List.{list_all}
+use Rattle.est_text.specs.Bytes.{space, tab, carriage_return, line_feed, form_feed, percent, open_brace, close_brace}
 use Rattle.est_text.specs.Identifiers.{is_identifier, is_identifier_byte}
 use Rattle.est_text.specs.Keywords.{keyword_of}
 use Rattle.est_text.specs.declared.token.Symbol.{Symbol}
@@ -15,11 +16,11 @@ use Rattle.est_text.specs.declared.piece.Piece.TheVariants as piece
 
 -- a blank: space, tab, CR, LF or form feed (this project's own form)
 abbrev pub is_blank : ℕ → Bool
-is_blank b = b == 32 || b == 9 || b == 13 || b == 10 || b == 12
+is_blank b = b == space || b == tab || b == carriage_return || b == line_feed || b == form_feed
 
 -- any byte but LF, which ends a line
 abbrev pub is_in_line : ℕ → Bool
-is_in_line b = nat_lt b 10 || nat_lt 10 b
+is_in_line b = nat_lt b line_feed || nat_lt line_feed b
 
 -- no byte with p stands first
 abbrev pub StopsAt : (ℕ → Bool) → List ℕ → Type 0
@@ -42,15 +43,16 @@ symbol_text symbol.Implies = codes "=>"
 
 -- `%`, and then no `{`, within one line (Berry, Language Primer)
 abbrev pub IsLineComment : List ℕ → Type 0
-IsLineComment bytes = (cs : List ℕ) × (bytes ≡ 37 ∷ cs) × StopsAt (λ b. b == 123) cs × IsTrue (list_all is_in_line cs)
+IsLineComment bytes = (cs : List ℕ) × (bytes ≡ percent ∷ cs) × StopsAt (λ b. b == open_brace) cs × IsTrue (list_all is_in_line cs)
 
 -- `}%` stands at this place
 abbrev pub ClosesAt : List ℕ → ℕ → Type 0
-ClosesAt bytes i = (slice_index bytes i ≡ 125) × (slice_index bytes (i + 1) ≡ 37)
+ClosesAt bytes i = (slice_index bytes i ≡ close_brace) × (slice_index bytes (i + 1) ≡ percent)
 
 -- `%{`, up to the next `}%`: comments do not nest (Berry, Language Primer)
 abbrev pub IsBlockComment : List ℕ → Type 0
-IsBlockComment bytes = (cs : List ℕ) × (bytes ≡ 37 ∷ 123 ∷ cs ++ 125 ∷ 37 ∷ []) × ((i : ℕ) → i < length cs → ¬ (ClosesAt (cs ++ 125 ∷ 37 ∷ []) i))
+IsBlockComment bytes = (cs : List ℕ) × (bytes ≡ percent ∷ open_brace ∷ cs ++ close_brace ∷ percent ∷ [])
+    × ((i : ℕ) → i < length cs → ¬ (ClosesAt (cs ++ close_brace ∷ percent ∷ []) i))
 
 -- The bytes spell the token, where the rest follows. A word is the longest match: no byte of an identifier follows it.
 -- No symbol begins another, so the longest match of a symbol is itself.

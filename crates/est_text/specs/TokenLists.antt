@@ -15,8 +15,8 @@ pub record IsTokenList (source : List ℕ) (located : List Located) : Type 0 whe
   pub short : length source + 1 < 2 ^ 64
   pub cut : AreTokens source located
 
--- a token lies within the text, spelt by its slice
-pub record Lies (source : List ℕ) (l : Located) : Type 0 where
+-- a token stands within the text, and its slice spells it (this project's own form)
+pub record StandsIn (source : List ℕ) (l : Located) : Type 0 where
   pub ordered : l.span.start ≤ l.span.end
   pub within : l.span.end ≤ length source
   pub spelt : IsSpelling l.token (slice_range source l.span.start l.span.end) (drop l.span.end source)

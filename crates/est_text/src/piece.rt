@@ -1,6 +1,7 @@
 //! The piece of a text that stands first: a blank, a comment or a token.
 ghost use Rattle.std.specs.Prelude.{◌≡◌, ◌≢◌, ◌<◌, length, IfSome, IfNone, IsTrue, slice_index, false, ◌↔◌};
 ghost use Rattle.std.specs.Char.{is_ascii_alphabetic};
+ghost use Rattle.est_text.specs.Bytes.{percent, open_brace};
 ghost use Rattle.est_text.specs.Pieces.{is_blank, IsPieceOf, IsFault};
 ghost use Rattle.est_text.specs.declared.piece.Piece.TheVariants.{Token as TokenPiece};
 ghost use Rattle.est_text.specs.declared.token.Token.TheVariants.{Symbol as SymbolToken};
@@ -23,7 +24,7 @@ pub enum Piece {
 fn symbol(rest: &[u8]) -> Option<(Symbol, usize)>
     requires some { 0 < length rest.now }
     requires blank { is_blank (slice_index rest.now 0) ≡ false }
-    requires percent { slice_index rest.now 0 ≢ 37 }
+    requires percent { slice_index rest.now 0 ≢ percent }
     requires letter { is_ascii_alphabetic (slice_index rest.now 0) ≡ false }
     ensures found { IfSome result (λ p. IsPieceOf (TokenPiece (SymbolToken p.0)) p.1 rest.now) }
     ensures none { IfNone result (IsFault rest.now) }
@@ -62,7 +63,7 @@ fn word(rest: &[u8]) -> Option<(Token, usize)>
 }
 
 fn is_block(rest: &[u8]) -> bool
-    ensures { IsTrue result ↔ ((1 < length rest.now) × (slice_index rest.now 1 ≡ 123)) }
+    ensures { IsTrue result ↔ ((1 < length rest.now) × (slice_index rest.now 1 ≡ open_brace)) }
 {
     rest.len() > 1 && rest[1] == b'{'
 }
@@ -70,8 +71,8 @@ fn is_block(rest: &[u8]) -> bool
 /// The comment up to `}%` that stands first, unless it is not closed.
 fn block(rest: &[u8]) -> Option<(Piece, usize)>
     requires some { 1 < length rest.now }
-    requires percent { slice_index rest.now 0 ≡ 37 }
-    requires brace { slice_index rest.now 1 ≡ 123 }
+    requires percent { slice_index rest.now 0 ≡ percent }
+    requires brace { slice_index rest.now 1 ≡ open_brace }
     ensures found { IfSome result (λ p. IsPieceOf p.0 p.1 rest.now) }
     ensures none { IfNone result (IsFault rest.now) }
 {
@@ -85,8 +86,8 @@ fn block(rest: &[u8]) -> Option<(Piece, usize)>
 /// The comment to the end of the line that stands first.
 fn line(rest: &[u8]) -> (Piece, usize)
     requires some { 0 < length rest.now }
-    requires percent { slice_index rest.now 0 ≡ 37 }
-    requires brace { 1 < length rest.now → slice_index rest.now 1 ≢ 123 }
+    requires percent { slice_index rest.now 0 ≡ percent }
+    requires brace { 1 < length rest.now → slice_index rest.now 1 ≢ open_brace }
     ensures { IsPieceOf result.0 result.1 rest.now }
 {
     (Piece::LineComment, line_len(rest))
@@ -95,7 +96,7 @@ fn line(rest: &[u8]) -> (Piece, usize)
 /// The comment that stands first, unless it is not closed.
 fn comment(rest: &[u8]) -> Option<(Piece, usize)>
     requires some { 0 < length rest.now }
-    requires percent { slice_index rest.now 0 ≡ 37 }
+    requires percent { slice_index rest.now 0 ≡ percent }
     ensures found { IfSome result (λ p. IsPieceOf p.0 p.1 rest.now) }
     ensures none { IfNone result (IsFault rest.now) }
 {

@@ -10,7 +10,7 @@ use crate::identifier::is_identifier_byte;
 pub(crate) fn is_blank(byte: u8) -> bool
     ensures { result ≡ is_blank byte }
 {
-    byte == b' ' || byte == b'\t' || byte == b'\r' || byte == b'\n' || byte == 12
+    byte == b' ' || byte == b'\t' || byte == b'\r' || byte == b'\n' || byte == b'\x0c'
 }
 
 /// How many bytes at the front are letters, digits and `_`.

@@ -2,7 +2,7 @@
 ghost use Rattle.std.specs.Prelude.{◌≡◌, ◌≤◌, ◌<◌, ◌+◌, ◌^◌, length, take, None, IfSome, IfNone, slice_get, slice_range};
 ghost use Rattle.est_text.specs.Places.{place_after};
 ghost use Rattle.est_text.specs.Pieces.{AreTokens};
-ghost use Rattle.est_text.specs.TokenLists.{TokenList, IsTextOf, Lies, place_of};
+ghost use Rattle.est_text.specs.TokenLists.{TokenList, IsTextOf, StandsIn, place_of};
 
 use crate::place::{Place, Span, place_after};
 use crate::token::Located;
@@ -78,7 +78,7 @@ impl<'a> Tokens<'a> {
     /// The token of this number, counted from 0, with its span, if there is one.
     pub fn get(&self, index: usize) -> Option<Located>
         ensures token { result ≡ slice_get self.now.located index }
-        ensures lies { IfSome result (Lies self.now.source) }
+        ensures stands { IfSome result (StandsIn self.now.source) }
         ensures short { length self.now.source + 1 < 2 ^ 64 }
     {
         at(self.located.as_slice(), index)
