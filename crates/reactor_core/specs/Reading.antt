@@ -1,4 +1,4 @@
--- What the text of a module means: its interface and its kernel term.
+-- What the text of a module means, its interface and its kernel term, or which fault it has (this project's own form).
 use Rattle.std.specs.Prelude.{◌≡◌, ◌+◌, ◌<◌, ◌^◌, ℕ, List, Some, None, length, take, if◌then◌else◌, unwrap_or}
 use Rattle.est_kernel.specs.Term as term
 use Rattle.est_kernel.specs.Term.{Name, Query, Term}

@@ -1,7 +1,7 @@
 //! Why a module text is not read.
 use crate::refusal::{Limit, Place};
 use est_kernel::identifier::Identifier;
-use std::alloc::{AllocError, AllocFailed};
+use std::alloc::AllocError;
 
 /// The first fault of a text, in the order of the checks.
 #[derive(Clone, Copy, PartialEq, Eq, Debug)]
@@ -31,17 +31,6 @@ impl From<AllocError> for ReadFault {
     ghost from_gives = { λ _ e. e ≡ Memory };
 
     fn from(_e: AllocError) -> ReadFault {
-        ReadFault::Memory
-    }
-}
-
-impl<T: Drop> From<AllocFailed<T>> for ReadFault {
-    ghost use Rattle.std.specs.Prelude.{◌≡◌};
-    ghost use Rattle.reactor_core.specs.declared.reader.fault.ReadFault.TheVariants.{Memory};
-
-    ghost from_gives = { λ _ e. e ≡ Memory };
-
-    fn from(_e: AllocFailed<T>) -> ReadFault {
         ReadFault::Memory
     }
 }
