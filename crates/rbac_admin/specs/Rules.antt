@@ -1,5 +1,6 @@
 -- How the answer to a policy command is read off an ordered list of rules (this project's own form).
 use Rattle.std.specs.Prelude.{◌≡◌, ℕ, ◌<◌, ◌⊎◌, List, Option, Some, Result, Ok, Err, slice_get, take}
+use Rattle.std.specs.Result.{MatchResult}
 use Rattle.rbac_policy.specs.Names.{NameText}
 use Rattle.rbac_policy.specs.declared.commands.AdminCommand.{AdminCommand}
 use Rattle.rbac_policy.specs.declared.commands.Entry.{Entry}
@@ -28,6 +29,10 @@ Says refusal Fact given = (given ≡ refusal) × Fact
 -- this refusal of the thing for which the fact holds
 abbrev pub Naming : (NameText → Refusal) → (NameText → Type 0) → Refusal → Type 0
 Naming refusal Fact given = (name : NameText) × (given ≡ refusal name) × Fact name
+
+-- a test of the rule: it passes where the rule gives no refusal, and else answers the refusal that it gives
+abbrev pub Tests : (Refusal → Type 0) → Result (Unit {0}) Refusal → Type 0
+Tests rule answer = MatchResult answer (λ done. (refusal : Refusal) → rule refusal → ⊥) rule
 
 -- the command is accepted, with this session
 abbrev pub Accepts : Option ℕ → AdminCommand → Result Entry Refusal → Type 0

@@ -6,5 +6,6 @@
 pub mod decisions;
 pub mod laws;
 pub mod refusals;
+mod rules;
 #[cfg(test)]
 mod tests;

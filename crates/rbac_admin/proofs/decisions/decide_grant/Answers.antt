@@ -1,49 +1,46 @@
-use Rattle.std.proofs.Common.{refl, sym, ap}
+use Rattle.std.proofs.Common.{sym, ap}
 use Rattle.std.specs.Prelude.{Ok}
+use Rattle.std.proofs.lemmas.Result.{err_from_is_err_and}
 use Rattle.rbac_policy.specs.declared.commands.AdminCommand.TheVariants.{GrantPermission}
-use Rattle.rbac_admin.proofs.Answering.{refuse, pass, pass_session, pass_permission, may_administer, not_so, is_so}
+use Rattle.rbac_admin.proofs.Answering.{refuse, pass, pass_session, pass_permission}
 use Rattle.rbac_admin.proofs.decisions.decide_grant.Goals as goal
 
-pub returns-in_default : goal.returns-in_default
-returns-in_default c = λ L st. refuse (refl, c.in_default.ensures L st)
+pub returns-in_err-known_role : goal.returns-in_err-known_role
+returns-in_err-known_role c =
+    let p = err_from_is_err_and c.from_residual-in_err-known_role.result c.from_residual-in_err-known_role.ensures.1 in
+    rw (p.1, p.2) (λ L st.
+    let by = c.in_ok-session.ensures L st in
+    pass_session L c.args.session c.in_ok-session.session by
+    (pass_permission L c.args.session c.in_ok-session.session by (c.in_ok-administers.ensures L st)
+    (refuse (c.in_err-known_role.ensures L st))))
 
-pub returns-then-not-may : goal.returns-then-not-may
-returns-then-not-may c = λ L st.
-    let by = c.in-Some.ensures L st in
-    pass_session L c.args.session c.in-Some.session by
-    (refuse (refl, λ a. not_so (c.may.ensures L st) c.if-not-may.true (may_administer L c.args.session c.in-Some.session by a)))
+pub returns-in_err-new_grant : goal.returns-in_err-new_grant
+returns-in_err-new_grant c =
+    let p = err_from_is_err_and c.from_residual-in_err-new_grant.result c.from_residual-in_err-new_grant.ensures.1 in
+    rw (p.1, p.2) (λ L st.
+    let by = c.in_ok-session.ensures L st in
+    pass_session L c.args.session c.in_ok-session.session by
+    (pass_permission L c.args.session c.in_ok-session.session by (c.in_ok-administers.ensures L st)
+    (pass (c.in_ok-known_role.ensures L st)
+    (refuse (c.in_err-new_grant.ensures L st)))))
 
-pub returns-then-not-is_role : goal.returns-then-not-is_role
-returns-then-not-is_role c = λ L st.
-    let by = c.in-Some.ensures L st in
-    pass_session L c.args.session c.in-Some.session by
-    (pass_permission L c.args.session c.in-Some.session by (is_so (c.may.ensures L st) c.if-not-may.false)
-    (refuse (refl, not_so (c.is_role.ensures L st) c.if-not-is_role.true)))
-
-pub returns-then-is_granted : goal.returns-then-is_granted
-returns-then-is_granted c = λ L st.
-    let by = c.in-Some.ensures L st in
-    pass_session L c.args.session c.in-Some.session by
-    (pass_permission L c.args.session c.in-Some.session by (is_so (c.may.ensures L st) c.if-not-may.false)
-    (pass (λ none. none (is_so (c.is_role.ensures L st) c.if-not-is_role.false))
-    (refuse (refl, is_so (c.is_granted.ensures L st) c.if-is_granted.true))))
-
-pub returns-then-has_no_room_for : goal.returns-then-has_no_room_for
-returns-then-has_no_room_for c = λ L st.
-    let by = c.in-Some.ensures L st in
-    pass_session L c.args.session c.in-Some.session by
-    (pass_permission L c.args.session c.in-Some.session by (is_so (c.may.ensures L st) c.if-not-may.false)
-    (pass (λ none. none (is_so (c.is_role.ensures L st) c.if-not-is_role.false))
-    (pass (not_so (c.is_granted.ensures L st) c.if-is_granted.false)
-    (refuse (refl, is_so (c.has_no_room_for.ensures L st) c.if-has_no_room_for.true)))))
+pub returns-in_err-room_for_grant : goal.returns-in_err-room_for_grant
+returns-in_err-room_for_grant c =
+    let p = err_from_is_err_and c.from_residual-in_err-room_for_grant.result c.from_residual-in_err-room_for_grant.ensures.1 in
+    rw (p.1, p.2) (λ L st.
+    let by = c.in_ok-session.ensures L st in
+    pass_session L c.args.session c.in_ok-session.session by
+    (pass_permission L c.args.session c.in_ok-session.session by (c.in_ok-administers.ensures L st)
+    (pass (c.in_ok-known_role.ensures L st)
+    (pass (c.in_ok-new_grant.ensures L st)
+    (refuse (c.in_err-room_for_grant.ensures L st))))))
 
 pub returns : goal.returns
 returns c = λ L st.
-    let by = c.in-Some.ensures L st in
-    let command = GrantPermission c.args.role.now c.args.operation.now c.args.object.now in
-    pass_session L c.args.session c.in-Some.session by
-    (pass_permission L c.args.session c.in-Some.session by (is_so (c.may.ensures L st) c.if-not-may.false)
-    (pass (λ none. none (is_so (c.is_role.ensures L st) c.if-not-is_role.false))
-    (pass (not_so (c.is_granted.ensures L st) c.if-is_granted.false)
-    (pass (not_so (c.has_no_room_for.ensures L st) c.if-has_no_room_for.false)
-    (ap (λ s. Ok (record { session = s; command = command })) (sym by.given))))))
+    let by = c.in_ok-session.ensures L st in
+    pass_session L c.args.session c.in_ok-session.session by
+    (pass_permission L c.args.session c.in_ok-session.session by (c.in_ok-administers.ensures L st)
+    (pass (c.in_ok-known_role.ensures L st)
+    (pass (c.in_ok-new_grant.ensures L st)
+    (pass (c.in_ok-room_for_grant.ensures L st)
+    (ap (λ s. Ok (record { session = s; command = GrantPermission c.args.role.now c.args.operation.now c.args.object.now })) (sym by.given))))))

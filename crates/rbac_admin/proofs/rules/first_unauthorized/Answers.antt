@@ -4,8 +4,8 @@ use Rattle.rbac_policy.specs.Names.{NameText}
 use Rattle.rbac_policy.specs.Facts.{IsAuthorized}
 use Rattle.rbac_admin.proofs.Answering.{not_so, is_so}
 use Rattle.rbac_admin.proofs.Listing.{first_here, none_further, none_at_all}
-use Rattle.rbac_admin.proofs.decisions.unauthorized_role.Goals.{in-Some+else-not-is_authorized, in_default}
-use Rattle.rbac_admin.proofs.decisions.unauthorized_role.Goals as goal
+use Rattle.rbac_admin.proofs.rules.first_unauthorized.Goals.{in-Some+else-not-is_authorized, in_default}
+use Rattle.rbac_admin.proofs.rules.first_unauthorized.Goals as goal
 
 pub returns-then-not-is_authorized : goal.returns-then-not-is_authorized
 returns-then-not-is_authorized c = λ L st.

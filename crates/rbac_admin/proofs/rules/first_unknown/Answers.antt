@@ -4,8 +4,8 @@ use Rattle.rbac_policy.specs.Names.{NameText}
 use Rattle.rbac_policy.specs.Facts.{IsRole}
 use Rattle.rbac_admin.proofs.Answering.{not_so, is_so}
 use Rattle.rbac_admin.proofs.Listing.{first_here, none_further, none_at_all}
-use Rattle.rbac_admin.proofs.decisions.unknown_role.Goals.{in-Some+else-not-is_role, in_default}
-use Rattle.rbac_admin.proofs.decisions.unknown_role.Goals as goal
+use Rattle.rbac_admin.proofs.rules.first_unknown.Goals.{in-Some+else-not-is_role, in_default}
+use Rattle.rbac_admin.proofs.rules.first_unknown.Goals as goal
 
 pub returns-then-not-is_role : goal.returns-then-not-is_role
 returns-then-not-is_role c = λ L st.

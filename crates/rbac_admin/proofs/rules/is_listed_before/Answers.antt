@@ -2,7 +2,7 @@ use Rattle.std.proofs.Common.{◌≡◌, sym, ◌∙◌, ap, rules, arith}
 use Rattle.std.specs.Prelude.{Some}
 use Rattle.std.proofs.lemmas.Slice.Eq.{bytes_eq-Decides}
 use Rattle.rbac_admin.proofs.Listing.{taken, was_taken}
-use Rattle.rbac_admin.proofs.decisions.is_listed_before.Goals as goal
+use Rattle.rbac_admin.proofs.rules.is_listed_before.Goals as goal
 
 pub returns-then-is : goal.returns-then-is
 returns-then-is c =

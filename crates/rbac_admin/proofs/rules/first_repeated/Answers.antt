@@ -3,8 +3,8 @@ use Rattle.std.specs.Prelude.{Contains, take}
 use Rattle.std.proofs.lemmas.Option.{same_Some}
 use Rattle.rbac_admin.proofs.Answering.{not_so, is_so}
 use Rattle.rbac_admin.proofs.Listing.{first_here, none_further, none_at_all}
-use Rattle.rbac_admin.proofs.decisions.repeated_role.Goals.{in-Some+else-is_listed_before, in_default}
-use Rattle.rbac_admin.proofs.decisions.repeated_role.Goals as goal
+use Rattle.rbac_admin.proofs.rules.first_repeated.Goals.{in-Some+else-is_listed_before, in_default}
+use Rattle.rbac_admin.proofs.rules.first_repeated.Goals as goal
 
 pub returns-then-is_listed_before : goal.returns-then-is_listed_before
 returns-then-is_listed_before c =

@@ -3,7 +3,7 @@ use Rattle.rbac_policy.specs.declared.commands.Entry.{Entry}
 use Rattle.rbac_policy.specs.StandsFor.{StandsFor}
 use Rattle.rbac_policy.specs.Facts.{IsRole}
 use Rattle.rbac_admin.proofs.Listing.{NoneBefore}
-use Rattle.rbac_admin.proofs.decisions.unknown_role.Given as goal
+use Rattle.rbac_admin.proofs.rules.first_unknown.Given as goal
 
 abbrev pub invariant-loop-place : goal.invariant-loop-place
 invariant-loop-place l = (entries : List Entry) → StandsFor l.policy entries → NoneBefore (λ before name. IsRole entries name → ⊥) l.roles l.place

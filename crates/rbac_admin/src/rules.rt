@@ -1,0 +1,224 @@
+//! The rules of refusal, each asked of a policy: a test passes where the rule gives no refusal, and else answers the one that it gives.
+ghost use Rattle.std.specs.Prelude.{◌≡◌, ◌↔◌, List, Option, IsTrue, MatchOption, Contains, take};
+ghost use Rattle.std.specs.Result.{MatchResult};
+ghost use Rattle.rbac_policy.specs.declared.commands.Entry.{Entry};
+ghost use Rattle.rbac_policy.specs.StandsFor.{StandsFor};
+ghost use Rattle.rbac_policy.specs.Names.{NameText};
+ghost use Rattle.rbac_policy.specs.Facts.{IsRole, IsAuthorized, IsGranted, May};
+ghost use Rattle.rbac_policy.specs.Fits.{NumbersExhausted, SessionsFull};
+ghost use Rattle.rbac_admin.specs.Rules.{FirstListed, Says, Tests};
+ghost use Rattle.rbac_admin.specs.Conditions.{IsGivenBy, HasNoRoomFor};
+ghost use Rattle.rbac_admin.specs.PolicyStep.{no_session, unknown_user, unknown_role, unknown_listed, unauthorized_listed, repeated_listed};
+
+use crate::refusals::Refusal;
+use rbac_policy::commands::{SessionId, Table};
+use rbac_policy::names::{Name, RoleNames};
+use rbac_policy::objects::{Object, Operation};
+use rbac_policy::policy::Policy;
+
+/// The session that gives the command, where one does and it lives.
+pub fn living(policy: &Policy, session: Option<SessionId>) -> Result<SessionId, Refusal>
+    ensures { (entries : List Entry) → StandsFor policy.now entries
+        → MatchResult result (IsGivenBy entries session) (no_session entries session) }
+{
+    let Some(number) = session else {
+        return Err(Refusal::NoSession);
+    };
+    if policy.lives(number) {
+        Ok(number)
+    } else {
+        Err(Refusal::NoSession)
+    }
+}
+
+/// The session may change the policy.
+pub fn administers(policy: &Policy, session: SessionId) -> Result<(), Refusal>
+    ensures { (entries : List Entry) → StandsFor policy.now entries
+        → Tests (Says (Refusal.Permission Operation.Administer Object.Policy) (May entries session Operation.Administer Object.Policy → ⊥)) result }
+{
+    if policy.may(session, &Operation::Administer, &Object::Policy) {
+        Ok(())
+    } else {
+        Err(Refusal::Permission {
+            operation: Operation::Administer,
+            object: Object::Policy,
+        })
+    }
+}
+
+/// There is such a role.
+pub fn known_role(policy: &Policy, role: &Name) -> Result<(), Refusal>
+    ensures { (entries : List Entry) → StandsFor policy.now entries → Tests (unknown_role entries role.now) result }
+{
+    if policy.is_role(role) {
+        Ok(())
+    } else {
+        Err(Refusal::UnknownRole { role: *role })
+    }
+}
+
+/// The role itself doesn't have the permission.
+pub fn new_grant(
+    policy: &Policy,
+    role: &Name,
+    operation: &Operation,
+    object: &Object,
+) -> Result<(), Refusal>
+    ensures { (entries : List Entry) → StandsFor policy.now entries
+        → Tests (Says Refusal.AlreadyGranted (IsGranted entries role.now operation.now object.now)) result }
+{
+    if policy.is_granted(role, operation, object) {
+        Err(Refusal::AlreadyGranted)
+    } else {
+        Ok(())
+    }
+}
+
+/// The pair is granted to some role, or there is room for it.
+pub fn room_for_grant(
+    policy: &Policy,
+    operation: &Operation,
+    object: &Object,
+) -> Result<(), Refusal>
+    ensures { (entries : List Entry) → StandsFor policy.now entries
+        → Tests (Says (Refusal.Full Table.Permissions) (HasNoRoomFor entries operation.now object.now)) result }
+{
+    if policy.is_pair_granted(operation, object) {
+        return Ok(());
+    }
+    if policy.are_permissions_full() {
+        return Err(Refusal::Full {
+            table: Table::Permissions,
+        });
+    }
+    Ok(())
+}
+
+/// A session number is left.
+pub fn number_left(policy: &Policy) -> Result<(), Refusal>
+    ensures { (entries : List Entry) → StandsFor policy.now entries
+        → Tests (Says Refusal.SessionsExhausted (NumbersExhausted entries)) result }
+{
+    if policy.are_numbers_exhausted() {
+        Err(Refusal::SessionsExhausted)
+    } else {
+        Ok(())
+    }
+}
+
+/// There is such a user.
+pub fn known_user(policy: &Policy, user: &Name) -> Result<(), Refusal>
+    ensures { (entries : List Entry) → StandsFor policy.now entries → Tests (unknown_user entries user.now) result }
+{
+    if policy.is_user(user) {
+        Ok(())
+    } else {
+        Err(Refusal::UnknownUser { user: *user })
+    }
+}
+
+/// The first listed role that is none.
+fn first_unknown(policy: &Policy, roles: &RoleNames) -> Option<Name>
+    ensures { (entries : List Entry) → StandsFor policy.now entries
+        → MatchOption result
+        ((role : NameText) → FirstListed (λ before name. IsRole entries name → ⊥) roles.now role → ⊥)
+        (FirstListed (λ before name. IsRole entries name → ⊥) roles.now) }
+{
+    for place in 0..roles.len() {
+        if let Some(role) = roles.get(place) {
+            if !policy.is_role(&role) {
+                return Some(role);
+            }
+        }
+    }
+    None
+}
+
+/// The first listed role for which the user isn't authorized.
+fn first_unauthorized(policy: &Policy, user: &Name, roles: &RoleNames) -> Option<Name>
+    ensures { (entries : List Entry) → StandsFor policy.now entries
+        → MatchOption result
+        ((role : NameText) → FirstListed (λ before name. IsAuthorized entries user.now name → ⊥) roles.now role → ⊥)
+        (FirstListed (λ before name. IsAuthorized entries user.now name → ⊥) roles.now) }
+{
+    for place in 0..roles.len() {
+        if let Some(role) = roles.get(place) {
+            if !policy.is_authorized(user, &role) {
+                return Some(role);
+            }
+        }
+    }
+    None
+}
+
+/// Whether the role is listed before this place.
+fn is_listed_before(roles: &RoleNames, place: usize, role: &Name) -> bool
+    ensures { IsTrue result ↔ Contains (take place roles.now) role.now }
+{
+    for earlier in 0..place {
+        if let Some(name) = roles.get(earlier) {
+            if name.is(role) {
+                return true;
+            }
+        }
+    }
+    false
+}
+
+/// The first role that stands a second time.
+fn first_repeated(roles: &RoleNames) -> Option<Name>
+    ensures { MatchOption result ((role : NameText) → FirstListed Contains roles.now role → ⊥) (FirstListed Contains roles.now) }
+{
+    for place in 0..roles.len() {
+        if let Some(role) = roles.get(place) {
+            if is_listed_before(roles, place, &role) {
+                return Some(role);
+            }
+        }
+    }
+    None
+}
+
+/// Each listed role is one.
+pub fn known_roles(policy: &Policy, roles: &RoleNames) -> Result<(), Refusal>
+    ensures { (entries : List Entry) → StandsFor policy.now entries → Tests (unknown_listed entries roles.now) result }
+{
+    match first_unknown(policy, roles) {
+        Some(role) => Err(Refusal::UnknownRole { role }),
+        None => Ok(()),
+    }
+}
+
+/// The user is authorized for each listed role.
+pub fn authorized_roles(policy: &Policy, user: &Name, roles: &RoleNames) -> Result<(), Refusal>
+    ensures { (entries : List Entry) → StandsFor policy.now entries → Tests (unauthorized_listed entries user.now roles.now) result }
+{
+    match first_unauthorized(policy, user, roles) {
+        Some(role) => Err(Refusal::NotAuthorized { role }),
+        None => Ok(()),
+    }
+}
+
+/// No listed role stands a second time.
+pub fn single_roles(roles: &RoleNames) -> Result<(), Refusal>
+    ensures { Tests (repeated_listed roles.now) result }
+{
+    match first_repeated(roles) {
+        Some(role) => Err(Refusal::AlreadyActive { role }),
+        None => Ok(()),
+    }
+}
+
+/// There is room for another session.
+pub fn room_for_session(policy: &Policy) -> Result<(), Refusal>
+    ensures { (entries : List Entry) → StandsFor policy.now entries
+        → Tests (Says (Refusal.Full Table.Sessions) (SessionsFull entries)) result }
+{
+    if policy.are_sessions_full() {
+        Err(Refusal::Full {
+            table: Table::Sessions,
+        })
+    } else {
+        Ok(())
+    }
+}
