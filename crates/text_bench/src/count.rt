@@ -1,0 +1,39 @@
+//! What is counted of a text's tokens.
+ghost use Rattle.std.specs.Prelude.{◌≡◌, IfOk, length};
+ghost use Rattle.text_bench.specs.Counts.{ends_of, CountsTokensOf};
+
+use est_text::lex::{LexFault, lex};
+use est_text::tokens::Tokens;
+use std::alloc::Global;
+
+/// How many tokens there are, and the sum of the places where they end, in 64 bits.
+#[derive(Clone, Copy, PartialEq, Eq, Debug)]
+pub struct Count {
+    pub tokens: usize,
+    pub ends: u64,
+}
+
+fn counted(tokens: &Tokens<'_>) -> Count
+    ensures tokens { result.tokens ≡ length tokens.now.located }
+    ensures ends { result.ends ≡ ends_of tokens.now.located }
+{
+    let mut ends = 0u64;
+    for located in tokens.as_slice() {
+        ends = ends.wrapping_add(located.span.end as u64);
+    }
+    Count {
+        tokens: tokens.as_slice().len(),
+        ends,
+    }
+}
+
+/// Cuts a text into its tokens, once and then again up to so many times, and counts them.
+pub fn count_again(alloc: Global, text: &str, repetitions: u32) -> Result<Count, LexFault>
+    ensures { IfOk result (CountsTokensOf text.now) }
+{
+    let mut last = counted(&lex(alloc, text)?);
+    for _ in 1..repetitions {
+        last = counted(&lex(alloc, text)?);
+    }
+    Ok(last)
+}
