@@ -69,11 +69,13 @@ change_of DeleteSession = Some change.DeleteSession
 change_of (AddActiveRole role) = Some change.AddActiveRole
 change_of (DropActiveRole role) = Some change.DropActiveRole
 
--- the reply to an accepted command on this policy list: a login tells the number of its session, and each tells the new version
+-- the reply to an accepted command that makes this change, or is a login, on this policy list: a login tells the number of its
+-- session, and each tells the new version
 abbrev pub reply_of_change : Option Change → List Entry → Reply
 reply_of_change None entries = Login (logins entries + 1) (length entries + 1)
 reply_of_change (Some change) entries = Changed change (length entries + 1)
 
+-- the reply to this accepted command on the policy list
 abbrev pub accepted_reply : List Entry → AdminCommand → Reply
 accepted_reply entries command = reply_of_change (change_of command) entries
 

@@ -8,6 +8,8 @@ use Rattle.access_core.specs.declared.reply.Reply.{Reply}
 use Rattle.access_core.specs.declared.reply.Reply.TheVariants as reply
 use Rattle.access_core.specs.Rules.{Refuses}
 use Rattle.access_core.specs.Desk.{Desk, AdminStep, DeskStep}
+use Rattle.access_core.specs.Needs.{IsAccepted}
+use Rattle.estserve.specs.declared.lines.TheConstants.{LINE_BYTES}
 use Rattle.estserve.specs.declared.request.Request.{Request}
 use Rattle.estserve.specs.declared.request.Request.TheVariants.{Login, Logout, Grant, Load, Offer, Step, Look}
 use Rattle.estserve.specs.Requests.{IsReadAs, IsRequest}
@@ -61,7 +63,7 @@ with_login desk login = record { desk = desk; login = login }
 
 -- the line asks for a request, which is answered
 pub record AnswersRequest (line : List ℕ) (before : DeskAndLogin) (given : Reply) (after : DeskAndLogin) : Type 0 where
-  pub short : length line ≤ 65536
+  pub short : length line ≤ LINE_BYTES
   pub request : Request
   pub is : IsRequest line request
   pub asked : Asks request before.login before.desk given after.desk
@@ -69,8 +71,8 @@ pub record AnswersRequest (line : List ℕ) (before : DeskAndLogin) (given : Rep
 
 -- why a line is refused before anything is asked: it is over the limit, or it reads as no request
 pub data IsNoRequest (line : List ℕ) (refusal : Refusal) : Type 0 where
-  too_long : 65536 < length line → refusal ≡ TooLong → IsNoRequest line refusal
-  not_read : length line ≤ 65536 → IsReadAs line (Err refusal) → IsNoRequest line refusal
+  too_long : LINE_BYTES < length line → refusal ≡ TooLong → IsNoRequest line refusal
+  not_read : length line ≤ LINE_BYTES → IsReadAs line (Err refusal) → IsNoRequest line refusal
 
 -- the line is refused before anything is asked, and nothing is changed
 pub record RefusesLine (line : List ℕ) (before : DeskAndLogin) (given : Reply) (after : DeskAndLogin) : Type 0 where
@@ -82,11 +84,6 @@ pub record RefusesLine (line : List ℕ) (before : DeskAndLogin) (given : Reply)
 -- what one line does: the reply, and desk and login afterwards
 abbrev pub LineStep : List ℕ → (before : DeskAndLogin) → Reply → (after : DeskAndLogin) → Type 0
 LineStep line before given after = RefusesLine line before given after ⊎ AnswersRequest line before given after
-
--- the reply tells that the command was accepted
-abbrev pub IsAccepted : Reply → Type 0
-IsAccepted (reply.Refused refusal) = ⊥
-IsAccepted _ = Unit {0}
 
 -- the text is that of the reply to the line
 pub record Tells (line : List ℕ) (before : DeskAndLogin) (text : List ℕ) (after : DeskAndLogin) : Type 0 where

@@ -1,9 +1,11 @@
 //! From the bytes of a line to the bytes of its answer: the connection's rules, over one desk.
-ghost use Rattle.std.specs.Prelude.{◌≡◌, ◌↔◌, IsTrue, MatchResult, Some, None};
+ghost use Rattle.std.specs.Prelude.{◌≡◌, IsTrue, MatchResult, Some, None};
 ghost use Rattle.rbac_policy.specs.declared.commands.AdminCommand.TheVariants.{DeleteSession};
 ghost use Rattle.rbac_admin.specs.PolicyStep.{is_decided};
 ghost use Rattle.access_core.specs.Desk.{AdminStep, DeskStep};
-ghost use Rattle.estserve.specs.Connection.{Unheld, Held, Asks, after_login, after_logout, login_after, with_login, LineStep, Tells, TellsNothing, IsAccepted, HangsUp};
+ghost use Rattle.estserve.specs.declared.request.Request.TheVariants.{Login};
+ghost use Rattle.estserve.specs.Connection.{Unheld, Held, Asks, after_login, after_logout, login_after, with_login, LineStep, Tells, TellsNothing, HangsUp};
+ghost use Rattle.access_core.specs.Needs.{IsAccepted};
 
 use crate::lines::LINE_BYTES;
 use crate::reading::request;
@@ -14,6 +16,7 @@ use access_core::refusal::Refusal;
 use access_core::reply::Reply;
 use access_core::single::Single;
 use rbac_policy::commands::{AdminCommand, SessionId};
+use rbac_policy::names::{Name, RoleNames};
 use std::alloc::{AllocError, Global};
 
 /// What a line is answered, and the login that the connection holds afterwards.
@@ -80,17 +83,23 @@ fn after_logout(reply: &Reply, before: &Option<SessionId>) -> Option<SessionId>
     }
 }
 
+/// A login of this user in these roles, on a connection with this login.
+fn ask_login(desk: &mut Single, held: &Option<SessionId>, roles: RoleNames, user: Name) -> Turn
+    ensures asked { Asks (Login roles user) held.now desk.old result.reply desk.new }
+    ensures login { result.login ≡ login_after (Login roles user) result.reply held.now }
+{
+    let reply = log_in(desk, held, AdminCommand::CreateSession { user, roles });
+    let login = after_login(&reply, held);
+    Turn { reply, login }
+}
+
 /// A request on a connection with this login.
 fn ask(desk: &mut Single, held: &Option<SessionId>, request: Request) -> Turn
     ensures asked { Asks request held.now desk.old result.reply desk.new }
     ensures login { result.login ≡ login_after request result.reply held.now }
 {
     let reply = match request {
-        Request::Login { roles, user } => {
-            let reply = log_in(desk, held, AdminCommand::CreateSession { user, roles });
-            let login = after_login(&reply, held);
-            return Turn { reply, login };
-        }
+        Request::Login { roles, user } => return ask_login(desk, held, roles, user),
         Request::Logout => {
             let reply = administer(desk, held, AdminCommand::DeleteSession);
             let login = after_logout(&reply, held);
@@ -142,13 +151,14 @@ fn respond(alloc: Global, desk: &mut Single, held: &Option<SessionId>, line: &[u
     }
 }
 
-/// Whether the command was accepted.
-fn is_accepted(reply: &Reply) -> bool
-    ensures { IsTrue result ↔ IsAccepted reply.now }
+/// The login where no text was made of the reply: after an accepted command the one that it leaves, and else the one that was held.
+fn untold(turn: &Turn, held: &Option<SessionId>) -> Option<SessionId>
+    ensures accepted { IsAccepted turn.now.reply → result ≡ turn.now.login }
+    ensures refused { (IsAccepted turn.now.reply → ⊥) → result ≡ held.now }
 {
-    match reply {
-        Reply::Refused(_) => false,
-        _ => true,
+    match &turn.reply {
+        Reply::Refused(_) => *held,
+        _ => turn.login,
     }
 }
 
@@ -171,10 +181,7 @@ pub fn answer(
             Ok(text)
         }
         Err(error) => {
-            if is_accepted(&turn.reply) {
-                *login = turn.login;
-                return Err(error);
-            }
+            *login = untold(&turn, login);
             Err(error)
         }
     }

@@ -109,7 +109,7 @@ fn last_line(held: &mut Vec<u8>) -> Option<Vec<u8>>
 }
 
 fn within_limit(line: Vec<u8>) -> Result<Option<Vec<u8>>, LineFault>
-    ensures { result ≡ (if nat_le (length line.items) 65536 then Ok (Some line) else Err LineFault.TooLong) }
+    ensures { result ≡ (if nat_le (length line.items) LINE_BYTES then Ok (Some line) else Err LineFault.TooLong) }
 {
     if line.len() > LINE_BYTES {
         Err(LineFault::TooLong)

@@ -2,7 +2,9 @@
 ghost use Rattle.std.specs.Prelude.{⊤};
 
 use super::{Answerer, End, serve};
+use crate::connection::Connection;
 use crate::lines::LINE_BYTES;
+use access_core::reply::{Change, Reply};
 use std::alloc::{AllocError, Global};
 use std::io;
 use std::io::{ErrorKind, Read, Write};
@@ -122,12 +124,55 @@ fn long_lines(rt: HostRuntime) -> Result<(), Fail> {
         }
         let (end, written) = echoed(alloc, bytes.as_slice(), 5000, AMPLE, false);
         if count == LINE_BYTES {
+            let mut answers = vec![in alloc; b'x'; count]?;
+            let rest = if has_end { ".\nnext.\n" } else { ".\n" };
+            answers.extend_from_slice(rest.as_bytes())?;
             assert!(rt; end == End::Closed);
-            assert!(rt; written.len() >= count + 2);
+            assert!(rt; written.as_slice() == answers.as_slice());
         } else {
             assert!(rt; end == End::TooLong);
             assert!(rt; written.as_slice() == b"{\"code\":1,\"fault\":\"TooLong\"}\n".as_slice());
         }
+    }
+    Ok(())
+}
+
+/// A login, a line that is no JSON, a grant by a last line without LF.
+const LINES: &str =
+    "{\"cmd\":\"login\",\"roles\":[\"root\"],\"user\":\"root\"}\nfly\n{\"cmd\":\"grant\",\"object\":\"0\",\"op\":\"load\",\"role\":\"root\"}";
+
+/// Their answers.
+const ANSWERS: &str =
+    "{\"ok\":\"login\",\"session\":1,\"version\":5}\n{\"code\":2,\"fault\":\"NotJson\"}\n{\"ok\":\"grant\",\"version\":6}\n";
+
+#[test]
+fn a_held_login_is_logged_out_at_the_end(rt: HostRuntime) -> Result<(), Fail> {
+    let alloc = rt.alloc();
+    for step in [1usize, 7, 5000] {
+        let mut connection = Connection::open(alloc)?;
+        let mut reader = Trickle {
+            bytes: LINES.as_bytes(),
+            step,
+            fails: false,
+        };
+        let mut writer = Sink {
+            written: Vec::new(alloc),
+            step: 11,
+            room: AMPLE,
+        };
+        let end = serve(alloc, &mut reader, &mut writer, &mut connection);
+        assert!(rt; end == End::Closed);
+        assert!(rt; writer.written.as_slice() == ANSWERS.as_bytes());
+        let left = connection.end();
+        assert!(rt;
+            matches!(
+                left,
+                Some(Reply::Changed {
+                    change: Change::DeleteSession,
+                    version: 7
+                })
+            )
+        );
     }
     Ok(())
 }
