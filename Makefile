@@ -1,10 +1,12 @@
 # `make run`: prove and build what is needed, and run the opening script on the built program.
 # `make test`: that the documents are in step, and then all proofs, wrong bodies, tests and stored runs.
 # Its last line is 'N passed, M failed'.
-# `make bench`: commands a second of the built program, beside Python's json over the same lines; and instants a second of the engine.
+# `make bench`: commands a second of the built program, beside Python's json over the same lines; instants a second of the engine;
+# megabytes a second of the tokens of a text, beside Python's re.
 PROGRAM := crates/estserve/out/estserve
 SCRIPT := crates/estserve/stdin
 ENGINE := crates/est_bench/out/est_bench
+TEXTS := crates/text_bench/out/text_bench
 
 .PHONY: run build test bench
 
@@ -22,3 +24,5 @@ bench: build
 	python3 bench/commands.py $(PROGRAM)
 	@cd crates/est_bench && rt run -- all 1 > /dev/null
 	python3 bench/instants.py $(ENGINE)
+	@cd crates/text_bench && rt run -- 1 < stdin > /dev/null
+	python3 bench/texts.py $(TEXTS)
