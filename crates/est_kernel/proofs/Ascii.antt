@@ -16,6 +16,7 @@ all_small [] h i = omega arith
 all_small (b ∷ bs) h zero = small b (grind (arith, nat_tests, common_steps))
 all_small (b ∷ bs) h (suc i) = all_small bs (grind (arith, nat_tests, common_steps)) i
 
+-- an identifier is text
 pub identifier_is_text : (bs : List ℕ) → is_identifier bs ≡ true → IsUtf8 bs
 identifier_is_text [] h = cc
 identifier_is_text (b ∷ bs) h = IsUtf8-from_ascii (b ∷ bs) (all_small (b ∷ bs) (grind (arith, nat_tests, common_steps)))

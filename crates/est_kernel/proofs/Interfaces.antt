@@ -8,11 +8,13 @@ use Rattle.est_kernel.specs.declared.interface.Kind.{Kind}
 use Rattle.est_kernel.specs.declared.interface.Kind.TheVariants.{Input, Output}
 use Rattle.est_kernel.specs.declared.interface.Declaration.{Declaration}
 
+-- nothing is declared past the end
 pub declares_beyond : (kind : Kind) (ds : List Declaration) (n : ℕ) → length ds ≤ n → declares kind ds n ≡ false
 declares_beyond kind [] n h = refl
 declares_beyond kind (d ∷ ds) zero h = absurd (omega arith)
 declares_beyond kind (d ∷ ds) (suc n) h = declares_beyond kind ds n (omega arith)
 
+-- a place is of the kind of its declaration
 pub declares_at : (kind : Kind) (ds : List Declaration) (n : ℕ) (d : Declaration) → n < length ds → declares kind ds n ≡ same_kind (get_or ds n d).kind kind
 declares_at kind [] n d h = absurd (omega arith)
 declares_at kind (e ∷ ds) zero d h = refl
@@ -38,6 +40,7 @@ same_refl : (kind : Kind) → same_kind kind kind ≡ true
 same_refl Input = refl
 same_refl Output = refl
 
+-- a declaration is of its own kind
 pub declares_its_kind : (ds : List Declaration) (n : ℕ) (d : Declaration) → n < length ds → d ≡ get_or ds n d → declares d.kind ds n ≡ true
 declares_its_kind ds n d h e = declares_at d.kind ds n d h ∙ rw (sym e) (same_refl d.kind)
 
@@ -60,6 +63,7 @@ neither : (a b : Bool) → (a || b) ≡ false → (a ≡ false) × (b ≡ false)
 neither false b h = (refl, h)
 neither true b h = cc
 
+-- one more that none is, at the end
 pub distinct_push : {K : Type 0} (eq : K → K → Bool) (xs : List K) (y : K) → IsDistinct eq xs → list_any (λ x. eq x y) xs ≡ false → IsDistinct eq (xs ++ y ∷ [])
 unfolding IsDistinct
 distinct_push eq [] y d n = (tt, tt)

@@ -27,22 +27,27 @@ min_one (suc zero) (suc zero) p q = refl
 min_one (suc (suc x)) y p q = absurd (omega arith)
 min_one x (suc (suc y)) p q = absurd (omega arith)
 
+-- the bits of either mask
 pub bits_or : (a b n : ℕ) → bits (bit_or a b) n ≡ (bits a n || bits b n)
 unfolding bits
 bits_or a b n = rw bit_at_or (max_one (bit_at a n) (bit_at b n) (bit_at-lt a n) (bit_at-lt b n))
 
+-- the bits of both masks
 pub bits_and : (a b n : ℕ) → bits (bit_and a b) n ≡ (bits a n && bits b n)
 unfolding bits
 bits_and a b n = rw bit_at_and (min_one (bit_at a n) (bit_at b n) (bit_at-lt a n) (bit_at-lt b n))
 
+-- either mask, as a set
 pub either_bits : (a b : ℕ) → bits (bit_or a b) ≡ either_code (bits a) (bits b)
 unfolding either_code
 either_bits a b = fun_ext (λ n. bits_or a b n)
 
+-- a bit, as the code asks for it
 pub has_bit : (m n : ℕ) → nat_eq (bit_and (m / 2 ^ n) 1) 1 ≡ bits m n
 unfolding bits
 has_bit m n = ap (λ x. nat_eq x 1) (shr_and_one m n)
 
+-- the bits of a power of two
 pub bits_pow : (k n : ℕ) → bits (2 ^ k) n ≡ nat_eq k n
 unfolding bits
 bits_pow k n = elim (cases_eq n k) [
@@ -50,22 +55,27 @@ bits_pow k n = elim (cases_eq n k) [
   | inr d ↦ ap (λ x. nat_eq x 1) (bit_at-pow_other k n d) ∙ sym (ne_eqb k n (λ e. d (sym e)))
 ]
 
+-- a power of two, as a set
 pub single_bits : (k : ℕ) → bits (2 ^ k) ≡ code k
 unfolding code
 single_bits k = fun_ext (λ n. bits_pow k n)
 
+-- no bit of 0 is set
 pub bits_zero : (n : ℕ) → bits 0 n ≡ false
 unfolding bits
 bits_zero n = ap (λ x. nat_eq x 1) (bit_at-zero n)
 
+-- no bit past the width is set
 pub bits_above : (x n : ℕ) → x < 2 ^ 64 → 64 ≤ n → bits x n ≡ false
 unfolding bits
 bits_above x n p q = ap (λ y. nat_eq y 1) (bit_at_above x 64 n p q)
 
+-- the bits of a half
 pub bits-suc : (x n : ℕ) → bits x (suc n) ≡ bits (x / 2) n
 unfolding bits
 bits-suc x n = ap (λ y. nat_eq y 1) (bit_at-suc x n)
 
+-- an even number has no lowest bit
 pub bits_even : (x : ℕ) → bits (x * 2) 0 ≡ false
 unfolding bits
 bits_even x = let e : x * 2 / 2 ^ 0 % 2 ≡ 0 = omega arith in ap (λ y. nat_eq y 1) e
@@ -138,9 +148,11 @@ lowered_at a (suc (suc k)) =
     ∙ rw (quarter 1 k, quarter 2 k, bits_zero k, four_times (a / 8) k) (at_more (bits a (suc (suc k))) (bits (a / 4) (suc (suc k))) (bits (a / 8) k)
     ∙ sym (quarter a (suc k) ∙ (bits-suc (a / 4) k ∙ ap (λ x. bits x k) (omega arith))))
 
+-- the codes outside a trap, as a mask
 pub lowered_bits : (a : ℕ) → bits (bit_or (bit_or (bit_and (bit_or a (a / 4)) 1) (bit_and a 2)) (a / 8 * 4)) ≡ down (bits a)
 lowered_bits a = fun_ext (λ n. lowered_at a n)
 
+-- no number up to n is in the empty set
 pub up_to_none : (n : ℕ) → some_up_to (bits 0) n ≡ false
 up_to_none zero = bits_zero zero
 up_to_none (suc n) = rw (up_to_none n, bits_zero (suc n)) refl
@@ -161,6 +173,7 @@ up_to_from s k (suc n) e l = elim (cases_eq k (suc n)) [
   | inr d ↦ rw (up_to_from s k n e (omega arith)) refl
 ]
 
+-- the mask from the least bit on
 pub least_bits : (a n : ℕ) → 0 < a → a < 2 ^ 64 → n < 64 → bits (2 ^ 64 - 2 ^ trailing_zeros w64 a) n ≡ some_up_to (bits a) n
 unfolding bits
 least_bits a n p q l =
@@ -170,6 +183,7 @@ least_bits a n p q l =
       | inr h ↦ ap (λ y. nat_eq y 1) (bit_at_mask_inside (trailing_zeros w64 a) 64 n h l) ∙ sym (up_to_from (bits a) (trailing_zeros w64 a) n (ap (λ y. nat_eq y 1) low.1) h)
     ]
 
+-- the greater codes of all pairs, as a mask
 pub max_bits : (a b fa fb : ℕ) → a < 2 ^ 64 → b < 2 ^ 64
     → ((n : ℕ) → n < 64 → bits fa n ≡ some_up_to (bits a) n) → ((n : ℕ) → n < 64 → bits fb n ≡ some_up_to (bits b) n)
     → bits (bit_or (bit_and a fb) (bit_and b fa)) ≡ max_codes (bits a) (bits b)
@@ -179,6 +193,7 @@ max_bits a b fa fb p q h k = fun_ext (λ n. elim (cases_lt n 64) [
   | inr g ↦ rw (bits_or (bit_and a fb) (bit_and b fa) n, bits_and a fb n, bits_and b fa n, bits_above a n p g, bits_above b n q g) refl
 ])
 
+-- a mask leaves what lies past the width
 pub bits_and_above : (x y n : ℕ) → x < 2 ^ 64 → 64 ≤ n → bits (bit_and x y) n ≡ bits x n
 bits_and_above x y n p q = rw (bits_and x y n, bits_above x n p q) refl
 
@@ -191,6 +206,7 @@ bits_not : (b n : ℕ) → b < 2 ^ 64 → n < 64 → bits (2 ^ 64 - 1 - b) n ≡
 unfolding bits
 bits_not b n q l = ap (λ y. nat_eq y 1) (bit_at_not w64 b n q l) ∙ not_one (bit_at b n) (bit_at-lt b n)
 
+-- the bits of one mask that are not in another
 pub bits_minus : (a b n : ℕ) → a < 2 ^ 64 → b < 2 ^ 64 → bits (bit_and a (2 ^ 64 - 1 - b)) n ≡ (bits a n && not (bits b n))
 bits_minus a b n p q = bits_and a (2 ^ 64 - 1 - b) n ∙ elim (cases_lt n 64) [
   | inl l ↦ ap (λ x. bits a n && x) (bits_not b n q l)

@@ -22,6 +22,7 @@ pub paused_state : (s : Statement) (t : Term) (e : Env) (o : Signals) (k : ℕ) 
     → ((i : ℕ) → has_pause s i ≡ false → pauses_of p i ≡ false) → IsState s (Paused p)
 paused_state s t e o k p z h own = record { live = rw z at h.live; exclusive = h.exclusive; own = own }
 
+-- a step of code 1 is the reaction, and its pauses stand for the next term
 pub paused_reacts : (j : JudgedSignals) (inputs : ℕ → Bool) (s : Statement) (t : Term) (e : Env) (o : SignalSet) (k : ℕ) (p : PauseSet) → e ≡ last_env j inputs t → k ≡ 1
     → StepsTo s t e (set_of o) k (pauses_of p) → Reacts j inputs t (bits o.interface) (state_term s (Paused p))
 unfolding set_of

@@ -100,6 +100,7 @@ pub ended_side : (s : Statement) (a : ℕ → Bool) (e : Env) (n : ℕ → Bool)
     → StepsTo s (cond (is_live s a) (term_at s a) nothing) e o k n
 ended_side s a e n o k asleep dead eo ek = rw (asleep, eo, ek) (idle s e n dead)
 
+-- a side of a parallel that has moved
 pub moved_side : {s : Statement} {a : ℕ → Bool} {e : Env} {step : Step} {n : ℕ → Bool} → Moves s a e step n
     → StepsTo s (cond (is_live s a) (term_at s a) nothing) e (set_of step.signals) step.code n
 moved_side h = rw h.live h.steps

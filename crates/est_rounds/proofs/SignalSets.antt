@@ -11,18 +11,22 @@ use Rattle.est_rounds.specs.Views.{set_of, env_of, with_member}
 use Rattle.est_kernel.proofs.Masks.{bits_zero}
 use Rattle.est_rounds.specs.declared.signal_set.SignalSet.{SignalSet}
 
+-- two empty masks
 pub no_signals_set : set_of (record { interface = 0; local = 0 }) ≡ no_signals
 unfolding set_of no_signals
 no_signals_set = fun_ext (elim [ outer n ↦ bits_zero n | inner n ↦ bits_zero n ])
 
+-- the empty mask of codes
 pub zero_codes : bits 0 ≡ no_codes
 unfolding no_codes
 zero_codes = fun_ext (λ n. bits_zero n)
 
+-- one signal of the interface
 pub only_outer : (m k : ℕ) → bits m ≡ code k → set_of (record { interface = m; local = 0 }) ≡ only (outer k)
 unfolding set_of only code
 only_outer m k e = fun_ext (elim [ outer n ↦ ap (λ f. f n) e | inner n ↦ bits_zero n ])
 
+-- one local signal
 pub only_inner : (m k : ℕ) → bits m ≡ code k → set_of (record { interface = 0; local = m }) ≡ only (inner k)
 unfolding set_of only code
 only_inner m k e = fun_ext (elim [ outer n ↦ bits_zero n | inner n ↦ ap (λ f. f n) e ])
@@ -39,6 +43,7 @@ with_member_set i l m k b same other = fun_ext (elim [
   ]
 ])
 
+-- a local signal that is out
 pub without_is : (a : Signals) (k : ℕ) → with_member a k false ≡ without k a
 unfolding with_member without
 without_is a k = fun_ext (λ t. go (same_name (inner k) t) (a t))
@@ -47,6 +52,7 @@ without_is a k = fun_ext (λ t. go (same_name (inner k) t) (a t))
     go true c = refl
     go false c = refl
 
+-- a local signal that is set in both masks
 pub set_env : (p q p' q' : SignalSet) (k : ℕ) (b c : Bool)
     → set_of p' ≡ with_member (set_of p) k b → set_of q' ≡ with_member (set_of q) k c
     → env_of (record { present = p'; possible = q' }) ≡ with_local (env_of (record { present = p; possible = q })) k (verdict b c)

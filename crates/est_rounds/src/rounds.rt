@@ -4,6 +4,7 @@ ghost use Rattle.std.specs.Prelude.{◌≡◌, ◌≤◌, length, IfSome, IfNone
 ghost use Rattle.est_kernel.specs.Bits.{bits};
 ghost use Rattle.est_kernel.specs.Pauses.{pauses_of};
 ghost use Rattle.est_kernel.specs.View.{has_pause, is_live};
+ghost use Rattle.est_kernel.specs.declared.kernel.Kernel.{Kernel as KernelValue};
 ghost use Rattle.est_meaning.specs.MustCan.{must, can, sure};
 ghost use Rattle.est_meaning.specs.Rounds.{first_env, round, how_many, last_env};
 ghost use Rattle.est_meaning.specs.Rules.{HasNoRule};
@@ -162,7 +163,9 @@ pub struct Rounds {}
 
 impl Rounds {
     /// The engine, for every kernel. It takes no memory.
-    pub fn new() -> Self {
+    pub fn new() -> Self
+        ensures { (kernel : KernelValue) → ⟦<Rounds as Engine>⟧.is_for result kernel }
+    {
         Rounds {}
     }
 }
