@@ -1,4 +1,4 @@
--- The bytes that texts are cut by, each by its name in ASCII.
+-- The bytes that texts are cut by, each by its name (ASCII).
 use Rattle.std.specs.Prelude.{ℕ}
 
 abbrev pub tab : ℕ

@@ -1,4 +1,4 @@
--- Why a text has no tokens.
+-- Why a text has no tokens (this project's own form).
 use Rattle.std.specs.Prelude.{◌≡◌, ◌+◌, ℕ, List, length, take}
 use Rattle.est_text.specs.Pieces.{Cut, ArePieces, IsFault}
 use Rattle.est_text.specs.Places.{place_after}

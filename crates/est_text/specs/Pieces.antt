@@ -1,6 +1,5 @@
--- How a text is cut into blanks, comments and tokens (Berry, The Esterel v5 Language Primer; that a `%` alone begins a
--- comment up to the end of its line, that `%{` begins one up to the next `}%`, and the limit of 48 bytes are this
--- project's own form).
+-- How a text is cut into blanks, comments and tokens (Berry, The Esterel v5 Language Primer; the limit of an identifier's
+-- length, and that `%{` begins a comment up to the next `}%`, are this project's own form, as is what names no source).
 use Rattle.std.specs.Prelude.{◌≡◌, ◌≢◌, ◌≤◌, ◌<◌, ◌+◌, ℕ, List, [], ◌∷◌, ◌++◌, length, take, drop, Bool, false, ◌||◌, ◌==◌, nat_lt, IsTrue, slice_index, codes, Some, None}
 use Rattle.std.specs.List.{list_all}
 use Rattle.est_text.specs.Bytes.{space, tab, carriage_return, line_feed, form_feed, percent, open_brace, close_brace}
@@ -14,7 +13,7 @@ use Rattle.est_text.specs.declared.token.Located.{Located}
 use Rattle.est_text.specs.declared.piece.Piece.{Piece}
 use Rattle.est_text.specs.declared.piece.Piece.TheVariants as piece
 
--- a blank: space, tab, CR, LF or form feed (this project's own form)
+-- a blank: space, tab, CR, LF or form feed
 abbrev pub is_blank : ℕ → Bool
 is_blank b = b == space || b == tab || b == carriage_return || b == line_feed || b == form_feed
 
@@ -49,13 +48,13 @@ IsLineComment bytes = (cs : List ℕ) × (bytes ≡ percent ∷ cs) × StopsAt (
 abbrev pub ClosesAt : List ℕ → ℕ → Type 0
 ClosesAt bytes i = (slice_index bytes i ≡ close_brace) × (slice_index bytes (i + 1) ≡ percent)
 
--- `%{`, up to the next `}%`: comments do not nest (Berry, Language Primer)
+-- `%{`, up to the next `}%`: comments do not nest
 abbrev pub IsBlockComment : List ℕ → Type 0
 IsBlockComment bytes = (cs : List ℕ) × (bytes ≡ percent ∷ open_brace ∷ cs ++ close_brace ∷ percent ∷ [])
     × ((i : ℕ) → i < length cs → ¬ (ClosesAt (cs ++ close_brace ∷ percent ∷ []) i))
 
--- The bytes spell the token, where the rest follows. A word is the longest match: no byte of an identifier follows it.
--- No symbol begins another, so the longest match of a symbol is itself.
+-- The bytes spell the token, where the rest follows (Berry, Language Primer). A word is the longest match: no byte of an
+-- identifier follows it. No symbol begins another, so the longest match of a symbol is itself.
 abbrev pub IsSpelling : Token → List ℕ → List ℕ → Type 0
 IsSpelling (token.Keyword k) bytes rest = IsTrue (is_identifier bytes) × (keyword_of bytes ≡ Some k) × StopsAt is_identifier_byte rest
 IsSpelling (token.Identifier name) bytes rest = IsTrue (is_identifier bytes) × (keyword_of bytes ≡ None) × StopsAt is_identifier_byte rest × (name ≡ bytes)

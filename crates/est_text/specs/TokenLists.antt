@@ -1,4 +1,4 @@
--- A text with its tokens, as callers see them.
+-- A text with its tokens, as callers see them (this project's own form).
 use Rattle.std.specs.Prelude.{◌≡◌, ◌<◌, ◌≤◌, ◌+◌, ◌^◌, ℕ, List, length, take, drop, Option, Some, None, slice_get, slice_range}
 use Rattle.est_text.specs.Pieces.{AreTokens, IsSpelling}
 use Rattle.est_text.specs.Places.{place_after}
@@ -15,7 +15,7 @@ pub record IsTokenList (source : List ℕ) (located : List Located) : Type 0 whe
   pub short : length source + 1 < 2 ^ 64
   pub cut : AreTokens source located
 
--- a token stands within the text, and its slice spells it (this project's own form)
+-- a token stands within the text, and its slice spells it
 pub record StandsIn (source : List ℕ) (l : Located) : Type 0 where
   pub ordered : l.span.start ≤ l.span.end
   pub within : l.span.end ≤ length source
