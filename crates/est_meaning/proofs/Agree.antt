@@ -18,9 +18,11 @@ or_true false y e = e
 pub left_of : (p q : Statement) (a b : ℕ → Bool) → ((i : ℕ) → (has_pause p i || has_pause q i) ≡ true → a i ≡ b i) → Agree p a b
 left_of p q a b f i h = f i (rw h refl)
 
+-- what agrees on both sides agrees on the right one
 pub right_of : (p q : Statement) (a b : ℕ → Bool) → ((i : ℕ) → (has_pause p i || has_pause q i) ≡ true → a i ≡ b i) → Agree q a b
 right_of p q a b f i h = f i (or_true (has_pause p i) (has_pause q i) h)
 
+-- whether a pause is set
 pub live_same : (s : Statement) (a b : ℕ → Bool) → Agree s a b → is_live s a ≡ is_live s b
 live_same Nothing a b f = refl
 live_same (Pause n) a b f = f n.index (eq-eqb n.index n.index refl)
@@ -34,6 +36,7 @@ live_same (Trap' x p) a b f = live_same p a b f
 live_same (Exit k) a b f = refl
 live_same (Binder' s x p) a b f = live_same p a b f
 
+-- the term that is left
 pub at_same : (s : Statement) (a b : ℕ → Bool) → Agree s a b → term_at s a ≡ term_at s b
 at_same Nothing a b f = refl
 at_same (Pause n) a b f = refl
@@ -50,6 +53,7 @@ at_same (Trap' x p) a b f = ap (λ u. trap u) (at_same p a b f)
 at_same (Exit k) a b f = refl
 at_same (Binder' s x p) a b f = ap (λ u. signal s.index u) (at_same p a b f)
 
+-- that no two sides are set
 pub exclusive_same : (s : Statement) (a b : ℕ → Bool) → Agree s a b → IsExclusive s a → IsExclusive s b
 exclusive_same Nothing a b f h = tt
 exclusive_same (Pause n) a b f h = tt
@@ -92,6 +96,7 @@ dead_exclusive (Trap' x p) a h = dead_exclusive p a h
 dead_exclusive (Exit k) a h = tt
 dead_exclusive (Binder' s x p) a h = dead_exclusive p a h
 
+-- where no pause of s is set, it is not live
 pub cleared_dead : (s : Statement) (a : ℕ → Bool) → ((i : ℕ) → has_pause s i ≡ true → a i ≡ false) → is_live s a ≡ false
 cleared_dead Nothing a f = refl
 cleared_dead (Pause n) a f = f n.index (eq-eqb n.index n.index refl)

@@ -6,10 +6,12 @@ use mathlib.Core.Path.{fun_ext}
 use Rattle.est_kernel.specs.Codes.{Codes, no_codes, code, either_code, but_zero, max_codes, some_up_to, down}
 use Rattle.est_meaning.specs.Rules.{outside}
 
+-- a code alone, as a test
 pub code_at : (k n : ℕ) → code k n ≡ nat_eq k n
 unfolding code
 code_at k n = refl
 
+-- a code that is not 0 alone lacks 0
 pub code_zero : (k : ℕ) → k ≢ 0 → code k 0 ≡ false
 code_zero k d = code_at k 0 ∙ ne_eqb k 0 d
 
@@ -34,6 +36,7 @@ same_test a b c d f g = elim (cases_eq a b) [
   | inr n ↦ ne_eqb a b n ∙ sym (ne_eqb c d (λ h. n (g h)))
 ]
 
+-- either is true where the second is
 pub both_true : (x y : Bool) → y ≡ true → (x || y) ≡ true
 both_true true y e = refl
 both_true false y e = e
@@ -77,6 +80,7 @@ max_at i j k = elim (cases_lt i j) [
     and_none true = refl
     and_none false = refl
 
+-- the greater of two codes alone
 pub max_of_codes : (i j : ℕ) → max_codes (code i) (code j) ≡ code (max i j)
 unfolding max_codes
 max_of_codes i j = fun_ext (λ k. max_at i j k)
@@ -96,13 +100,16 @@ down_at (suc (suc (suc i))) zero = rw (ne_eqb (suc (suc (suc i))) 0 (λ h. absur
 down_at (suc (suc (suc i))) (suc zero) = same_test (suc (suc (suc i))) 1 (suc (suc i)) 1 (λ h. absurd (omega arith)) (λ h. absurd (omega arith))
 down_at (suc (suc (suc i))) (suc (suc k)) = same_test (suc (suc (suc i))) (suc (suc (suc k))) (suc (suc i)) (suc (suc k)) (λ h. omega arith) (λ h. omega arith)
 
+-- a code alone, outside a trap
 pub down_code : (i : ℕ) → down (code i) ≡ code (outside i)
 down_code i = fun_ext (λ k. down_at i k)
 
+-- after an end, the later code alone
 pub later_code : (k : ℕ) → either_code (but_zero (code 0)) (code k) ≡ code k
 unfolding either_code but_zero
 later_code k = fun_ext (elim [ zero ↦ refl | suc n ↦ rw (code_at 0 (suc n), ne_eqb 0 (suc n) (λ e. absurd (omega arith))) refl ])
 
+-- a code up to k can be found
 pub up_to_found : (a : Codes) (k : ℕ) → some_up_to a k ≡ true → (j : ℕ) × (j ≤ k) × (a j ≡ true)
 up_to_found a zero h = (0, omega arith, h)
 up_to_found a (suc k) h = elim (or_cases (some_up_to a k) (a (suc k)) h) [
@@ -117,6 +124,7 @@ up_to_mono a b (suc k) f h = elim (or_cases (some_up_to a k) (a (suc k)) h) [
   | inr g ↦ both_true (some_up_to b k) (b (suc k)) (f (suc k) g)
 ]
 
+-- of larger sets the greater codes are more
 pub max_mono : (a b a' b' : Codes) (k : ℕ) → ((i : ℕ) → a i ≡ true → a' i ≡ true) → ((i : ℕ) → b i ≡ true → b' i ≡ true) → max_codes a b k ≡ true → max_codes a' b' k ≡ true
 unfolding max_codes
 max_mono a b a' b' k f g h = elim (or_cases (a k && some_up_to b k) (b k && some_up_to a k) h) [
@@ -124,15 +132,18 @@ max_mono a b a' b' k f g h = elim (or_cases (a k && some_up_to b k) (b k && some
   | inr l ↦ let p = and_parts (b k) (some_up_to a k) l in both_true (a' k && some_up_to b' k) _ (rw (g k p.0, up_to_mono a a' k f p.1) refl)
 ]
 
+-- of a larger set more is left outside a trap
 pub down_mono : (a b : Codes) (k : ℕ) → ((i : ℕ) → a i ≡ true → b i ≡ true) → down a k ≡ true → down b k ≡ true
 unfolding down
 down_mono a b zero f h = elim (or_cases (a 0) (a 2) h) [ inl g ↦ rw (f 0 g) refl | inr g ↦ both_true (b 0) (b 2) (f 2 g) ]
 down_mono a b (suc zero) f h = f 1 h
 down_mono a b (suc (suc k)) f h = f (suc (suc (suc k))) h
 
+-- the only member of a code alone
 pub code_true : (n k : ℕ) → code n k ≡ true → k ≡ n
 code_true n k h = sym (eqb-true n k (sym (code_at n k) ∙ h))
 
+-- no code has no member
 pub none_true : {A : Type 0} (k : ℕ) → no_codes k ≡ true → A
 unfolding no_codes
 none_true k h = cc

@@ -310,6 +310,7 @@ signal_eased s p P e =
     ((P.eased (with_local e s Unknown)).signals (inner s))
     ((must_can p (with_local e s Unknown)).signals (inner s))))))
 
+-- all of it, by induction on the term
 pub monotone : (t : Term) → Monotone t
 monotone nothing = record { must_up = λ e f k. same_within _; can_down = λ m e f k. same_within _; eased = λ e. same_within _ }
 monotone pause = record { must_up = λ e f k. same_within _; can_down = λ m e f k. same_within _; eased = λ e. same_within _ }

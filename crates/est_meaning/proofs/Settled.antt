@@ -10,6 +10,7 @@ stays (suc k) n j t e h =
     let c : suc k + n ≡ suc (k + n) = omega arith in
     ap (λ m. env_after m j t e) c ∙ (ap (round j t) (stays k n j t e h) ∙ h)
 
+-- where a round changes nothing, no later one does
 pub settled : (m n : ℕ) → n ≤ m → (j : JudgedSignals) (t : Term) (e : Env) → round j t (env_after n j t e) ≡ env_after n j t e → env_after n j t e ≡ env_after m j t e
 settled m n l j t e h =
     let c : (m - n) + n ≡ m = omega arith in

@@ -1,5 +1,5 @@
 -- Steps of a statement from those of its parts.
-use Rattle.std.proofs.Common.{inl, inr, ◌≡◌, ◌≢◌, ℕ, zero, suc, Bool, true, false, not, ◌&&◌, ◌||◌, cond, nat_eq, max, refl, ap, sym, ◌∙◌, subst, arith, Option, Some, None, IfSome, IfNone}
+use Rattle.std.proofs.Common.{inl, inr, ◌≡◌, ◌≢◌, ℕ, zero, suc, Bool, true, false, ◌&&◌, ◌||◌, cond, nat_eq, max, refl, ap, sym, ◌∙◌, subst, arith, Option, Some, None, IfSome, IfNone}
 use Rattle.est_kernel.specs.View.{term_of, term_at, is_live, has_pause, IsNumbered, IsExclusive, AreApart, query_of}
 use Rattle.est_kernel.specs.Term.{Term, nothing, present, held, seq, loop, par}
 use Rattle.est_kernel.specs.declared.statement.Statement.{Statement}
@@ -11,8 +11,9 @@ use Rattle.est_meaning.specs.Rules.{Gives, HasNoRule, rest_of, takes_first, take
 use Rattle.est_meaning.proofs.Uniqueness.{unique}
 use Rattle.std.proofs.lemmas.Bool.{cases_eq, ne_eqb, or_parts}
 use Rattle.est_meaning.specs.Steps.{StepsTo}
-use Rattle.est_meaning.proofs.Agree.{Agree, live_same, at_same, exclusive_same, dead_exclusive, apart_left, apart_right, cleared_dead}
+use Rattle.est_meaning.proofs.Agree.{Agree, live_same, at_same, exclusive_same, dead_exclusive, apart_left, apart_right}
 
+-- the same step, over pauses that agree on s
 pub steps_same : (s : Statement) (t : Term) (e : Env) (o : Signals) (k : ℕ) (a b : ℕ → Bool) → Agree s a b → StepsTo s t e o k a → StepsTo s t e o k b
 steps_same s t e o k a b f h = record {
   gives = subst (λ u. Gives t e o k (rest_of k u)) (at_same s a b f) h.gives;
@@ -20,6 +21,7 @@ steps_same s t e o k a b f h = record {
   exclusive = exclusive_same s a b f h.exclusive;
 }
 
+-- what is left inside a statement is left once
 pub rest_in : (f : Term → Term) (k : ℕ) (x : Term) → rest_of k (f x) ≡ rest_of k (f (rest_of k x))
 rest_in f zero x = refl
 rest_in f (suc zero) x = refl
@@ -79,30 +81,37 @@ pub stays_dead : (p q q' : Statement) (m n : ℕ → Bool) → q' ≡ q → IsNu
 stays_dead p q q' m n eq num dead f =
     sym (live_same p m n (apart_left p q m n num.2 (λ i h. f i (rw eq h)))) ∙ dead
 
+-- the first part stays without pauses
 pub first_dead : (p q q' : Statement) (m n : ℕ → Bool) → q' ≡ q → IsNumbered p × IsNumbered q × AreApart p q
     → (is_live p m || is_live q m) ≡ false → ((i : ℕ) → has_pause q' i ≡ false → n i ≡ m i) → is_live p n ≡ false
 first_dead p q q' m n eq num dead f = stays_dead p q q' m n eq num (or_parts (is_live p m) (is_live q m) dead).0 f
 
+-- the second part stays without pauses
 pub second_dead : (p q : Statement) (m n : ℕ → Bool) → AreApart p q
     → (is_live p m || is_live q m) ≡ false → ((i : ℕ) → has_pause p i ≡ false → n i ≡ m i) → is_live q n ≡ false
 second_dead p q m n apart dead f =
     sym (live_same q m n (apart_right p q m n apart f)) ∙ (or_parts (is_live p m) (is_live q m) dead).1
 
+-- a sequence whose second part has no rule
 pub seq_none : (p q : Term) (e : Env) (o : Signals) (u : Term) → Gives p e o 0 u → HasNoRule q e → HasNoRule (seq p q) e
 seq_none p q e o u g none o' k' u' (goes_on d h) = d (unique p e o' k' h.left o 0 u h.gives g).code
 seq_none p q e o u g none o' k' u' (ends_then a b v x y z) = none b k' u' y
 
+-- a loop whose body ends at once
 pub loop_none : (p : Term) (e : Env) (o : Signals) (u : Term) → Gives p e o 0 u → HasNoRule (loop p) e
 loop_none p e o u g o' k' u' h = h.not_ended (unique p e o' k' h.inside.left o 0 u h.inside.gives g).code
 
+-- what some value has, by what follows from it
 pub some_weaker : {A : Type 0} (r : Option A) (P Q : A → Type 0) → ((x : A) → P x → Q x) → IfSome r P → IfSome r Q
 some_weaker None P Q f h = tt
 some_weaker (Some x) P Q f h = f x h
 
+-- a fact that needs no value
 pub none_from : {A : Type 0} (r : Option A) (P : Type 0) → P → IfNone r P
 none_from None P p = p
 none_from (Some x) P p = tt
 
+-- the step of the first branch
 pub present_on : {a b : _} {s : _} {p q : Statement} {e : Env} {o : Signals} {k : ℕ} {n : ℕ → Bool}
     → Present ≡ status_of e (query_of s) → StepsTo p (term_of p) e o k n → is_live q n ≡ false → StepsTo (Present' s a p b q) (present (query_of s) (term_of p) (term_of q)) e o k n
 present_on {p = p} {q = q} {e = e} {o = o} {k = k} {n = n} d h dead = record {
@@ -111,6 +120,7 @@ present_on {p = p} {q = q} {e = e} {o = o} {k = k} {n = n} d h dead = record {
   exclusive = (h.exclusive, dead_exclusive q n dead, rw (dead, and_false (is_live p n)) refl);
 }
 
+-- the step of the second branch
 pub present_off : {a b : _} {s : _} {p q : Statement} {e : Env} {o : Signals} {k : ℕ} {n : ℕ → Bool}
     → Absent ≡ status_of e (query_of s) → StepsTo q (term_of q) e o k n → is_live p n ≡ false → StepsTo (Present' s a p b q) (present (query_of s) (term_of p) (term_of q)) e o k n
 present_off {p = p} {q = q} {e = e} {o = o} {k = k} {n = n} d h dead = record {
@@ -169,13 +179,6 @@ par_ends {p = p} {q = q} {t = t} {u = u} {e = e} {o = o} {o' = o'} {i = i} {j = 
   exclusive = (dead_exclusive p m dp, dead_exclusive q m dq);
 }
 
-pub both_cleared : (p q : Statement) (n a b : ℕ → Bool) → ((i : ℕ) → a i ≡ (not (has_pause p i) && n i)) → ((i : ℕ) → b i ≡ (not (has_pause q i) && a i))
-    → (is_live p b ≡ false) × (is_live q b ≡ false)
-both_cleared p q n a b f g = (
-  cleared_dead p b (λ i h. let e : a i ≡ false = f i ∙ rw h refl in g i ∙ (rw e (and_false (not (has_pause q i))))),
-  cleared_dead q b (λ i h. g i ∙ rw h refl),
-)
-
 -- going on in one side of a `present` or a `;`
 pub present_first : {a b : _} {s : _} {p q : Statement} {t : Term} {e : Env} {o : Signals} {k : ℕ} {n : ℕ → Bool}
     → StepsTo p t e o k n → is_live q n ≡ false → StepsTo (Present' s a p b q) t e o k n
@@ -185,6 +188,7 @@ present_first {p = p} {q = q} {t = t} {e = e} {o = o} {k = k} {n = n} h dead = r
   exclusive = (h.exclusive, dead_exclusive q n dead, rw (dead, and_false (is_live p n)) refl);
 }
 
+-- the second branch goes on
 pub present_second : {a b : _} {s : _} {p q : Statement} {t : Term} {e : Env} {o : Signals} {k : ℕ} {n : ℕ → Bool}
     → StepsTo q t e o k n → is_live p n ≡ false → StepsTo (Present' s a p b q) t e o k n
 present_second {p = p} {q = q} {n = n} h dead = record {
@@ -193,6 +197,7 @@ present_second {p = p} {q = q} {n = n} h dead = record {
   exclusive = (dead_exclusive p n dead, h.exclusive, rw dead refl);
 }
 
+-- the second part goes on
 pub seq_second : {a b : _} {p q : Statement} {t : Term} {e : Env} {o : Signals} {k : ℕ} {n : ℕ → Bool}
     → StepsTo q t e o k n → is_live p n ≡ false → StepsTo (Seq' a p b q) t e o k n
 seq_second {p = p} {q = q} {n = n} h dead = record {
@@ -213,6 +218,7 @@ loop_again {p = p} {t = t} {o = o} {o' = o'} {k = k} {n = n} d h g = record {
   exclusive = g.exclusive;
 }
 
+-- a loop whose body has no rule
 pub loop_none_in : (p : Term) (e : Env) → HasNoRule p e → HasNoRule (loop p) e
 loop_none_in p e none o k u h = none o k h.inside.left h.inside.gives
 
@@ -228,6 +234,7 @@ stays_held {s = s} {p = p} {n = n} b m d live excl f =
       exclusive = exclusive_same p b n same excl;
     }
 
+-- a side that has ended takes a step that does nothing
 pub idle : (p : Statement) (e : Env) (n : ℕ → Bool) → is_live p n ≡ false → StepsTo p nothing e no_signals 0 n
 idle p e n dead = record { gives = record { signals = refl; code = refl; rest = refl }; live = dead; exclusive = dead_exclusive p n dead }
 
