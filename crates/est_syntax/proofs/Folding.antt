@@ -1,0 +1,62 @@
+-- The tree that each unit is.
+use Rattle.std.proofs.Common.{◌≡◌, ℕ, List, Bool, rules}
+use Rattle.est_syntax.specs.Tree.{nothing, pause, halt, emit, sustain, exit, await, present, suspend, abort, weak_abort, repeat, repeat_each, every, trap, signal, group}
+use Rattle.est_syntax.specs.Views.{delay_view, names_view, weak_end_view, unit_view, branches_view, statement_view}
+use Rattle.est_syntax.specs.declared.tree.Delay.{Delay}
+use Rattle.est_syntax.specs.declared.tree.Names.{Names}
+use Rattle.est_syntax.specs.declared.tree.WeakEnd.{WeakEnd}
+use Rattle.est_syntax.specs.declared.tree.Unit.TheVariants as unit
+use Rattle.est_syntax.specs.declared.tree.Branches.{Branches}
+use Rattle.est_syntax.specs.declared.tree.Statement.{Statement}
+use Rattle.est_syntax.specs.declared.tree.Branches.TheFolds.{the_lemmas}
+
+pub nothing_is : unit_view unit.Nothing ≡ nothing
+nothing_is = search (rules, the_lemmas)
+
+pub pause_is : unit_view unit.Pause ≡ pause
+pause_is = search (rules, the_lemmas)
+
+pub halt_is : unit_view unit.Halt ≡ halt
+halt_is = search (rules, the_lemmas)
+
+pub emit_is : (n : List ℕ) → unit_view (unit.Emit n) ≡ emit n
+emit_is n = search (rules, the_lemmas)
+
+pub sustain_is : (n : List ℕ) → unit_view (unit.Sustain n) ≡ sustain n
+sustain_is n = search (rules, the_lemmas)
+
+pub exit_is : (n : List ℕ) → unit_view (unit.Exit n) ≡ exit n
+exit_is n = search (rules, the_lemmas)
+
+pub await_is : (d : Delay) → unit_view (unit.Await d) ≡ await (delay_view d)
+await_is d = search (rules, the_lemmas)
+
+pub present_is : (n : List ℕ) (b : Branches) → unit_view (unit.Present n b) ≡ present n (branches_view b)
+present_is n b = search (rules, the_lemmas)
+
+pub suspend_is : (t : Statement) (d : Delay) (c : Bool) → unit_view (unit.Suspend t d c) ≡ suspend (statement_view t) (delay_view d) c
+suspend_is t d c = search (rules, the_lemmas)
+
+pub abort_is : (t : Statement) (d : Delay) (c : Bool) → unit_view (unit.Abort t d c) ≡ abort (statement_view t) (delay_view d) c
+abort_is t d c = search (rules, the_lemmas)
+
+pub weak_abort_is : (t : Statement) (d : Delay) (w : WeakEnd) → unit_view (unit.WeakAbort t d w) ≡ weak_abort (statement_view t) (delay_view d) (weak_end_view w)
+weak_abort_is t d w = search (rules, the_lemmas)
+
+pub repeat_is : (t : Statement) (c : Bool) → unit_view (unit.Loop t c) ≡ repeat (statement_view t) c
+repeat_is t c = search (rules, the_lemmas)
+
+pub repeat_each_is : (t : Statement) (n : List ℕ) → unit_view (unit.LoopEach t n) ≡ repeat_each (statement_view t) n
+repeat_each_is t n = search (rules, the_lemmas)
+
+pub every_is : (d : Delay) (t : Statement) (c : Bool) → unit_view (unit.Every d t c) ≡ every (delay_view d) (statement_view t) c
+every_is d t c = search (rules, the_lemmas)
+
+pub trap_is : (n : List ℕ) (t : Statement) (c : Bool) → unit_view (unit.Trap n t c) ≡ trap n (statement_view t) c
+trap_is n t c = search (rules, the_lemmas)
+
+pub signal_is : (ns : Names) (t : Statement) (c : Bool) → unit_view (unit.Signal ns t c) ≡ signal (names_view ns) (statement_view t) c
+signal_is ns t c = search (rules, the_lemmas)
+
+pub group_is : (t : Statement) → unit_view (unit.Group t) ≡ group (statement_view t)
+group_is t = search (rules, the_lemmas)

@@ -1,0 +1,89 @@
+-- The tree of a library, apart from where it lies in memory. Names are lists of bytes.
+-- (Berry, The Esterel v5 Language Primer; which closing keywords may be left out is this project's own form)
+use Rattle.std.specs.Prelude.{ℕ, Bool, List}
+
+-- a signal that is waited for; the flag: `immediate` is written
+pub record DelayTree : Type 0 where
+  pub immediate : Bool
+  pub signal : List ℕ
+
+-- one name or more
+pub record NamesTree : Type 0 where
+  pub first : List ℕ
+  pub later : List (List ℕ)
+
+-- a renaming, the caller's name first
+pub record RenamingTree : Type 0 where
+  pub outer : List ℕ
+  pub inner : List ℕ
+
+-- how the `end` of a `weak abort` is written: not at all, as `end abort`, or as `end weak abort`
+pub data WeakEndTree : Type 0 where
+  left_out : WeakEndTree
+  end_abort : WeakEndTree
+  end_weak_abort : WeakEndTree
+
+mutual
+  -- a flag tells whether the closing keywords that may be left out are written
+  pub data UnitTree : Type 0 where
+    nothing : UnitTree
+    pause : UnitTree
+    halt : UnitTree
+    emit : List ℕ → UnitTree
+    sustain : List ℕ → UnitTree
+    exit : List ℕ → UnitTree
+    await : DelayTree → UnitTree
+    present : List ℕ → BranchesTree → UnitTree
+    suspend : StatementTree → DelayTree → Bool → UnitTree
+    abort : StatementTree → DelayTree → Bool → UnitTree
+    weak_abort : StatementTree → DelayTree → WeakEndTree → UnitTree
+    repeat : StatementTree → Bool → UnitTree
+    repeat_each : StatementTree → List ℕ → UnitTree
+    every : DelayTree → StatementTree → Bool → UnitTree
+    trap : List ℕ → StatementTree → Bool → UnitTree
+    signal : NamesTree → StatementTree → Bool → UnitTree
+    run : List ℕ → List RenamingTree → UnitTree
+    group : StatementTree → UnitTree
+
+  -- the branches of a test: at least one; the flag: `present` stands again behind `end`
+  pub data BranchesTree : Type 0 where
+    then_only : StatementTree → Bool → BranchesTree
+    else_only : StatementTree → Bool → BranchesTree
+    both : StatementTree → StatementTree → Bool → BranchesTree
+
+  -- units one after another; the flag: a `;` closes them
+  pub data SequenceTree : Type 0 where
+    sequence : UnitTree → UnitsTree → Bool → SequenceTree
+
+  pub data UnitsTree : Type 0 where
+    no_units : UnitsTree
+    units : UnitTree → UnitsTree → UnitsTree
+
+  -- sequences side by side
+  pub data StatementTree : Type 0 where
+    statement : SequenceTree → SequencesTree → StatementTree
+
+  pub data SequencesTree : Type 0 where
+    no_sequences : SequencesTree
+    sequences : SequenceTree → SequencesTree → SequencesTree
+
+-- a relation between inputs: two names or more of which at most one is present, or a name that implies another
+pub data RelationTree : Type 0 where
+  excludes : List ℕ → List ℕ → List (List ℕ) → RelationTree
+  implies : List ℕ → List ℕ → RelationTree
+
+-- a declaration: names, or one relation or more
+pub data DeclarationTree : Type 0 where
+  input : NamesTree → DeclarationTree
+  output : NamesTree → DeclarationTree
+  relations : RelationTree → List RelationTree → DeclarationTree
+
+pub record ModuleTree : Type 0 where
+  pub name : List ℕ
+  pub declarations : List DeclarationTree
+  pub body : StatementTree
+
+-- one module or more
+pub record LibraryTree : Type 0 where
+  pub first : ModuleTree
+  pub later : List ModuleTree

@@ -1,0 +1,19 @@
+//! Laws of the grammar, for those who build on it. A law is a function without a body: its contract is what it says.
+ghost use Rattle.std.specs.Prelude.{◌≡◌, ◌≤◌, ◌+◌, ◌∷◌, [], ℕ, List, length};
+ghost use Rattle.est_text.specs.declared.token.Token.{Token};
+ghost use Rattle.est_syntax.specs.Faults.{IsSyntaxFault, IsTooDeep};
+ghost use Rattle.est_syntax.specs.Machine.{run, library, right, wrong, deep};
+ghost use Rattle.est_syntax.specs.Grammar.{spelling, library_depth};
+ghost use Rattle.est_syntax.specs.Tree.{LibraryTree};
+
+/// The grammar is unambiguous: tokens are spelt from one library alone.
+pub fn one_library()
+    ensures { (k l : LibraryTree) → spelling k ≡ spelling l → k ≡ l }
+{}
+
+// The machine that the parser follows takes each library that fits, and stops at the first fault.
+fn machine()
+    ensures takes { (limit : ℕ) (l : LibraryTree) → library_depth l ≤ limit → run limit (library ∷ []) (spelling l) ≡ right }
+    ensures wrong { (limit : ℕ) (tokens rest : List Token) (at : ℕ) → at + length rest ≡ length tokens → run limit (library ∷ []) tokens ≡ wrong rest → IsSyntaxFault limit tokens at }
+    ensures deep { (limit : ℕ) (tokens rest : List Token) (at : ℕ) → at + length rest ≡ length tokens → run limit (library ∷ []) tokens ≡ deep rest → IsTooDeep limit tokens at }
+{}

@@ -1,0 +1,86 @@
+//! Lists of names, signals that are waited for, and renamings.
+ghost use Rattle.std.specs.Prelude.{◌≡◌, ◌≤◌, ◌∷◌, [], length, IfOk, IfErr, map};
+ghost use Rattle.est_text.specs.declared.token.Token.TheVariants.{Keyword as KeywordToken, Symbol as SymbolToken};
+ghost use Rattle.est_text.specs.declared.keyword.Keyword.TheVariants.{Immediate};
+ghost use Rattle.est_text.specs.declared.token.Symbol.TheVariants.{Slash};
+ghost use Rattle.est_syntax.specs.Grammar.{later_names_onto, names_onto, delay_onto, renaming_onto, renamings_onto};
+ghost use Rattle.est_syntax.specs.Views.{delay_view, names_view, renaming_view};
+ghost use Rattle.est_syntax.specs.Machine.{one, may, name as name_want, later_names as later_names_want, renamings as renamings_want};
+ghost use Rattle.est_syntax.specs.Parsing.{Fails, Reads};
+
+use crate::cursor::Cursor;
+use crate::fault::Fault;
+use crate::tree::{Delay, Names, Renaming};
+use est_text::identifier::Identifier;
+use est_text::keyword::Keyword;
+use est_text::token::Symbol;
+use std::alloc::Global;
+
+/// The further names, each behind a comma.
+fn later_names(alloc: Global, cursor: &mut Cursor) -> Result<Vec<Identifier>, Fault>
+    ensures spelt { IfOk result (λ ns. cursor.old ≡ later_names_onto ns.items cursor.new) }
+    ensures reads { IfOk result (λ _. Reads (later_names_want ∷ []) cursor.old cursor.new) }
+    ensures err { IfErr result (λ e. Fails (later_names_want ∷ []) cursor.old e) }
+{
+    let mut names = Vec::new(alloc);
+    'names: while cursor.take_symbol(Symbol::Comma) {
+        let name = cursor.expect_name()?;
+        names.push(name)?;
+    }
+    Ok(names)
+}
+
+/// One name or more.
+pub fn names(alloc: Global, cursor: &mut Cursor) -> Result<Names, Fault>
+    ensures spelt { IfOk result (λ ns. cursor.old ≡ names_onto (names_view ns) cursor.new) }
+    ensures reads { IfOk result (λ _. Reads (name_want ∷ later_names_want ∷ []) cursor.old cursor.new) }
+    ensures err { IfErr result (λ e. Fails (name_want ∷ later_names_want ∷ []) cursor.old e) }
+{
+    let first = cursor.expect_name()?;
+    let later = later_names(alloc, cursor)?;
+    Ok(Names { first, later })
+}
+
+/// A signal that is waited for.
+pub fn delay(cursor: &mut Cursor) -> Result<Delay, Fault>
+    ensures spelt { IfOk result (λ d. cursor.old ≡ delay_onto (delay_view d) cursor.new) }
+    ensures reads { IfOk result (λ _. Reads (may (KeywordToken Immediate) ∷ name_want ∷ []) cursor.old cursor.new) }
+    ensures err { IfErr result (λ e. Fails (may (KeywordToken Immediate) ∷ name_want ∷ []) cursor.old e) }
+{
+    let immediate = cursor.take_keyword(Keyword::Immediate);
+    let signal = cursor.expect_name()?;
+    Ok(Delay { immediate, signal })
+}
+
+/// One renaming.
+fn renaming(cursor: &mut Cursor) -> Result<Renaming, Fault>
+    ensures spelt { IfOk result (λ r. cursor.old ≡ renaming_onto (renaming_view r) cursor.new) }
+    ensures reads { IfOk result (λ _. Reads (name_want ∷ one (SymbolToken Slash) ∷ name_want ∷ []) cursor.old cursor.new) }
+    ensures err { IfErr result (λ e. Fails (name_want ∷ one (SymbolToken Slash) ∷ name_want ∷ []) cursor.old e) }
+{
+    let outer = cursor.expect_name()?;
+    cursor.expect_symbol(Symbol::Slash)?;
+    let inner = cursor.expect_name()?;
+    Ok(Renaming { outer, inner })
+}
+
+/// The renamings of a module that is run, if there are any.
+pub fn renamings(alloc: Global, cursor: &mut Cursor) -> Result<Vec<Renaming>, Fault>
+    ensures spelt { IfOk result (λ rs. cursor.old ≡ renamings_onto (map renaming_view rs.items) cursor.new) }
+    ensures reads { IfOk result (λ _. Reads (renamings_want ∷ []) cursor.old cursor.new) }
+    ensures err { IfErr result (λ e. Fails (renamings_want ∷ []) cursor.old e) }
+{
+    if !cursor.take_symbol(Symbol::OpenBracket) {
+        return Ok(Vec::new(alloc));
+    }
+    cursor.expect_keyword(Keyword::Signal)?;
+    let mut renamings = Vec::new(alloc);
+    let first = renaming(cursor)?;
+    renamings.push(first)?;
+    'renamings: while cursor.take_symbol(Symbol::Comma) {
+        let next = renaming(cursor)?;
+        renamings.push(next)?;
+    }
+    cursor.expect_symbol(Symbol::CloseBracket)?;
+    Ok(renamings)
+}
