@@ -147,7 +147,7 @@ impl Policy {
     }
 
     // Whether a role that is active in the session, or lies below one, has the grant.
-    fn has_grant(&self, session: &Session, grant: &Grant) -> bool
+    fn reaches(&self, session: &Session, grant: &Grant) -> bool
         ensures { IsTrue result ↔ Meets (below self.now.juniors session.now.active) grant.now.roles }
     {
         meets(below(&self.juniors, session.active), grant.roles)
@@ -160,7 +160,7 @@ impl Policy {
     {
         match session_of(&self.sessions, session) {
             Some(found) => match grant_of(&self.grants, operation, object) {
-                Some(grant) => self.has_grant(&found, &grant),
+                Some(grant) => self.reaches(&found, &grant),
                 None => false,
             },
             None => false,
