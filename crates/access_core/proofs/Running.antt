@@ -5,7 +5,7 @@ use Rattle.est_kernel.specs.Bits.{bits}
 use Rattle.est_kernel.proofs.Masks.{bits_or, bits_and}
 use Rattle.est_kernel.specs.declared.interface.Declaration.{Declaration}
 use Rattle.rbac_policy.specs.declared.commands.Entry.{Entry}
-use Rattle.reactor_core.specs.declared.entry.Instant.{Instant}
+use Rattle.reactor_core.specs.declared.entry.PastInstant.{PastInstant}
 use Rattle.reactor_core.specs.declared.entry.SlotEntry.{SlotEntry}
 use Rattle.reactor_core.specs.declared.reactor.Shown.{Shown}
 use Rattle.reactor_core.specs.Meaning.{Running, running_of}
@@ -28,12 +28,12 @@ not_occupied journal none refusal given = let some = given.1.1 in cc
 pub same_running : (journal : List SlotEntry) (r s : Running) → running_of journal ≡ Some r → running_of journal ≡ Some s → r ≡ s
 same_running journal r s one other = cc
 
-instant_within : (r : Running) (n : ℕ) (i : Instant) → IsInstant r n i → (n ≡ 0) ⊎ (length r.instants < n) → ⊥
+instant_within : (r : Running) (n : ℕ) (i : PastInstant) → IsInstant r n i → (n ≡ 0) ⊎ (length r.instants < n) → ⊥
 instant_within r n i there (inl zero) = let some = there.0 in omega arith
 instant_within r n i there (inr past) = let within = slice_get_within r.instants (n - 1) i there.1 in let some = there.0 in omega arith
 
 -- where there is an instant of this number, it isn't refused
-pub not_no_instant : (journal : List SlotEntry) (r : Running) (n : ℕ) (i : Instant) → running_of journal ≡ Some r → IsInstant r n i
+pub not_no_instant : (journal : List SlotEntry) (r : Running) (n : ℕ) (i : PastInstant) → running_of journal ≡ Some r → IsInstant r n i
     → (refusal : Refusal) → no_instant journal n refusal → ⊥
 not_no_instant journal r n i runs there refusal given =
     let other : Running = given.1.0 in
@@ -52,7 +52,7 @@ same_kept f g p agree (place ∷ places) = go (same_kept f g p agree places) (p 
   go rest false off = rw off rest
 
 -- what is present within the mask is, where the mask sees, what stands in the inputs or the outputs
-present_is : (i : Instant) (seen place : ℕ) → bits seen place ≡ true
+present_is : (i : PastInstant) (seen place : ℕ) → bits seen place ≡ true
     → bits (bit_and (bit_or i.inputs i.outputs) seen) place ≡ (bits i.inputs place || bits i.outputs place)
 present_is i seen place on =
     bits_and (bit_or i.inputs i.outputs) seen place ∙ ap (λ b. bits (bit_or i.inputs i.outputs) place && b) on
@@ -62,13 +62,13 @@ present_is i seen place on =
       and_true false = refl
 
 -- what is shown within the mask of what is seen is what is shown of the instant
-shown_is : (interface : List Declaration) (i : Instant) (seen : ℕ)
+shown_is : (interface : List Declaration) (i : PastInstant) (seen : ℕ)
     → map (present_at interface (masked i seen).present) (filter (bits seen) (places_of interface)) ≡ shown_of interface (bits seen) i
 shown_is interface i seen = same_kept _ _ (bits seen)
     (λ place on. ap (λ b. let s : ShownSignal = record { name = name_at interface place; present = b } in s) (present_is i seen place on)) (places_of interface)
 
 -- a look, from what the reactor shows within the mask of what is seen
-pub looks_from : (entries : List Entry) (slot session n : ℕ) (journal : List SlotEntry) (r s : Running) (interface : List Declaration) (i : Instant)
+pub looks_from : (entries : List Entry) (slot session n : ℕ) (journal : List SlotEntry) (r s : Running) (interface : List Declaration) (i : PastInstant)
     (seen : ℕ) (shown : Shown) (signals : List ShownSignal) (version : ℕ)
     → running_of journal ≡ Some r → running_of journal ≡ Some s → interface ≡ s.kernel.interface → IsInstant r n i → shown ≡ masked i seen
     → Sees entries session slot interface (bits seen)

@@ -1,6 +1,7 @@
 -- A refusal leaves desk and slots as they were.
 use Rattle.std.proofs.Common.{◌≡◌, ℕ, List, [], ◌∷◌, length, refl, sym, ◌∙◌, ap, inl, inr}
 use Rattle.std.specs.Prelude.{zero, suc, Option, Some, None, Result, Ok, Err, MatchResult, slice_get, slice_set}
+use Rattle.est_kernel.specs.declared.state.Outcome.{Outcome}
 use Rattle.rbac_policy.specs.declared.commands.Entry.{Entry}
 use Rattle.rbac_policy.specs.declared.commands.AdminCommand.{AdminCommand}
 use Rattle.rbac_policy.specs.declared.objects.Operation.TheVariants.{Load as ToLoad, Offer as ToOffer, Step as ToStep}
@@ -18,7 +19,7 @@ use Rattle.access_core.specs.declared.reply.Reply.TheVariants.{Refused, Load as 
 use Rattle.access_core.specs.Rules.{Refuses, ◌▸◌, ◌▹◌}
 use Rattle.access_core.specs.Conversions.{of_policy, of_reactor}
 use Rattle.access_core.specs.SlotState.{SlotState}
-use Rattle.access_core.specs.SlotStep.{SlotStep, Loads, Offers, Steps, Looks, RefusesStep, AcceptsStep, no_session, no_permission, occupied, empty, no_instant, no_memory, stamp_of}
+use Rattle.access_core.specs.SlotStep.{SlotStep, Loads, Offers, Steps, Commits, Looks, no_reaction, journal_full, no_session, no_permission, occupied, empty, no_instant, no_memory, stamp_of}
 use Rattle.access_core.specs.Desk.{Desk, AdminStep, DeskStep, InSlot, Appends, list_full, no_slot, reply_of_change, change_of}
 
 -- a place that is set to what stands there
@@ -65,7 +66,7 @@ loaded : (entries : List SlotEntry) (answer : Result (List SlotEntry) (ReactorRe
     (before : List SlotEntry) (refusal : Refusal) (after : List SlotEntry)
     → MatchResult answer
     (λ journal. (after ≡ journal) × (Refused refusal ≡ Loaded (length after) stamp))
-    (λ refused. Refuses (of_reactor [] refused.0) before (Refused refusal) after)
+    (λ refused. Refuses (of_reactor refused.0) before (Refused refusal) after)
     → after ≡ before
 loaded entries (Ok journal) stamp before refusal after h = let e = h.1 in absurd (cc)
 loaded entries (Err refused) stamp before refusal after h = h.stays
@@ -73,18 +74,14 @@ loaded entries (Err refused) stamp before refusal after h = h.stays
 offered : (answer : Result (Unit {0}) ReactorRefusal) (stamp : ℕ) (before : List SlotEntry) (refusal : Refusal) (after : List SlotEntry)
     → MatchResult answer
     (λ done. Refused refusal ≡ Offered (length after) stamp)
-    (λ given. Refuses (of_reactor [] given) before (Refused refusal) after)
+    (λ given. Refuses (of_reactor given) before (Refused refusal) after)
     → after ≡ before
 offered (Ok done) stamp before refusal after h = absurd (cc)
 offered (Err given) stamp before refusal after h = h.stays
 
-stepped : (answer : Result (Unit {0}) ReactorRefusal) (entries : List Entry) (slot session : ℕ) (stamp : Stamp) (before : List SlotEntry) (refusal : Refusal) (after : List SlotEntry)
-    → MatchResult answer
-    (λ done. AcceptsStep stamp (Refused refusal) after)
-    (λ given. RefusesStep entries slot session given before (Refused refusal) after)
-    → after ≡ before
-stepped (Ok done) entries slot session stamp before refusal after h = let e = h.replied in absurd (cc)
-stepped (Err given) entries slot session stamp before refusal after h = h.refuses.stays
+stepped : (stamp : Stamp) (outcome : Outcome) (before : List SlotEntry) (refusal : Refusal) (after : List SlotEntry)
+    → Steps stamp outcome before (Refused refusal) after → after ≡ before
+stepped stamp outcome before refusal after h = let e = h.replied in absurd (cc)
 
 looked : (entries : List Entry) (slot session n : ℕ) (before : List SlotEntry) (refusal : Refusal) (after : List SlotEntry)
     → Looks entries slot session n before (Refused refusal) after → after ≡ before
@@ -106,9 +103,11 @@ journal_stays entries slot session (Offer signal) before refusal after =
 journal_stays entries slot session Step before refusal after =
     after_rule (no_session entries session) _ before refusal after
     (after_rule (no_permission entries session ToStep (Slot slot)) _ before refusal after
-    (after_rule (empty before) (no_memory ▹ Steps entries slot session) before refusal after
-    (after_choice no_memory (Steps entries slot session) before refusal after
-    (λ h. stepped h.answer entries slot session (stamp_of entries session) before refusal after h.replied))))
+    (after_rule (empty before) _ before refusal after
+    (after_choice no_memory (no_reaction entries slot session before ▹ Commits (stamp_of entries session)) before refusal after
+    (after_choice (no_reaction entries slot session before) (Commits (stamp_of entries session)) before refusal after
+    (λ h. after_rule (journal_full before) (Steps (stamp_of entries session) h.outcome) before refusal after
+    (stepped (stamp_of entries session) h.outcome before refusal after) h.next)))))
 journal_stays entries slot session (Look n) before refusal after =
     after_rule (no_session entries session) _ before refusal after
     (after_rule (empty before) _ before refusal after

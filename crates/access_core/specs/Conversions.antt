@@ -1,7 +1,6 @@
 -- The refusals of the crates below, as those of a request.
-use Rattle.std.specs.Prelude.{ℕ, List}
 use Rattle.access_core.specs.declared.refusal.Refusal.{Refusal}
-use Rattle.access_core.specs.declared.refusal.Refusal.TheVariants.{NoSession, SessionsExhausted, Permission, DsdViolated, NotAuthorized, AlreadyActive, NotActive, Cycle, UnknownUser, UnknownRole, UserExists, RoleExists, AlreadyAssigned, NotAssigned, AlreadyGranted, NotGranted, EdgeExists, NoEdge, DsdExists, NoDsd, DsdShape, RoleInDsd, Full, Stuck, UnknownSignal, NotInput, AlreadyOffered, NoInstant, JournalFull, Lexical, Syntax, UnknownModule, UnknownName, DuplicateName, EmitInput, InstantLoop, TooLarge, Memory}
+use Rattle.access_core.specs.declared.refusal.Refusal.TheVariants.{NoSession, SessionsExhausted, Permission, DsdViolated, NotAuthorized, AlreadyActive, NotActive, Cycle, UnknownUser, UnknownRole, UserExists, RoleExists, AlreadyAssigned, NotAssigned, AlreadyGranted, NotGranted, EdgeExists, NoEdge, DsdExists, NoDsd, DsdShape, RoleInDsd, Full, UnknownSignal, NotInput, AlreadyOffered, NoInstant, JournalFull, Lexical, Syntax, UnknownModule, UnknownName, DuplicateName, EmitInput, InstantLoop, TooLarge, Memory}
 use Rattle.rbac_admin.specs.declared.refusals.Refusal.{Refusal as PolicyRefusal}
 use Rattle.rbac_admin.specs.declared.refusals.Refusal.TheVariants as policy
 use Rattle.reactor_core.specs.declared.refusal.Refusal.{Refusal as ReactorRefusal}
@@ -33,20 +32,19 @@ of_policy policy.DsdShape = DsdShape
 of_policy (policy.RoleInDsd set) = RoleInDsd set
 of_policy (policy.Full table) = Full table
 
--- the refusal of a reactor; a Stuck names these undecided outputs
-abbrev pub of_reactor : (undecided : List (List ℕ)) → ReactorRefusal → Refusal
-of_reactor undecided reactor.UnknownSignal = UnknownSignal
-of_reactor undecided reactor.NotInput = NotInput
-of_reactor undecided reactor.AlreadyOffered = AlreadyOffered
-of_reactor undecided reactor.NoInstant = NoInstant
-of_reactor undecided reactor.JournalFull = JournalFull
-of_reactor undecided (reactor.Stuck mask) = Stuck undecided
-of_reactor undecided (reactor.Lexical place) = Lexical place
-of_reactor undecided (reactor.Syntax place) = Syntax place
-of_reactor undecided (reactor.UnknownModule name) = UnknownModule name
-of_reactor undecided (reactor.UnknownName name) = UnknownName name
-of_reactor undecided (reactor.DuplicateName name) = DuplicateName name
-of_reactor undecided (reactor.EmitInput name) = EmitInput name
-of_reactor undecided reactor.InstantLoop = InstantLoop
-of_reactor undecided (reactor.TooLarge limit) = TooLarge limit
-of_reactor undecided reactor.Memory = Memory
+-- the refusal of a reactor
+abbrev pub of_reactor : ReactorRefusal → Refusal
+of_reactor reactor.UnknownSignal = UnknownSignal
+of_reactor reactor.NotInput = NotInput
+of_reactor reactor.AlreadyOffered = AlreadyOffered
+of_reactor reactor.NoInstant = NoInstant
+of_reactor reactor.JournalFull = JournalFull
+of_reactor (reactor.Lexical place) = Lexical place
+of_reactor (reactor.Syntax place) = Syntax place
+of_reactor (reactor.UnknownModule name) = UnknownModule name
+of_reactor (reactor.UnknownName name) = UnknownName name
+of_reactor (reactor.DuplicateName name) = DuplicateName name
+of_reactor (reactor.EmitInput name) = EmitInput name
+of_reactor reactor.InstantLoop = InstantLoop
+of_reactor (reactor.TooLarge limit) = TooLarge limit
+of_reactor reactor.Memory = Memory

@@ -6,6 +6,7 @@ pub mod Shown
 pub mod SlotState
 pub mod Holding
 pub mod SlotStep
+pub mod StuckSteps
 pub mod Allowed
 pub mod Desk
 pub mod Needs

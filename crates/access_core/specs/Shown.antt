@@ -7,7 +7,7 @@ use Rattle.rbac_policy.specs.declared.commands.Entry.{Entry}
 use Rattle.rbac_policy.specs.declared.objects.Operation.TheVariants.{Observe}
 use Rattle.rbac_policy.specs.declared.objects.Object.TheVariants.{Signal}
 use Rattle.rbac_policy.specs.Facts.{May}
-use Rattle.reactor_core.specs.declared.entry.Instant.{Instant}
+use Rattle.reactor_core.specs.declared.entry.PastInstant.{PastInstant}
 use Rattle.access_core.specs.declared.reply.ShownSignal.{ShownSignal}
 
 -- the session sees exactly the places of the interface whose signals it may observe in this slot
@@ -28,12 +28,12 @@ abbrev pub present_at : List Declaration → (present : ℕ) → ℕ → ShownSi
 present_at interface present place = record { name = name_at interface place; present = bits present place }
 
 -- the signal at a place, with whether it stands in the inputs or the outputs of an instant
-abbrev pub status_at : List Declaration → Instant → ℕ → ShownSignal
+abbrev pub status_at : List Declaration → PastInstant → ℕ → ShownSignal
 status_at interface i place = record { name = name_at interface place; present = bits i.inputs place || bits i.outputs place }
 
 -- of an instant: for each signal that is seen, in the order of declaration, its name and whether it stands in the instant's
 -- inputs or outputs
-abbrev pub shown_of : List Declaration → (sees : ℕ → Bool) → Instant → List ShownSignal
+abbrev pub shown_of : List Declaration → (sees : ℕ → Bool) → PastInstant → List ShownSignal
 shown_of interface sees i = map (status_at interface i) (filter sees (places_of interface))
 
 -- of a set of signals: the names of those that are seen, in the order of declaration

@@ -1,6 +1,8 @@
 -- The slot step: what a command on a slot is answered, on a policy list and the slot's journal, and the journal afterwards
 -- (this project's own form).
-use Rattle.std.specs.Prelude.{◌≡◌, ◌⊎◌, ℕ, ◌<◌, Bool, List, [], Some, None, Result, MatchResult, length}
+use Rattle.std.specs.Prelude.{◌≡◌, ◌⊎◌, ℕ, ◌<◌, Bool, List, Some, None, Result, MatchResult, length}
+use Rattle.est_kernel.specs.declared.state.Outcome.{Outcome}
+use Rattle.est_kernel.specs.declared.state.Stuck.{Stuck as Undecided}
 use Rattle.rbac_policy.specs.declared.commands.Entry.{Entry}
 use Rattle.rbac_policy.specs.declared.objects.Operation.{Operation}
 use Rattle.rbac_policy.specs.declared.objects.Operation.TheVariants.{Offer as ToOffer, Step as ToStep, Load as ToLoad}
@@ -8,16 +10,16 @@ use Rattle.rbac_policy.specs.declared.objects.Object.{Object}
 use Rattle.rbac_policy.specs.declared.objects.Object.TheVariants.{Slot, Signal}
 use Rattle.rbac_policy.specs.Facts.{IsLive, May}
 use Rattle.reactor_core.specs.declared.entry.Stamp.{Stamp}
-use Rattle.reactor_core.specs.declared.entry.Instant.{Instant}
+use Rattle.reactor_core.specs.declared.entry.PastInstant.{PastInstant}
 use Rattle.reactor_core.specs.declared.entry.SlotEntry.{SlotEntry}
 use Rattle.reactor_core.specs.declared.refusal.Refusal.{Refusal as ReactorRefusal}
-use Rattle.reactor_core.specs.declared.refusal.Refusal.TheVariants.{Stuck}
 use Rattle.reactor_core.specs.Meaning.{Running, running_of}
-use Rattle.reactor_core.specs.Answers.{LoadAnswer, OfferAnswer, StepAnswer, IsInstant}
+use Rattle.reactor_core.specs.Answers.{LoadAnswer, OfferAnswer, IsFull, IsInstant}
+use Rattle.reactor_core.specs.Instants.{IsOutcome, HasNoOutcome, AddsInstant}
 use Rattle.access_core.specs.declared.command.SlotCommand.{SlotCommand}
 use Rattle.access_core.specs.declared.command.SlotCommand.TheVariants.{Load, Offer, Step, Look}
 use Rattle.access_core.specs.declared.refusal.Refusal.{Refusal}
-use Rattle.access_core.specs.declared.refusal.Refusal.TheVariants.{NoSession, Permission, Occupied, Empty, NoInstant, Memory}
+use Rattle.access_core.specs.declared.refusal.Refusal.TheVariants.{NoSession, Permission, Stuck, Occupied, Empty, NoInstant, JournalFull, Memory}
 use Rattle.access_core.specs.declared.reply.Reply.{Reply}
 use Rattle.access_core.specs.declared.reply.Reply.TheVariants.{Load as Loaded, Offer as Offered, Step as Stepped, Look as Shown}
 use Rattle.access_core.specs.Rules.{◌▸◌, ◌▹◌, Says, Refuses}
@@ -58,7 +60,7 @@ pub record Loads (stamp : Stamp) (main text : List ℕ) (before : List SlotEntry
   pub given : LoadAnswer before stamp main text answer
   pub replied : MatchResult answer
       (λ journal. (after ≡ journal) × (reply ≡ Loaded (length after) stamp.version))
-      (λ refused. Refuses (of_reactor [] refused.0) before reply after)
+      (λ refused. Refuses (of_reactor refused.0) before reply after)
 
 -- the reactor's answer to an offer: its entry is appended, or it is refused by the signal, the journal's limit or for memory
 pub record Offers (stamp : Stamp) (signal : List ℕ) (before : List SlotEntry) (reply : Reply) (after : List SlotEntry) : Type 0 where
@@ -66,40 +68,43 @@ pub record Offers (stamp : Stamp) (signal : List ℕ) (before : List SlotEntry) 
   pub given : OfferAnswer before stamp signal answer after
   pub replied : MatchResult answer
       (λ _. reply ≡ Offered (length after) stamp.version)
-      (λ refusal. Refuses (of_reactor [] refusal) before reply after)
+      (λ refusal. Refuses (of_reactor refusal) before reply after)
 
--- the outputs that a reactor's refusal leaves undecided, as a mask
-abbrev pub undecided_of : ReactorRefusal → ℕ
-undecided_of (Stuck undecided) = undecided
-undecided_of _ = 0
-
--- the reply to a reactor's refusal of a step: a Stuck names those undecided outputs that the session may observe
-pub record RefusesStep (entries : List Entry) (slot session : ℕ) (refusal : ReactorRefusal) (before : List SlotEntry) (reply : Reply) (after : List SlotEntry) : Type 0 where
-  pub running : Running
-  pub runs : running_of before ≡ Some running
+-- the next instant has no outcome: its pending inputs have no constructive reaction, and the refusal names those of the undecided
+-- outputs that the session may observe
+pub record NamesUndecided (entries : List Entry) (slot session : ℕ) (journal : List SlotEntry) (refusal : Refusal) : Type 0 where
+  pub undecided : Undecided
+  pub none : HasNoOutcome journal undecided
   pub sees : ℕ → Bool
-  pub observes : Sees entries session slot running.kernel.interface sees
-  pub refuses : Refuses (of_reactor (names_of running.kernel.interface sees (undecided_of refusal)) refusal) before reply after
+  pub observes : Sees entries session slot none.running.kernel.interface sees
+  pub named : refusal ≡ Stuck (names_of none.running.kernel.interface sees undecided.undecided)
 
--- the reply to an accepted step tells the number of its instant
-pub record AcceptsStep (stamp : Stamp) (reply : Reply) (after : List SlotEntry) : Type 0 where
+-- the next instant has no outcome
+abbrev pub no_reaction : List Entry → (slot session : ℕ) → List SlotEntry → Refusal → Type 0
+no_reaction = NamesUndecided
+
+-- the journal has as many entries as it may have
+abbrev pub journal_full : List SlotEntry → Refusal → Type 0
+journal_full journal = Says JournalFull (IsFull journal)
+
+-- the instant of the outcome is added with its entry, and the reply tells its number
+pub record Steps (stamp : Stamp) (outcome : Outcome) (before : List SlotEntry) (reply : Reply) (after : List SlotEntry) : Type 0 where
+  pub adds : AddsInstant before outcome stamp after
   pub running : Running
   pub runs : running_of after ≡ Some running
   pub replied : reply ≡ Stepped (length running.instants) (length after) stamp.version
 
--- the reactor's answer to a step: its entry is appended, or it is refused as Stuck, by the journal's limit or for memory
-pub record Steps (entries : List Entry) (slot session : ℕ) (before : List SlotEntry) (reply : Reply) (after : List SlotEntry) : Type 0 where
-  pub answer : Result (Unit {0}) ReactorRefusal
-  pub given : StepAnswer before (stamp_of entries session) answer after
-  pub replied : MatchResult answer
-      (λ _. AcceptsStep (stamp_of entries session) reply after)
-      (λ refusal. RefusesStep entries slot session refusal before reply after)
+-- the next instant has an outcome, which is committed where the journal has room; this and no_reaction exclude each other
+pub record Commits (stamp : Stamp) (before : List SlotEntry) (reply : Reply) (after : List SlotEntry) : Type 0 where
+  pub outcome : Outcome
+  pub reacts : IsOutcome before outcome
+  pub next : (journal_full before ▸ Steps stamp outcome) before reply after
 
 -- the n-th instant since the load is shown: each signal that the session may observe, and whether it was present
 pub record Looks (entries : List Entry) (slot session n : ℕ) (before : List SlotEntry) (reply : Reply) (after : List SlotEntry) : Type 0 where
   pub running : Running
   pub runs : running_of before ≡ Some running
-  pub instant : Instant
+  pub instant : PastInstant
   pub there : IsInstant running n instant
   pub sees : ℕ → Bool
   pub observes : Sees entries session slot running.kernel.interface sees
@@ -116,6 +121,6 @@ SlotStep entries slot session (Offer signal) before =
     ▸ Offers (stamp_of entries session) signal) before
 SlotStep entries slot session Step before =
     (no_session entries session ▸ no_permission entries session ToStep (Slot slot) ▸ empty before
-    ▸ no_memory ▹ Steps entries slot session) before
+    ▸ no_memory ▹ no_reaction entries slot session before ▹ Commits (stamp_of entries session)) before
 SlotStep entries slot session (Look n) before =
     (no_session entries session ▸ empty before ▸ no_instant before n ▸ no_memory ▹ Looks entries slot session n) before

@@ -3,7 +3,6 @@ ghost use Rattle.std.specs.Prelude.{◌≡◌};
 ghost use Rattle.access_core.specs.Conversions.{of_reactor};
 
 use crate::refusal::Refusal;
-use crate::reply::SignalNames;
 use rbac_admin::refusals::Refusal as PolicyRefusal;
 use reactor_core::refusal::Refusal as ReactorRefusal;
 
@@ -45,9 +44,9 @@ impl From<PolicyRefusal> for Refusal {
     }
 }
 
-/// The refusal of a reactor; a Stuck names these undecided outputs.
-pub fn of_reactor(undecided: SignalNames, refusal: ReactorRefusal) -> Refusal
-    ensures { result ≡ of_reactor undecided refusal }
+/// The refusal of a reactor.
+pub fn of_reactor(refusal: ReactorRefusal) -> Refusal
+    ensures { result ≡ of_reactor refusal }
 {
     match refusal {
         ReactorRefusal::UnknownSignal => Refusal::UnknownSignal,
@@ -55,7 +54,6 @@ pub fn of_reactor(undecided: SignalNames, refusal: ReactorRefusal) -> Refusal
         ReactorRefusal::AlreadyOffered => Refusal::AlreadyOffered,
         ReactorRefusal::NoInstant => Refusal::NoInstant,
         ReactorRefusal::JournalFull => Refusal::JournalFull,
-        ReactorRefusal::Stuck(_) => Refusal::Stuck { undecided },
         ReactorRefusal::Lexical(place) => Refusal::Lexical { place },
         ReactorRefusal::Syntax(place) => Refusal::Syntax { place },
         ReactorRefusal::UnknownModule(name) => Refusal::UnknownModule { name },

@@ -1,26 +1,29 @@
 //! One slot, and the answer to a command on it.
-ghost use Rattle.std.specs.Prelude.{◌≡◌, [], List, Some};
+ghost use Rattle.std.specs.Prelude.{◌≡◌, ◌⊎◌, [], List, Some};
 ghost use Rattle.rbac_policy.specs.declared.commands.Entry.{Entry};
 ghost use Rattle.rbac_policy.specs.StandsFor.{StandsFor};
 ghost use Rattle.access_core.specs.Rules.{◌▸◌, ◌▹◌};
-ghost use Rattle.access_core.specs.SlotStep.{SlotStep, no_memory, no_instant, stamp_of, undecided_of, Offers, Steps, Looks, RefusesStep};
+ghost use Rattle.access_core.specs.SlotStep.{SlotStep, no_memory, no_instant, no_reaction, stamp_of, Offers, Commits, Looks};
 ghost use Rattle.reactor_core.specs.Meaning.{Running, running_of};
+ghost use Rattle.reactor_core.specs.Instants.{IsOutcome, HasNoOutcome};
 ghost use Rattle.access_core.specs.Allowed.{IsAllowed, permission_of};
+ghost use Rattle.access_core.specs.StuckSteps.{ReachesReactor, IsStuckExactly};
 ghost use Rattle.access_core.specs.Needs.{Needs, IsAccepted};
 
 use crate::command::SlotCommand;
 use crate::conversions::of_reactor;
 use crate::refusal::Refusal;
-use crate::reply::{Reply, SignalNames};
+use crate::reply::Reply;
 use crate::shown::{names, observed, seen_of, statuses};
 use est_kernel::identifier::Identifier;
+use est_kernel::state::Stuck;
 use rbac_policy::commands::SessionId;
 use rbac_policy::objects::{Object, Operation, SlotNumber};
 use rbac_policy::policy::Policy;
 use reactor_core::entry::Stamp;
 use reactor_core::journal::Journal;
 use reactor_core::reactor::Reactor;
-use reactor_core::refusal::Refusal as ReactorRefusal;
+use reactor_core::reactor::instant::{Instant, Settled};
 use reactor_core::text::Text;
 use std::alloc::Global;
 use std::marker::Model;
@@ -95,39 +98,30 @@ fn looked(
     }
 }
 
-/// The outputs that the refusal leaves undecided, as a mask.
-fn undecided(refusal: &ReactorRefusal) -> u64
-    ensures { result ≡ undecided_of refusal.now }
-{
-    match refusal {
-        ReactorRefusal::Stuck(undecided) => *undecided,
-        _ => 0,
-    }
-}
-
-/// The refusal of a step: a Stuck names the undecided outputs that the session may observe.
-fn refused_step(
+/// The refusal of a step that has no reaction: it names the undecided outputs that the session may observe.
+fn undecided_refusal(
     alloc: Global,
     policy: &Policy,
     slot: SlotNumber,
     session: SessionId,
     reactor: &Reactor,
-    refusal: ReactorRefusal,
-) -> Reply
+    stuck: Stuck,
+) -> Refusal
+    requires { HasNoOutcome reactor.now stuck }
     ensures { (entries : List Entry) → StandsFor policy.now entries
-        → (no_memory ▹ RefusesStep entries slot session refusal) reactor.now result reactor.now }
+        → no_memory result ⊎ no_reaction entries slot session reactor.now result }
 {
     let interface = reactor.interface();
     let seen = observed(policy, slot, session, interface);
-    let undecided = seen_of(seen, undecided(&refusal));
+    let undecided = seen_of(seen, stuck.undecided);
     match names(alloc, interface, undecided) {
-        Ok(names) => Reply::Refused(of_reactor(names, refusal)),
-        Err(_) => Reply::Refused(Refusal::Memory),
+        Ok(undecided) => Refusal::Stuck { undecided },
+        Err(_) => Refusal::Memory,
     }
 }
 
 /// Offers the signal to the reactor.
-fn offered(alloc: Global, reactor: &mut Reactor, stamp: Stamp, signal: &Identifier) -> Reply
+fn offered(reactor: &mut Reactor, stamp: Stamp, signal: &Identifier) -> Reply
     ensures running { (r : Running) × (running_of reactor.new ≡ Some r) }
     ensures step { Offers stamp signal.now reactor.old result reactor.new }
 {
@@ -136,30 +130,65 @@ fn offered(alloc: Global, reactor: &mut Reactor, stamp: Stamp, signal: &Identifi
             place: reactor.journal().len() as u64,
             version: stamp.version,
         },
-        Err(refusal) => Reply::Refused(of_reactor(SignalNames::new(alloc), refusal)),
+        Err(refusal) => Reply::Refused(of_reactor(refusal)),
     }
 }
 
-/// Steps the reactor.
+/// Commits the instant: the reply to the step, and the reactor afterwards.
+fn committed(settled: Settled, stamp: Stamp) -> (Reply, Reactor)
+    requires { IsOutcome settled.journal settled.outcome }
+    ensures running { (r : Running) × (running_of result.1 ≡ Some r) }
+    ensures step { (no_memory ▹ Commits stamp) settled.journal result.0 result.1 }
+{
+    match settled.commit(stamp) {
+        Ok(reactor) => {
+            let reply = Reply::Step {
+                instant: reactor.instants(),
+                place: reactor.journal().len() as u64,
+                version: stamp.version,
+            };
+            (reply, reactor)
+        }
+        Err((refusal, reactor)) => (Reply::Refused(of_reactor(refusal)), reactor),
+    }
+}
+
+/// Settles the instant and commits it: the reply to the step, and the reactor afterwards.
+fn settled(
+    alloc: Global,
+    policy: &Policy,
+    slot: SlotNumber,
+    session: SessionId,
+    opened: Instant,
+) -> (Reply, Reactor)
+    ensures running { (r : Running) × (running_of result.1 ≡ Some r) }
+    ensures step { (entries : List Entry) → StandsFor policy.now entries
+        → (no_memory ▹ no_reaction entries slot session opened ▹ Commits (stamp_of entries session)) opened result.0 result.1 }
+{
+    match opened.settle() {
+        Ok(settled) => committed(settled, stamp(policy, session)),
+        Err((stuck, reactor)) => {
+            let refusal = undecided_refusal(alloc, policy, slot, session, &reactor, stuck);
+            (Reply::Refused(refusal), reactor)
+        }
+    }
+}
+
+/// Steps the reactor: the reply, and the reactor afterwards.
 fn stepped(
     alloc: Global,
     policy: &Policy,
     slot: SlotNumber,
     session: SessionId,
-    reactor: &mut Reactor,
-) -> Reply
-    ensures running { (r : Running) × (running_of reactor.new ≡ Some r) }
+    reactor: Reactor,
+) -> (Reply, Reactor)
+    ensures running { (r : Running) × (running_of result.1 ≡ Some r) }
     ensures step { (entries : List Entry) → StandsFor policy.now entries
-        → (no_memory ▹ Steps entries slot session) reactor.old result reactor.new }
+        → (no_memory ▹ no_reaction entries slot session reactor ▹ Commits (stamp_of entries session)) reactor result.0 result.1 }
 {
-    let stamp = stamp(policy, session);
-    match reactor.step(stamp) {
-        Ok(()) => Reply::Step {
-            instant: reactor.instants(),
-            place: reactor.journal().len() as u64,
-            version: stamp.version,
-        },
-        Err(refusal) => refused_step(alloc, policy, slot, session, reactor, refusal),
+    match reactor.open() {
+        Ok(opened) => settled(alloc, policy, slot, session, opened),
+        Err((refusal, reactor)) => (Reply::Refused(of_reactor(refusal)), reactor),
     }
 }
 
@@ -212,7 +241,7 @@ impl Slot {
                 }
                 Err((refusal, journal)) => {
                     self.content = Content::Empty(journal);
-                    Reply::Refused(of_reactor(SignalNames::new(self.alloc), refusal))
+                    Reply::Refused(of_reactor(refusal))
                 }
             },
             Content::Loaded(reactor) => {
@@ -226,9 +255,8 @@ impl Slot {
         ensures number { self.new.number ≡ self.old.number }
         ensures step { (empty self.old.journal ▸ Offers stamp signal.now) self.old.journal result self.new.journal }
     {
-        let alloc = self.alloc;
         if let Content::Loaded(reactor) = &mut self.content {
-            return offered(alloc, reactor, stamp, signal);
+            return offered(reactor, stamp, signal);
         }
         Reply::Refused(Refusal::Empty)
     }
@@ -236,14 +264,21 @@ impl Slot {
     fn step(&mut self, policy: &Policy, session: SessionId) -> Reply
         ensures number { self.new.number ≡ self.old.number }
         ensures step { (entries : List Entry) → StandsFor policy.now entries
-            → (empty self.old.journal ▸ no_memory ▹ Steps entries self.old.number session) self.old.journal result self.new.journal }
+            → (empty self.old.journal ▸ no_memory ▹ no_reaction entries self.old.number session self.old.journal ▹ Commits (stamp_of entries session))
+            self.old.journal result self.new.journal }
     {
-        let alloc = self.alloc;
-        let number = self.number;
-        if let Content::Loaded(reactor) = &mut self.content {
-            return stepped(alloc, policy, number, session, reactor);
+        let empty = Content::Empty(Journal::new(self.alloc));
+        match mem::replace(&mut self.content, empty) {
+            Content::Empty(journal) => {
+                self.content = Content::Empty(journal);
+                Reply::Refused(Refusal::Empty)
+            }
+            Content::Loaded(reactor) => {
+                let (reply, reactor) = stepped(self.alloc, policy, self.number, session, reactor);
+                self.content = Content::Loaded(reactor);
+                reply
+            }
         }
-        Reply::Refused(Refusal::Empty)
     }
 
     fn look(&self, policy: &Policy, session: SessionId, instant: u64) -> Reply
@@ -312,6 +347,9 @@ pub fn decide_slot(
     ensures number { slot.new.number ≡ slot.old.number }
     ensures step { (entries : List Entry) → StandsFor policy.now entries
         → SlotStep entries slot.old.number session command slot.old.journal result slot.new.journal }
+    ensures stuck { (entries : List Entry) → StandsFor policy.now entries
+        → ReachesReactor entries slot.old.number session command slot.old.journal
+        → IsStuckExactly entries slot.old.number session slot.old.journal result }
     ensures allowed { (entries : List Entry) → StandsFor policy.now entries → IsAccepted result
         → Needs entries slot.old.number session command }
 {

@@ -1,11 +1,11 @@
 -- What an entry makes of a running module.
 use Rattle.std.proofs.Common.{◌≡◌, ℕ, zero, suc, ◌<◌, ◌^◌, List, [], ◌∷◌, ◌++◌, length, true, false, refl, ap, sym, ◌∙◌, subst, inl, inr, ⊎_elim, ◌⊎◌, Bool, ◌||◌, arith}
 use Rattle.std.proofs.lemmas.Bool.Decides.{nat_tests}
+use Rattle.std.proofs.lemmas.Option.{same_Some}
 use Rattle.est_kernel.proofs.Masks.{bits_zero, bits_or, bits_pow}
 use Rattle.std.specs.Prelude.{slice_get, Option, Some, None, Result, Ok, Err, bit_or, nat_eq, IfOk, IfErr, MatchResult, ◌-◌}
 use Rattle.est_kernel.specs.Bits.{bits}
 use Rattle.est_kernel.specs.Interfaces.{inputs_of}
-use Rattle.est_kernel.specs.Term.{Term}
 use Rattle.est_kernel.specs.declared.interface.Kind.TheVariants.{Input}
 use Rattle.est_kernel.specs.declared.kernel.Kernel.{Kernel}
 use Rattle.est_kernel.specs.declared.state.State.{State}
@@ -13,19 +13,20 @@ use Rattle.est_kernel.specs.declared.state.State.TheVariants.{Fresh}
 use Rattle.est_kernel.specs.declared.state.Inputs.{Inputs}
 use Rattle.est_kernel.specs.declared.state.Outcome.{Outcome}
 use Rattle.est_kernel.specs.declared.state.Stuck.{Stuck as StuckValue}
-use Rattle.est_meaning.specs.States.{state_term}
+use Rattle.est_meaning.specs.States.{IsState, state_term}
 use Rattle.est_rounds.specs.Contract.{IsReaction, HasNoReaction}
 use Rattle.reactor_core.specs.declared.entry.Stamp.{Stamp}
-use Rattle.reactor_core.specs.declared.entry.Instant.{Instant}
+use Rattle.reactor_core.specs.declared.entry.PastInstant.{PastInstant}
 use Rattle.reactor_core.specs.declared.entry.Load.{Load as LoadEntry}
 use Rattle.reactor_core.specs.declared.entry.Action.TheVariants.{Load, Offer, Step}
 use Rattle.reactor_core.specs.declared.entry.SlotEntry.{SlotEntry}
 use Rattle.reactor_core.specs.declared.refusal.Refusal.{Refusal}
-use Rattle.reactor_core.specs.declared.refusal.Refusal.TheVariants.{UnknownSignal, NotInput, AlreadyOffered, NoInstant, JournalFull, Stuck, Lexical, Syntax, UnknownModule, UnknownName, DuplicateName, EmitInput, InstantLoop, TooLarge, Memory}
-use Rattle.reactor_core.specs.Reacting.{HasReaction}
-use Rattle.reactor_core.specs.Meaning.{entry, instant, Running, with_place, after, running_from, loaded, offered, stepped}
+use Rattle.reactor_core.specs.declared.refusal.Refusal.TheVariants.{NoInstant}
+use Rattle.reactor_core.specs.Reacting.{ReactsWith}
+use Rattle.reactor_core.specs.Meaning.{entry, instant, Running, Leaves, with_place, after, running_from, loaded, offered, stepped}
 use Rattle.reactor_core.specs.Standing.{IsRunning}
-use Rattle.reactor_core.specs.Answers.{HasRoom, RefusesEntry, RefusesName, RefusesStep, IsSignal, OfferAnswer, StepAnswer, ShownAnswer, shown_of}
+use Rattle.reactor_core.specs.Instants.{IsOutcome, HasNoOutcome, AddsInstant}
+use Rattle.reactor_core.specs.Answers.{HasRoom, RefusesEntry, RefusesName, IsSignal, OfferAnswer, ShownAnswer, shown_of}
 
 -- what runs after one more entry
 pub running_snoc : (m : Option Running) (before : List SlotEntry) (e : SlotEntry) → running_from m (before ++ e ∷ []) ≡ after (running_from m before) e.action
@@ -57,18 +58,52 @@ with_bits pending n k h = split (bits pending k) (nat_eq n k) refl refl (sym (bi
     split false true p q e = inr (grind (arith, nat_tests))
     split false false p q e = absurd cc
 
-module _ {journal : List SlotEntry} {place : ℕ} {state : State} {pending : ℕ} {instants : List Instant} where
-  -- a step's entry keeps what a reactor is, with the outcome's state
-  pub steps : (i : IsRunning journal place state pending instants) (stamp : Stamp) (o : Outcome)
-      → IsReaction i.load.kernel state (record { signals = pending }) o
+module _ {journal : List SlotEntry} {place : ℕ} {state : State} {pending : ℕ} {instants : List PastInstant} where
+  -- an outcome's entry keeps what a reactor is, with the outcome's state
+  pub advances : (i : IsRunning journal place state pending instants) (stamp : Stamp) (o : Outcome) → IsOutcome journal o
       → IsRunning (journal ++ entry stamp (Step (instant pending o.outputs)) ∷ []) place o.next 0 (instants ++ instant pending o.outputs ∷ [])
-  steps i stamp o h = record {
-    load = i.load;
-    there = (i.there.0, slice_get_append journal _ place _ i.there.1);
-    running = running_snoc None journal _ ∙ ap (λ m. after m (Step (instant pending o.outputs))) i.running;
-    leaves = stepped journal (state_term i.load.kernel.root state) i.leaves (record { kernel = i.load.kernel; pending = pending; instants = instants }) i.running o.outputs (state_term i.load.kernel.root o.next) h.reacts stamp;
+  advances i stamp o h =
+      let same : h.running ≡ record { kernel = i.load.kernel; pending = pending; instants = instants } = same_Some _ _ (sym h.runs ∙ i.running) in
+      record {
+        load = i.load;
+        there = (i.there.0, slice_get_append journal _ place _ i.there.1);
+        running = running_snoc None journal _ ∙ ap (λ m. after m (Step (instant pending o.outputs))) i.running;
+        leaves = stepped journal h.term h.leaves (record { kernel = i.load.kernel; pending = pending; instants = instants }) i.running o.outputs (state_term i.load.kernel.root o.next)
+            (subst (λ (m : Running). ReactsWith m.kernel h.term m.pending o.outputs (state_term m.kernel.root o.next)) same h.reacts) stamp;
+        fits = subst (λ (m : Running). IsState m.kernel.root o.next) same h.fits;
+        inputs = λ n b. no_bits n b;
+      }
+
+  -- what is added with an outcome's entry
+  pub added : (i : IsRunning journal place state pending instants) (w : List SlotEntry) (stamp : Stamp) (o : Outcome) → IsOutcome journal o
+      → HasRoom journal → w ≡ journal ++ entry stamp (Step (instant pending o.outputs)) ∷ [] → AddsInstant journal o stamp w
+  unfolding advances
+  added i w stamp o h room e = record {
+    running = record { kernel = i.load.kernel; pending = pending; instants = instants };
+    runs = i.running;
+    room = room;
+    appended = e;
+    leaves = subst (λ (v : List SlotEntry). Leaves v (state_term i.load.kernel.root o.next)) (sym e) (advances i stamp o h).leaves;
+  }
+
+  -- the outcome of the reaction of what a reactor has left to run
+  pub reacted : (i : IsRunning journal place state pending instants) (answer : Result Outcome StuckValue)
+      → MatchResult answer (IsReaction i.load.kernel state (record { signals = pending })) (HasNoReaction i.load.kernel state (record { signals = pending }))
+      → MatchResult answer (IsOutcome journal) (HasNoOutcome journal)
+  reacted i (Ok o) h = record {
+    running = record { kernel = i.load.kernel; pending = pending; instants = instants };
+    runs = i.running;
+    term = state_term i.load.kernel.root state;
+    leaves = i.leaves;
+    reacts = h.reacts;
     fits = h.next;
-    inputs = λ n b. no_bits n b;
+  }
+  reacted i (Err s) h = record {
+    running = record { kernel = i.load.kernel; pending = pending; instants = instants };
+    runs = i.running;
+    term = state_term i.load.kernel.root state;
+    leaves = i.leaves;
+    stuck = record { cannot = h.cannot; exactly = h.undecided };
   }
 
   -- an offer's entry keeps what a reactor is, with the signal pending
@@ -96,31 +131,13 @@ begins journal stamp l = record {
   inputs = λ n b. no_bits n b;
 }
 
--- want of room refuses a step that has a reaction
-full_step : (journal : List SlotEntry) (r : Running) (t : Term) (e : Refusal) → HasReaction r.kernel t r.pending → RefusesEntry journal e → RefusesStep journal r t e
-full_step journal r t JournalFull x h = (x, h)
-full_step journal r t Memory x h = (x, h)
-full_step journal r t UnknownSignal x h = absurd h
-full_step journal r t NotInput x h = absurd h
-full_step journal r t AlreadyOffered x h = absurd h
-full_step journal r t NoInstant x h = absurd h
-full_step journal r t (Stuck m) x h = absurd h
-full_step journal r t (Lexical p) x h = absurd h
-full_step journal r t (Syntax p) x h = absurd h
-full_step journal r t (UnknownModule n) x h = absurd h
-full_step journal r t (UnknownName n) x h = absurd h
-full_step journal r t (DuplicateName n) x h = absurd h
-full_step journal r t (EmitInput n) x h = absurd h
-full_step journal r t InstantLoop x h = absurd h
-full_step journal r t (TooLarge l) x h = absurd h
-
 -- the reaction of a kernel is that of an equal one
 pub reaction_is : (k k' : Kernel) (x : State) (i : Inputs) (answer : Result Outcome StuckValue) → k ≡ k'
     → IfOk answer (λ o. IsReaction k x i o) → IfErr answer (λ s. HasNoReaction k x i s) → MatchResult answer (IsReaction k' x i) (HasNoReaction k' x i)
 reaction_is k k' x i (Ok o) e ok err = subst (λ (v : Kernel). IsReaction v x i o) e ok
 reaction_is k k' x i (Err s) e ok err = subst (λ (v : Kernel). HasNoReaction v x i s) e err
 
-module _ {journal : List SlotEntry} {place : ℕ} {state : State} {pending : ℕ} {instants : List Instant} where
+module _ {journal : List SlotEntry} {place : ℕ} {state : State} {pending : ℕ} {instants : List PastInstant} where
   pub offer_refused : (i : IsRunning journal place state pending instants) (w : List SlotEntry) (stamp : Stamp) (name : List ℕ) (e : Refusal)
       → RefusesName i.load.kernel.interface pending name e → w ≡ journal → OfferAnswer journal stamp name (Err e) w
   offer_refused i w stamp name e h same = (record { kernel = i.load.kernel; pending = pending; instants = instants }, i.running, (inl h, same))
@@ -136,38 +153,7 @@ module _ {journal : List SlotEntry} {place : ℕ} {state : State} {pending : ℕ
   offer_added i w stamp name n s new room e =
       (record { kernel = i.load.kernel; pending = pending; instants = instants }, i.running, (record { place = n; input = s; new = new }, room, e))
 
-  pub step_stuck : (i : IsRunning journal place state pending instants) (stamp : Stamp) (s : StuckValue)
-      → HasNoReaction i.load.kernel state (record { signals = pending }) s → StepAnswer journal stamp (Err (Stuck s.undecided)) journal
-  step_stuck i stamp s h = (
-    record { kernel = i.load.kernel; pending = pending; instants = instants },
-    state_term i.load.kernel.root state,
-    i.running,
-    i.leaves,
-    (record { cannot = h.cannot; exactly = h.undecided }, refl),
-  )
-
-  pub step_not_added : (i : IsRunning journal place state pending instants) (w : List SlotEntry) (stamp : Stamp) (o : Outcome) (e : Refusal)
-      → IsReaction i.load.kernel state (record { signals = pending }) o → RefusesEntry journal e → w ≡ journal → StepAnswer journal stamp (Err e) w
-  step_not_added i w stamp o e x h same = (
-    record { kernel = i.load.kernel; pending = pending; instants = instants },
-    state_term i.load.kernel.root state,
-    i.running,
-    i.leaves,
-    (full_step journal (record { kernel = i.load.kernel; pending = pending; instants = instants }) (state_term i.load.kernel.root state) e (o.outputs, state_term i.load.kernel.root o.next, x.reacts) h, same),
-  )
-
-  pub step_added : (i : IsRunning journal place state pending instants) (w : List SlotEntry) (stamp : Stamp) (o : Outcome)
-      → IsReaction i.load.kernel state (record { signals = pending }) o → HasRoom journal
-      → w ≡ journal ++ entry stamp (Step (instant pending o.outputs)) ∷ [] → StepAnswer journal stamp (Ok tt) w
-  step_added i w stamp o x room e = (
-    record { kernel = i.load.kernel; pending = pending; instants = instants },
-    state_term i.load.kernel.root state,
-    i.running,
-    i.leaves,
-    (room, (o.outputs, state_term i.load.kernel.root o.next, x.reacts, e)),
-  )
-
-  pub instant_shown : (i : IsRunning journal place state pending instants) (n mask : ℕ) (x : Instant)
+  pub instant_shown : (i : IsRunning journal place state pending instants) (n mask : ℕ) (x : PastInstant)
       → (0 < n) × (slice_get instants (n - 1) ≡ Some x) → ShownAnswer journal n mask (Ok (shown_of x mask))
   instant_shown i n mask x h = (record { kernel = i.load.kernel; pending = pending; instants = instants }, i.running, (x, h, refl))
 

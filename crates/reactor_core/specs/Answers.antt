@@ -1,6 +1,5 @@
 -- What a reactor answers: the reply to each command on a journal, and the journal afterwards.
 use Rattle.std.specs.Prelude.{◌≡◌, ◌⊎◌, ℕ, ◌-◌, ◌<◌, ◌≤◌, true, false, List, [], ◌∷◌, ◌++◌, length, Some, None, Result, MatchResult, slice_get, bit_or, bit_and}
-use Rattle.est_kernel.specs.Term.{Term}
 use Rattle.est_kernel.specs.Interfaces.{declares}
 use Rattle.est_kernel.specs.declared.interface.Declaration.{Declaration}
 use Rattle.est_kernel.specs.declared.interface.Kind.{Kind}
@@ -8,16 +7,15 @@ use Rattle.est_kernel.specs.declared.interface.Kind.TheVariants.{Input, Output}
 use Rattle.est_kernel.specs.declared.kernel.Kernel.{Kernel}
 use Rattle.est_kernel.specs.Bits.{bits}
 use Rattle.reactor_core.specs.declared.entry.Stamp.{Stamp}
-use Rattle.reactor_core.specs.declared.entry.Instant.{Instant}
-use Rattle.reactor_core.specs.declared.entry.Action.TheVariants.{Load, Offer, Step}
+use Rattle.reactor_core.specs.declared.entry.PastInstant.{PastInstant}
+use Rattle.reactor_core.specs.declared.entry.Action.TheVariants.{Load, Offer}
 use Rattle.reactor_core.specs.declared.entry.SlotEntry.{SlotEntry}
 use Rattle.reactor_core.specs.declared.refusal.Refusal.{Refusal}
-use Rattle.reactor_core.specs.declared.refusal.Refusal.TheVariants.{UnknownSignal, NotInput, AlreadyOffered, NoInstant, JournalFull, Stuck, Memory}
+use Rattle.reactor_core.specs.declared.refusal.Refusal.TheVariants.{UnknownSignal, NotInput, AlreadyOffered, NoInstant, JournalFull, Memory}
 use Rattle.reactor_core.specs.declared.journal.TheConstants.{JOURNAL_ENTRIES}
 use Rattle.reactor_core.specs.declared.reactor.Shown.{Shown}
-use Rattle.reactor_core.specs.Reacting.{ReactsWith, HasReaction, IsStuck}
 use Rattle.reactor_core.specs.Loading.{IsKernelOf, IsLoadFault}
-use Rattle.reactor_core.specs.Meaning.{entry, instant, Running, running_of, place_of, Leaves}
+use Rattle.reactor_core.specs.Meaning.{entry, Running, running_of, place_of}
 
 -- the journal may take another entry
 abbrev pub HasRoom : List SlotEntry → Type 0
@@ -65,20 +63,6 @@ OfferAnswer before stamp name answer after =
     (λ _. CanOffer r name × HasRoom before × (after ≡ before ++ entry stamp (Offer name) ∷ []))
     (λ e. RefusesOffer before r name e × (after ≡ before))
 
--- why a step of the term is refused: it has no reaction, or else by the journal
-abbrev pub RefusesStep : List SlotEntry → Running → Term → Refusal → Type 0
-RefusesStep journal r term (Stuck undecided) = IsStuck r.kernel term r.pending undecided
-RefusesStep journal r term e = HasReaction r.kernel term r.pending × RefusesEntry journal e
-
--- the answer to a step, and the journal afterwards
-abbrev pub StepAnswer : (before : List SlotEntry) → Stamp → Result (Unit {0}) Refusal → (after : List SlotEntry) → Type 0
-StepAnswer before stamp answer after =
-    (r : Running) × (term : Term) × (running_of before ≡ Some r) × Leaves before term
-    × MatchResult answer
-    (λ _. HasRoom before × ((outputs : ℕ) × (next : Term) × ReactsWith r.kernel term r.pending outputs next
-    × (after ≡ before ++ entry stamp (Step (instant r.pending outputs)) ∷ [])))
-    (λ e. RefusesStep before r term e × (after ≡ before))
-
 -- the text gives a kernel, but the journal takes no entry
 pub record IsRefusedEntry (journal : List SlotEntry) (main text : List ℕ) (e : Refusal) : Type 0 where
   pub kernel : Kernel
@@ -109,11 +93,11 @@ LoadAnswer before stamp main text answer =
     (λ refused. RejectsLoad before main text refused.0 refused.1)
 
 -- the n-th instant since the load
-abbrev pub IsInstant : Running → ℕ → Instant → Type 0
+abbrev pub IsInstant : Running → ℕ → PastInstant → Type 0
 IsInstant r n i = (0 < n) × (slice_get r.instants (n - 1) ≡ Some i)
 
 -- what is present of an instant, within the mask
-abbrev pub shown_of : Instant → (mask : ℕ) → Shown
+abbrev pub shown_of : PastInstant → (mask : ℕ) → Shown
 shown_of i mask = record { mask = mask; present = bit_and (bit_or i.inputs i.outputs) mask }
 
 -- the answer to a look at the n-th instant: NoInstant exactly where there is none
@@ -121,5 +105,5 @@ abbrev pub ShownAnswer : (journal : List SlotEntry) → (n mask : ℕ) → Resul
 ShownAnswer journal n mask answer =
     (r : Running) × (running_of journal ≡ Some r)
     × MatchResult answer
-    (λ s. (i : Instant) × IsInstant r n i × (s ≡ shown_of i mask))
+    (λ s. (i : PastInstant) × IsInstant r n i × (s ≡ shown_of i mask))
     (λ e. (e ≡ NoInstant) × ((n ≡ 0) ⊎ (length r.instants < n)))

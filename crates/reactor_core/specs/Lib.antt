@@ -3,6 +3,7 @@ pub mod Meaning
 pub mod Standing
 pub mod Faults
 pub mod Answers
+pub mod Instants
 pub mod Keywords
 pub mod Lexical
 pub mod Places

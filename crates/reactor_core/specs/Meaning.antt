@@ -6,7 +6,7 @@ use Rattle.est_kernel.specs.Term.{Term}
 use Rattle.est_kernel.specs.declared.interface.Declaration.{Declaration}
 use Rattle.est_kernel.specs.declared.kernel.Kernel.{Kernel}
 use Rattle.reactor_core.specs.declared.entry.Stamp.{Stamp}
-use Rattle.reactor_core.specs.declared.entry.Instant.{Instant}
+use Rattle.reactor_core.specs.declared.entry.PastInstant.{PastInstant}
 use Rattle.reactor_core.specs.declared.entry.Load.{Load as LoadEntry}
 use Rattle.reactor_core.specs.declared.entry.Action.{Action}
 use Rattle.reactor_core.specs.declared.entry.Action.TheVariants.{Load, Offer, Step}
@@ -17,14 +17,14 @@ use Rattle.reactor_core.specs.Reacting.{start_of, ReactsWith}
 abbrev pub entry : Stamp → Action → SlotEntry
 entry stamp action = record { stamp = stamp; action = action }
 
-abbrev pub instant : (inputs outputs : ℕ) → Instant
+abbrev pub instant : (inputs outputs : ℕ) → PastInstant
 instant inputs outputs = record { inputs = inputs; outputs = outputs }
 
 -- a loaded module: its kernel, the inputs offered since the last step, and the instants since the load, the first one first
 pub record Running : Type 0 where
   pub kernel : Kernel
   pub pending : ℕ
-  pub instants : List Instant
+  pub instants : List PastInstant
 
 -- the place in the interface of the signal of this name
 abbrev pub place_of : List Declaration → List ℕ → Option ℕ

@@ -16,10 +16,6 @@ start_of kernel = term_of kernel.root
 abbrev pub ReactsWith : Kernel → Term → (inputs outputs : ℕ) → (next : Term) → Type 0
 ReactsWith kernel term inputs outputs next = Reacts (judged_of kernel) (bits inputs) term (bits outputs) next
 
--- the term has a constructive reaction to these inputs
-abbrev pub HasReaction : Kernel → Term → (inputs : ℕ) → Type 0
-HasReaction kernel term inputs = (outputs : ℕ) × (next : Term) × ReactsWith kernel term inputs outputs next
-
 -- the term has no constructive reaction to these inputs, and the mask has exactly the outputs that stay undecided
 pub record IsStuck (kernel : Kernel) (term : Term) (inputs undecided : ℕ) : Type 0 where
   pub cannot : CannotReact (judged_of kernel) (bits inputs) term

@@ -4,7 +4,7 @@ use Rattle.est_kernel.specs.declared.state.State.{State}
 use Rattle.est_meaning.specs.States.{IsState, state_term}
 use Rattle.est_rounds.specs.Contract.{AreInputs}
 use Rattle.reactor_core.specs.declared.entry.Stamp.{Stamp}
-use Rattle.reactor_core.specs.declared.entry.Instant.{Instant}
+use Rattle.reactor_core.specs.declared.entry.PastInstant.{PastInstant}
 use Rattle.reactor_core.specs.declared.entry.Load.{Load as LoadEntry}
 use Rattle.reactor_core.specs.declared.entry.Action.TheVariants.{Load}
 use Rattle.reactor_core.specs.declared.entry.SlotEntry.{SlotEntry}
@@ -16,7 +16,7 @@ LoadsAt journal place l = (stamp : Stamp) × (slice_get journal place ≡ Some (
 
 -- the module of the load at this place runs, with these pending inputs and these instants, and the state stands for the
 -- term that is left of it
-pub record IsRunning (journal : List SlotEntry) (place : ℕ) (state : State) (pending : ℕ) (instants : List Instant) : Type 0 where
+pub record IsRunning (journal : List SlotEntry) (place : ℕ) (state : State) (pending : ℕ) (instants : List PastInstant) : Type 0 where
   pub load : LoadEntry
   pub there : LoadsAt journal place load
   pub running : running_of journal ≡ Some (record { kernel = load.kernel; pending = pending; instants = instants })

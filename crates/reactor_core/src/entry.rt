@@ -10,9 +10,9 @@ pub struct Stamp {
     pub session: u16,
 }
 
-/// One instant: its present inputs and outputs, as masks over the interface in the order of declaration.
+/// An instant that has passed: its present inputs and outputs, as masks over the interface in the order of declaration.
 #[derive(Clone, Copy, PartialEq, Eq, Debug)]
-pub struct Instant {
+pub struct PastInstant {
     pub inputs: u64,
     pub outputs: u64,
 }
@@ -30,7 +30,7 @@ pub struct Load {
 pub enum Action {
     Load(Load),
     Offer(Identifier),
-    Step(Instant),
+    Step(PastInstant),
 }
 
 /// One entry of a journal.

@@ -9,10 +9,12 @@ ghost use Rattle.est_rounds.specs.Contract.{AreInputs, IsReaction, HasNoReaction
 ghost use Rattle.reactor_core.specs.Meaning.{Running, running_of, entry};
 ghost use Rattle.reactor_core.specs.Loading.{IsKernelOf, IsLoadFault};
 ghost use Rattle.reactor_core.specs.Standing.{LoadsAt, IsRunning};
-ghost use Rattle.reactor_core.specs.Answers.{LoadAnswer, OfferAnswer, StepAnswer, ShownAnswer, HasRoom, RefusesEntry, RefusesName, IsSignal};
+ghost use Rattle.reactor_core.specs.Instants.{IsOutcome, HasNoOutcome, AddsInstant, OpenAnswer};
+ghost use Rattle.reactor_core.specs.Answers.{LoadAnswer, OfferAnswer, ShownAnswer, HasRoom, RefusesEntry, RefusesName, IsSignal};
 
-use crate::entry::{Action, Instant, Load, SlotEntry, Stamp};
+use crate::entry::{Action, Load, PastInstant, SlotEntry, Stamp};
 use crate::journal::{JOURNAL_ENTRIES, Journal};
+use crate::reactor::instant::Instant;
 use crate::reader::read_kernel;
 use crate::refusal::Refusal;
 use crate::text::Text;
@@ -23,9 +25,10 @@ use est_kernel::mask;
 use est_kernel::state::{Inputs, Outcome, State, Stuck};
 use est_kernel::statement::InterfaceSignal;
 use est_rounds::engine::Engine;
-use est_rounds::rounds::Rounds;
 use std::alloc::Global;
 use std::marker::Model;
+
+pub mod instant;
 
 /// What is shown of an instant: the signals that were asked for, and those of them that were present, as masks over the
 /// interface in the order of declaration.
@@ -42,7 +45,7 @@ pub struct Reactor {
     loaded: usize,
     state: State,
     pending: u64,
-    instants: Vec<Instant>,
+    instants: Vec<PastInstant>,
 }
 
 impl Model for Reactor {
@@ -121,7 +124,7 @@ fn with_signal(mask: u64, signal: InterfaceSignal) -> u64
 }
 
 /// The n-th instant, counted from 1.
-fn instant_at(instants: &[Instant], n: u64) -> Option<Instant>
+fn instant_at(instants: &[PastInstant], n: u64) -> Option<PastInstant>
     ensures { MatchOption result ((n ≡ 0) ⊎ (length instants.now < n)) (λ i. (0 < n) × (slice_get instants.now (n - 1) ≡ Some i)) }
 {
     if n == 0 || n > instants.len() as u64 {
@@ -133,9 +136,9 @@ fn instant_at(instants: &[Instant], n: u64) -> Option<Instant>
 /// Adds a step's entry and its instant, or refuses it as JournalFull or Memory and leaves both as they are.
 fn append_step(
     journal: &mut Journal,
-    instants: &mut Vec<Instant>,
+    instants: &mut Vec<PastInstant>,
     stamp: Stamp,
-    instant: Instant,
+    instant: PastInstant,
 ) -> Result<(), Refusal>
     ensures { MatchResult result
         (λ _. HasRoom journal.old × (journal.new ≡ journal.old ++ entry stamp (Action.Step instant) ∷ [])
@@ -266,38 +269,43 @@ impl Reactor {
         Ok(())
     }
 
-    /// Makes the pending inputs the next instant's: its outputs are those of the constructive reaction. Where there is no
-    /// reaction it is refused as Stuck, with the undecided outputs, and the inputs stay pending.
-    pub fn step(&mut self, stamp: Stamp) -> Result<(), Refusal>
-        ensures { StepAnswer self.old stamp result self.new }
+    /// Opens the next instant, which takes the pending inputs. It adds no entry and takes no memory, and nothing is refused,
+    /// since no module has a relation yet.
+    pub fn open(self) -> Result<Instant, (Refusal, Reactor)>
+        ensures { OpenAnswer self result }
     {
-        self.step_by(&mut Rounds::new(), stamp)
+        Ok(Instant::of(self))
     }
 
-    /// Makes the pending inputs the next instant's, by this engine.
-    fn step_by<E: Engine>(&mut self, engine: &mut E, stamp: Stamp) -> Result<(), Refusal>
-        requires { (r : Running) → running_of self.old ≡ Some r → E.is_for engine.old r.kernel }
-        ensures { StepAnswer self.old stamp result self.new }
+    /// The reaction of what is left to run to the pending inputs, by this engine.
+    fn reaction_by<E: Engine>(&self, engine: &mut E) -> Result<Outcome, Stuck>
+        requires { (r : Running) → running_of self.now ≡ Some r → E.is_for engine.old r.kernel }
+        ensures { MatchResult result (IsOutcome self.now) (HasNoOutcome self.now) }
     {
-        match reaction(
+        reaction(
             engine,
             &self.journal,
             self.loaded,
             &self.state,
             self.pending,
-        ) {
-            Ok(outcome) => {
-                let instant = Instant {
-                    inputs: self.pending,
-                    outputs: outcome.outputs,
-                };
-                append_step(&mut self.journal, &mut self.instants, stamp, instant)?;
-                self.state = outcome.next;
-                self.pending = 0;
-                Ok(())
-            }
-            Err(stuck) => Err(Refusal::Stuck(stuck.undecided)),
-        }
+        )
+    }
+
+    /// Adds the instant of this outcome, with its entry, or refuses it as JournalFull or Memory and stays as it is.
+    fn advance(&mut self, stamp: Stamp, outcome: Outcome) -> Result<(), Refusal>
+        requires { IsOutcome self.old outcome }
+        ensures { MatchResult result
+            (λ _. AddsInstant self.old outcome stamp self.new)
+            (λ e. RefusesEntry self.old e × (self.new ≡ self.old)) }
+    {
+        let instant = PastInstant {
+            inputs: self.pending,
+            outputs: outcome.outputs,
+        };
+        append_step(&mut self.journal, &mut self.instants, stamp, instant)?;
+        self.state = outcome.next;
+        self.pending = 0;
+        Ok(())
     }
 
     /// What was present in the n-th instant since the load, within the mask. It takes no memory.

@@ -57,8 +57,6 @@ pub enum Refusal {
     NoInstant,
     /// The journal has as many entries as it may have.
     JournalFull,
-    /// The inputs have no constructive reaction. The undecided outputs, as a mask over the interface.
-    Stuck(u64),
     /// Here begins no token.
     Lexical(Place),
     /// The first token with which the tokens so far begin no module.

@@ -5,7 +5,9 @@ use crate::reactor::{Reactor, Shown};
 use crate::refusal::{Place, Refusal};
 use crate::text::Text;
 use est_kernel::identifier::Identifier;
+use est_kernel::state::Stuck;
 use std::alloc::Global;
+use std::process::Abort;
 use std::test::Fail;
 
 const STAMP: Stamp = Stamp {
@@ -26,13 +28,37 @@ fn loaded(alloc: Global, text: &str) -> Result<Result<Reactor, Refusal>, Fail> {
     }
 }
 
+/// Why there was no instant.
+#[derive(Drop)]
+enum Refused {
+    Open(Refusal),
+    Settle(Stuck),
+    Commit(Refusal),
+}
+
+/// Opens, settles and commits the next instant.
+fn stepped(reactor: Reactor, stamp: Stamp) -> Result<Reactor, (Refused, Reactor)> {
+    let opened = match reactor.open() {
+        Ok(opened) => opened,
+        Err((refusal, reactor)) => return Err((Refused::Open(refusal), reactor)),
+    };
+    let settled = match opened.settle() {
+        Ok(settled) => settled,
+        Err((stuck, reactor)) => return Err((Refused::Settle(stuck), reactor)),
+    };
+    match settled.commit(stamp) {
+        Ok(reactor) => Ok(reactor),
+        Err((refusal, reactor)) => Err((Refused::Commit(refusal), reactor)),
+    }
+}
+
 /// The opening script: outputs {O}, {P}, {} and what is shown of them.
 #[test]
 fn three_steps_of_an_emit_and_a_pause(rt: HostRuntime) -> Result<(), Fail> {
     let text = "module M: output O, P; emit O; pause; emit P end module";
     let mut reactor = loaded(rt.alloc(), text)?.ok().ok_or("refused")?;
     for _ in 0..3 {
-        assert_eq!(rt; reactor.step(STAMP), Ok(()));
+        reactor = stepped(reactor, STAMP).ok().ok_or("refused")?;
     }
     assert_eq!(rt; reactor.instants(), 3);
     assert_eq!(rt;
@@ -75,7 +101,10 @@ fn a_stuck_step_keeps_what_is_pending(rt: HostRuntime) -> Result<(), Fail> {
     let text = "module M: input I; output O; present O then emit O else emit O end end module";
     let mut reactor = loaded(rt.alloc(), text)?.ok().ok_or("refused")?;
     assert_eq!(rt; reactor.offer(STAMP, &name("I")?), Ok(()));
-    assert_eq!(rt; reactor.step(STAMP), Err(Refusal::Stuck(2)));
+    let Err((Refused::Settle(stuck), mut reactor)) = stepped(reactor, STAMP) else {
+        return Err(Fail::from("a reaction"));
+    };
+    assert_eq!(rt; stuck.undecided, 2);
     assert_eq!(rt;
         reactor.offer(STAMP, &name("I")?),
         Err(Refusal::AlreadyOffered)
@@ -98,8 +127,8 @@ fn an_offer_is_in_the_next_instant(rt: HostRuntime) -> Result<(), Fail> {
     let text = "module M: input I; output O; present I then emit O end; pause end module";
     let mut reactor = loaded(rt.alloc(), text)?.ok().ok_or("refused")?;
     assert_eq!(rt; reactor.offer(STAMP, &name("I")?), Ok(()));
-    assert_eq!(rt; reactor.step(STAMP), Ok(()));
-    assert_eq!(rt; reactor.step(STAMP), Ok(()));
+    let reactor = stepped(reactor, STAMP).ok().ok_or("refused")?;
+    let reactor = stepped(reactor, STAMP).ok().ok_or("refused")?;
     assert_eq!(rt;
         reactor.shown(1, 3),
         Ok(Shown {
@@ -114,6 +143,72 @@ fn an_offer_is_in_the_next_instant(rt: HostRuntime) -> Result<(), Fail> {
             present: 0
         })
     );
+    Ok(())
+}
+
+/// An instant that is given up, opened or settled, leaves the reactor: what was offered is in the next one that is committed.
+#[test]
+fn an_abandoned_instant_leaves_the_reactor(rt: HostRuntime) -> Result<(), Fail> {
+    let text = "module M: input I; output O; present I then emit O end; pause end module";
+    let mut reactor = loaded(rt.alloc(), text)?.ok().ok_or("refused")?;
+    assert_eq!(rt; reactor.offer(STAMP, &name("I")?), Ok(()));
+    let opened = reactor.open().ok().ok_or("not opened")?;
+    let opened = opened.abandon().open().ok().ok_or("not opened")?;
+    let settled = opened.settle().ok().ok_or("stuck")?;
+    let reactor = settled.abandon();
+    assert_eq!(rt; reactor.pending(), 1);
+    assert_eq!(rt; reactor.instants(), 0);
+    assert_eq!(rt; reactor.journal().len(), 2);
+    let reactor = stepped(reactor, STAMP).ok().ok_or("refused")?;
+    assert_eq!(rt;
+        reactor.shown(1, 3),
+        Ok(Shown {
+            mask: 3,
+            present: 3
+        })
+    );
+    Ok(())
+}
+
+/// What a refused commit leaves, with I pending and so many instants, and what the next one shows.
+fn committed_again(
+    rt: &impl Abort,
+    reactor: Reactor,
+    instants: u64,
+    shown: Shown,
+) -> Result<(), Fail> {
+    assert_eq!(rt; reactor.pending(), 1);
+    assert_eq!(rt; reactor.instants(), instants);
+    assert_eq!(rt; reactor.journal().len() as u64, 2 * instants + 2);
+    let reactor = stepped(reactor, STAMP).ok().ok_or("refused twice")?;
+    assert_eq!(rt; reactor.pending(), 0);
+    assert_eq!(rt; reactor.shown(instants + 1, 3), Ok(shown));
+    Ok(())
+}
+
+/// With ample memory nothing is refused. Where one allocation is refused it is in the load, in an offer, or in a commit, which leaves
+/// the reactor as it was opened: the test ends with the words for it. The faults script has each allocation refused in turn.
+#[test]
+fn want_of_memory(rt: HostRuntime) -> Result<(), Fail> {
+    let text =
+        "module M: input I; output O; emit O; pause; pause; present I then emit O end end module";
+    let mut reactor = loaded(rt.alloc(), text)?.ok().ok_or("refused a load")?;
+    for (instants, present) in [(0, 3), (1, 1), (2, 3)] {
+        let offered = reactor.offer(STAMP, &name("I")?);
+        offered.ok().ok_or("refused an offer")?;
+        reactor = match stepped(reactor, STAMP) {
+            Ok(reactor) => reactor,
+            Err((Refused::Commit(Refusal::Memory), reactor)) => {
+                committed_again(&rt, reactor, instants, Shown { mask: 3, present })?;
+                return Err(Fail::from("refused a commit"));
+            }
+            Err((_, _)) => return Err(Fail::from("refused an instant")),
+        };
+        assert_eq!(rt;
+            reactor.shown(instants + 1, 3),
+            Ok(Shown { mask: 3, present })
+        );
+    }
     Ok(())
 }
 

@@ -1,0 +1,20 @@
+use Rattle.std.proofs.Common.{◌∙◌, ap, inl, inr, ⊎_elim}
+use Rattle.reactor_core.specs.Meaning.{running_of}
+use Rattle.access_core.proofs.Stepping.{step_stuck}
+use Rattle.access_core.proofs.slot.settled.Goals as goal
+
+pub committed-requires : goal.committed-requires
+committed-requires c = rw c.in-Ok.ensures.0 c.in-Ok.ensures.1
+
+pub returns-in-Ok-clause-step : goal.returns-in-Ok-clause-step
+returns-in-Ok-clause-step c = λ entries stands.
+    let done = rw (c.in-Ok.ensures.0, c.stamp.ensures entries stands) at c.committed.ensures.step in
+    ⊎_elim inl (λ commits. inr (inr commits)) done
+
+pub returns-in-Err-clause-running : goal.returns-in-Err-clause-running
+returns-in-Err-clause-running c = let none = c.in-Err.ensures.0 in (none.running, ap running_of c.in-Err.ensures.1 ∙ none.runs)
+
+pub returns-in-Err-clause-step : goal.returns-in-Err-clause-step
+returns-in-Err-clause-step c = λ entries stands.
+    let named = rw c.in-Err.ensures.1 at c.undecided_refusal-refusal.ensures entries stands in
+    step_stuck _ _ _ _ _ _ _ named c.in-Err.ensures.1

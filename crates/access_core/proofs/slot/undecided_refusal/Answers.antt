@@ -1,0 +1,25 @@
+use Rattle.std.proofs.Common.{◌≡◌, ◌∙◌, ap, inr, subst, map, filter, List}
+use mathlib.Core.Path.{fun_ext}
+use Rattle.est_kernel.specs.Bits.{bits}
+use Rattle.est_kernel.specs.declared.interface.Declaration.{Declaration}
+use Rattle.reactor_core.specs.Meaning.{Running}
+use Rattle.access_core.specs.declared.refusal.Refusal.TheVariants.{Stuck}
+use Rattle.access_core.specs.Shown.{Sees, name_at, places_of, names_of}
+use Rattle.access_core.proofs.Running.{same_running}
+use Rattle.access_core.proofs.slot.undecided_refusal.Goals as goal
+
+pub returns-in-Ok : goal.returns-in-Ok
+returns-in-Ok c = λ entries stands.
+    let interface = c.interface-interface.ensures in
+    let none = c.requires in
+    let one = same_running c.args.reactor.now interface.0 none.running interface.1 none.runs in
+    let same : c.interface-interface.result.now ≡ none.running.kernel.interface = interface.2 ∙ ap (λ (r : Running). r.kernel.interface) one in
+    inr (record {
+      undecided = c.args.stuck;
+      none = none;
+      sees = bits c.observed-seen.result;
+      observes = subst (λ (ds : List Declaration). Sees entries c.args.session c.args.slot ds (bits c.observed-seen.result)) same (c.observed-seen.ensures entries stands);
+      named = ap Stuck (c.in-Ok.ensures
+          ∙ ap (λ p. map (name_at c.interface-interface.result.now) (filter p (places_of c.interface-interface.result.now))) (fun_ext c.seen_of-undecided.ensures)
+          ∙ ap (λ (ds : List Declaration). names_of ds (bits c.observed-seen.result) c.args.stuck.undecided) same);
+    })

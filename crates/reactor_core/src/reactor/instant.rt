@@ -1,0 +1,107 @@
+//! The next instant of a reactor, while it is worked out: opened, settled, committed.
+//!
+//! An `Instant` and a `Settled` hold the reactor, and are spent by a move: neither is `Drop`, so a program that lets one go does
+//! not compile. Each way out hands a reactor back, which is as it was before `open` unless the instant was committed.
+ghost use Rattle.std.specs.Prelude.{◌≡◌};
+ghost use Rattle.reactor_core.specs.Instants.{SettleAnswer, CommitAnswer};
+
+use crate::entry::Stamp;
+use crate::reactor::Reactor;
+use crate::refusal::Refusal;
+use est_kernel::state::{Outcome, Stuck};
+use est_rounds::rounds::Rounds;
+use std::marker::Model;
+
+/// An instant that was opened: its inputs are those that are pending. A contract sees the journal of its reactor.
+pub struct Instant {
+    reactor: Reactor,
+}
+
+impl Model for Instant {
+    ghost use Rattle.std.specs.Prelude.{List};
+    ghost use Rattle.std.specs.Coded.{codes};
+    ghost use Rattle.reactor_core.specs.contracts.entry.SlotEntry as entry;
+    ghost use Rattle.reactor_core.specs.declared.entry.SlotEntry.{SlotEntry};
+
+    ghost Value = { List SlotEntry };
+
+    ghost coded = { Prim.hlevel (codes, entry.the_row.coded) };
+
+    ghost view = { λ i. i.reactor };
+}
+
+/// An instant whose reaction is known. A contract sees the journal of its reactor, and the reaction's outcome.
+pub struct Settled {
+    reactor: Reactor,
+    outcome: Outcome,
+}
+
+impl Model for Settled {
+    ghost use Rattle.std.specs.Coded.{codes};
+    ghost use Rattle.reactor_core.specs.contracts.entry.SlotEntry as entry;
+    ghost use Rattle.reactor_core.specs.Instants.{SettledInstant, IsOutcome};
+
+    ghost Value = { SettledInstant };
+
+    ghost coded = { Prim.hlevel (codes, entry.the_row.coded) };
+
+    ghost view = { λ s. record { journal = s.reactor; outcome = s.outcome } };
+
+    ghost invariant = { λ s. IsOutcome s.reactor s.outcome };
+}
+
+impl Instant {
+    /// The instant that this reactor opens.
+    pub(crate) fn of(reactor: Reactor) -> Instant
+        ensures { result ≡ reactor }
+    {
+        Instant { reactor }
+    }
+
+    /// Works out the reaction, exactly where there is one. Where there is none it is refused, with the undecided outputs, and the
+    /// reactor is handed back as it was before `open`. It takes no memory.
+    pub fn settle(self) -> Result<Settled, (Stuck, Reactor)>
+        ensures { SettleAnswer self result }
+    {
+        let Instant { reactor } = self;
+        match reactor.reaction_by(&mut Rounds::new()) {
+            Ok(outcome) => Ok(Settled { reactor, outcome }),
+            Err(stuck) => Err((stuck, reactor)),
+        }
+    }
+
+    /// Gives the instant up: the reactor is as it was before `open`.
+    pub fn abandon(self) -> Reactor
+        ensures { result ≡ self }
+    {
+        let Instant { reactor } = self;
+        reactor
+    }
+}
+
+impl Settled {
+    /// Makes it the reactor's next instant, and adds its entry: it keeps the inputs that were pending, none of which is pending any
+    /// more, and the reaction's outputs. A refusal, JournalFull or Memory, hands the reactor back as it was before `open`.
+    pub fn commit(self, stamp: Stamp) -> Result<Reactor, (Refusal, Reactor)>
+        ensures { CommitAnswer self stamp result }
+    {
+        let Settled { reactor, outcome } = self;
+        let mut reactor = reactor;
+        match reactor.advance(stamp, outcome) {
+            Ok(()) => Ok(reactor),
+            Err(refusal) => Err((refusal, reactor)),
+        }
+    }
+
+    /// Gives the instant up: the reactor is as it was before `open`.
+    pub fn abandon(self) -> Reactor
+        ensures { result ≡ self.journal }
+    {
+        match self {
+            Settled {
+                reactor,
+                outcome: _,
+            } => reactor,
+        }
+    }
+}
