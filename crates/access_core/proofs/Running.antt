@@ -9,7 +9,7 @@ use Rattle.reactor_core.specs.declared.entry.PastInstant.{PastInstant}
 use Rattle.reactor_core.specs.declared.entry.SlotEntry.{SlotEntry}
 use Rattle.reactor_core.specs.declared.reactor.Shown.{Shown}
 use Rattle.reactor_core.specs.Meaning.{Running, running_of}
-use Rattle.reactor_core.specs.Answers.{IsInstant, shown_of as masked}
+use Rattle.reactor_core.specs.Answers.{IsInstant, within_mask as masked}
 use Rattle.access_core.specs.declared.refusal.Refusal.{Refusal}
 use Rattle.access_core.specs.declared.reply.Reply.TheVariants.{Look}
 use Rattle.access_core.specs.declared.reply.ShownSignal.{ShownSignal}
@@ -29,8 +29,8 @@ pub same_running : (journal : List SlotEntry) (r s : Running) → running_of jou
 same_running journal r s one other = cc
 
 instant_within : (r : Running) (n : ℕ) (i : PastInstant) → IsInstant r n i → (n ≡ 0) ⊎ (length r.instants < n) → ⊥
-instant_within r n i there (inl zero) = let some = there.0 in omega arith
-instant_within r n i there (inr past) = let within = slice_get_within r.instants (n - 1) i there.1 in let some = there.0 in omega arith
+instant_within r n i there (inl zero) = let some = there.counted in omega arith
+instant_within r n i there (inr past) = let within = slice_get_within r.instants (n - 1) i there.there in let some = there.counted in omega arith
 
 -- where there is an instant of this number, it isn't refused
 pub not_no_instant : (journal : List SlotEntry) (r : Running) (n : ℕ) (i : PastInstant) → running_of journal ≡ Some r → IsInstant r n i

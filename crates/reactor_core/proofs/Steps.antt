@@ -26,7 +26,7 @@ use Rattle.reactor_core.specs.Reacting.{ReactsWith}
 use Rattle.reactor_core.specs.Meaning.{entry, instant, Running, Leaves, with_place, after, running_from, loaded, offered, stepped}
 use Rattle.reactor_core.specs.Standing.{IsRunning}
 use Rattle.reactor_core.specs.Instants.{IsOutcome, HasNoOutcome, AddsInstant}
-use Rattle.reactor_core.specs.Answers.{HasRoom, RefusesEntry, RefusesName, IsSignal, OfferAnswer, ShownAnswer, shown_of}
+use Rattle.reactor_core.specs.Answers.{HasRoom, RefusesEntry, RefusesName, IsSignal, OfferAnswer, ShownAnswer, within_mask}
 
 -- what runs after one more entry
 pub running_snoc : (m : Option Running) (before : List SlotEntry) (e : SlotEntry) → running_from m (before ++ e ∷ []) ≡ after (running_from m before) e.action
@@ -140,23 +140,41 @@ reaction_is k k' x i (Err s) e ok err = subst (λ (v : Kernel). HasNoReaction v 
 module _ {journal : List SlotEntry} {place : ℕ} {state : State} {pending : ℕ} {instants : List PastInstant} where
   pub offer_refused : (i : IsRunning journal place state pending instants) (w : List SlotEntry) (stamp : Stamp) (name : List ℕ) (e : Refusal)
       → RefusesName i.load.kernel.interface pending name e → w ≡ journal → OfferAnswer journal stamp name (Err e) w
-  offer_refused i w stamp name e h same = (record { kernel = i.load.kernel; pending = pending; instants = instants }, i.running, (inl h, same))
+  offer_refused i w stamp name e h same = record {
+    running = record { kernel = i.load.kernel; pending = pending; instants = instants };
+    runs = i.running;
+    given = record { why = inl h; stays = same };
+  }
 
   pub offer_not_added : (i : IsRunning journal place state pending instants) (w : List SlotEntry) (stamp : Stamp) (name : List ℕ) (e : Refusal) (n : ℕ)
       → IsSignal i.load.kernel.interface name n Input → bits pending n ≡ false → RefusesEntry journal e → w ≡ journal → OfferAnswer journal stamp name (Err e) w
-  offer_not_added i w stamp name e n s new h same =
-      (record { kernel = i.load.kernel; pending = pending; instants = instants }, i.running, (inr (record { place = n; input = s; new = new }, h), same))
+  offer_not_added i w stamp name e n s new h same = record {
+    running = record { kernel = i.load.kernel; pending = pending; instants = instants };
+    runs = i.running;
+    given = record { why = inr (record { can = record { place = n; input = s; new = new }; refused = h }); stays = same };
+  }
 
   pub offer_added : (i : IsRunning journal place state pending instants) (w : List SlotEntry) (stamp : Stamp) (name : List ℕ) (n : ℕ)
       → IsSignal i.load.kernel.interface name n Input → bits pending n ≡ false → HasRoom journal → w ≡ journal ++ entry stamp (Offer name) ∷ []
       → OfferAnswer journal stamp name (Ok tt) w
-  offer_added i w stamp name n s new room e =
-      (record { kernel = i.load.kernel; pending = pending; instants = instants }, i.running, (record { place = n; input = s; new = new }, room, e))
+  offer_added i w stamp name n s new room e = record {
+    running = record { kernel = i.load.kernel; pending = pending; instants = instants };
+    runs = i.running;
+    given = record { can = record { place = n; input = s; new = new }; room = room; added = e };
+  }
 
   pub instant_shown : (i : IsRunning journal place state pending instants) (n mask : ℕ) (x : PastInstant)
-      → (0 < n) × (slice_get instants (n - 1) ≡ Some x) → ShownAnswer journal n mask (Ok (shown_of x mask))
-  instant_shown i n mask x h = (record { kernel = i.load.kernel; pending = pending; instants = instants }, i.running, (x, h, refl))
+      → (0 < n) × (slice_get instants (n - 1) ≡ Some x) → ShownAnswer journal n mask (Ok (within_mask x mask))
+  instant_shown i n mask x h = record {
+    running = record { kernel = i.load.kernel; pending = pending; instants = instants };
+    runs = i.running;
+    given = record { instant = x; there = record { counted = h.0; there = h.1 }; masked = refl };
+  }
 
   pub no_instant : (i : IsRunning journal place state pending instants) (n mask : ℕ)
       → (n ≡ 0) ⊎ (length instants < n) → ShownAnswer journal n mask (Err NoInstant)
-  no_instant i n mask h = (record { kernel = i.load.kernel; pending = pending; instants = instants }, i.running, (refl, h))
+  no_instant i n mask h = record {
+    running = record { kernel = i.load.kernel; pending = pending; instants = instants };
+    runs = i.running;
+    given = record { refused = refl; outside = h };
+  }

@@ -42,36 +42,59 @@ RefusesEntry journal JournalFull = IsFull journal
 RefusesEntry journal Memory = HasRoom journal
 RefusesEntry journal _ = ⊥
 
+-- the name is that of an output
+pub record IsOutputName (interface : List Declaration) (name : List ℕ) : Type 0 where
+  pub place : ℕ
+  pub output : IsSignal interface name place Output
+
+-- the name is that of an input that is pending
+pub record IsPendingName (interface : List Declaration) (pending : ℕ) (name : List ℕ) : Type 0 where
+  pub place : ℕ
+  pub input : IsSignal interface name place Input
+  pub offered : bits pending place ≡ true
+
 -- why a name can't be offered: no signal has it, it is an output's, or its signal is pending
 abbrev pub RefusesName : List Declaration → (pending : ℕ) → List ℕ → Refusal → Type 0
 RefusesName interface pending name UnknownSignal = place_of interface name ≡ None
-RefusesName interface pending name NotInput = (place : ℕ) × IsSignal interface name place Output
-RefusesName interface pending name AlreadyOffered =
-    (place : ℕ) × IsSignal interface name place Input × (bits pending place ≡ true)
+RefusesName interface pending name NotInput = IsOutputName interface name
+RefusesName interface pending name AlreadyOffered = IsPendingName interface pending name
 RefusesName interface pending name _ = ⊥
+
+-- the name can be offered, but the journal takes no entry
+pub record IsUnrecordedOffer (journal : List SlotEntry) (r : Running) (name : List ℕ) (e : Refusal) : Type 0 where
+  pub can : CanOffer r name
+  pub refused : RefusesEntry journal e
 
 -- why an offer of the name is refused: by its name, or else by the journal
 abbrev pub RefusesOffer : List SlotEntry → Running → List ℕ → Refusal → Type 0
-RefusesOffer journal r name e =
-    RefusesName r.kernel.interface r.pending name e ⊎ (CanOffer r name × RefusesEntry journal e)
+RefusesOffer journal r name e = RefusesName r.kernel.interface r.pending name e ⊎ IsUnrecordedOffer journal r name e
+
+-- an offer is accepted: its entry is added
+pub record AcceptsOffer (before : List SlotEntry) (stamp : Stamp) (r : Running) (name : List ℕ) (after : List SlotEntry) : Type 0 where
+  pub can : CanOffer r name
+  pub room : HasRoom before
+  pub added : after ≡ before ++ entry stamp (Offer name) ∷ []
+
+-- an offer is refused, and the journal stays as it was
+pub record RejectsOffer (before : List SlotEntry) (r : Running) (name : List ℕ) (refusal : Refusal) (after : List SlotEntry) : Type 0 where
+  pub why : RefusesOffer before r name refusal
+  pub stays : after ≡ before
 
 -- the answer to an offer of the name, and the journal afterwards
-abbrev pub OfferAnswer : (before : List SlotEntry) → Stamp → List ℕ → Result (Unit {0}) Refusal → (after : List SlotEntry) → Type 0
-OfferAnswer before stamp name answer after =
-    (r : Running) × (running_of before ≡ Some r)
-    × MatchResult answer
-    (λ _. CanOffer r name × HasRoom before × (after ≡ before ++ entry stamp (Offer name) ∷ []))
-    (λ e. RefusesOffer before r name e × (after ≡ before))
+pub record OfferAnswer (before : List SlotEntry) (stamp : Stamp) (name : List ℕ) (answer : Result (Unit {0}) Refusal) (after : List SlotEntry) : Type 0 where
+  pub running : Running
+  pub runs : running_of before ≡ Some running
+  pub given : MatchResult answer (λ _. AcceptsOffer before stamp running name after) (λ e. RejectsOffer before running name e after)
 
 -- the text gives a kernel, but the journal takes no entry
-pub record IsRefusedEntry (journal : List SlotEntry) (main text : List ℕ) (e : Refusal) : Type 0 where
+pub record IsUnrecordedLoad (journal : List SlotEntry) (main text : List ℕ) (e : Refusal) : Type 0 where
   pub kernel : Kernel
   pub read : IsKernelOf main text kernel
   pub refused : RefusesEntry journal e
 
 -- why a load of the text's module of this name is refused: the text gives no kernel, or else by the journal
 abbrev pub RefusesLoad : List SlotEntry → (main text : List ℕ) → Refusal → Type 0
-RefusesLoad journal main text e = IsLoadFault main text e ⊎ IsRefusedEntry journal main text e
+RefusesLoad journal main text e = IsLoadFault main text e ⊎ IsUnrecordedLoad journal main text e
 
 -- a load is accepted: the text's module of this name has this kernel, and its entry is added
 pub record AcceptsLoad (before : List SlotEntry) (stamp : Stamp) (main text : List ℕ) (after : List SlotEntry) : Type 0 where
@@ -93,17 +116,27 @@ LoadAnswer before stamp main text answer =
     (λ refused. RejectsLoad before main text refused.0 refused.1)
 
 -- the n-th instant since the load
-abbrev pub IsInstant : Running → ℕ → PastInstant → Type 0
-IsInstant r n i = (0 < n) × (slice_get r.instants (n - 1) ≡ Some i)
+pub record IsInstant (r : Running) (n : ℕ) (i : PastInstant) : Type 0 where
+  pub counted : 0 < n
+  pub there : slice_get r.instants (n - 1) ≡ Some i
 
 -- what is present of an instant, within the mask
-abbrev pub shown_of : PastInstant → (mask : ℕ) → Shown
-shown_of i mask = record { mask = mask; present = bit_and (bit_or i.inputs i.outputs) mask }
+abbrev pub within_mask : PastInstant → (mask : ℕ) → Shown
+within_mask i mask = record { mask = mask; present = bit_and (bit_or i.inputs i.outputs) mask }
+
+-- the n-th instant is shown within the mask
+pub record ShowsInstant (r : Running) (n mask : ℕ) (s : Shown) : Type 0 where
+  pub instant : PastInstant
+  pub there : IsInstant r n instant
+  pub masked : s ≡ within_mask instant mask
+
+-- there is no n-th instant
+pub record LacksInstant (r : Running) (n : ℕ) (e : Refusal) : Type 0 where
+  pub refused : e ≡ NoInstant
+  pub outside : (n ≡ 0) ⊎ (length r.instants < n)
 
 -- the answer to a look at the n-th instant: NoInstant exactly where there is none
-abbrev pub ShownAnswer : (journal : List SlotEntry) → (n mask : ℕ) → Result Shown Refusal → Type 0
-ShownAnswer journal n mask answer =
-    (r : Running) × (running_of journal ≡ Some r)
-    × MatchResult answer
-    (λ s. (i : PastInstant) × IsInstant r n i × (s ≡ shown_of i mask))
-    (λ e. (e ≡ NoInstant) × ((n ≡ 0) ⊎ (length r.instants < n)))
+pub record ShownAnswer (journal : List SlotEntry) (n mask : ℕ) (answer : Result Shown Refusal) : Type 0 where
+  pub running : Running
+  pub runs : running_of journal ≡ Some running
+  pub given : MatchResult answer (λ s. ShowsInstant running n mask s) (λ e. LacksInstant running n e)
