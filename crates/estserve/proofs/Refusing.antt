@@ -1,5 +1,5 @@
 -- A line that is refused leaves the desk.
-use Rattle.std.proofs.Common.{◌≡◌, ℕ, List, refl, sym, ◌∙◌, ap, subst, inl, inr}
+use Rattle.std.proofs.Common.{◌≡◌, ℕ, List, sym, ◌∙◌, ap, subst, inl, inr}
 use Rattle.std.specs.Prelude.{◌⊎◌, Option, Some, None}
 use Rattle.rbac_policy.specs.declared.commands.AdminCommand.TheVariants.{CreateSession, DeleteSession, GrantPermission}
 use Rattle.access_core.specs.declared.command.SlotCommand.TheVariants as slot
@@ -11,7 +11,7 @@ use Rattle.access_core.specs.Needs.{IsAccepted}
 use Rattle.access_core.proofs.Unchanged.{admin_refused, slot_refused}
 use Rattle.estserve.specs.declared.request.Request.{Request}
 use Rattle.estserve.specs.declared.request.Request.TheVariants.{Login, Logout, Grant, Load, Offer, Step, Look}
-use Rattle.estserve.specs.Connection.{Asks, with_login, AnswersRequest, RefusesLine, LineStep, TellsNothing, Accepts}
+use Rattle.estserve.specs.Connection.{Asks, with_login, LineStep, TellsNothing}
 
 asked_stays : (request : Request) (login : Option ℕ) (before : Desk) (refusal : Refusal) (after : Desk)
     → Asks request login before (Refused refusal) after → after ≡ before
