@@ -170,19 +170,47 @@ fn an_abandoned_instant_leaves_the_reactor(rt: HostRuntime) -> Result<(), Fail> 
     Ok(())
 }
 
-/// What a refused commit leaves, with I pending and so many instants, and what the next one shows.
-fn committed_again(
-    rt: &impl Abort,
-    reactor: Reactor,
+/// An instant of a table: how many instants and entries there are before it, its number, and what it shows.
+struct Row {
     instants: u64,
-    shown: Shown,
-) -> Result<(), Fail> {
+    entries: usize,
+    number: u64,
+    present: u64,
+}
+
+const ROWS: [Row; 3] = [
+    Row {
+        instants: 0,
+        entries: 2,
+        number: 1,
+        present: 3,
+    },
+    Row {
+        instants: 1,
+        entries: 4,
+        number: 2,
+        present: 1,
+    },
+    Row {
+        instants: 2,
+        entries: 6,
+        number: 3,
+        present: 3,
+    },
+];
+
+/// What a refused commit leaves, with I pending, and what the next one shows.
+fn committed_again(rt: &impl Abort, reactor: Reactor, row: &Row) -> Result<(), Fail> {
     assert_eq!(rt; reactor.pending(), 1);
-    assert_eq!(rt; reactor.instants(), instants);
-    assert_eq!(rt; reactor.journal().len() as u64, 2 * instants + 2);
+    assert_eq!(rt; reactor.instants(), row.instants);
+    assert_eq!(rt; reactor.journal().len(), row.entries);
     let reactor = stepped(reactor, STAMP).ok().ok_or("refused twice")?;
+    let present = row.present;
     assert_eq!(rt; reactor.pending(), 0);
-    assert_eq!(rt; reactor.shown(instants + 1, 3), Ok(shown));
+    assert_eq!(rt;
+        reactor.shown(row.number, 3),
+        Ok(Shown { mask: 3, present })
+    );
     Ok(())
 }
 
@@ -193,19 +221,20 @@ fn want_of_memory(rt: HostRuntime) -> Result<(), Fail> {
     let text =
         "module M: input I; output O; emit O; pause; pause; present I then emit O end end module";
     let mut reactor = loaded(rt.alloc(), text)?.ok().ok_or("refused a load")?;
-    for (instants, present) in [(0, 3), (1, 1), (2, 3)] {
+    for row in &ROWS {
         let offered = reactor.offer(STAMP, &name("I")?);
         offered.ok().ok_or("refused an offer")?;
         reactor = match stepped(reactor, STAMP) {
             Ok(reactor) => reactor,
             Err((Refused::Commit(Refusal::Memory), reactor)) => {
-                committed_again(&rt, reactor, instants, Shown { mask: 3, present })?;
+                committed_again(&rt, reactor, row)?;
                 return Err(Fail::from("refused a commit"));
             }
             Err((_, _)) => return Err(Fail::from("refused an instant")),
         };
+        let present = row.present;
         assert_eq!(rt;
-            reactor.shown(instants + 1, 3),
+            reactor.shown(row.number, 3),
             Ok(Shown { mask: 3, present })
         );
     }
