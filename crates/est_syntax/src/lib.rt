@@ -11,5 +11,6 @@ mod declarations;
 mod fault;
 pub mod laws;
 mod names;
+mod parser;
 pub mod tree;
 mod units;

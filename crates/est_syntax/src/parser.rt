@@ -1,0 +1,191 @@
+//! From tokens to the tree of a statement.
+ghost use Rattle.std.specs.Prelude.{◌≡◌, ◌≤◌, ◌+◌, ◌∷◌, ◌++◌, [], List, length, suc, max, None, Some, IfOk, IfErr, MatchOption, map};
+ghost use Rattle.est_text.specs.declared.token.Token.TheVariants.{Symbol as SymbolToken};
+ghost use Rattle.est_text.specs.declared.token.Symbol.TheVariants.{Semicolon};
+ghost use Rattle.est_syntax.specs.Grammar.{token_if, unit_onto, unit_depth, branches_onto, branches_depth, units_onto, units_depth, sequence_onto, sequence_depth, sequences_onto, sequences_depth, statement_onto, statement_depth};
+ghost use Rattle.est_syntax.specs.Views.{unit_view, branches_view, sequence_view, statement_view, units_of, sequences_of};
+ghost use Rattle.est_syntax.specs.Machine.{unit as unit_want, branches as branches_want, sequence as sequence_want, sequence_tail, statement as statement_want, statement_tail};
+ghost use Rattle.est_syntax.specs.Parsing.{FailsIn, IsPart, IsUnitStart};
+ghost use Rattle.est_syntax.specs.Frames.{IsOpened, frame_token, frame_wants, opener_token, opener_wants};
+
+use crate::closings::end_again;
+use crate::cursor::Cursor;
+use crate::fault::Fault;
+use crate::tree::{Branches, Sequence, Statement, Unit};
+use crate::units::{Frame, Opener, head_of, opener_of, plain_unit, tail};
+use est_text::keyword::Keyword;
+use est_text::token::Symbol;
+use std::alloc::Global;
+
+/// One unit. So many units may be opened in one another from here on; `ends` tells whether what is round may go on with
+/// `end`.
+#[tactic(none)]
+#[cycle(parse)]
+fn unit(alloc: Global, cursor: &mut Cursor, room: usize, ends: bool) -> Result<Unit, Fault>
+    ensures ok { IfOk result (λ u. IsPart room (Some ends) (unit_want ∷ []) (unit_onto (unit_view u) cursor.new) (unit_depth (unit_view u)) cursor.old cursor.new) }
+    ensures err { IfErr result (λ e. FailsIn room (Some ends) (unit_want ∷ []) cursor.old e) }
+{
+    let here = cursor.count();
+    let Some(first) = cursor.next() else {
+        return Err(Fault::Syntax(here));
+    };
+    if let Some(plain) = plain_unit(alloc, cursor, first)? {
+        return Ok(plain);
+    }
+    let Some(opener) = opener_of(first) else {
+        return Err(Fault::Syntax(here));
+    };
+    if room == 0 {
+        return Err(Fault::TooDeep(here));
+    }
+    match opener {
+        Opener::Test => tested(alloc, cursor, room - 1),
+        Opener::Frame(frame) => framed(alloc, cursor, frame, room - 1, ends),
+    }
+}
+
+/// A test, from behind its first word.
+#[tactic(none)]
+#[cycle(parse)]
+fn tested(alloc: Global, cursor: &mut Cursor, room: usize) -> Result<Unit, Fault>
+    ensures ok { IfOk result (λ u. IsOpened room None (Opener.Test) u cursor.old cursor.new) }
+    ensures err { IfErr result (λ e. FailsIn (suc room) None (opener_wants Opener.Test) cursor.old e) }
+{
+    let signal = cursor.expect_name()?;
+    let test = branches(alloc, cursor, room)?;
+    Ok(Unit::Present(signal, test))
+}
+
+/// A frame, from behind its first token.
+#[tactic(none)]
+#[cycle(parse)]
+fn framed(
+    alloc: Global,
+    cursor: &mut Cursor,
+    frame: Frame,
+    room: usize,
+    ends: bool,
+) -> Result<Unit, Fault>
+    ensures ok { IfOk result (λ u. IsOpened room (Some ends) (Opener.Frame frame) u cursor.old cursor.new) }
+    ensures err { IfErr result (λ e. FailsIn (suc room) (Some ends) (frame_wants frame) cursor.old e) }
+{
+    let head = head_of(alloc, cursor, frame)?;
+    let body = statement(alloc, cursor, room, head.takes_end())?;
+    tail(cursor, head, body, ends)
+}
+
+/// The branches of a test, and its end.
+#[tactic(none)]
+#[cycle(parse)]
+fn branches(alloc: Global, cursor: &mut Cursor, room: usize) -> Result<Branches, Fault>
+    ensures ok { IfOk result (λ b. IsPart room None (branches_want ∷ []) (branches_onto (branches_view b) cursor.new) (branches_depth (branches_view b)) cursor.old cursor.new) }
+    ensures err { IfErr result (λ e. FailsIn room None (branches_want ∷ []) cursor.old e) }
+{
+    if !cursor.take_keyword(Keyword::Then) {
+        cursor.expect_keyword(Keyword::Else)?;
+        let other = statement(alloc, cursor, room, true)?;
+        let again = end_again(cursor, Keyword::Present)?;
+        return Ok(Branches::Else(other, again));
+    }
+    let body = statement(alloc, cursor, room, true)?;
+    if !cursor.take_keyword(Keyword::Else) {
+        let again = end_again(cursor, Keyword::Present)?;
+        return Ok(Branches::Then(body, again));
+    }
+    let other = statement(alloc, cursor, room, true)?;
+    let again = end_again(cursor, Keyword::Present)?;
+    Ok(Branches::Both(body, other, again))
+}
+
+/// The further units, and whether a `;` closes them.
+#[tactic(none)]
+#[cycle(parse)]
+fn later_units(
+    alloc: Global,
+    cursor: &mut Cursor,
+    room: usize,
+    ends: bool,
+) -> Result<(Vec<Unit>, bool), Fault>
+    ensures ok { IfOk result (λ p. IsPart room (Some ends) (sequence_tail ∷ []) (units_onto (units_of (map unit_view p.0.items)) (token_if p.1 (SymbolToken Semicolon) cursor.new)) (units_depth (units_of (map unit_view p.0.items))) cursor.old cursor.new) }
+    ensures err { IfErr result (λ e. FailsIn room (Some ends) (sequence_tail ∷ []) cursor.old e) }
+{
+    let mut units = Vec::new(alloc);
+    'units: while cursor.take_symbol(Symbol::Semicolon) {
+        if !begins_unit(cursor) {
+            return Ok((units, true));
+        }
+        let next = unit(alloc, cursor, room, ends)?;
+        units.push(next)?;
+    }
+    Ok((units, false))
+}
+
+/// Whether a unit begins there.
+fn begins_unit(cursor: &Cursor) -> bool
+    ensures { IsUnitStart result cursor.now }
+{
+    let Some(first) = cursor.peek() else {
+        return false;
+    };
+    match first {
+        est_text::token::Token::Keyword(
+            Keyword::Nothing | Keyword::Pause | Keyword::Halt | Keyword::Emit | Keyword::Sustain | Keyword::Exit
+            | Keyword::Await | Keyword::Run,
+        ) => true,
+        _ => opener_of(first).is_some(),
+    }
+}
+
+#[tactic(none)]
+#[cycle(parse)]
+fn sequence(alloc: Global, cursor: &mut Cursor, room: usize, ends: bool) -> Result<Sequence, Fault>
+    ensures ok { IfOk result (λ q. IsPart room (Some ends) (sequence_want ∷ []) (sequence_onto (sequence_view q) cursor.new) (sequence_depth (sequence_view q)) cursor.old cursor.new) }
+    ensures err { IfErr result (λ e. FailsIn room (Some ends) (sequence_want ∷ []) cursor.old e) }
+{
+    let first = unit(alloc, cursor, room, ends)?;
+    let (later, closed) = later_units(alloc, cursor, room, ends)?;
+    let first = Box::new(alloc, first)?;
+    Ok(Sequence {
+        first,
+        later,
+        closed,
+    })
+}
+
+/// The further sequences.
+#[tactic(none)]
+#[cycle(parse)]
+fn later_sequences(
+    alloc: Global,
+    cursor: &mut Cursor,
+    room: usize,
+    ends: bool,
+) -> Result<Vec<Sequence>, Fault>
+    ensures ok { IfOk result (λ qs. IsPart room (Some ends) (statement_tail ∷ []) (sequences_onto (sequences_of (map sequence_view qs.items)) cursor.new) (sequences_depth (sequences_of (map sequence_view qs.items))) cursor.old cursor.new) }
+    ensures err { IfErr result (λ e. FailsIn room (Some ends) (statement_tail ∷ []) cursor.old e) }
+{
+    let mut sequences = Vec::new(alloc);
+    'sequences: while cursor.take_symbol(Symbol::Parallel) {
+        let next = sequence(alloc, cursor, room, ends)?;
+        sequences.push(next)?;
+    }
+    Ok(sequences)
+}
+
+/// Sequences side by side.
+#[tactic(none)]
+#[cycle(parse)]
+pub fn statement(
+    alloc: Global,
+    cursor: &mut Cursor,
+    room: usize,
+    ends: bool,
+) -> Result<Statement, Fault>
+    ensures ok { IfOk result (λ t. IsPart room (Some ends) (statement_want ∷ []) (statement_onto (statement_view t) cursor.new) (statement_depth (statement_view t)) cursor.old cursor.new) }
+    ensures err { IfErr result (λ e. FailsIn room (Some ends) (statement_want ∷ []) cursor.old e) }
+{
+    let first = sequence(alloc, cursor, room, ends)?;
+    let later = later_sequences(alloc, cursor, room, ends)?;
+    let first = Box::new(alloc, first)?;
+    Ok(Statement { first, later })
+}
