@@ -119,6 +119,9 @@ pub record UnitsSoFar (room : ℕ) (ends : Bool) (us : UnitsTree) (old new : Lis
   pub passes : (s : List Want) → Round room (Some ends) s → run most_open (m.sequence_tail ∷ s) old ≡ run most_open (m.sequence_tail ∷ s) new
   pub shorter : length new ≤ length old
 
+pub no_units_yet : (room : ℕ) (ends : Bool) (us : List UnitTree) (old : List Token) → us ≡ [] → UnitsSoFar room ends (units_of us) old old
+no_units_yet room ends us old e = subst (λ (vs : List UnitTree). UnitsSoFar room ends (units_of vs) old old) (sym e) (record { spelt = refl; fits = omega arith; passes = λ s r. refl; shorter = omega arith })
+
 pub one_more_unit : (room : ℕ) (ends : Bool) (us : List UnitTree) (u : UnitTree) (old left mid new : List Token) → UnitsSoFar room ends (units_of us) old left → left ≡ Symbol symbol.Semicolon ∷ mid → IsUnitStart true mid → IsPart room (Some ends) (m.unit ∷ []) (g.unit_onto u new) (g.unit_depth u) mid new → UnitsSoFar room ends (units_of (us ++ u ∷ [])) old new
 one_more_unit room ends us u old left mid new h e k p = record {
   spelt = h.spelt ∙ ap (g.units_onto (units_of us)) (e ∙ ap (λ (l : List Token). Symbol symbol.Semicolon ∷ l) p.spelt) ∙ sym (units_push us u new);
@@ -162,6 +165,9 @@ pub record SequencesSoFar (room : ℕ) (ends : Bool) (qs : SequencesTree) (old n
   pub fits : g.sequences_depth qs ≤ room
   pub passes : (s : List Want) → Round room (Some ends) s → run most_open (m.statement_tail ∷ s) old ≡ run most_open (m.statement_tail ∷ s) new
   pub shorter : length new ≤ length old
+
+pub no_sequences_yet : (room : ℕ) (ends : Bool) (qs : List SequenceTree) (old : List Token) → qs ≡ [] → SequencesSoFar room ends (sequences_of qs) old old
+no_sequences_yet room ends qs old e = subst (λ (ps : List SequenceTree). SequencesSoFar room ends (sequences_of ps) old old) (sym e) (record { spelt = refl; fits = omega arith; passes = λ s r. refl; shorter = omega arith })
 
 pub one_more_sequence : (room : ℕ) (ends : Bool) (qs : List SequenceTree) (q : SequenceTree) (old left mid new : List Token) → SequencesSoFar room ends (sequences_of qs) old left → left ≡ Symbol symbol.Parallel ∷ mid → IsPart room (Some ends) (m.sequence ∷ []) (g.sequence_onto q new) (g.sequence_depth q) mid new → SequencesSoFar room ends (sequences_of (qs ++ q ∷ [])) old new
 one_more_sequence room ends qs q old left mid new h e p = record {

@@ -19,7 +19,6 @@ use std::alloc::Global;
 
 /// One unit. So many units may be opened in one another from here on; `ends` tells whether what is round may go on with
 /// `end`.
-#[tactic(none)]
 #[cycle(parse)]
 fn unit(alloc: Global, cursor: &mut Cursor, room: usize, ends: bool) -> Result<Unit, Fault>
     ensures ok { IfOk result (λ u. IsPart room (Some ends) (unit_want ∷ []) (unit_onto (unit_view u) cursor.new) (unit_depth (unit_view u)) cursor.old cursor.new) }
@@ -45,7 +44,6 @@ fn unit(alloc: Global, cursor: &mut Cursor, room: usize, ends: bool) -> Result<U
 }
 
 /// A test, from behind its first word.
-#[tactic(none)]
 #[cycle(parse)]
 fn tested(alloc: Global, cursor: &mut Cursor, room: usize) -> Result<Unit, Fault>
     ensures ok { IfOk result (λ u. IsOpened room None (Opener.Test) u cursor.old cursor.new) }
@@ -57,7 +55,6 @@ fn tested(alloc: Global, cursor: &mut Cursor, room: usize) -> Result<Unit, Fault
 }
 
 /// A frame, from behind its first token.
-#[tactic(none)]
 #[cycle(parse)]
 fn framed(
     alloc: Global,
@@ -75,7 +72,6 @@ fn framed(
 }
 
 /// The branches of a test, and its end.
-#[tactic(none)]
 #[cycle(parse)]
 fn branches(alloc: Global, cursor: &mut Cursor, room: usize) -> Result<Branches, Fault>
     ensures ok { IfOk result (λ b. IsPart room None (branches_want ∷ []) (branches_onto (branches_view b) cursor.new) (branches_depth (branches_view b)) cursor.old cursor.new) }
@@ -98,7 +94,6 @@ fn branches(alloc: Global, cursor: &mut Cursor, room: usize) -> Result<Branches,
 }
 
 /// The further units, and whether a `;` closes them.
-#[tactic(none)]
 #[cycle(parse)]
 fn later_units(
     alloc: Global,
@@ -136,7 +131,6 @@ fn begins_unit(cursor: &Cursor) -> bool
     }
 }
 
-#[tactic(none)]
 #[cycle(parse)]
 fn sequence(alloc: Global, cursor: &mut Cursor, room: usize, ends: bool) -> Result<Sequence, Fault>
     ensures ok { IfOk result (λ q. IsPart room (Some ends) (sequence_want ∷ []) (sequence_onto (sequence_view q) cursor.new) (sequence_depth (sequence_view q)) cursor.old cursor.new) }
@@ -153,7 +147,6 @@ fn sequence(alloc: Global, cursor: &mut Cursor, room: usize, ends: bool) -> Resu
 }
 
 /// The further sequences.
-#[tactic(none)]
 #[cycle(parse)]
 fn later_sequences(
     alloc: Global,
@@ -173,7 +166,6 @@ fn later_sequences(
 }
 
 /// Sequences side by side.
-#[tactic(none)]
 #[cycle(parse)]
 pub fn statement(
     alloc: Global,

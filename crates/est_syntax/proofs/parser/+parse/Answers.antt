@@ -1,4 +1,4 @@
-use Rattle.std.proofs.Common.{◌≡◌, ◌∙◌, ◌∷◌, ◌++◌, ◌-◌, [], ℕ, List, suc, ap, sym, subst, map, refl, rules, arith}
+use Rattle.std.proofs.Common.{◌≡◌, ◌∙◌, ◌∷◌, ◌++◌, ◌-◌, [], ℕ, List, length, suc, ap, sym, subst, map, refl, rules, arith}
 use Rattle.std.specs.Prelude.{Option, Some, None}
 use Rattle.std.proofs.lemmas.Result.{err_from_is_err_and, IfOk-weaker, IfErr-weaker}
 use Rattle.std.proofs.lemmas.List.{map-append}
@@ -188,7 +188,10 @@ unit-returns-in-Frame-clause-err t c =
 -- ---- the further units
 
 pub later_units-units-init : goal.later_units-units-init
-later_units-units-init t c = ?
+later_units-units-init t c = part.no_units_yet c.args.room c.args.ends (map unit_view c.new-units.result.items) c.args.cursor.now (ap (λ (is : List UnitValue). map unit_view is) c.new-units.ensures.items)
+
+pub later_units-units-smaller : goal.later_units-units-smaller
+later_units-units-smaller t c = omega (arith, ap (length {A = Token}) (c.units-test.ensures.first refl), c.in_ok-next.ensures.ok.shorter)
 
 pub later_units-returns-then-not-begins_unit-clause-ok : goal.later_units-returns-then-not-begins_unit-clause-ok
 later_units-returns-then-not-begins_unit-clause-ok t c =
@@ -214,7 +217,10 @@ later_units-returns-clause-ok t c =
 -- ---- the further sequences
 
 pub later_sequences-sequences-init : goal.later_sequences-sequences-init
-later_sequences-sequences-init t c = ?
+later_sequences-sequences-init t c = part.no_sequences_yet c.args.room c.args.ends (map sequence_view c.new-sequences.result.items) c.args.cursor.now (ap (λ (is : List SequenceValue). map sequence_view is) c.new-sequences.ensures.items)
+
+pub later_sequences-sequences-smaller : goal.later_sequences-sequences-smaller
+later_sequences-sequences-smaller t c = omega (arith, ap (length {A = Token}) (c.sequences-test.ensures.first refl), c.in_ok-next.ensures.ok.shorter)
 
 pub later_sequences-returns-in_err-next-clause-err : goal.later_sequences-returns-in_err-next-clause-err
 later_sequences-returns-in_err-next-clause-err t c =
