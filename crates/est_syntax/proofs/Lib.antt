@@ -4,5 +4,6 @@ pub mod Stops
 pub mod Reading
 pub mod Opening
 pub mod Parts
+pub mod Libraries
 pub mod Unique
 pub mod Folding
