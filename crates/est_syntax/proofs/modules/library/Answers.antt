@@ -16,4 +16,3 @@ returns-in_err-expect_keyword-clause-err c =
 pub returns-then-left-ne0-clause-err : goal.returns-then-left-ne0-clause-err
 returns-then-left-ne0-clause-err c =
     (c.later_modules.new.cursor, c.count-left.ensures, library_left (module_view c.in_ok-first.first) (map module_view c.in_ok-later.later.items) c.count-left.result c.args.cursor.now c.expect_keyword.new.self c.module.new.cursor c.later_modules.new.cursor c.in_ok-expect_keyword.ensures.ok c.in_ok-first.ensures.ok c.in_ok-later.ensures.ok c.count-left.ensures c.if-left-ne0.true)
-

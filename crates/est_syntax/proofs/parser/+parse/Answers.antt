@@ -40,7 +40,7 @@ pub sequence-returns-clause-ok : goal.sequence-returns-clause-ok
 sequence-returns-clause-ok t c =
     let us = units_of (map unit_view c.in_ok-later.later.items) in
     let p = part.sequence_part c.args.room c.args.ends (unit_view c.in_ok-first.first) us c.in_ok-later.closed c.args.cursor.now c.unit.new.cursor c.later_units.new.cursor c.in_ok-first.ensures.ok c.in_ok-later.ensures.ok in
-    let q : sequence_view (roll-Sequence record {first = c.in_ok-first-2.first; later = c.in_ok-later.later; closed = c.in_ok-later.closed}) ≡ sequence_tree (unit_view c.in_ok-first-2.first.value) us c.in_ok-later.closed = search (rules, the_lemmas) in
+    let q : sequence_view (roll-Sequence record { first = c.in_ok-first-2.first; later = c.in_ok-later.later; closed = c.in_ok-later.closed }) ≡ sequence_tree (unit_view c.in_ok-first-2.first.value) us c.in_ok-later.closed = search (rules, the_lemmas) in
     let e = q ∙ ap (λ (u : UnitValue). sequence_tree (unit_view u) us c.in_ok-later.closed) c.in_ok-first-2.ensures.ok in
     subst (λ (x : SequenceTree). IsPart c.args.room (Some c.args.ends) (sequence ∷ []) (sequence_onto x c.later_units.new.cursor) (sequence_depth x) c.args.cursor.now c.later_units.new.cursor) (sym e) p
 
@@ -62,7 +62,7 @@ pub statement-returns-clause-ok : goal.statement-returns-clause-ok
 statement-returns-clause-ok t c =
     let qs = sequences_of (map sequence_view c.in_ok-later.later.items) in
     let p = part.statement_part c.args.room c.args.ends (sequence_view c.in_ok-first.first) qs c.args.cursor.now c.sequence.new.cursor c.later_sequences.new.cursor c.in_ok-first.ensures.ok c.in_ok-later.ensures.ok in
-    let q : statement_view (roll-Statement record {first = c.in_ok-first-2.first; later = c.in_ok-later.later}) ≡ statement_tree (sequence_view c.in_ok-first-2.first.value) qs = search (rules, the_lemmas) in
+    let q : statement_view (roll-Statement record { first = c.in_ok-first-2.first; later = c.in_ok-later.later }) ≡ statement_tree (sequence_view c.in_ok-first-2.first.value) qs = search (rules, the_lemmas) in
     let e = q ∙ ap (λ (x : SequenceValue). statement_tree (sequence_view x) qs) c.in_ok-first-2.ensures.ok in
     subst (λ (x : StatementTree). IsPart c.args.room (Some c.args.ends) (statement ∷ []) (statement_onto x c.later_sequences.new.cursor) (statement_depth x) c.args.cursor.now c.later_sequences.new.cursor) (sym e) p
 
