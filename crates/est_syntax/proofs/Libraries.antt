@@ -12,11 +12,11 @@ use Rattle.est_syntax.specs.declared.fault.Fault.TheVariants.{Syntax, TooDeep, M
 use Rattle.est_syntax.specs.Tree.{DeclarationTree, StatementTree, ModuleTree, LibraryTree}
 use Rattle.est_syntax.specs.Grammar as g
 use Rattle.est_syntax.specs.Machine as m
-use Rattle.est_syntax.specs.Machine.{Want, run, Skips, wrong, deep}
+use Rattle.est_syntax.specs.Machine.{Want, run, Skips, right, wrong, deep}
 use Rattle.est_syntax.specs.Parsing.{most_open, Fails, FailsIn, Round, Reads, IsPart}
 use Rattle.est_syntax.specs.Modules.{Stops, IsModule, AreModules, AreAllModules, IsLibrary}
 use Rattle.est_syntax.proofs.Reading.{modules_push}
-use Rattle.est_syntax.proofs.Runs.{either}
+use Rattle.est_syntax.proofs.Runs.{either, run_library}
 use Rattle.est_syntax.proofs.Stops.{run_wrong, run_deep, syntax_fault, too_deep}
 use Rattle.est_syntax.specs.Faults.{IsSyntaxFault, IsTooDeep}
 
@@ -187,3 +187,16 @@ wrong_at located left h = syntax_fault most_open (g.tokens_of located) h.0 (leng
 
 pub deep_at : (located : List Located) (left : ℕ) → Stops start (g.tokens_of located) (TooDeep left) → IsTooDeep most_open (g.tokens_of located) (length located - left)
 deep_at located left h = too_deep most_open (g.tokens_of located) h.0 (length located - left) (omega (arith, h.1, deep_in located left h, bare_length located)) h.2
+
+-- what spells a library that fits stops nowhere
+pub never_wrong : (located : List Located) (left : ℕ) (l : LibraryTree) → Stops start (g.tokens_of located) (Syntax left) → g.tokens_of located ≡ g.spelling l → g.library_depth l ≤ most_open → ⊥
+never_wrong located left l h e r =
+    let taken : run most_open start (g.tokens_of located) ≡ right = ap (run most_open start) e ∙ run_library most_open l r in
+    let stopped : run most_open start (g.tokens_of located) ≡ wrong h.0 = h.2 in
+    cc
+
+pub never_deep : (located : List Located) (left : ℕ) (l : LibraryTree) → Stops start (g.tokens_of located) (TooDeep left) → g.tokens_of located ≡ g.spelling l → g.library_depth l ≤ most_open → ⊥
+never_deep located left l h e r =
+    let taken : run most_open start (g.tokens_of located) ≡ right = ap (run most_open start) e ∙ run_library most_open l r in
+    let stopped : run most_open start (g.tokens_of located) ≡ deep h.0 = h.2 in
+    cc

@@ -1,8 +1,11 @@
 //! From the tokens of a text to the tree of its library.
 ghost use Rattle.std.specs.Prelude.{◌≡◌, ◌≤◌, IfOk, IfErr};
+ghost use Rattle.std.specs.Result.{MatchResult};
 ghost use Rattle.est_syntax.specs.Grammar.{tokens_of, spelling, library_depth};
+ghost use Rattle.est_syntax.specs.Tree.{LibraryTree};
 ghost use Rattle.est_syntax.specs.Views.{library_view};
 ghost use Rattle.est_syntax.specs.ParseFaults.{IsParseFault};
+ghost use Rattle.est_syntax.specs.declared.parse.ParseFault.TheVariants.{Memory};
 
 use crate::cursor::Cursor;
 use crate::fault::Fault;
@@ -28,6 +31,7 @@ pub enum ParseFault {
 pub fn parse(alloc: Global, tokens: &Tokens) -> Result<Library, ParseFault>
     ensures spelt { IfOk result (λ l. tokens_of tokens.now.located ≡ spelling (library_view l)) }
     ensures depth { IfOk result (λ l. library_depth (library_view l) ≤ 128) }
+    ensures takes { (l : LibraryTree) → tokens_of tokens.now.located ≡ spelling l → library_depth l ≤ 128 → MatchResult result (λ k. library_view k ≡ l) (λ fault. fault ≡ Memory) }
     ensures fault { IfErr result (λ fault. IsParseFault 128 tokens.now fault) }
 {
     let located = tokens.as_slice();
