@@ -15,5 +15,7 @@ mod modules;
 mod names;
 pub mod parse;
 mod parser;
+#[cfg(test)]
+mod tests;
 pub mod tree;
 mod units;
