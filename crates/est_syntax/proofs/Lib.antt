@@ -2,5 +2,8 @@ pub mod Runs
 pub mod Prefixes
 pub mod Stops
 pub mod Reading
+pub mod Opening
+pub mod Parts
+pub mod Libraries
 pub mod Unique
 pub mod Folding

@@ -233,7 +233,7 @@ run_weak_end limit left_out s bs h =
     open_skips s bs h (λ cs. m.run limit (m.may_end_weak ∷ s) cs ≡ m.run limit s cs) (λ cs k. weak_end_over limit s cs k) (λ b cs p k. weak_end_left limit s b cs p.1 p.2 k)
 
 -- the step that opens a unit, where there is room
-open_part : (limit : ℕ) (s : List Want) (b : Token) (bs : List Token) → open_count s ≤ limit → go_on limit (opens s) (b ∷ bs) (λ t. m.run limit t bs) ≡ m.run limit s bs
+pub open_part : (limit : ℕ) (s : List Want) (b : Token) (bs : List Token) → open_count s ≤ limit → go_on limit (opens s) (b ∷ bs) (λ t. m.run limit t bs) ≡ m.run limit s bs
 open_part limit s b bs h = ap (λ (x : Bool). if x then m.run limit s bs else deep (b ∷ bs)) (le-leb (open_count s) limit h)
 
 leave_after : (s : List Want) (bs : List Token) → AfterUnit s bs → AfterUnit (m.leave ∷ s) bs

@@ -4,4 +4,6 @@ pub mod Faults
 pub mod Machine
 pub mod Parsing
 pub mod Frames
+pub mod Modules
+pub mod ParseFaults
 pub mod Views

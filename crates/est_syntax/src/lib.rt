@@ -1,8 +1,9 @@
 //! The grammar of Pure Esterel: from the tokens of a text to its tree.
 //!
-//! The definitions in `specs/` say which tokens a library is spelt with (`Grammar`) and which token is the first with
-//! which the tokens so far begin no library (`Faults`). `laws` says that the grammar is unambiguous. The functions that
-//! read names, declarations, and the heads and ends of units are proved; the recursion over them comes next.
+//! `parse` answers the tree that the tokens are spelt from, or the first place where they stop being the beginning of a
+//! library. The definitions in `specs/` say which tokens a library is spelt with (`Grammar`) and which token is the
+//! first with which the tokens so far begin no library, or opens one unit too many (`Faults`). `laws` says that the
+//! grammar is unambiguous.
 #![tactic(auto)]
 
 mod closings;
@@ -10,6 +11,11 @@ mod cursor;
 mod declarations;
 mod fault;
 pub mod laws;
+mod modules;
 mod names;
+pub mod parse;
+mod parser;
+#[cfg(test)]
+mod tests;
 pub mod tree;
 mod units;

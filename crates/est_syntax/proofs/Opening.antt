@@ -1,4 +1,3 @@
--- NEXT: put this in crates/est_syntax/proofs/Opening.antt, make `open_part` of proofs/Runs public, and cite it in the answers of the parser (est_syntax.parser.draft). Checked: each lemma is admitted.
 -- Units that open others, and what is read round them.
 use Rattle.std.proofs.Common.{◌≡◌, ◌∙◌, ℕ, suc, ◌+◌, ◌≤◌, ◌<◌, max, List, [], ◌∷◌, ◌++◌, Bool, true, false, if◌then◌else◌, nat_le, length, refl, sym, ap, subst, rules, arith}
 use Rattle.std.specs.Prelude.{Option, Some, None}

@@ -1,4 +1,3 @@
-// NEXT: put this in crates/est_syntax/src/parser.rt, add `mod parser;`, and answer its goals with proofs/Opening.antt (est_syntax.opening.draft) and the invariants of est_syntax.parser-invariants.draft.
 //! From tokens to the tree of a statement.
 ghost use Rattle.std.specs.Prelude.{◌≡◌, ◌≤◌, ◌+◌, ◌∷◌, ◌++◌, [], List, length, suc, max, None, Some, IfOk, IfErr, MatchOption, map};
 ghost use Rattle.est_text.specs.declared.token.Token.TheVariants.{Symbol as SymbolToken};
@@ -15,7 +14,7 @@ use crate::fault::Fault;
 use crate::tree::{Branches, Sequence, Statement, Unit};
 use crate::units::{Frame, Opener, head_of, opener_of, plain_unit, tail};
 use est_text::keyword::Keyword;
-use est_text::token::Symbol;
+use est_text::token::{Symbol, Token};
 use std::alloc::Global;
 
 /// One unit. So many units may be opened in one another from here on; `ends` tells whether what is round may go on with
@@ -124,14 +123,21 @@ fn begins_unit(cursor: &Cursor) -> bool
         return false;
     };
     match first {
-        est_text::token::Token::Keyword(
-            Keyword::Nothing | Keyword::Pause | Keyword::Halt | Keyword::Emit | Keyword::Sustain | Keyword::Exit
-            | Keyword::Await | Keyword::Run,
+        Token::Keyword(
+            Keyword::Nothing
+            | Keyword::Pause
+            | Keyword::Halt
+            | Keyword::Emit
+            | Keyword::Sustain
+            | Keyword::Exit
+            | Keyword::Await
+            | Keyword::Run,
         ) => true,
         _ => opener_of(first).is_some(),
     }
 }
 
+/// Units one after another.
 #[cycle(parse)]
 fn sequence(alloc: Global, cursor: &mut Cursor, room: usize, ends: bool) -> Result<Sequence, Fault>
     ensures ok { IfOk result (λ q. IsPart room (Some ends) (sequence_want ∷ []) (sequence_onto (sequence_view q) cursor.new) (sequence_depth (sequence_view q)) cursor.old cursor.new) }

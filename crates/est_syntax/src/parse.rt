@@ -1,0 +1,45 @@
+//! From the tokens of a text to the tree of its library.
+ghost use Rattle.std.specs.Prelude.{◌≡◌, ◌≤◌, IfOk, IfErr};
+ghost use Rattle.std.specs.Result.{MatchResult};
+ghost use Rattle.est_syntax.specs.Grammar.{tokens_of, spelling, library_depth};
+ghost use Rattle.est_syntax.specs.Tree.{LibraryTree};
+ghost use Rattle.est_syntax.specs.Views.{library_view};
+ghost use Rattle.est_syntax.specs.ParseFaults.{IsParseFault};
+ghost use Rattle.est_syntax.specs.declared.parse.ParseFault.TheVariants.{Memory};
+
+use crate::cursor::Cursor;
+use crate::fault::Fault;
+use crate::modules::library;
+use crate::tree::Library;
+use est_text::place::Place;
+use est_text::tokens::Tokens;
+use std::alloc::Global;
+
+/// Why tokens have no tree.
+#[derive(Clone, Copy, PartialEq, Eq, Debug)]
+pub enum ParseFault {
+    /// The place of the first token with which the tokens so far begin no library; where the text ends too early, the
+    /// place just after it.
+    Syntax(Place),
+    /// The place of the token that opens the 129th unit that is open at once.
+    TooLarge(Place),
+    /// Memory was refused.
+    Memory,
+}
+
+/// The tree that the tokens of a text are spelt from, or the first place where they stop being the beginning of one.
+pub fn parse(alloc: Global, tokens: &Tokens) -> Result<Library, ParseFault>
+    ensures spelt { IfOk result (λ l. tokens_of tokens.now.located ≡ spelling (library_view l)) }
+    ensures depth { IfOk result (λ l. library_depth (library_view l) ≤ 128) }
+    ensures takes { (l : LibraryTree) → tokens_of tokens.now.located ≡ spelling l → library_depth l ≤ 128 → MatchResult result (λ k. library_view k ≡ l) (λ fault. fault ≡ Memory) }
+    ensures fault { IfErr result (λ fault. IsParseFault 128 tokens.now fault) }
+{
+    let located = tokens.as_slice();
+    let mut cursor = Cursor::new(located);
+    match library(alloc, &mut cursor) {
+        Ok(library) => Ok(library),
+        Err(Fault::Syntax(left)) => Err(ParseFault::Syntax(tokens.place(located.len() - left))),
+        Err(Fault::TooDeep(left)) => Err(ParseFault::TooLarge(tokens.place(located.len() - left))),
+        Err(Fault::Memory) => Err(ParseFault::Memory),
+    }
+}
