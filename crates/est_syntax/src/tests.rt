@@ -1,7 +1,7 @@
 //! Texts, their trees and their faults.
 use crate::parse::{ParseFault, parse};
-use crate::tree::{Branches, Declaration, Library, Relation, Sequence, Statement, Unit, WeakEnd};
-use est_text::lex::{LexFault, lex};
+use crate::tree::{Library, Statement, Unit};
+use est_text::lex::lex;
 use est_text::place::Place;
 use std::alloc::Global;
 use std::test::Fail;
