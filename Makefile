@@ -5,7 +5,6 @@
 # `make bench`: commands a second of the built program, beside Python's json over the same lines; instants a second of the engine;
 # megabytes a second of the tokens of a text, beside Python's re.
 PROGRAM := crates/estserve/out/estserve
-SCRIPT := crates/estserve/stdin
 ENGINE := crates/est_bench/out/est_bench
 TEXTS := crates/text_bench/out/text_bench
 
