@@ -25,7 +25,7 @@ def edits_on_disk(crate):
 
 def edits_in_the_document(crate):
     """The wrong bodies that docs/PROOFS.md lists in the crate's row of its table."""
-    section = (ROOT / "docs/PROOFS.md").read_text().split("\n## Wrong bodies\n")[1].split("\n## ")[0]
+    section = (ROOT / "docs/PROOFS.md").read_text().split("\n## Wrong bodies\n")[1].split("\n##")[0]
     row = re.search(rf"^\| `{crate}` \| (.*) \|$", section, re.MULTILINE)
     return {words.strip() for words in row.group(1).split(";")} if row else set()
 
