@@ -19,21 +19,22 @@ use Rattle.est_syntax.specs.Views.{units_of, sequences_of}
 use Rattle.est_syntax.specs.Machine as m
 use Rattle.est_syntax.specs.Machine.{Want, run, Skips, open_count, opens, deep, go_on}
 use Rattle.est_syntax.specs.Frames.{frame_token, frame_wants, opener_token, opener_wants, head_wants, body_end}
-use Rattle.est_syntax.specs.Parsing.{most_open, Fails, EndsSo, FailsBefore, Round, FailsIn}
+use Rattle.est_syntax.specs.Parsing.{Fails, EndsSo, FailsBefore, Round, FailsIn}
+use Rattle.est_syntax.specs.declared.parse.TheConstants.{MOST_OPEN_UNITS}
 use Rattle.est_syntax.proofs.Runs.{open_part}
 
 -- what is wanted leads to something else that fails, by what counts there
-pub in_leaf : (room : ℕ) (ends : Option Bool) (ws vs : List Want) (f : List Want → List Want) (bs after : List Token) (e : Fault) → ((s : List Want) → Round room ends s → run most_open (ws ++ s) bs ≡ run most_open (vs ++ f s) after) → Fails vs after e → FailsIn room ends ws bs e
+pub in_leaf : (room : ℕ) (ends : Option Bool) (ws vs : List Want) (f : List Want → List Want) (bs after : List Token) (e : Fault) → ((s : List Want) → Round room ends s → run MOST_OPEN_UNITS (ws ++ s) bs ≡ run MOST_OPEN_UNITS (vs ++ f s) after) → Fails vs after e → FailsIn room ends ws bs e
 in_leaf room ends ws vs f bs after (Syntax n) h k = (k.0, k.1, λ s r. h s r ∙ k.2 (f s))
 in_leaf room ends ws vs f bs after (TooDeep n) h k = (k.0, k.1, λ s r. h s r ∙ k.2 (f s))
 in_leaf room ends ws vs f bs after Memory h k = tt
 
-pub in_before : (room : ℕ) (ends : Option Bool) (inner : Bool) (ws vs : List Want) (f : List Want → List Want) (bs after : List Token) (e : Fault) → ((s : List Want) → Round room ends s → EndsSo inner (f s)) → ((s : List Want) → Round room ends s → run most_open (ws ++ s) bs ≡ run most_open (vs ++ f s) after) → FailsBefore inner vs after e → FailsIn room ends ws bs e
+pub in_before : (room : ℕ) (ends : Option Bool) (inner : Bool) (ws vs : List Want) (f : List Want → List Want) (bs after : List Token) (e : Fault) → ((s : List Want) → Round room ends s → EndsSo inner (f s)) → ((s : List Want) → Round room ends s → run MOST_OPEN_UNITS (ws ++ s) bs ≡ run MOST_OPEN_UNITS (vs ++ f s) after) → FailsBefore inner vs after e → FailsIn room ends ws bs e
 in_before room ends inner ws vs f bs after (Syntax n) q h k = (k.0, k.1, λ s r. h s r ∙ k.2 (f s) (q s r))
 in_before room ends inner ws vs f bs after (TooDeep n) q h k = (k.0, k.1, λ s r. h s r ∙ k.2 (f s) (q s r))
 in_before room ends inner ws vs f bs after Memory q h k = tt
 
-pub in_in : (room less : ℕ) (ends inner : Option Bool) (ws vs : List Want) (f : List Want → List Want) (bs after : List Token) (e : Fault) → ((s : List Want) → Round room ends s → Round less inner (f s)) → ((s : List Want) → Round room ends s → run most_open (ws ++ s) bs ≡ run most_open (vs ++ f s) after) → FailsIn less inner vs after e → FailsIn room ends ws bs e
+pub in_in : (room less : ℕ) (ends inner : Option Bool) (ws vs : List Want) (f : List Want → List Want) (bs after : List Token) (e : Fault) → ((s : List Want) → Round room ends s → Round less inner (f s)) → ((s : List Want) → Round room ends s → run MOST_OPEN_UNITS (ws ++ s) bs ≡ run MOST_OPEN_UNITS (vs ++ f s) after) → FailsIn less inner vs after e → FailsIn room ends ws bs e
 in_in room less ends inner ws vs f bs after (Syntax n) q h k = (k.0, k.1, λ s r. h s r ∙ k.2 (f s) (q s r))
 in_in room less ends inner ws vs f bs after (TooDeep n) q h k = (k.0, k.1, λ s r. h s r ∙ k.2 (f s) (q s r))
 in_in room less ends inner ws vs f bs after Memory q h k = tt
@@ -73,24 +74,24 @@ round_body room ends head.Group s r = record { fits = omega (arith, r.fits); clo
 
 -- ---- a unit opens
 
-pub opener_opens : (o : Opener) (room : ℕ) (s : List Want) (bs : List Token) → open_count s + suc room ≡ most_open → run most_open (m.unit ∷ s) (opener_token o ∷ bs) ≡ run most_open (opener_wants o ++ s) bs
-opener_opens opener.Test room s bs r = open_part most_open (opener_wants opener.Test ++ s) (opener_token opener.Test) bs (omega (arith, r))
-opener_opens (opener.Frame frame.Suspend) room s bs r = open_part most_open (opener_wants (opener.Frame frame.Suspend) ++ s) (opener_token (opener.Frame frame.Suspend)) bs (omega (arith, r))
-opener_opens (opener.Frame frame.Abort) room s bs r = open_part most_open (opener_wants (opener.Frame frame.Abort) ++ s) (opener_token (opener.Frame frame.Abort)) bs (omega (arith, r))
-opener_opens (opener.Frame frame.WeakAbort) room s bs r = open_part most_open (opener_wants (opener.Frame frame.WeakAbort) ++ s) (opener_token (opener.Frame frame.WeakAbort)) bs (omega (arith, r))
-opener_opens (opener.Frame frame.Loop) room s bs r = open_part most_open (opener_wants (opener.Frame frame.Loop) ++ s) (opener_token (opener.Frame frame.Loop)) bs (omega (arith, r))
-opener_opens (opener.Frame frame.Every) room s bs r = open_part most_open (opener_wants (opener.Frame frame.Every) ++ s) (opener_token (opener.Frame frame.Every)) bs (omega (arith, r))
-opener_opens (opener.Frame frame.Trap) room s bs r = open_part most_open (opener_wants (opener.Frame frame.Trap) ++ s) (opener_token (opener.Frame frame.Trap)) bs (omega (arith, r))
-opener_opens (opener.Frame frame.Signal) room s bs r = open_part most_open (opener_wants (opener.Frame frame.Signal) ++ s) (opener_token (opener.Frame frame.Signal)) bs (omega (arith, r))
-opener_opens (opener.Frame frame.Group) room s bs r = open_part most_open (opener_wants (opener.Frame frame.Group) ++ s) (opener_token (opener.Frame frame.Group)) bs (omega (arith, r))
+pub opener_opens : (o : Opener) (room : ℕ) (s : List Want) (bs : List Token) → open_count s + suc room ≡ MOST_OPEN_UNITS → run MOST_OPEN_UNITS (m.unit ∷ s) (opener_token o ∷ bs) ≡ run MOST_OPEN_UNITS (opener_wants o ++ s) bs
+opener_opens opener.Test room s bs r = open_part MOST_OPEN_UNITS (opener_wants opener.Test ++ s) (opener_token opener.Test) bs (omega (arith, r))
+opener_opens (opener.Frame frame.Suspend) room s bs r = open_part MOST_OPEN_UNITS (opener_wants (opener.Frame frame.Suspend) ++ s) (opener_token (opener.Frame frame.Suspend)) bs (omega (arith, r))
+opener_opens (opener.Frame frame.Abort) room s bs r = open_part MOST_OPEN_UNITS (opener_wants (opener.Frame frame.Abort) ++ s) (opener_token (opener.Frame frame.Abort)) bs (omega (arith, r))
+opener_opens (opener.Frame frame.WeakAbort) room s bs r = open_part MOST_OPEN_UNITS (opener_wants (opener.Frame frame.WeakAbort) ++ s) (opener_token (opener.Frame frame.WeakAbort)) bs (omega (arith, r))
+opener_opens (opener.Frame frame.Loop) room s bs r = open_part MOST_OPEN_UNITS (opener_wants (opener.Frame frame.Loop) ++ s) (opener_token (opener.Frame frame.Loop)) bs (omega (arith, r))
+opener_opens (opener.Frame frame.Every) room s bs r = open_part MOST_OPEN_UNITS (opener_wants (opener.Frame frame.Every) ++ s) (opener_token (opener.Frame frame.Every)) bs (omega (arith, r))
+opener_opens (opener.Frame frame.Trap) room s bs r = open_part MOST_OPEN_UNITS (opener_wants (opener.Frame frame.Trap) ++ s) (opener_token (opener.Frame frame.Trap)) bs (omega (arith, r))
+opener_opens (opener.Frame frame.Signal) room s bs r = open_part MOST_OPEN_UNITS (opener_wants (opener.Frame frame.Signal) ++ s) (opener_token (opener.Frame frame.Signal)) bs (omega (arith, r))
+opener_opens (opener.Frame frame.Group) room s bs r = open_part MOST_OPEN_UNITS (opener_wants (opener.Frame frame.Group) ++ s) (opener_token (opener.Frame frame.Group)) bs (omega (arith, r))
 
 over : (a b : ℕ) → b < a → nat_le a b ≡ false
 over a b h = grind arith
 
-deep_part : (s : List Want) (b : Token) (bs : List Token) → most_open < open_count s → go_on most_open (opens s) (b ∷ bs) (λ t. run most_open t bs) ≡ deep (b ∷ bs)
-deep_part s b bs h = ap (λ (x : Bool). if x then run most_open s bs else deep (b ∷ bs)) (over (open_count s) most_open h)
+deep_part : (s : List Want) (b : Token) (bs : List Token) → MOST_OPEN_UNITS < open_count s → go_on MOST_OPEN_UNITS (opens s) (b ∷ bs) (λ t. run MOST_OPEN_UNITS t bs) ≡ deep (b ∷ bs)
+deep_part s b bs h = ap (λ (x : Bool). if x then run MOST_OPEN_UNITS s bs else deep (b ∷ bs)) (over (open_count s) MOST_OPEN_UNITS h)
 
-pub opener_deep : (o : Opener) (s : List Want) (bs : List Token) → open_count s + 0 ≡ most_open → run most_open (m.unit ∷ s) (opener_token o ∷ bs) ≡ deep (opener_token o ∷ bs)
+pub opener_deep : (o : Opener) (s : List Want) (bs : List Token) → open_count s + 0 ≡ MOST_OPEN_UNITS → run MOST_OPEN_UNITS (m.unit ∷ s) (opener_token o ∷ bs) ≡ deep (opener_token o ∷ bs)
 opener_deep opener.Test s bs r = deep_part (opener_wants opener.Test ++ s) (opener_token opener.Test) bs (omega (arith, r))
 opener_deep (opener.Frame frame.Suspend) s bs r = deep_part (opener_wants (opener.Frame frame.Suspend) ++ s) (opener_token (opener.Frame frame.Suspend)) bs (omega (arith, r))
 opener_deep (opener.Frame frame.Abort) s bs r = deep_part (opener_wants (opener.Frame frame.Abort) ++ s) (opener_token (opener.Frame frame.Abort)) bs (omega (arith, r))
@@ -113,12 +114,12 @@ sequences_deeper (v ∷ qs) q room h k = let d = sequences_deeper qs q room (ome
 
 -- ---- a want that stands for another
 
-pub branches_are : (s : List Want) (bs : List Token) → Skips (Keyword keyword.Then) bs → run most_open (m.branches ∷ s) bs ≡ run most_open (m.one (Keyword keyword.Else) ∷ m.statement ∷ m.one m.kw_end ∷ m.may (Keyword keyword.Present) ∷ s) bs
+pub branches_are : (s : List Want) (bs : List Token) → Skips (Keyword keyword.Then) bs → run MOST_OPEN_UNITS (m.branches ∷ s) bs ≡ run MOST_OPEN_UNITS (m.one (Keyword keyword.Else) ∷ m.statement ∷ m.one m.kw_end ∷ m.may (Keyword keyword.Present) ∷ s) bs
 branches_are s [] h = refl
 branches_are s (Keyword keyword.Then ∷ bs) h = cc
 branches_are s (_ ∷ bs) h = refl
 
-pub after_then_is : (s : List Want) (bs : List Token) → Skips (Keyword keyword.Else) bs → run most_open (m.after_then ∷ s) bs ≡ run most_open (m.one m.kw_end ∷ m.may (Keyword keyword.Present) ∷ s) bs
+pub after_then_is : (s : List Want) (bs : List Token) → Skips (Keyword keyword.Else) bs → run MOST_OPEN_UNITS (m.after_then ∷ s) bs ≡ run MOST_OPEN_UNITS (m.one m.kw_end ∷ m.may (Keyword keyword.Present) ∷ s) bs
 after_then_is s [] h = refl
 after_then_is s (Keyword keyword.Else ∷ bs) h = cc
 after_then_is s (_ ∷ bs) h = refl

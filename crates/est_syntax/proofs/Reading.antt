@@ -11,10 +11,11 @@ use Rattle.est_syntax.specs.Grammar as g
 use Rattle.est_syntax.specs.Views.{units_of, sequences_of}
 use Rattle.est_syntax.specs.Machine as m
 use Rattle.est_syntax.specs.Machine.{Want, run, Skips}
-use Rattle.est_syntax.specs.Parsing.{most_open, Fails, EndsSo, FailsBefore, renamings_so_far}
+use Rattle.est_syntax.specs.Parsing.{Fails, EndsSo, FailsBefore, renamings_so_far}
+use Rattle.est_syntax.specs.declared.parse.TheConstants.{MOST_OPEN_UNITS}
 
 -- what is wanted leads to something else that fails
-pub fails_from : (ws vs : List Want) (f : List Want → List Want) (bs after : List Token) (e : Fault) → ((s : List Want) → run most_open (ws ++ s) bs ≡ run most_open (vs ++ f s) after) → Fails vs after e → Fails ws bs e
+pub fails_from : (ws vs : List Want) (f : List Want → List Want) (bs after : List Token) (e : Fault) → ((s : List Want) → run MOST_OPEN_UNITS (ws ++ s) bs ≡ run MOST_OPEN_UNITS (vs ++ f s) after) → Fails vs after e → Fails ws bs e
 fails_from ws vs f bs after (Syntax n) h k = (k.0, k.1, λ s. h s ∙ k.2 (f s))
 fails_from ws vs f bs after (TooDeep n) h k = (k.0, k.1, λ s. h s ∙ k.2 (f s))
 fails_from ws vs f bs after Memory h k = tt
@@ -64,15 +65,15 @@ pub shorter_by : (left mid rest : List Token) (t : Token) → left ≡ t ∷ mid
 shorter_by left mid rest t e h = omega (arith, h, ap (length {A = Token}) e)
 
 -- behind an `end` that makes no pair and can end nothing else nothing goes on
-pub weak_stops : (ends : Bool) (x : List Token) → Skips (Keyword keyword.Abort) x → Skips (Keyword keyword.Weak) x → ends ≡ false → (s : List Want) → EndsSo ends s → run most_open (m.may_end_weak ∷ s) (m.kw_end ∷ x) ≡ m.wrong x
+pub weak_stops : (ends : Bool) (x : List Token) → Skips (Keyword keyword.Abort) x → Skips (Keyword keyword.Weak) x → ends ≡ false → (s : List Want) → EndsSo ends s → run MOST_OPEN_UNITS (m.may_end_weak ∷ s) (m.kw_end ∷ x) ≡ m.wrong x
 weak_stops true x a w e s h = cc
 weak_stops false [] a w e s h = refl
 weak_stops false (b ∷ bs) a w e s h =
-    ap (λ (y : Bool). m.go_on most_open (if y then m.to s else (if m.same (Keyword keyword.Weak) b then m.to (m.one (Keyword keyword.Abort) ∷ s) else m.step_after_end s b)) (b ∷ bs) (λ t. run most_open t bs)) a
-    ∙ ap (λ (y : Bool). m.go_on most_open (if y then m.to (m.one (Keyword keyword.Abort) ∷ s) else m.step_after_end s b) (b ∷ bs) (λ t. run most_open t bs)) w
-    ∙ ap (λ o. m.go_on most_open o (b ∷ bs) (λ t. run most_open t bs)) (h b)
+    ap (λ (y : Bool). m.go_on MOST_OPEN_UNITS (if y then m.to s else (if m.same (Keyword keyword.Weak) b then m.to (m.one (Keyword keyword.Abort) ∷ s) else m.step_after_end s b)) (b ∷ bs) (λ t. run MOST_OPEN_UNITS t bs)) a
+    ∙ ap (λ (y : Bool). m.go_on MOST_OPEN_UNITS (if y then m.to (m.one (Keyword keyword.Abort) ∷ s) else m.step_after_end s b) (b ∷ bs) (λ t. run MOST_OPEN_UNITS t bs)) w
+    ∙ ap (λ o. m.go_on MOST_OPEN_UNITS o (b ∷ bs) (λ t. run MOST_OPEN_UNITS t bs)) (h b)
 
-pub weak_ends : (ends : Bool) (n : ℕ) (x : List Token) → n ≡ length x → Skips (Keyword keyword.Abort) x → Skips (Keyword keyword.Weak) x → (ends ≡ false) ⊎ ((ends ≡ true) × (n ≡ 0)) → (s : List Want) → EndsSo ends s → run most_open (m.may_end_weak ∷ s) (m.kw_end ∷ x) ≡ m.wrong x
+pub weak_ends : (ends : Bool) (n : ℕ) (x : List Token) → n ≡ length x → Skips (Keyword keyword.Abort) x → Skips (Keyword keyword.Weak) x → (ends ≡ false) ⊎ ((ends ≡ true) × (n ≡ 0)) → (s : List Want) → EndsSo ends s → run MOST_OPEN_UNITS (m.may_end_weak ∷ s) (m.kw_end ∷ x) ≡ m.wrong x
 weak_ends ends n x l a w (inl e) s h = weak_stops ends x a w e s h
 weak_ends ends n [] l a w (inr e) s h = refl
 weak_ends ends n (b ∷ bs) l a w (inr e) s h = absurd (no_length bs (sym l ∙ e.1))
@@ -80,12 +81,12 @@ weak_ends ends n (b ∷ bs) l a w (inr e) s h = absurd (no_length bs (sym l ∙ 
     no_length : (bs : List Token) → length (b ∷ bs) ≡ 0 → ⊥
     no_length bs e = cc
 
-pub relation_tail_is : (s : List Want) (bs : List Token) → Skips (Symbol symbol.Implies) bs → run most_open (m.relation_tail ∷ s) bs ≡ run most_open (m.one (Symbol symbol.Hash) ∷ m.name ∷ m.later_members ∷ s) bs
+pub relation_tail_is : (s : List Want) (bs : List Token) → Skips (Symbol symbol.Implies) bs → run MOST_OPEN_UNITS (m.relation_tail ∷ s) bs ≡ run MOST_OPEN_UNITS (m.one (Symbol symbol.Hash) ∷ m.name ∷ m.later_members ∷ s) bs
 relation_tail_is s [] h = refl
 relation_tail_is s (Symbol symbol.Implies ∷ bs) h = cc
 relation_tail_is s (_ ∷ bs) h = refl
 
-pub no_declarations : (s : List Want) (bs : List Token) → Skips (Keyword keyword.Input) bs → Skips (Keyword keyword.Output) bs → Skips (Keyword keyword.Relation) bs → run most_open (m.declarations ∷ s) bs ≡ run most_open s bs
+pub no_declarations : (s : List Want) (bs : List Token) → Skips (Keyword keyword.Input) bs → Skips (Keyword keyword.Output) bs → Skips (Keyword keyword.Relation) bs → run MOST_OPEN_UNITS (m.declarations ∷ s) bs ≡ run MOST_OPEN_UNITS s bs
 no_declarations s [] a b d = refl
 no_declarations s (Keyword keyword.Input ∷ bs) a b d = cc
 no_declarations s (Keyword keyword.Output ∷ bs) a b d = cc
@@ -102,7 +103,7 @@ one_more_renaming bs mid left rest (k ∷ rs) items r e l f h i =
     ∙ ap (λ (x : List Token). Symbol symbol.OpenBracket ∷ Keyword keyword.Signal ∷ g.renaming_onto k x) (sym (later_renamings_push rs r rest))
     ∙ ap (λ (x : List RenamingTree). renamings_so_far x rest) (sym i)
 
-pub relation_is : (s : List Want) (bs : List Token) → run most_open (m.relation ∷ s) bs ≡ run most_open (m.name ∷ m.relation_tail ∷ s) bs
+pub relation_is : (s : List Want) (bs : List Token) → run MOST_OPEN_UNITS (m.relation ∷ s) bs ≡ run MOST_OPEN_UNITS (m.name ∷ m.relation_tail ∷ s) bs
 relation_is s [] = refl
 relation_is s (Identifier n ∷ bs) = refl
 relation_is s (_ ∷ bs) = refl
@@ -116,12 +117,12 @@ one_more_declaration bs left rest ds items d e h i =
     e ∙ ap (λ (l : List Token). g.declarations_onto ds l) h ∙ sym (declarations_push ds d rest) ∙ ap (λ (k : List DeclarationTree). g.declarations_onto k rest) (sym i)
 
 -- the same of what is left to what is round
-pub before_from : (ends : Bool) (ws vs : List Want) (f : List Want → List Want) (bs after : List Token) (e : Fault) → ((s : List Want) → run most_open (ws ++ s) bs ≡ run most_open (vs ++ f s) after) → Fails vs after e → FailsBefore ends ws bs e
+pub before_from : (ends : Bool) (ws vs : List Want) (f : List Want → List Want) (bs after : List Token) (e : Fault) → ((s : List Want) → run MOST_OPEN_UNITS (ws ++ s) bs ≡ run MOST_OPEN_UNITS (vs ++ f s) after) → Fails vs after e → FailsBefore ends ws bs e
 before_from ends ws vs f bs after (Syntax n) h k = (k.0, k.1, λ s r. h s ∙ k.2 (f s))
 before_from ends ws vs f bs after (TooDeep n) h k = (k.0, k.1, λ s r. h s ∙ k.2 (f s))
 before_from ends ws vs f bs after Memory h k = tt
 
-pub before_before : (ends : Bool) (ws vs : List Want) (f : List Want → List Want) (bs after : List Token) (e : Fault) → ((s : List Want) → EndsSo ends s → EndsSo ends (f s)) → ((s : List Want) → run most_open (ws ++ s) bs ≡ run most_open (vs ++ f s) after) → FailsBefore ends vs after e → FailsBefore ends ws bs e
+pub before_before : (ends : Bool) (ws vs : List Want) (f : List Want → List Want) (bs after : List Token) (e : Fault) → ((s : List Want) → EndsSo ends s → EndsSo ends (f s)) → ((s : List Want) → run MOST_OPEN_UNITS (ws ++ s) bs ≡ run MOST_OPEN_UNITS (vs ++ f s) after) → FailsBefore ends vs after e → FailsBefore ends ws bs e
 before_before ends ws vs f bs after (Syntax n) r h k = (k.0, k.1, λ s q. h s ∙ k.2 (f s) (r s q))
 before_before ends ws vs f bs after (TooDeep n) r h k = (k.0, k.1, λ s q. h s ∙ k.2 (f s) (r s q))
 before_before ends ws vs f bs after Memory r h k = tt
@@ -138,7 +139,7 @@ pub ends_side : (ends : Bool) (s : List Want) → EndsSo ends s → EndsSo ends 
 ends_side true s h = h
 ends_side false s h = h
 
-pub loop_tail_is : (s : List Want) (bs : List Token) → Skips (Keyword keyword.Each) bs → run most_open (m.loop_tail ∷ s) bs ≡ run most_open (m.one m.kw_end ∷ m.may (Keyword keyword.Loop) ∷ s) bs
+pub loop_tail_is : (s : List Want) (bs : List Token) → Skips (Keyword keyword.Each) bs → run MOST_OPEN_UNITS (m.loop_tail ∷ s) bs ≡ run MOST_OPEN_UNITS (m.one m.kw_end ∷ m.may (Keyword keyword.Loop) ∷ s) bs
 loop_tail_is s [] h = refl
 loop_tail_is s (Keyword keyword.Each ∷ bs) h = cc
 loop_tail_is s (_ ∷ bs) h = refl

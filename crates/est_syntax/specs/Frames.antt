@@ -16,7 +16,8 @@ use Rattle.est_syntax.specs.declared.units.Head.{Head}
 use Rattle.est_syntax.specs.declared.units.Head.TheVariants as head
 use Rattle.est_syntax.specs.Machine.{Want, Step, refused, to, opens, run, unit_start, one, may, name, later_names, statement, loop_tail, branches, may_end, may_end_weak, leave, kw_end}
 use Rattle.est_syntax.specs.Machine.{unit as unit_want}
-use Rattle.est_syntax.specs.Parsing.{Reads, EndsSo, Round, most_open}
+use Rattle.est_syntax.specs.Parsing.{Reads, EndsSo, Round}
+use Rattle.est_syntax.specs.declared.parse.TheConstants.{MOST_OPEN_UNITS}
 
 -- whether a token begins a unit without a body
 abbrev pub NotPlain : Step → Type 0
@@ -107,26 +108,26 @@ body_end head.Group = false
 -- what stands before a body was read
 pub record IsHead (f : Frame) (h : Head) (old new : List Token) : Type 0 where
   pub spelt : frame_token f ∷ old ≡ head_onto h new
-  pub passes : (s : List Want) → run most_open (frame_wants f ++ s) old ≡ run most_open (statement ∷ head_wants h ++ s) new
+  pub passes : (s : List Want) → run MOST_OPEN_UNITS (frame_wants f ++ s) old ≡ run MOST_OPEN_UNITS (statement ∷ head_wants h ++ s) new
   pub shorter : length new ≤ length old
 
 -- what stands behind a body was read
 pub record IsTail (ends : Bool) (h : Head) (body : StatementTree) (u : UnitValue) (old new : List Token) : Type 0 where
   pub spelt : head_onto h (statement_onto body old) ≡ unit_onto (unit_view u) new
   pub depth : unit_depth (unit_view u) ≡ suc (statement_depth body)
-  pub passes : (s : List Want) → EndsSo ends s → run most_open (head_wants h ++ s) old ≡ run most_open s new
+  pub passes : (s : List Want) → EndsSo ends s → run MOST_OPEN_UNITS (head_wants h ++ s) old ≡ run MOST_OPEN_UNITS s new
   pub shorter : length new ≤ length old
 
 -- the same where it does not count what is round
 pub record IsTailAlways (h : Head) (body : StatementTree) (u : UnitValue) (old new : List Token) : Type 0 where
   pub spelt : head_onto h (statement_onto body old) ≡ unit_onto (unit_view u) new
   pub depth : unit_depth (unit_view u) ≡ suc (statement_depth body)
-  pub passes : (s : List Want) → run most_open (head_wants h ++ s) old ≡ run most_open s new
+  pub passes : (s : List Want) → run MOST_OPEN_UNITS (head_wants h ++ s) old ≡ run MOST_OPEN_UNITS s new
   pub shorter : length new ≤ length old
 
 -- a unit with a body was read, from behind its first token; so many units may be open in it
 pub record IsOpened (room : ℕ) (ends : Option Bool) (o : Opener) (u : UnitValue) (old new : List Token) : Type 0 where
   pub spelt : opener_token o ∷ old ≡ unit_onto (unit_view u) new
   pub fits : unit_depth (unit_view u) ≤ suc room
-  pub passes : (s : List Want) → Round (suc room) ends s → run most_open (opener_wants o ++ s) old ≡ run most_open s new
+  pub passes : (s : List Want) → Round (suc room) ends s → run MOST_OPEN_UNITS (opener_wants o ++ s) old ≡ run MOST_OPEN_UNITS s new
   pub shorter : length new ≤ length old

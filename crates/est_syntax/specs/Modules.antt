@@ -8,35 +8,35 @@ use Rattle.est_syntax.specs.declared.fault.Fault.TheVariants.{Syntax, TooDeep, M
 use Rattle.est_syntax.specs.Tree.{ModuleTree, LibraryTree}
 use Rattle.est_syntax.specs.Grammar.{statement_depth, module_onto, modules_onto, modules_depth, spelling, library_depth}
 use Rattle.est_syntax.specs.Machine.{Want, run, wrong, deep, module_wants, modules}
-use Rattle.est_syntax.specs.Parsing.{most_open}
+use Rattle.est_syntax.specs.declared.parse.TheConstants.{MOST_OPEN_UNITS}
 
 -- the tokens stop where these wants are all: so many are left there
 abbrev pub Stops : List Want → List Token → Fault → Type 0
-Stops ws bs (Syntax n) = (rest : List Token) × (n ≡ length rest) × (run most_open ws bs ≡ wrong rest)
-Stops ws bs (TooDeep n) = (rest : List Token) × (n ≡ length rest) × (run most_open ws bs ≡ deep rest)
+Stops ws bs (Syntax n) = (rest : List Token) × (n ≡ length rest) × (run MOST_OPEN_UNITS ws bs ≡ wrong rest)
+Stops ws bs (TooDeep n) = (rest : List Token) × (n ≡ length rest) × (run MOST_OPEN_UNITS ws bs ≡ deep rest)
 Stops ws bs Memory = Unit {0}
 
 -- a module was read, from behind its first word
 pub record IsModule (p : ModuleTree) (old new : List Token) : Type 0 where
   pub spelt : Keyword keyword.Module ∷ old ≡ module_onto p new
-  pub fits : statement_depth p.body ≤ most_open
-  pub passes : run most_open (module_wants []) old ≡ run most_open (modules ∷ []) new
+  pub fits : statement_depth p.body ≤ MOST_OPEN_UNITS
+  pub passes : run MOST_OPEN_UNITS (module_wants []) old ≡ run MOST_OPEN_UNITS (modules ∷ []) new
   pub shorter : length new ≤ length old
 
 -- these modules were read, and more may stand there
 pub record AreModules (ps : List ModuleTree) (old new : List Token) : Type 0 where
   pub spelt : old ≡ modules_onto ps new
-  pub fits : modules_depth ps ≤ most_open
-  pub passes : run most_open (modules ∷ []) old ≡ run most_open (modules ∷ []) new
+  pub fits : modules_depth ps ≤ MOST_OPEN_UNITS
+  pub passes : run MOST_OPEN_UNITS (modules ∷ []) old ≡ run MOST_OPEN_UNITS (modules ∷ []) new
   pub shorter : length new ≤ length old
 
 -- these modules were read, and no more stand there
 pub record AreAllModules (ps : List ModuleTree) (old new : List Token) : Type 0 where
   pub spelt : old ≡ modules_onto ps new
-  pub fits : modules_depth ps ≤ most_open
-  pub passes : run most_open (modules ∷ []) old ≡ run most_open [] new
+  pub fits : modules_depth ps ≤ MOST_OPEN_UNITS
+  pub passes : run MOST_OPEN_UNITS (modules ∷ []) old ≡ run MOST_OPEN_UNITS [] new
 
 -- a whole library was read
 pub record IsLibrary (l : LibraryTree) (tokens : List Token) : Type 0 where
   pub spelt : tokens ≡ spelling l
-  pub fits : library_depth l ≤ most_open
+  pub fits : library_depth l ≤ MOST_OPEN_UNITS

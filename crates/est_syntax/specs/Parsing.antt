@@ -10,21 +10,18 @@ use Rattle.est_syntax.specs.Tree.{RenamingTree}
 use Rattle.est_syntax.specs.Grammar.{renaming_onto, later_renamings_onto, declaration_onto}
 use Rattle.est_syntax.specs.Views.{declaration_view}
 use Rattle.est_syntax.specs.declared.tree.Declaration.{Declaration}
+use Rattle.est_syntax.specs.declared.parse.TheConstants.{MOST_OPEN_UNITS}
 use Rattle.est_syntax.specs.Machine.{Want, run, wrong, deep, open_count, Ends, EndsNot, Skips, declarations, unit_start, refused}
-
--- so many units may be open at once
-abbrev pub most_open : ℕ
-most_open = 128
 
 -- what is wanted stood first, and then the rest
 pub record Reads (ws : List Want) (bs rest : List Token) : Type 0 where
-  pub passes : (s : List Want) → run most_open (ws ++ s) bs ≡ run most_open s rest
+  pub passes : (s : List Want) → run MOST_OPEN_UNITS (ws ++ s) bs ≡ run MOST_OPEN_UNITS s rest
   pub shorter : length rest ≤ length bs
 
 -- the tokens stop where what is wanted does not stand: so many are left there
 abbrev pub Fails : List Want → List Token → Fault → Type 0
-Fails ws bs (Syntax n) = (rest : List Token) × (n ≡ length rest) × ((s : List Want) → run most_open (ws ++ s) bs ≡ wrong rest)
-Fails ws bs (TooDeep n) = (rest : List Token) × (n ≡ length rest) × ((s : List Want) → run most_open (ws ++ s) bs ≡ deep rest)
+Fails ws bs (Syntax n) = (rest : List Token) × (n ≡ length rest) × ((s : List Want) → run MOST_OPEN_UNITS (ws ++ s) bs ≡ wrong rest)
+Fails ws bs (TooDeep n) = (rest : List Token) × (n ≡ length rest) × ((s : List Want) → run MOST_OPEN_UNITS (ws ++ s) bs ≡ deep rest)
 Fails ws bs Memory = Unit {0}
 
 -- whether what is round can go on with `end`
@@ -39,30 +36,30 @@ EndsAs (Some ends) s = EndsSo ends s
 
 -- the wants round a part of a unit: so many units more may be opened there
 pub record Round (room : ℕ) (ends : Option Bool) (s : List Want) : Type 0 where
-  pub fits : open_count s + room ≡ most_open
+  pub fits : open_count s + room ≡ MOST_OPEN_UNITS
   pub closing : EndsAs ends s
 
 -- where the wants round it count, the tokens stop so
 abbrev pub FailsIn : ℕ → Option Bool → List Want → List Token → Fault → Type 0
-FailsIn room ends ws bs (Syntax n) = (rest : List Token) × (n ≡ length rest) × ((s : List Want) → Round room ends s → run most_open (ws ++ s) bs ≡ wrong rest)
-FailsIn room ends ws bs (TooDeep n) = (rest : List Token) × (n ≡ length rest) × ((s : List Want) → Round room ends s → run most_open (ws ++ s) bs ≡ deep rest)
+FailsIn room ends ws bs (Syntax n) = (rest : List Token) × (n ≡ length rest) × ((s : List Want) → Round room ends s → run MOST_OPEN_UNITS (ws ++ s) bs ≡ wrong rest)
+FailsIn room ends ws bs (TooDeep n) = (rest : List Token) × (n ≡ length rest) × ((s : List Want) → Round room ends s → run MOST_OPEN_UNITS (ws ++ s) bs ≡ deep rest)
 FailsIn room ends ws bs Memory = Unit {0}
 
 -- a part of a tree was read: its tokens, how deep it is, what the machine does there
 pub record IsPart (room : ℕ) (ends : Option Bool) (ws : List Want) (text : List Token) (depth : ℕ) (old new : List Token) : Type 0 where
   pub spelt : old ≡ text
   pub fits : depth ≤ room
-  pub passes : (s : List Want) → Round room ends s → run most_open (ws ++ s) old ≡ run most_open s new
+  pub passes : (s : List Want) → Round room ends s → run MOST_OPEN_UNITS (ws ++ s) old ≡ run MOST_OPEN_UNITS s new
   pub shorter : length new ≤ length old
 
 -- the same two of a unit's end, where it counts whether what is round can go on with `end`
 pub record ReadsBefore (ends : Bool) (ws : List Want) (bs rest : List Token) : Type 0 where
-  pub passes : (s : List Want) → EndsSo ends s → run most_open (ws ++ s) bs ≡ run most_open s rest
+  pub passes : (s : List Want) → EndsSo ends s → run MOST_OPEN_UNITS (ws ++ s) bs ≡ run MOST_OPEN_UNITS s rest
   pub shorter : length rest ≤ length bs
 
 abbrev pub FailsBefore : Bool → List Want → List Token → Fault → Type 0
-FailsBefore ends ws bs (Syntax n) = (rest : List Token) × (n ≡ length rest) × ((s : List Want) → EndsSo ends s → run most_open (ws ++ s) bs ≡ wrong rest)
-FailsBefore ends ws bs (TooDeep n) = (rest : List Token) × (n ≡ length rest) × ((s : List Want) → EndsSo ends s → run most_open (ws ++ s) bs ≡ deep rest)
+FailsBefore ends ws bs (Syntax n) = (rest : List Token) × (n ≡ length rest) × ((s : List Want) → EndsSo ends s → run MOST_OPEN_UNITS (ws ++ s) bs ≡ wrong rest)
+FailsBefore ends ws bs (TooDeep n) = (rest : List Token) × (n ≡ length rest) × ((s : List Want) → EndsSo ends s → run MOST_OPEN_UNITS (ws ++ s) bs ≡ deep rest)
 FailsBefore ends ws bs Memory = Unit {0}
 
 -- the renamings so far, without the closing bracket
@@ -73,7 +70,7 @@ renamings_so_far (r ∷ rs) rest = Symbol symbol.OpenBracket ∷ Keyword keyword
 -- a declaration, or none begins there
 abbrev pub IsDeclared : Option Declaration → List Token → List Token → Type 0
 IsDeclared None old new = (new ≡ old) × Skips (Keyword keyword.Input) old × Skips (Keyword keyword.Output) old × Skips (Keyword keyword.Relation) old
-IsDeclared (Some d) old new = (old ≡ declaration_onto (declaration_view d) new) × (length new < length old) × ((s : List Want) → run most_open (declarations ∷ s) old ≡ run most_open (declarations ∷ s) new)
+IsDeclared (Some d) old new = (old ≡ declaration_onto (declaration_view d) new) × (length new < length old) × ((s : List Want) → run MOST_OPEN_UNITS (declarations ∷ s) old ≡ run MOST_OPEN_UNITS (declarations ∷ s) new)
 
 -- whether a unit begins there
 abbrev pub IsUnitStart : Bool → List Token → Type 0

@@ -2,7 +2,8 @@
 ghost use Rattle.std.specs.Prelude.{◌≡◌, ◌≤◌, ◌∷◌, [], List, length, IsTrue, IfOk, IfErr, OnOk, MatchOption, false, true};
 ghost use Rattle.est_text.specs.declared.token.Token.TheVariants.{Keyword as KeywordToken, Identifier as IdentifierToken, Symbol as SymbolToken};
 ghost use Rattle.est_syntax.specs.Machine.{Want, one, may, name as name_want, Skips, run};
-ghost use Rattle.est_syntax.specs.Parsing.{Fails, StandsFirst, most_open};
+ghost use Rattle.est_syntax.specs.Parsing.{Fails, StandsFirst};
+ghost use Rattle.est_syntax.specs.declared.parse.TheConstants.{MOST_OPEN_UNITS};
 ghost use Rattle.est_syntax.specs.Grammar.{tokens_of};
 
 use crate::fault::Fault;
@@ -74,7 +75,7 @@ impl<'a> Cursor<'a> {
         ensures same { result ≡ false → self.new ≡ self.old }
         ensures other { result ≡ false → Skips (KeywordToken keyword) self.old }
         ensures shorter { length self.new ≤ length self.old }
-        ensures passes { (s : List Want) → run most_open (may (KeywordToken keyword) ∷ s) self.old ≡ run most_open s self.new }
+        ensures passes { (s : List Want) → run MOST_OPEN_UNITS (may (KeywordToken keyword) ∷ s) self.old ≡ run MOST_OPEN_UNITS s self.new }
     {
         let Some((first, rest)) = self.left.split_first() else {
             return false;

@@ -7,14 +7,12 @@ ghost use Rattle.est_syntax.specs.Modules.{Stops, IsModule, AreAllModules, IsLib
 use crate::cursor::Cursor;
 use crate::declarations::declarations;
 use crate::fault::Fault;
+use crate::parse::MOST_OPEN_UNITS;
 use crate::parser::statement;
 use crate::tree::{Library, Module};
 use est_text::keyword::Keyword;
 use est_text::token::Symbol;
 use std::alloc::Global;
-
-/// How many units may be open at once.
-const MOST_OPEN: usize = 128;
 
 /// A module, from behind its first word.
 fn module(alloc: Global, cursor: &mut Cursor) -> Result<Module, Fault>
@@ -24,7 +22,7 @@ fn module(alloc: Global, cursor: &mut Cursor) -> Result<Module, Fault>
     let name = cursor.expect_name()?;
     cursor.expect_symbol(Symbol::Colon)?;
     let declarations = declarations(alloc, cursor)?;
-    let body = statement(alloc, cursor, MOST_OPEN, true)?;
+    let body = statement(alloc, cursor, MOST_OPEN_UNITS, true)?;
     cursor.expect_keyword(Keyword::End)?;
     cursor.expect_keyword(Keyword::Module)?;
     Ok(Module {

@@ -5,6 +5,7 @@ ghost use Rattle.est_syntax.specs.Grammar.{tokens_of, spelling, library_depth};
 ghost use Rattle.est_syntax.specs.Tree.{LibraryTree};
 ghost use Rattle.est_syntax.specs.Views.{library_view};
 ghost use Rattle.est_syntax.specs.ParseFaults.{IsParseFault};
+ghost use Rattle.est_syntax.specs.declared.parse.TheConstants.{MOST_OPEN_UNITS};
 ghost use Rattle.est_syntax.specs.declared.parse.ParseFault.TheVariants.{Memory};
 
 use crate::cursor::Cursor;
@@ -15,13 +16,17 @@ use est_text::place::Place;
 use est_text::tokens::Tokens;
 use std::alloc::Global;
 
+/// The most units that may be open at once. Each unit that encloses a statement counts: a test, a frame such as `loop` or
+/// `signal`, and a statement in brackets.
+pub const MOST_OPEN_UNITS: usize = 128;
+
 /// Why tokens have no tree.
 #[derive(Clone, Copy, PartialEq, Eq, Debug)]
 pub enum ParseFault {
     /// The place of the first token with which the tokens so far begin no library; where the text ends too early, the
     /// place just after it.
     Syntax(Place),
-    /// The place of the token that opens the 129th unit that is open at once.
+    /// The place of the token that opens one unit more than `MOST_OPEN_UNITS`.
     TooLarge(Place),
     /// Memory was refused.
     Memory,
@@ -30,9 +35,9 @@ pub enum ParseFault {
 /// The tree that the tokens of a text are spelt from, or the first place where they stop being the beginning of one.
 pub fn parse(alloc: Global, tokens: &Tokens) -> Result<Library, ParseFault>
     ensures spelt { IfOk result (λ l. tokens_of tokens.now.located ≡ spelling (library_view l)) }
-    ensures depth { IfOk result (λ l. library_depth (library_view l) ≤ 128) }
-    ensures takes { (l : LibraryTree) → tokens_of tokens.now.located ≡ spelling l → library_depth l ≤ 128 → MatchResult result (λ k. library_view k ≡ l) (λ fault. fault ≡ Memory) }
-    ensures fault { IfErr result (λ fault. IsParseFault 128 tokens.now fault) }
+    ensures depth { IfOk result (λ l. library_depth (library_view l) ≤ MOST_OPEN_UNITS) }
+    ensures takes { (l : LibraryTree) → tokens_of tokens.now.located ≡ spelling l → library_depth l ≤ MOST_OPEN_UNITS → MatchResult result (λ k. library_view k ≡ l) (λ fault. fault ≡ Memory) }
+    ensures fault { IfErr result (λ fault. IsParseFault MOST_OPEN_UNITS tokens.now fault) }
 {
     let located = tokens.as_slice();
     let mut cursor = Cursor::new(located);

@@ -4,7 +4,7 @@ use Rattle.est_text.specs.declared.token.Token.TheVariants.{Symbol}
 use Rattle.est_text.specs.declared.token.Symbol.TheVariants.{Hash}
 use Rattle.est_syntax.specs.Machine.{run, one, name, relation_tail, later_members}
 use Rattle.est_syntax.specs.Machine.{relation as relation_want}
-use Rattle.est_syntax.specs.Parsing.{most_open}
+use Rattle.est_syntax.specs.declared.parse.TheConstants.{MOST_OPEN_UNITS}
 use Rattle.est_syntax.proofs.Reading.{fails_from, relation_is, relation_tail_is}
 use Rattle.est_syntax.proofs.declarations.relation.Goals as goal
 
@@ -18,5 +18,5 @@ returns-in_err-expect_symbol-clause-err c =
     let p = err_from_is_err_and c.from_residual-in_err-expect_symbol.result c.from_residual-in_err-expect_symbol.ensures.1 in
     let mid = c.expect_name.new.self in
     rw (p.1, p.2) (fails_from (relation_want ∷ []) (one (Symbol Hash) ∷ []) (λ s. name ∷ later_members ∷ s) c.args.cursor.now c.take_symbol.new.self c.in_err-expect_symbol.field-0.0
-    (λ s. ap (run most_open (relation_want ∷ s)) c.in_ok-first.ensures.ok ∙ relation_tail_is s mid (c.if-take_symbol.ensures.other refl) ∙ ap (run most_open (one (Symbol Hash) ∷ name ∷ later_members ∷ s)) (sym (c.if-take_symbol.ensures.same refl)))
+    (λ s. ap (run MOST_OPEN_UNITS (relation_want ∷ s)) c.in_ok-first.ensures.ok ∙ relation_tail_is s mid (c.if-take_symbol.ensures.other refl) ∙ ap (run MOST_OPEN_UNITS (one (Symbol Hash) ∷ name ∷ later_members ∷ s)) (sym (c.if-take_symbol.ensures.same refl)))
     c.in_err-expect_symbol.ensures.err)

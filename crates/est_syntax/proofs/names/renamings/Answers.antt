@@ -9,7 +9,7 @@ use Rattle.est_syntax.specs.declared.tree.Renaming.{Renaming}
 use Rattle.est_syntax.specs.Machine.{run, later_renamings, one}
 use Rattle.est_syntax.specs.Machine.{renamings as renamings_want}
 use Rattle.est_syntax.specs.Views.{renaming_view}
-use Rattle.est_syntax.specs.Parsing.{most_open}
+use Rattle.est_syntax.specs.declared.parse.TheConstants.{MOST_OPEN_UNITS}
 use Rattle.est_syntax.proofs.Runs.{later_renamings_over}
 use Rattle.est_syntax.proofs.Reading.{one_more_renaming, fails_from}
 use Rattle.est_syntax.proofs.names.renamings.Goals as goal
@@ -23,7 +23,7 @@ renamings-preserved c =
       spelt = one_more_renaming c.args.cursor.now c.take_symbol-in-renamings.new.self c.renamings.cursor c.renaming-in-renamings.new.cursor (map renaming_view items) (map renaming_view c.push-in-renamings.new.self.items) (renaming_view next) c.renamings.invariant.spelt (omega (arith, c.renamings.invariant.some, length-map items renaming_view)) comma c.in_ok-next.ensures.spelt
           (ap (λ (k : List Renaming). map renaming_view k) c.in_ok-push-2.ensures.items ∙ map-append renaming_view items (next ∷ []));
       some = omega (arith, ap (length {A = Renaming}) c.in_ok-push-2.ensures.items, length-append items (next ∷ []));
-      passes = λ s. c.renamings.invariant.passes s ∙ ap (run most_open (later_renamings ∷ one (Symbol CloseBracket) ∷ s)) comma ∙ c.in_ok-next.ensures.reads.passes (later_renamings ∷ one (Symbol CloseBracket) ∷ s);
+      passes = λ s. c.renamings.invariant.passes s ∙ ap (run MOST_OPEN_UNITS (later_renamings ∷ one (Symbol CloseBracket) ∷ s)) comma ∙ c.in_ok-next.ensures.reads.passes (later_renamings ∷ one (Symbol CloseBracket) ∷ s);
       shorter = omega (arith, c.renamings.invariant.shorter, ap (length {A = Token}) comma, c.in_ok-next.ensures.reads.shorter);
     }
 
@@ -32,4 +32,4 @@ returns-in_err-expect_symbol-clause-err c =
     let p = err_from_is_err_and c.from_residual-in_err-expect_symbol.result c.from_residual-in_err-expect_symbol.ensures.1 in
     let same : c.take_symbol-in-renamings.new.self ≡ c.renamings.cursor = c.renamings-test.ensures.same refl in
     rw (p.1, p.2) (fails_from (renamings_want ∷ []) (one (Symbol CloseBracket) ∷ []) (λ s. s) c.args.cursor.now c.take_symbol-in-renamings.new.self c.in_err-expect_symbol.field-0.0
-    (λ s. c.renamings.invariant.passes s ∙ later_renamings_over most_open (one (Symbol CloseBracket) ∷ s) c.renamings.cursor (c.renamings-test.ensures.other refl) ∙ ap (run most_open (one (Symbol CloseBracket) ∷ s)) (sym same)) c.in_err-expect_symbol.ensures.err)
+    (λ s. c.renamings.invariant.passes s ∙ later_renamings_over MOST_OPEN_UNITS (one (Symbol CloseBracket) ∷ s) c.renamings.cursor (c.renamings-test.ensures.other refl) ∙ ap (run MOST_OPEN_UNITS (one (Symbol CloseBracket) ∷ s)) (sym same)) c.in_err-expect_symbol.ensures.err)

@@ -6,7 +6,7 @@ use Rattle.est_syntax.specs.declared.fault.Fault.TheVariants.{Syntax, TooDeep}
 use Rattle.est_syntax.specs.Grammar.{tokens_of}
 use Rattle.est_syntax.specs.Faults.{IsSyntaxFault, IsTooDeep}
 use Rattle.est_syntax.specs.Modules.{Stops}
-use Rattle.est_syntax.specs.Parsing.{most_open}
+use Rattle.est_syntax.specs.declared.parse.TheConstants.{MOST_OPEN_UNITS}
 use Rattle.est_syntax.proofs.Libraries.{start, wrong_in, deep_in, wrong_at, deep_at, never_wrong, never_deep}
 use Rattle.est_syntax.proofs.Unique.{one_library}
 use Rattle.est_syntax.specs.Views.{library_view}
@@ -24,13 +24,13 @@ pub returns-in-Err-Syntax-clause-fault : goal.returns-in-Err-Syntax-clause-fault
 returns-in-Err-Syntax-clause-fault c =
     let at = length c.as_slice-located.result.now - c.in-Err-Syntax.left in
     let stop = subst (λ (bs : List Token). Stops start bs (Syntax c.in-Err-Syntax.left)) c.new-cursor.ensures (subst (λ (e : Fault). Stops start c.new-cursor.result e) c.in-Err-Syntax.field-0-is c.in-Err-Syntax.ensures.err) in
-    (at, c.place.ensures, subst (λ (ls : List Located). IsSyntaxFault most_open (tokens_of ls) at) c.as_slice-located.ensures.same (wrong_at c.as_slice-located.result.now c.in-Err-Syntax.left stop))
+    (at, c.place.ensures, subst (λ (ls : List Located). IsSyntaxFault MOST_OPEN_UNITS (tokens_of ls) at) c.as_slice-located.ensures.same (wrong_at c.as_slice-located.result.now c.in-Err-Syntax.left stop))
 
 pub returns-in-Err-TooDeep-clause-fault : goal.returns-in-Err-TooDeep-clause-fault
 returns-in-Err-TooDeep-clause-fault c =
     let at = length c.as_slice-located.result.now - c.in-Err-TooDeep.left in
     let stop = subst (λ (bs : List Token). Stops start bs (TooDeep c.in-Err-TooDeep.left)) c.new-cursor.ensures (subst (λ (e : Fault). Stops start c.new-cursor.result e) c.in-Err-TooDeep.field-0-is c.in-Err-TooDeep.ensures.err) in
-    (at, c.place-in-Err-TooDeep.ensures, subst (λ (ls : List Located). IsTooDeep most_open (tokens_of ls) at) c.as_slice-located.ensures.same (deep_at c.as_slice-located.result.now c.in-Err-TooDeep.left stop))
+    (at, c.place-in-Err-TooDeep.ensures, subst (λ (ls : List Located). IsTooDeep MOST_OPEN_UNITS (tokens_of ls) at) c.as_slice-located.ensures.same (deep_at c.as_slice-located.result.now c.in-Err-TooDeep.left stop))
 
 pub returns-in-Ok-clause-takes : goal.returns-in-Ok-clause-takes
 returns-in-Ok-clause-takes c = λ l e r.

@@ -16,7 +16,8 @@ use Rattle.est_syntax.specs.Grammar.{unit_onto, unit_depth, sequence_onto, seque
 use Rattle.est_syntax.specs.Views.{unit_view, sequence_view, statement_view, units_of, sequences_of}
 use Rattle.est_syntax.specs.Machine.{Want, run, wrong, name, branches, leave, unit, sequence, sequence_tail, statement, statement_tail}
 use Rattle.est_syntax.specs.Frames.{IsPlain, IsOpened, IsTail, IsOpener, opener_token, opener_wants, frame_wants, head_wants, body_end}
-use Rattle.est_syntax.specs.Parsing.{most_open, Round, IsPart, FailsIn, FailsBefore}
+use Rattle.est_syntax.specs.Parsing.{Round, IsPart, FailsIn, FailsBefore}
+use Rattle.est_syntax.specs.declared.parse.TheConstants.{MOST_OPEN_UNITS}
 use Rattle.est_syntax.proofs.Runs.{sequence_is, statement_is}
 use Rattle.est_syntax.proofs.Opening.{in_leaf, in_in, round_tail, round_side, round_any, round_branches}
 use Rattle.est_syntax.proofs.Parts as part
@@ -28,13 +29,13 @@ pub sequence-returns-in_err-first-clause-err : goal.sequence-returns-in_err-firs
 sequence-returns-in_err-first-clause-err t c =
     let p = err_from_is_err_and c.from_residual.result c.from_residual.ensures.1 in
     let bs = c.args.cursor.now in
-    rw (p.1, p.2) (in_in c.args.room c.args.room (Some c.args.ends) (Some c.args.ends) (sequence ∷ []) (unit ∷ []) (λ s. sequence_tail ∷ s) bs bs c.in_err-first.field-0.0 (λ s r. round_tail c.args.room c.args.ends s r) (λ s r. sequence_is most_open s bs) c.in_err-first.ensures.err)
+    rw (p.1, p.2) (in_in c.args.room c.args.room (Some c.args.ends) (Some c.args.ends) (sequence ∷ []) (unit ∷ []) (λ s. sequence_tail ∷ s) bs bs c.in_err-first.field-0.0 (λ s r. round_tail c.args.room c.args.ends s r) (λ s r. sequence_is MOST_OPEN_UNITS s bs) c.in_err-first.ensures.err)
 
 pub sequence-returns-in_err-later-clause-err : goal.sequence-returns-in_err-later-clause-err
 sequence-returns-in_err-later-clause-err t c =
     let p = err_from_is_err_and c.from_residual-in_err-later.result c.from_residual-in_err-later.ensures.1 in
     let bs = c.args.cursor.now in
-    rw (p.1, p.2) (in_in c.args.room c.args.room (Some c.args.ends) (Some c.args.ends) (sequence ∷ []) (sequence_tail ∷ []) (λ s. s) bs c.unit.new.cursor c.in_err-later.field-0.0 (λ s r. r) (λ s r. sequence_is most_open s bs ∙ c.in_ok-first.ensures.ok.passes (sequence_tail ∷ s) (round_tail c.args.room c.args.ends s r)) c.in_err-later.ensures.err)
+    rw (p.1, p.2) (in_in c.args.room c.args.room (Some c.args.ends) (Some c.args.ends) (sequence ∷ []) (sequence_tail ∷ []) (λ s. s) bs c.unit.new.cursor c.in_err-later.field-0.0 (λ s r. r) (λ s r. sequence_is MOST_OPEN_UNITS s bs ∙ c.in_ok-first.ensures.ok.passes (sequence_tail ∷ s) (round_tail c.args.room c.args.ends s r)) c.in_err-later.ensures.err)
 
 pub sequence-returns-clause-ok : goal.sequence-returns-clause-ok
 sequence-returns-clause-ok t c =
@@ -50,13 +51,13 @@ pub statement-returns-in_err-first-clause-err : goal.statement-returns-in_err-fi
 statement-returns-in_err-first-clause-err t c =
     let p = err_from_is_err_and c.from_residual.result c.from_residual.ensures.1 in
     let bs = c.args.cursor.now in
-    rw (p.1, p.2) (in_in c.args.room c.args.room (Some c.args.ends) (Some c.args.ends) (statement ∷ []) (sequence ∷ []) (λ s. statement_tail ∷ s) bs bs c.in_err-first.field-0.0 (λ s r. round_side c.args.room c.args.ends s r) (λ s r. statement_is most_open s bs) c.in_err-first.ensures.err)
+    rw (p.1, p.2) (in_in c.args.room c.args.room (Some c.args.ends) (Some c.args.ends) (statement ∷ []) (sequence ∷ []) (λ s. statement_tail ∷ s) bs bs c.in_err-first.field-0.0 (λ s r. round_side c.args.room c.args.ends s r) (λ s r. statement_is MOST_OPEN_UNITS s bs) c.in_err-first.ensures.err)
 
 pub statement-returns-in_err-later-clause-err : goal.statement-returns-in_err-later-clause-err
 statement-returns-in_err-later-clause-err t c =
     let p = err_from_is_err_and c.from_residual-in_err-later.result c.from_residual-in_err-later.ensures.1 in
     let bs = c.args.cursor.now in
-    rw (p.1, p.2) (in_in c.args.room c.args.room (Some c.args.ends) (Some c.args.ends) (statement ∷ []) (statement_tail ∷ []) (λ s. s) bs c.sequence.new.cursor c.in_err-later.field-0.0 (λ s r. r) (λ s r. statement_is most_open s bs ∙ c.in_ok-first.ensures.ok.passes (statement_tail ∷ s) (round_side c.args.room c.args.ends s r)) c.in_err-later.ensures.err)
+    rw (p.1, p.2) (in_in c.args.room c.args.room (Some c.args.ends) (Some c.args.ends) (statement ∷ []) (statement_tail ∷ []) (λ s. s) bs c.sequence.new.cursor c.in_err-later.field-0.0 (λ s r. r) (λ s r. statement_is MOST_OPEN_UNITS s bs ∙ c.in_ok-first.ensures.ok.passes (statement_tail ∷ s) (round_side c.args.room c.args.ends s r)) c.in_err-later.ensures.err)
 
 pub statement-returns-clause-ok : goal.statement-returns-clause-ok
 statement-returns-clause-ok t c =
@@ -77,7 +78,7 @@ tested-returns-in_err-signal-clause-err t c =
 pub tested-returns-in_err-test-clause-err : goal.tested-returns-in_err-test-clause-err
 tested-returns-in_err-test-clause-err t c =
     let p = err_from_is_err_and c.from_residual-in_err-test.result c.from_residual-in_err-test.ensures.1 in
-    rw (p.1, p.2) (in_in (suc c.args.room) c.args.room None None (name ∷ branches ∷ leave ∷ []) (branches ∷ []) (λ s. leave ∷ s) c.args.cursor.now c.expect_name.new.self c.in_err-test.field-0.0 (λ s r. round_branches c.args.room None s r) (λ s r. ap (run most_open (name ∷ branches ∷ leave ∷ s)) c.in_ok-signal.ensures.ok) c.in_err-test.ensures.err)
+    rw (p.1, p.2) (in_in (suc c.args.room) c.args.room None None (name ∷ branches ∷ leave ∷ []) (branches ∷ []) (λ s. leave ∷ s) c.args.cursor.now c.expect_name.new.self c.in_err-test.field-0.0 (λ s r. round_branches c.args.room None s r) (λ s r. ap (run MOST_OPEN_UNITS (name ∷ branches ∷ leave ∷ s)) c.in_ok-signal.ensures.ok) c.in_err-test.ensures.err)
 
 pub tested-returns-clause-ok : goal.tested-returns-clause-ok
 tested-returns-clause-ok t c = part.tested_part c.args.room c.in_ok-signal.signal c.in_ok-test.test c.args.cursor.now c.expect_name.new.self c.branches.new.cursor c.in_ok-signal.ensures.ok c.in_ok-test.ensures.ok
@@ -113,12 +114,12 @@ framed-returns-clause-err t c =
 -- ---- a unit
 
 pub unit-returns-in_default-clause-err : goal.unit-returns-in_default-clause-err
-unit-returns-in_default-clause-err t c = (c.args.cursor.now, c.count-here.ensures, λ s r. ap (run most_open (unit ∷ s)) c.in_default.ensures ∙ ap wrong (sym c.in_default.ensures))
+unit-returns-in_default-clause-err t c = (c.args.cursor.now, c.count-here.ensures, λ s r. ap (run MOST_OPEN_UNITS (unit ∷ s)) c.in_default.ensures ∙ ap wrong (sym c.in_default.ensures))
 
 pub unit-returns-in_err-plain-clause-err : goal.unit-returns-in_err-plain-clause-err
 unit-returns-in_err-plain-clause-err t c =
     let p = err_from_is_err_and c.from_residual.result c.from_residual.ensures.1 in
-    rw (p.1, p.2) (in_leaf c.args.room (Some c.args.ends) (unit ∷ []) (unit ∷ []) (λ s. s) c.args.cursor.now (c.in-Some.first.now ∷ c.next.new.self) c.in_err-plain.field-0.0 (λ s r. ap (run most_open (unit ∷ s)) c.in-Some.ensures) c.in_err-plain.ensures.err)
+    rw (p.1, p.2) (in_leaf c.args.room (Some c.args.ends) (unit ∷ []) (unit ∷ []) (λ s. s) c.args.cursor.now (c.in-Some.first.now ∷ c.next.new.self) c.in_err-plain.field-0.0 (λ s r. ap (run MOST_OPEN_UNITS (unit ∷ s)) c.in-Some.ensures) c.in_err-plain.ensures.err)
 
 pub unit-returns-in-Some-2-clause-ok : goal.unit-returns-in-Some-2-clause-ok
 unit-returns-in-Some-2-clause-ok t c =
@@ -131,7 +132,7 @@ unit-returns-in_default-opener_of-clause-err t c =
     let first = c.in-Some.first.now in
     let mid = c.next.new.self in
     let plain = subst (λ (o : Option UnitValue). IsPlain first o mid c.plain_unit.new.cursor) c.in_default-2.is c.in_ok-plain.ensures.ok in
-    (c.args.cursor.now, c.count-here.ensures, λ s r. ap (run most_open (unit ∷ s)) c.in-Some.ensures ∙ part.unit_refused first s mid (c.in_default-opener_of.ensures plain.1) ∙ ap wrong (sym c.in-Some.ensures))
+    (c.args.cursor.now, c.count-here.ensures, λ s r. ap (run MOST_OPEN_UNITS (unit ∷ s)) c.in-Some.ensures ∙ part.unit_refused first s mid (c.in_default-opener_of.ensures plain.1) ∙ ap wrong (sym c.in-Some.ensures))
 
 pub unit-returns-then-room-eq0-clause-err : goal.unit-returns-then-room-eq0-clause-err
 unit-returns-then-room-eq0-clause-err t c =

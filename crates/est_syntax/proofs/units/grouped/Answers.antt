@@ -8,7 +8,7 @@ use Rattle.est_syntax.specs.Grammar.{statement_onto}
 use Rattle.est_syntax.specs.Views.{statement_view}
 use Rattle.est_syntax.specs.Machine.{run, one, leave}
 use Rattle.est_syntax.specs.Frames.{head_wants}
-use Rattle.est_syntax.specs.Parsing.{most_open}
+use Rattle.est_syntax.specs.declared.parse.TheConstants.{MOST_OPEN_UNITS}
 use Rattle.est_syntax.proofs.Folding.{group_is}
 use Rattle.est_syntax.specs.Grammar.{unit_onto, unit_depth}
 use Rattle.est_syntax.specs.Tree.{UnitTree}
@@ -25,6 +25,6 @@ pub returns-clause-ok : goal.returns-clause-ok
 returns-clause-ok c = record {
   spelt = ap (λ (l : List Token). Symbol symbol.OpenBracket ∷ statement_onto (statement_view c.args.body) l) c.in_ok-expect_symbol.ensures.ok ∙ ap (λ (u : UnitTree). unit_onto u c.expect_symbol.new.self) (sym (group_is c.args.body));
   depth = ap unit_depth (group_is c.args.body);
-  passes = λ s. ap (run most_open (one (Symbol symbol.CloseBracket) ∷ leave ∷ s)) c.in_ok-expect_symbol.ensures.ok ∙ leave_over most_open s c.expect_symbol.new.self;
+  passes = λ s. ap (run MOST_OPEN_UNITS (one (Symbol symbol.CloseBracket) ∷ leave ∷ s)) c.in_ok-expect_symbol.ensures.ok ∙ leave_over MOST_OPEN_UNITS s c.expect_symbol.new.self;
   shorter = omega (arith, ap (length {A = Token}) c.in_ok-expect_symbol.ensures.ok);
 }

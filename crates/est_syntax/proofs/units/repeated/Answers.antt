@@ -8,7 +8,7 @@ use Rattle.est_syntax.specs.Grammar.{statement_onto}
 use Rattle.est_syntax.specs.Views.{statement_view}
 use Rattle.est_syntax.specs.Machine.{one, may, leave, kw_end}
 use Rattle.est_syntax.specs.Frames.{head_onto, again_wants}
-use Rattle.est_syntax.specs.Parsing.{most_open}
+use Rattle.est_syntax.specs.declared.parse.TheConstants.{MOST_OPEN_UNITS}
 use Rattle.est_syntax.proofs.Folding.{every_is}
 use Rattle.est_syntax.specs.Grammar.{unit_onto, unit_depth}
 use Rattle.est_syntax.specs.Tree.{UnitTree}
@@ -25,6 +25,6 @@ pub returns-clause-ok : goal.returns-clause-ok
 returns-clause-ok c = record {
   spelt = ap (λ (l : List Token). head_onto (head.Every c.args.signal) (statement_onto (statement_view c.args.body) l)) c.in_ok-again.ensures.spelt ∙ ap (λ (u : UnitTree). unit_onto u c.end_again.new.cursor) (sym (every_is c.args.signal c.args.body c.in_ok-again.again));
   depth = ap unit_depth (every_is c.args.signal c.args.body c.in_ok-again.again);
-  passes = λ s. c.in_ok-again.ensures.reads.passes (leave ∷ s) ∙ leave_over most_open s c.end_again.new.cursor;
+  passes = λ s. c.in_ok-again.ensures.reads.passes (leave ∷ s) ∙ leave_over MOST_OPEN_UNITS s c.end_again.new.cursor;
   shorter = c.in_ok-again.ensures.reads.shorter;
 }

@@ -8,7 +8,7 @@ use Rattle.est_syntax.specs.Grammar.{statement_onto, delay_onto}
 use Rattle.est_syntax.specs.Views.{statement_view, delay_view}
 use Rattle.est_syntax.specs.Machine.{one, may, name, leave, may_end_weak}
 use Rattle.est_syntax.specs.Frames.{head_wants, head_onto}
-use Rattle.est_syntax.specs.Parsing.{most_open}
+use Rattle.est_syntax.specs.declared.parse.TheConstants.{MOST_OPEN_UNITS}
 use Rattle.est_syntax.proofs.Folding.{weak_abort_is}
 use Rattle.est_syntax.specs.Grammar.{unit_onto, unit_depth}
 use Rattle.est_syntax.specs.Tree.{UnitTree}
@@ -30,6 +30,6 @@ pub returns-clause-ok : goal.returns-clause-ok
 returns-clause-ok c = record {
   spelt = ap (λ (l : List Token). head_onto head.WeakAbort (statement_onto (statement_view c.args.body) l)) (c.in_ok-signal.ensures.spelt ∙ ap (λ (l : List Token). Keyword keyword.When ∷ delay_onto (delay_view c.in_ok-signal.signal) l) c.in_ok-written.ensures.spelt) ∙ ap (λ (u : UnitTree). unit_onto u c.weak_end.new.cursor) (sym (weak_abort_is c.args.body c.in_ok-signal.signal c.in_ok-written.written));
   depth = ap unit_depth (weak_abort_is c.args.body c.in_ok-signal.signal c.in_ok-written.written);
-  passes = λ s h. c.in_ok-signal.ensures.reads.passes (may_end_weak ∷ leave ∷ s) ∙ c.in_ok-written.ensures.reads.passes (leave ∷ s) (ends_leave c.args.ends s h) ∙ leave_over most_open s c.weak_end.new.cursor;
+  passes = λ s h. c.in_ok-signal.ensures.reads.passes (may_end_weak ∷ leave ∷ s) ∙ c.in_ok-written.ensures.reads.passes (leave ∷ s) (ends_leave c.args.ends s h) ∙ leave_over MOST_OPEN_UNITS s c.weak_end.new.cursor;
   shorter = omega (arith, c.in_ok-signal.ensures.reads.shorter, c.in_ok-written.ensures.reads.shorter);
 }
