@@ -1,8 +1,9 @@
 //! The step of a statement that goes on from its pauses.
 
-ghost use Rattle.std.specs.Prelude.{◌≡◌, ℕ, true, false, cond};
-ghost use Rattle.est_kernel.specs.View.{is_live, has_pause, IsNumbered, IsExclusive};
+ghost use Rattle.std.specs.Prelude.{◌≡◌, ◌||◌, ◌&&◌, ℕ, true, false, cond};
+ghost use Rattle.est_kernel.specs.View.{is_live, has_pause, IsNumbered, IsExclusive, AreApart};
 ghost use Rattle.est_kernel.specs.Pauses.{pauses_of};
+ghost use Rattle.est_kernel.specs.declared.statement.Statement.TheVariants.{Suspend', Seq', Loop', Par', Trap', Local'};
 ghost use Rattle.est_rounds.specs.Views.{env_of};
 ghost use Rattle.est_rounds.specs.Steps.{IsResumed};
 
@@ -10,7 +11,7 @@ use crate::resume::resume_sure;
 use crate::signal_set::{self, Env};
 use crate::step::{Step, both, out_of_trap, quiet, start_step};
 use est_kernel::pause_set::PauseSet;
-use est_kernel::statement::Statement;
+use est_kernel::statement::{LocalSignal, Statement, Test};
 use est_meaning::status::Status;
 
 /// What a statement does that goes on from its pauses.
@@ -78,6 +79,7 @@ fn keep(s: &Statement, pauses: &PauseSet, next: &mut PauseSet)
 }
 
 /// What a statement does from its pauses. Where it moves, the pauses at which it then stands are put into `next`.
+#[cycle(resume)]
 pub fn resume_step(s: &Statement, pauses: &PauseSet, env: &Env, next: &mut PauseSet) -> Resumed
     requires numbered { IsNumbered s.now }
     requires exclusive { IsExclusive s.now (pauses_of pauses.now) }
@@ -100,103 +102,197 @@ pub fn resume_step(s: &Statement, pauses: &PauseSet, env: &Env, next: &mut Pause
             Resumed::Stuck => Resumed::Stuck,
             Resumed::Moved(step) => Resumed::Moved(step),
         },
-        Statement::Suspend(t, p) => match signal_set::answer_to(env, *t) {
-            Status::Absent => resume_step(p, pauses, env, next),
-            Status::Present => {
-                if has_live(p, pauses) {
-                    keep(p, pauses, next);
-                    Resumed::Moved(quiet(1))
-                } else {
-                    Resumed::Asleep
-                }
-            }
-            Status::Unknown => {
-                if has_live(p, pauses) {
-                    Resumed::Stuck
-                } else {
-                    Resumed::Asleep
-                }
-            }
-        },
-        Statement::Seq(p, q) => match resume_step(p, pauses, env, next) {
-            Resumed::Asleep => resume_step(q, pauses, env, next),
-            Resumed::Stuck => Resumed::Stuck,
-            Resumed::Moved(first) => {
-                if first.code != 0 {
-                    return Resumed::Moved(first);
-                }
-                match start_step(q, env, next) {
-                    None => Resumed::Stuck,
-                    Some(second) => Resumed::Moved(Step {
-                        signals: signal_set::union_of(first.signals, second.signals),
-                        code: second.code,
-                    }),
-                }
-            }
-        },
-        Statement::Loop(p) => match resume_step(p, pauses, env, next) {
-            Resumed::Asleep => Resumed::Asleep,
-            Resumed::Stuck => Resumed::Stuck,
-            Resumed::Moved(first) => {
-                if first.code != 0 {
-                    return Resumed::Moved(first);
-                }
-                match start_step(p, env, next) {
-                    None => Resumed::Stuck,
-                    Some(again) => {
-                        if again.code == 0 {
-                            return Resumed::Stuck;
-                        }
-                        Resumed::Moved(Step {
-                            signals: signal_set::union_of(first.signals, again.signals),
-                            code: again.code,
-                        })
-                    }
-                }
-            }
-        },
-        Statement::Par(p, q) => match resume_step(p, pauses, env, next) {
-            Resumed::Stuck => Resumed::Stuck,
-            Resumed::Asleep => match resume_step(q, pauses, env, next) {
-                Resumed::Asleep => Resumed::Asleep,
-                Resumed::Stuck => Resumed::Stuck,
-                Resumed::Moved(right) => Resumed::Moved(both(p, q, quiet(0), right, next)),
-            },
-            Resumed::Moved(left) => match resume_step(q, pauses, env, next) {
-                Resumed::Asleep => Resumed::Moved(both(p, q, left, quiet(0), next)),
-                Resumed::Stuck => Resumed::Stuck,
-                Resumed::Moved(right) => Resumed::Moved(both(p, q, left, right, next)),
-            },
-        },
-        Statement::Trap(p) => match resume_step(p, pauses, env, next) {
-            Resumed::Asleep => Resumed::Asleep,
-            Resumed::Stuck => Resumed::Stuck,
-            Resumed::Moved(step) => Resumed::Moved(Step {
-                signals: step.signals,
-                code: out_of_trap(step.code),
-            }),
-        },
+        Statement::Suspend(t, p) => resume_suspend(*t, p, pauses, env, next),
+        Statement::Seq(p, q) => resume_seq(p, q, pauses, env, next),
+        Statement::Loop(p) => resume_loop(p, pauses, env, next),
+        Statement::Par(p, q) => resume_par(p, q, pauses, env, next),
+        Statement::Trap(p) => resume_trap(p, pauses, env, next),
         Statement::Exit(_) => Resumed::Asleep,
-        Statement::Local(s, p) => {
-            let open = signal_set::set_local(env, *s, false, true);
-            let first = match resume_sure(p, pauses, &open) {
-                None => return Resumed::Asleep,
-                Some(first) => first,
-            };
-            let present = signal_set::has_local(first.must.signals, *s);
-            let possible = signal_set::has_local(first.can.signals, *s);
-            if possible && !present {
-                return Resumed::Stuck;
+        Statement::Local(s, p) => resume_local(*s, p, pauses, env, next),
+    }
+}
+
+/// What `suspend p when t` does from its pauses.
+#[cycle(resume)]
+fn resume_suspend(
+    t: Test,
+    p: &Statement,
+    pauses: &PauseSet,
+    env: &Env,
+    next: &mut PauseSet,
+) -> Resumed
+    requires numbered { IsNumbered p.now }
+    requires exclusive { IsExclusive p.now (pauses_of pauses.now) }
+    requires clear { is_live p.now (pauses_of next.old) ≡ false }
+    ensures resumed { (x : _) → IsResumed result (Suspend' t x p.now) (pauses_of pauses.now) (env_of env.now) (pauses_of next.new) }
+    ensures others { (i : ℕ) → has_pause p.now i ≡ false → pauses_of next.new i ≡ pauses_of next.old i }
+{
+    match signal_set::answer_to(env, t) {
+        Status::Absent => resume_step(p, pauses, env, next),
+        Status::Present => {
+            if has_live(p, pauses) {
+                keep(p, pauses, next);
+                Resumed::Moved(quiet(1))
+            } else {
+                Resumed::Asleep
             }
-            let known = signal_set::set_local(env, *s, present, possible);
-            match resume_step(p, pauses, &known, next) {
-                Resumed::Asleep => Resumed::Asleep,
-                Resumed::Stuck => Resumed::Stuck,
-                Resumed::Moved(step) => Resumed::Moved(Step {
-                    signals: signal_set::all_but(*s, step.signals),
-                    code: step.code,
+        }
+        Status::Unknown => {
+            if has_live(p, pauses) {
+                Resumed::Stuck
+            } else {
+                Resumed::Asleep
+            }
+        }
+    }
+}
+
+/// What `p; q` does from its pauses.
+#[cycle(resume)]
+fn resume_seq(
+    p: &Statement,
+    q: &Statement,
+    pauses: &PauseSet,
+    env: &Env,
+    next: &mut PauseSet,
+) -> Resumed
+    requires numbered { IsNumbered p.now × IsNumbered q.now × AreApart p.now q.now }
+    requires exclusive { IsExclusive p.now (pauses_of pauses.now) × IsExclusive q.now (pauses_of pauses.now) × ((is_live p.now (pauses_of pauses.now) && is_live q.now (pauses_of pauses.now)) ≡ false) }
+    requires clear { (is_live p.now (pauses_of next.old) || is_live q.now (pauses_of next.old)) ≡ false }
+    ensures resumed { (x y : _) → IsResumed result (Seq' x p.now y q.now) (pauses_of pauses.now) (env_of env.now) (pauses_of next.new) }
+    ensures others { (i : ℕ) → (has_pause p.now i || has_pause q.now i) ≡ false → pauses_of next.new i ≡ pauses_of next.old i }
+{
+    match resume_step(p, pauses, env, next) {
+        Resumed::Asleep => resume_step(q, pauses, env, next),
+        Resumed::Stuck => Resumed::Stuck,
+        Resumed::Moved(first) => {
+            if first.code != 0 {
+                return Resumed::Moved(first);
+            }
+            match start_step(q, env, next) {
+                None => Resumed::Stuck,
+                Some(second) => Resumed::Moved(Step {
+                    signals: signal_set::union_of(first.signals, second.signals),
+                    code: second.code,
                 }),
             }
         }
+    }
+}
+
+/// What `loop p end` does from its pauses.
+#[cycle(resume)]
+fn resume_loop(p: &Statement, pauses: &PauseSet, env: &Env, next: &mut PauseSet) -> Resumed
+    requires numbered { IsNumbered p.now }
+    requires exclusive { IsExclusive p.now (pauses_of pauses.now) }
+    requires clear { is_live p.now (pauses_of next.old) ≡ false }
+    ensures resumed { (x : _) → IsResumed result (Loop' x p.now) (pauses_of pauses.now) (env_of env.now) (pauses_of next.new) }
+    ensures others { (i : ℕ) → has_pause p.now i ≡ false → pauses_of next.new i ≡ pauses_of next.old i }
+{
+    match resume_step(p, pauses, env, next) {
+        Resumed::Asleep => Resumed::Asleep,
+        Resumed::Stuck => Resumed::Stuck,
+        Resumed::Moved(first) => {
+            if first.code != 0 {
+                return Resumed::Moved(first);
+            }
+            match start_step(p, env, next) {
+                None => Resumed::Stuck,
+                Some(again) => {
+                    if again.code == 0 {
+                        return Resumed::Stuck;
+                    }
+                    Resumed::Moved(Step {
+                        signals: signal_set::union_of(first.signals, again.signals),
+                        code: again.code,
+                    })
+                }
+            }
+        }
+    }
+}
+
+/// What `p || q` does from its pauses.
+#[cycle(resume)]
+fn resume_par(
+    p: &Statement,
+    q: &Statement,
+    pauses: &PauseSet,
+    env: &Env,
+    next: &mut PauseSet,
+) -> Resumed
+    requires numbered { IsNumbered p.now × IsNumbered q.now × AreApart p.now q.now }
+    requires exclusive { IsExclusive p.now (pauses_of pauses.now) × IsExclusive q.now (pauses_of pauses.now) }
+    requires clear { (is_live p.now (pauses_of next.old) || is_live q.now (pauses_of next.old)) ≡ false }
+    ensures resumed { (x y : _) → IsResumed result (Par' x p.now y q.now) (pauses_of pauses.now) (env_of env.now) (pauses_of next.new) }
+    ensures others { (i : ℕ) → (has_pause p.now i || has_pause q.now i) ≡ false → pauses_of next.new i ≡ pauses_of next.old i }
+{
+    match resume_step(p, pauses, env, next) {
+        Resumed::Stuck => Resumed::Stuck,
+        Resumed::Asleep => match resume_step(q, pauses, env, next) {
+            Resumed::Asleep => Resumed::Asleep,
+            Resumed::Stuck => Resumed::Stuck,
+            Resumed::Moved(right) => Resumed::Moved(both(p, q, quiet(0), right, next)),
+        },
+        Resumed::Moved(left) => match resume_step(q, pauses, env, next) {
+            Resumed::Asleep => Resumed::Moved(both(p, q, left, quiet(0), next)),
+            Resumed::Stuck => Resumed::Stuck,
+            Resumed::Moved(right) => Resumed::Moved(both(p, q, left, right, next)),
+        },
+    }
+}
+
+/// What `trap p end` does from its pauses.
+#[cycle(resume)]
+fn resume_trap(p: &Statement, pauses: &PauseSet, env: &Env, next: &mut PauseSet) -> Resumed
+    requires numbered { IsNumbered p.now }
+    requires exclusive { IsExclusive p.now (pauses_of pauses.now) }
+    requires clear { is_live p.now (pauses_of next.old) ≡ false }
+    ensures resumed { (x : _) → IsResumed result (Trap' x p.now) (pauses_of pauses.now) (env_of env.now) (pauses_of next.new) }
+    ensures others { (i : ℕ) → has_pause p.now i ≡ false → pauses_of next.new i ≡ pauses_of next.old i }
+{
+    match resume_step(p, pauses, env, next) {
+        Resumed::Asleep => Resumed::Asleep,
+        Resumed::Stuck => Resumed::Stuck,
+        Resumed::Moved(step) => Resumed::Moved(Step {
+            signals: step.signals,
+            code: out_of_trap(step.code),
+        }),
+    }
+}
+
+/// What `signal s in p end` does from its pauses.
+#[cycle(resume)]
+fn resume_local(
+    s: LocalSignal,
+    p: &Statement,
+    pauses: &PauseSet,
+    env: &Env,
+    next: &mut PauseSet,
+) -> Resumed
+    requires numbered { IsNumbered p.now }
+    requires exclusive { IsExclusive p.now (pauses_of pauses.now) }
+    requires clear { is_live p.now (pauses_of next.old) ≡ false }
+    ensures resumed { (x : _) → IsResumed result (Local' s x p.now) (pauses_of pauses.now) (env_of env.now) (pauses_of next.new) }
+    ensures others { (i : ℕ) → has_pause p.now i ≡ false → pauses_of next.new i ≡ pauses_of next.old i }
+{
+    let open = signal_set::set_local(env, s, false, true);
+    let first = match resume_sure(p, pauses, &open) {
+        None => return Resumed::Asleep,
+        Some(first) => first,
+    };
+    let present = signal_set::has_local(first.must.signals, s);
+    let possible = signal_set::has_local(first.can.signals, s);
+    if possible && !present {
+        return Resumed::Stuck;
+    }
+    let known = signal_set::set_local(env, s, present, possible);
+    match resume_step(p, pauses, &known, next) {
+        Resumed::Asleep => Resumed::Asleep,
+        Resumed::Stuck => Resumed::Stuck,
+        Resumed::Moved(step) => Resumed::Moved(Step {
+            signals: signal_set::all_but(s, step.signals),
+            code: step.code,
+        }),
     }
 }

@@ -2,6 +2,7 @@
 
 ghost use Rattle.std.specs.Prelude.{◌≡◌};
 ghost use Rattle.est_kernel.specs.Bits.{bits};
+ghost use Rattle.est_kernel.specs.Term.{par, signal, trap};
 ghost use Rattle.est_kernel.specs.View.{term_of};
 ghost use Rattle.est_meaning.specs.MustCan.{must, can, sure, maybe, must_then, can_then, next_mode};
 ghost use Rattle.est_rounds.specs.Views.{acts_of, env_of};
@@ -9,10 +10,11 @@ ghost use Rattle.est_rounds.specs.Views.{acts_of, env_of};
 use crate::acts::{Acts, Judgement};
 use crate::signal_set::{self, Env};
 use est_kernel::mask;
-use est_kernel::statement::Statement;
+use est_kernel::statement::{LocalSignal, Statement};
 use est_meaning::status::Status;
 
 /// What a statement can do, in doubt whether it is reached.
+#[cycle(doubt)]
 pub fn start_maybe(s: &Statement, env: &Env) -> Acts
     ensures { acts_of result ≡ can (term_of s.now) maybe (env_of env.now) }
 {
@@ -29,25 +31,52 @@ pub fn start_maybe(s: &Statement, env: &Env) -> Acts
             Status::Unknown => start_maybe(p, env).or(start_maybe(q, env)),
         },
         Statement::Suspend(_, p) => start_maybe(p, env),
-        Statement::Seq(p, q) => {
-            let first = start_maybe(p, env);
-            if first.has_end() {
-                first.can_then(start_maybe(q, env))
-            } else {
-                first
-            }
-        }
+        Statement::Seq(p, q) => then_start_maybe(start_maybe(p, env), q, env),
         Statement::Loop(p) => start_maybe(p, env),
-        Statement::Par(p, q) => start_maybe(p, env).beside(start_maybe(q, env)),
-        Statement::Trap(p) => start_maybe(p, env).out_of_trap(),
+        Statement::Par(p, q) => par_maybe(p, q, env),
+        Statement::Trap(p) => trap_maybe(p, env),
         Statement::Exit(k) => Acts::ending(k.index + 2),
-        Statement::Local(s, p) => {
-            let open = signal_set::set_local(env, *s, false, true);
-            let first = start_maybe(p, &open);
-            let possible = signal_set::has_local(first.signals, *s);
-            let known = signal_set::set_local(env, *s, false, possible);
-            start_maybe(p, &known).hiding(*s)
-        }
+        Statement::Local(s, p) => local_maybe(*s, p, env),
+    }
+}
+
+/// What `p || q` can do, in doubt whether it is reached.
+#[cycle(doubt)]
+fn par_maybe(p: &Statement, q: &Statement, env: &Env) -> Acts
+    ensures { acts_of result ≡ can (par (term_of p.now) (term_of q.now)) maybe (env_of env.now) }
+{
+    start_maybe(p, env).beside(start_maybe(q, env))
+}
+
+/// What `trap p end` can do, in doubt whether it is reached.
+#[cycle(doubt)]
+fn trap_maybe(p: &Statement, env: &Env) -> Acts
+    ensures { acts_of result ≡ can (trap (term_of p.now)) maybe (env_of env.now) }
+{
+    start_maybe(p, env).out_of_trap()
+}
+
+/// What `signal s in p end` can do, in doubt whether it is reached.
+#[cycle(doubt)]
+fn local_maybe(s: LocalSignal, p: &Statement, env: &Env) -> Acts
+    ensures { acts_of result ≡ can (signal s.index (term_of p.now)) maybe (env_of env.now) }
+{
+    let open = signal_set::set_local(env, s, false, true);
+    let first = start_maybe(p, &open);
+    let possible = signal_set::has_local(first.signals, s);
+    let known = signal_set::set_local(env, s, false, possible);
+    start_maybe(p, &known).hiding(s)
+}
+
+/// What a first part can do and then a statement that follows it, in doubt whether they are reached.
+#[cycle(doubt)]
+pub fn then_start_maybe(first: Acts, q: &Statement, env: &Env) -> Acts
+    ensures { acts_of result ≡ can_then (acts_of first) (can (term_of q.now) maybe (env_of env.now)) }
+{
+    if first.has_end() {
+        first.can_then(start_maybe(q, env))
+    } else {
+        first
     }
 }
 
@@ -75,18 +104,43 @@ pub fn start_sure(s: &Statement, env: &Env) -> Judgement
         Statement::Suspend(_, p) => start_sure(p, env),
         Statement::Seq(p, q) => then_start(start_sure(p, env), q, env),
         Statement::Loop(p) => start_sure(p, env),
-        Statement::Par(p, q) => start_sure(p, env).beside(start_sure(q, env)),
-        Statement::Trap(p) => start_sure(p, env).out_of_trap(),
+        Statement::Par(p, q) => par_sure(p, q, env),
+        Statement::Trap(p) => trap_sure(p, env),
         Statement::Exit(k) => Judgement::exactly(Acts::ending(k.index + 2)),
-        Statement::Local(s, p) => {
-            let open = signal_set::set_local(env, *s, false, true);
-            let first = start_sure(p, &open);
-            let present = signal_set::has_local(first.must.signals, *s);
-            let possible = signal_set::has_local(first.can.signals, *s);
-            let known = signal_set::set_local(env, *s, present, possible);
-            start_sure(p, &known).hiding(*s)
-        }
+        Statement::Local(s, p) => local_sure(*s, p, env),
     }
+}
+
+/// What `p || q` must do and can do.
+#[cycle(start)]
+fn par_sure(p: &Statement, q: &Statement, env: &Env) -> Judgement
+    ensures must { acts_of result.must ≡ must (par (term_of p.now) (term_of q.now)) (env_of env.now) }
+    ensures can { acts_of result.can ≡ can (par (term_of p.now) (term_of q.now)) sure (env_of env.now) }
+{
+    start_sure(p, env).beside(start_sure(q, env))
+}
+
+/// What `trap p end` must do and can do.
+#[cycle(start)]
+fn trap_sure(p: &Statement, env: &Env) -> Judgement
+    ensures must { acts_of result.must ≡ must (trap (term_of p.now)) (env_of env.now) }
+    ensures can { acts_of result.can ≡ can (trap (term_of p.now)) sure (env_of env.now) }
+{
+    start_sure(p, env).out_of_trap()
+}
+
+/// What `signal s in p end` must do and can do.
+#[cycle(start)]
+fn local_sure(s: LocalSignal, p: &Statement, env: &Env) -> Judgement
+    ensures must { acts_of result.must ≡ must (signal s.index (term_of p.now)) (env_of env.now) }
+    ensures can { acts_of result.can ≡ can (signal s.index (term_of p.now)) sure (env_of env.now) }
+{
+    let open = signal_set::set_local(env, s, false, true);
+    let first = start_sure(p, &open);
+    let present = signal_set::has_local(first.must.signals, s);
+    let possible = signal_set::has_local(first.can.signals, s);
+    let known = signal_set::set_local(env, s, present, possible);
+    start_sure(p, &known).hiding(s)
 }
 
 /// What is judged of a first part and of a statement that follows it.

@@ -1,8 +1,10 @@
 //! The step of a statement that is begun: what it emits, its completion code, and the pauses at which it then stands.
 
-ghost use Rattle.std.specs.Prelude.{◌≡◌, ◌≢◌, ℕ, true, false, not, ◌&&◌, cond, nat_eq, max, IfSome, IfNone};
+ghost use Rattle.std.specs.Prelude.{◌≡◌, ◌≢◌, ℕ, true, false, not, ◌&&◌, ◌||◌, cond, nat_eq, max, IfSome, IfNone};
 ghost use Rattle.est_kernel.specs.View.{term_of, is_live, has_pause, IsNumbered, AreApart};
 ghost use Rattle.est_kernel.specs.Pauses.{pauses_of};
+ghost use Rattle.est_kernel.specs.Term.{par, seq, signal, trap};
+ghost use Rattle.est_kernel.specs.declared.statement.Statement.TheVariants.{Local', Par', Seq', Trap'};
 ghost use Rattle.est_meaning.specs.Rules.{HasNoRule, outside};
 ghost use Rattle.est_meaning.specs.Signals.{no_signals, union};
 ghost use Rattle.est_meaning.specs.Steps.{StepsTo};
@@ -11,7 +13,7 @@ ghost use Rattle.est_rounds.specs.Views.{set_of, env_of};
 use crate::signal_set::{self, Env, SignalSet};
 use crate::start::start_sure;
 use est_kernel::pause_set::PauseSet;
-use est_kernel::statement::Statement;
+use est_kernel::statement::{LocalSignal, Statement};
 use est_meaning::status::Status;
 
 /// The signals that are emitted, and the completion code.
@@ -108,6 +110,7 @@ pub fn both(p: &Statement, q: &Statement, left: Step, right: Step, next: &mut Pa
 }
 
 /// The step of a statement that is begun, if the rules give one.
+#[cycle(begin)]
 pub fn start_step(s: &Statement, env: &Env, next: &mut PauseSet) -> Option<Step>
     requires numbered { IsNumbered s.now }
     requires clear { is_live s.now (pauses_of next.old) ≡ false }
@@ -131,49 +134,89 @@ pub fn start_step(s: &Statement, env: &Env, next: &mut PauseSet) -> Option<Step>
             Status::Unknown => None,
         },
         Statement::Suspend(_, p) => start_step(p, env, next),
-        Statement::Seq(p, q) => {
-            let first = start_step(p, env, next)?;
-            if first.code == 0 {
-                let second = start_step(q, env, next)?;
-                Some(Step {
-                    signals: signal_set::union_of(first.signals, second.signals),
-                    code: second.code,
-                })
-            } else {
-                Some(first)
-            }
-        }
+        Statement::Seq(p, q) => start_seq(p, q, env, next),
         Statement::Loop(p) => {
             let first = start_step(p, env, next)?;
             if first.code == 0 { None } else { Some(first) }
         }
-        Statement::Par(p, q) => {
-            let left = start_step(p, env, next)?;
-            let right = start_step(q, env, next)?;
-            Some(both(p, q, left, right, next))
-        }
-        Statement::Trap(p) => {
-            let first = start_step(p, env, next)?;
-            Some(Step {
-                signals: first.signals,
-                code: out_of_trap(first.code),
-            })
-        }
+        Statement::Par(p, q) => start_par(p, q, env, next),
+        Statement::Trap(p) => start_trap(p, env, next),
         Statement::Exit(k) => Some(quiet(k.index + 2)),
-        Statement::Local(s, p) => {
-            let open = signal_set::set_local(env, *s, false, true);
-            let first = start_sure(p, &open);
-            let present = signal_set::has_local(first.must.signals, *s);
-            let possible = signal_set::has_local(first.can.signals, *s);
-            if possible && !present {
-                return None;
-            }
-            let known = signal_set::set_local(env, *s, present, possible);
-            let step = start_step(p, &known, next)?;
-            Some(Step {
-                signals: signal_set::all_but(*s, step.signals),
-                code: step.code,
-            })
-        }
+        Statement::Local(s, p) => start_local(*s, p, env, next),
     }
+}
+
+/// The step of `p; q` that is begun, if the rules give one.
+#[cycle(begin)]
+fn start_seq(p: &Statement, q: &Statement, env: &Env, next: &mut PauseSet) -> Option<Step>
+    requires numbered { IsNumbered p.now × IsNumbered q.now × AreApart p.now q.now }
+    requires clear { (is_live p.now (pauses_of next.old) || is_live q.now (pauses_of next.old)) ≡ false }
+    ensures some { (x y : _) → IfSome result (λ r. StepsTo (Seq' x p.now y q.now) (seq (term_of p.now) (term_of q.now)) (env_of env.now) (set_of r.signals) r.code (pauses_of next.new)) }
+    ensures none { IfNone result (HasNoRule (seq (term_of p.now) (term_of q.now)) (env_of env.now)) }
+    ensures others { (i : ℕ) → (has_pause p.now i || has_pause q.now i) ≡ false → pauses_of next.new i ≡ pauses_of next.old i }
+{
+    let first = start_step(p, env, next)?;
+    if first.code == 0 {
+        let second = start_step(q, env, next)?;
+        Some(Step {
+            signals: signal_set::union_of(first.signals, second.signals),
+            code: second.code,
+        })
+    } else {
+        Some(first)
+    }
+}
+
+/// The step of `p || q` that is begun, if the rules give one.
+#[cycle(begin)]
+fn start_par(p: &Statement, q: &Statement, env: &Env, next: &mut PauseSet) -> Option<Step>
+    requires numbered { IsNumbered p.now × IsNumbered q.now × AreApart p.now q.now }
+    requires clear { (is_live p.now (pauses_of next.old) || is_live q.now (pauses_of next.old)) ≡ false }
+    ensures some { (x y : _) → IfSome result (λ r. StepsTo (Par' x p.now y q.now) (par (term_of p.now) (term_of q.now)) (env_of env.now) (set_of r.signals) r.code (pauses_of next.new)) }
+    ensures none { IfNone result (HasNoRule (par (term_of p.now) (term_of q.now)) (env_of env.now)) }
+    ensures others { (i : ℕ) → (has_pause p.now i || has_pause q.now i) ≡ false → pauses_of next.new i ≡ pauses_of next.old i }
+{
+    let left = start_step(p, env, next)?;
+    let right = start_step(q, env, next)?;
+    Some(both(p, q, left, right, next))
+}
+
+/// The step of `trap p end` that is begun, if the rules give one.
+#[cycle(begin)]
+fn start_trap(p: &Statement, env: &Env, next: &mut PauseSet) -> Option<Step>
+    requires numbered { IsNumbered p.now }
+    requires clear { is_live p.now (pauses_of next.old) ≡ false }
+    ensures some { (x : _) → IfSome result (λ r. StepsTo (Trap' x p.now) (trap (term_of p.now)) (env_of env.now) (set_of r.signals) r.code (pauses_of next.new)) }
+    ensures none { IfNone result (HasNoRule (trap (term_of p.now)) (env_of env.now)) }
+    ensures others { (i : ℕ) → has_pause p.now i ≡ false → pauses_of next.new i ≡ pauses_of next.old i }
+{
+    let first = start_step(p, env, next)?;
+    Some(Step {
+        signals: first.signals,
+        code: out_of_trap(first.code),
+    })
+}
+
+/// The step of `signal s in p end` that is begun, if the rules give one.
+#[cycle(begin)]
+fn start_local(s: LocalSignal, p: &Statement, env: &Env, next: &mut PauseSet) -> Option<Step>
+    requires numbered { IsNumbered p.now }
+    requires clear { is_live p.now (pauses_of next.old) ≡ false }
+    ensures some { (x : _) → IfSome result (λ r. StepsTo (Local' s x p.now) (signal s.index (term_of p.now)) (env_of env.now) (set_of r.signals) r.code (pauses_of next.new)) }
+    ensures none { IfNone result (HasNoRule (signal s.index (term_of p.now)) (env_of env.now)) }
+    ensures others { (i : ℕ) → has_pause p.now i ≡ false → pauses_of next.new i ≡ pauses_of next.old i }
+{
+    let open = signal_set::set_local(env, s, false, true);
+    let first = start_sure(p, &open);
+    let present = signal_set::has_local(first.must.signals, s);
+    let possible = signal_set::has_local(first.can.signals, s);
+    if possible && !present {
+        return None;
+    }
+    let known = signal_set::set_local(env, s, present, possible);
+    let step = start_step(p, &known, next)?;
+    Some(Step {
+        signals: signal_set::all_but(s, step.signals),
+        code: step.code,
+    })
 }

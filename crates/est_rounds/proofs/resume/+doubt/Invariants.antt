@@ -1,0 +1,24 @@
+use Rattle.std.proofs.Common.{◌+◌, ◌*◌, max}
+use Rattle.est_kernel.proofs.statement.Statement.TheLaws.{the_size}
+use Rattle.est_rounds.proofs.resume.+doubt.Given as goal
+
+abbrev pub decreases-resume_maybe : goal.decreases-resume_maybe
+decreases-resume_maybe l = 2 * the_size l.s.now
+
+abbrev pub decreases-suspend_maybe : goal.decreases-suspend_maybe
+decreases-suspend_maybe l = 2 * the_size l.p.now + 1
+
+abbrev pub decreases-loop_maybe : goal.decreases-loop_maybe
+decreases-loop_maybe l = 2 * the_size l.p.now + 1
+
+abbrev pub decreases-par_maybe : goal.decreases-par_maybe
+decreases-par_maybe l = 2 * max (the_size l.p.now) (the_size l.q.now) + 1
+
+abbrev pub decreases-local_maybe : goal.decreases-local_maybe
+decreases-local_maybe l = 2 * the_size l.p.now + 1
+
+abbrev pub decreases-seq_maybe : goal.decreases-seq_maybe
+decreases-seq_maybe l = 2 * max (the_size l.p.now) (the_size l.q.now) + 1
+
+abbrev pub decreases-trap_maybe : goal.decreases-trap_maybe
+decreases-trap_maybe l = 2 * the_size l.p.now + 1
