@@ -210,6 +210,9 @@ enum Program {
     LeftAgain,
     ParallelLocal,
     EitherBranch,
+    ForItself,
+    AgainstItself,
+    CircleInText,
     OnlyItself,
     EmittedAfter,
     Ticking,
@@ -258,6 +261,20 @@ fn either_branch(a: Global) -> Result<Statement, AllocError> {
     present(a, Test::Status(O), emit(O), emit(O))
 }
 
+fn for_itself(a: Global) -> Result<Statement, AllocError> {
+    present(a, Test::Status(O), emit(O), Statement::Nothing)
+}
+
+fn against_itself(a: Global) -> Result<Statement, AllocError> {
+    present(a, Test::Status(O), Statement::Nothing, emit(O))
+}
+
+fn circle_in_text(a: Global) -> Result<Statement, AllocError> {
+    let p_by_o = present(a, Test::Status(O), emit(P), Statement::Nothing)?;
+    let o_by_p = present(a, Test::Status(P), emit(O), Statement::Nothing)?;
+    present(a, I, seq(a, emit(O), p_by_o)?, seq(a, emit(P), o_by_p)?)
+}
+
 fn only_itself(a: Global) -> Result<Statement, AllocError> {
     local(a, present(a, Test::Status(S), emit(S), Statement::Nothing)?)
 }
@@ -286,6 +303,9 @@ fn statement(a: Global, program: Program) -> Result<Statement, AllocError> {
         Program::LeftAgain => left_again(a),
         Program::ParallelLocal => parallel_local(a),
         Program::EitherBranch => either_branch(a),
+        Program::ForItself => for_itself(a),
+        Program::AgainstItself => against_itself(a),
+        Program::CircleInText => circle_in_text(a),
         Program::OnlyItself => only_itself(a),
         Program::EmittedAfter => emitted_after(a),
         Program::Ticking => ticking(a),
@@ -317,7 +337,7 @@ struct Example {
     shown: Result<[Shown; 4], LoadFault>,
 }
 
-const EXAMPLES: [Example; 12] = [
+const EXAMPLES: [Example; 16] = [
     Example {
         text: "emit O; pause; emit P",
         program: Program::Opening,
@@ -373,6 +393,30 @@ const EXAMPLES: [Example; 12] = [
         shown: Ok([STUCK_AT_O; 4]),
     },
     Example {
+        text: "present O then emit O end",
+        program: Program::ForItself,
+        inputs: NEVER,
+        shown: Ok([STUCK_AT_O; 4]),
+    },
+    Example {
+        text: "present O else emit O end",
+        program: Program::AgainstItself,
+        inputs: NEVER,
+        shown: Ok([STUCK_AT_O; 4]),
+    },
+    Example {
+        text: "present I then [emit O; present O then emit P end] else [emit P; present P then emit O end] end",
+        program: Program::CircleInText,
+        inputs: [true, false, false, false],
+        shown: Ok([O_AND_P, NONE, NONE, NONE]),
+    },
+    Example {
+        text: "the same without I",
+        program: Program::CircleInText,
+        inputs: NEVER,
+        shown: Ok([O_AND_P, NONE, NONE, NONE]),
+    },
+    Example {
         text: "signal S in present S then emit S end end",
         program: Program::OnlyItself,
         inputs: NEVER,
@@ -408,17 +452,22 @@ fn worked_examples(rt: HostRuntime) -> Result<(), Fail> {
     Ok(())
 }
 
-/// A sequence of 1,000 parts, nested to the left and to the right, under six local signals.
-#[test]
-fn long_sequences(rt: HostRuntime) -> Result<(), Fail> {
-    let a = rt.alloc();
+/// A sequence of 1,002 pauses, nested to the left and to the right.
+fn long_sequence(a: Global) -> Result<Statement, AllocError> {
     let mut first = pause();
     let mut last = pause();
     for _ in 0..500 {
         first = seq(a, first, pause())?;
         last = seq(a, pause(), last)?;
     }
-    let mut root = seq(a, first, last)?;
+    seq(a, first, last)
+}
+
+/// Runs four instants of a long sequence under six local signals.
+#[test]
+fn long_sequences(rt: HostRuntime) -> Result<(), Fail> {
+    let a = rt.alloc();
+    let mut root = long_sequence(a)?;
     for outer in 0..6u8 {
         root = Statement::Local(LocalSignal { index: 5 - outer }, Box::new(a, root)?);
     }
