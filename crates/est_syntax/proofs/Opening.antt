@@ -1,15 +1,13 @@
 -- Units that open others, and what is read round them.
-use Rattle.std.proofs.Common.{◌≡◌, ◌∙◌, ℕ, suc, ◌+◌, ◌≤◌, ◌<◌, max, List, [], ◌∷◌, ◌++◌, Bool, true, false, if◌then◌else◌, nat_le, length, refl, sym, ap, subst, rules, arith}
+use Rattle.std.proofs.Common.{◌≡◌, ◌∙◌, ℕ, suc, ◌+◌, ◌≤◌, ◌<◌, List, [], ◌∷◌, ◌++◌, Bool, true, false, if◌then◌else◌, nat_le, refl, ap, arith}
 use Rattle.std.specs.Prelude.{Option, Some, None}
 use Rattle.est_text.specs.declared.token.Token.{Token}
-use Rattle.est_text.specs.declared.token.Token.TheVariants.{Keyword, Identifier, Symbol}
+use Rattle.est_text.specs.declared.token.Token.TheVariants.{Keyword}
 use Rattle.est_text.specs.declared.keyword.Keyword.TheVariants as keyword
-use Rattle.est_text.specs.declared.token.Symbol.TheVariants as symbol
 use Rattle.est_syntax.specs.declared.fault.Fault.{Fault}
 use Rattle.est_syntax.specs.declared.fault.Fault.TheVariants.{Syntax, TooDeep, Memory}
 use Rattle.est_syntax.specs.declared.units.Opener.{Opener}
 use Rattle.est_syntax.specs.declared.units.Opener.TheVariants as opener
-use Rattle.est_syntax.specs.declared.units.Frame.{Frame}
 use Rattle.est_syntax.specs.declared.units.Frame.TheVariants as frame
 use Rattle.est_syntax.specs.declared.units.Head.{Head}
 use Rattle.est_syntax.specs.declared.units.Head.TheVariants as head
@@ -18,7 +16,7 @@ use Rattle.est_syntax.specs.Grammar as g
 use Rattle.est_syntax.specs.Views.{units_of, sequences_of}
 use Rattle.est_syntax.specs.Machine as m
 use Rattle.est_syntax.specs.Machine.{Want, run, Skips, open_count, opens, deep, go_on}
-use Rattle.est_syntax.specs.Frames.{frame_token, frame_wants, opener_token, opener_wants, head_wants, body_end}
+use Rattle.est_syntax.specs.Frames.{opener_token, opener_wants, head_wants, body_end}
 use Rattle.est_syntax.specs.Parsing.{Fails, EndsSo, FailsBefore, Round, FailsIn}
 use Rattle.est_syntax.specs.declared.parse.TheConstants.{MOST_OPEN_UNITS}
 use Rattle.est_syntax.proofs.Runs.{open_part}

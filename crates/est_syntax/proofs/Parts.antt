@@ -1,7 +1,6 @@
 -- A part of a tree from the parts that it has: what the functions of the parser answer.
-use Rattle.std.proofs.Common.{◌≡◌, ◌∙◌, ℕ, suc, ◌+◌, ◌≤◌, max, List, [], ◌∷◌, ◌++◌, Bool, true, false, length, map, refl, sym, ap, subst, rules, arith}
+use Rattle.std.proofs.Common.{◌≡◌, ◌∙◌, ℕ, suc, ◌+◌, ◌≤◌, List, [], ◌∷◌, ◌++◌, Bool, true, false, length, refl, sym, ap, subst, rules, arith}
 use Rattle.std.specs.Prelude.{Option, Some, None}
-use Rattle.std.proofs.lemmas.List.{map-append}
 use Rattle.est_text.specs.declared.token.Token.{Token}
 use Rattle.est_text.specs.declared.token.Token.TheVariants.{Keyword, Identifier, Symbol}
 use Rattle.est_text.specs.declared.keyword.Keyword.TheVariants as keyword
@@ -22,13 +21,13 @@ use Rattle.est_syntax.specs.Grammar as g
 use Rattle.est_syntax.specs.Views.{unit_view, branches_view, statement_view, units_of, sequences_of}
 use Rattle.est_syntax.specs.Machine as m
 use Rattle.est_syntax.specs.Machine.{Want, run, Skips, open_count, wrong, deep, refused, followed, go_on, unit_start}
-use Rattle.est_syntax.specs.Frames.{frame_token, frame_wants, opener_token, opener_wants, head_wants, head_onto, body_end, IsHead, IsTail, IsOpened, IsPlain, IsOpener, NotPlain}
+use Rattle.est_syntax.specs.Frames.{frame_wants, opener_token, opener_wants, head_wants, head_onto, body_end, IsHead, IsTail, IsOpened, IsPlain}
 use Rattle.est_syntax.specs.Parsing.{Fails, FailsBefore, Round, FailsIn, Reads, IsPart, IsUnitStart}
 use Rattle.est_syntax.specs.declared.parse.TheConstants.{MOST_OPEN_UNITS}
 use Rattle.est_syntax.proofs.Runs.{sequence_is, statement_is, sequence_over, statement_over, leave_over}
 use Rattle.est_syntax.proofs.Reading.{units_push, sequences_push}
 use Rattle.est_syntax.proofs.Folding.{present_is}
-use Rattle.est_syntax.proofs.Opening.{in_leaf, in_before, in_in, round_tail, round_side, round_any, round_then, round_end, round_body, round_branches, opener_opens, opener_deep, units_deeper, sequences_deeper, branches_are, after_then_is}
+use Rattle.est_syntax.proofs.Opening.{in_leaf, in_before, in_in, round_tail, round_side, round_then, round_end, round_body, round_branches, opener_opens, opener_deep, units_deeper, sequences_deeper, branches_are, after_then_is}
 
 -- ---- a unit
 

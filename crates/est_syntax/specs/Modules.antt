@@ -1,5 +1,5 @@
 -- What was read of modules; for private clauses.
-use Rattle.std.specs.Prelude.{◌≡◌, ℕ, ◌≤◌, length, List, [], ◌∷◌}
+use Rattle.std.specs.Prelude.{◌≡◌, ◌≤◌, length, List, [], ◌∷◌}
 use Rattle.est_text.specs.declared.token.Token.{Token}
 use Rattle.est_text.specs.declared.token.Token.TheVariants.{Keyword}
 use Rattle.est_text.specs.declared.keyword.Keyword.TheVariants as keyword

@@ -32,7 +32,9 @@ pub enum ParseFault {
     Memory,
 }
 
-/// The tree that the tokens of a text are spelt from, or the first place where they stop being the beginning of one.
+/// The tree that the tokens of a text are spelt from, or the first place where they stop being the beginning of one: by the
+/// grammar of Berry's Esterel v5 Language Primer, without values, where some closing keywords may be left out. What comes
+/// first in the text counts, be it of syntax or of nesting. Memory is taken for the tree alone.
 pub fn parse(alloc: Global, tokens: &Tokens) -> Result<Library, ParseFault>
     ensures spelt { IfOk result (λ l. tokens_of tokens.now.located ≡ spelling (library_view l)) }
     ensures depth { IfOk result (λ l. library_depth (library_view l) ≤ MOST_OPEN_UNITS) }

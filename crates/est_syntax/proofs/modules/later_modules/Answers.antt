@@ -1,4 +1,4 @@
-use Rattle.std.proofs.Common.{◌≡◌, ◌∙◌, ◌∷◌, [], List, map, ap, sym, subst, length, refl, arith}
+use Rattle.std.proofs.Common.{◌∙◌, ◌∷◌, [], List, map, ap, sym, subst, length, refl, arith}
 use Rattle.std.proofs.lemmas.Result.{err_from_is_err_and}
 use Rattle.std.proofs.lemmas.List.{map-append}
 use Rattle.est_text.specs.declared.token.Token.{Token}

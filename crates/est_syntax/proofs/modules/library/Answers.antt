@@ -1,4 +1,4 @@
-use Rattle.std.proofs.Common.{◌≡◌, ◌∙◌, ◌∷◌, [], List, map, ap, refl}
+use Rattle.std.proofs.Common.{◌∷◌, [], map}
 use Rattle.std.proofs.lemmas.Result.{err_from_is_err_and}
 use Rattle.est_text.specs.declared.token.Token.TheVariants.{Keyword}
 use Rattle.est_text.specs.declared.keyword.Keyword.TheVariants as keyword

@@ -1,4 +1,4 @@
-use Rattle.std.proofs.Common.{◌≡◌, ◌∙◌, ◌∷◌, [], List, true, map, ap, refl}
+use Rattle.std.proofs.Common.{◌∙◌, ◌∷◌, [], true, map, ap}
 use Rattle.std.specs.Prelude.{Some}
 use Rattle.std.proofs.lemmas.Result.{err_from_is_err_and}
 use Rattle.est_text.specs.declared.token.Token.TheVariants.{Keyword}

@@ -1,4 +1,4 @@
-use Rattle.std.proofs.Common.{◌≡◌, ◌∙◌, ◌-◌, List, length, sym, ap, subst}
+use Rattle.std.proofs.Common.{◌∙◌, ◌-◌, List, length, sym, ap, subst}
 use Rattle.est_text.specs.declared.token.Token.{Token}
 use Rattle.est_text.specs.declared.token.Located.{Located}
 use Rattle.est_syntax.specs.declared.fault.Fault.{Fault}

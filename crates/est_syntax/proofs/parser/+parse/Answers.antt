@@ -1,4 +1,4 @@
-use Rattle.std.proofs.Common.{◌≡◌, ◌∙◌, ◌∷◌, ◌++◌, ◌-◌, [], ℕ, List, length, suc, ap, sym, subst, map, refl, rules, arith}
+use Rattle.std.proofs.Common.{◌≡◌, ◌∙◌, ◌∷◌, ◌-◌, [], List, length, suc, ap, sym, subst, map, refl, rules, arith}
 use Rattle.std.specs.Prelude.{Option, Some, None}
 use Rattle.std.proofs.lemmas.Result.{err_from_is_err_and, IfOk-weaker, IfErr-weaker}
 use Rattle.std.proofs.lemmas.List.{map-append}
@@ -8,15 +8,14 @@ use Rattle.est_syntax.specs.declared.tree.Branches.TheViews.{roll-Sequence, roll
 use Rattle.est_syntax.specs.declared.tree.Branches.TheFolds.{the_lemmas}
 use Rattle.est_syntax.specs.declared.tree.Unit.{Unit as UnitValue}
 use Rattle.est_syntax.specs.declared.tree.Sequence.{Sequence as SequenceValue}
-use Rattle.est_syntax.specs.declared.units.Opener.{Opener}
 use Rattle.est_syntax.specs.declared.units.Opener.TheVariants as opener
 use Rattle.est_syntax.specs.Tree.{UnitTree, SequenceTree, StatementTree}
 use Rattle.est_syntax.specs.Tree.{sequence as sequence_tree, statement as statement_tree}
 use Rattle.est_syntax.specs.Grammar.{unit_onto, unit_depth, sequence_onto, sequence_depth, statement_onto, statement_depth}
 use Rattle.est_syntax.specs.Views.{unit_view, sequence_view, statement_view, units_of, sequences_of}
-use Rattle.est_syntax.specs.Machine.{Want, run, wrong, name, branches, leave, unit, sequence, sequence_tail, statement, statement_tail}
-use Rattle.est_syntax.specs.Frames.{IsPlain, IsOpened, IsTail, IsOpener, opener_token, opener_wants, frame_wants, head_wants, body_end}
-use Rattle.est_syntax.specs.Parsing.{Round, IsPart, FailsIn, FailsBefore}
+use Rattle.est_syntax.specs.Machine.{run, wrong, name, branches, leave, unit, sequence, sequence_tail, statement, statement_tail}
+use Rattle.est_syntax.specs.Frames.{IsPlain, IsOpened, IsTail, opener_token, opener_wants, frame_wants, head_wants}
+use Rattle.est_syntax.specs.Parsing.{IsPart, FailsIn, FailsBefore}
 use Rattle.est_syntax.specs.declared.parse.TheConstants.{MOST_OPEN_UNITS}
 use Rattle.est_syntax.proofs.Runs.{sequence_is, statement_is}
 use Rattle.est_syntax.proofs.Opening.{in_leaf, in_in, round_tail, round_side, round_any, round_branches}
