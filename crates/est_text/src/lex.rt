@@ -1,5 +1,8 @@
 //! From a text to its tokens.
-ghost use Rattle.std.specs.Prelude.{◌≡◌, ◌++◌, IfOk, IfErr, OnOk, ◌<◌, ◌+◌, ◌^◌};
+ghost use Rattle.std.specs.Prelude.{◌≡◌, ◌++◌, IfOk, IfErr, OnOk, ◌<◌, ◌+◌, ◌^◌, List};
+ghost use Rattle.std.specs.Result.{MatchResult};
+ghost use Rattle.est_text.specs.declared.token.Located.{Located as LocatedValue};
+ghost use Rattle.est_text.specs.declared.lex.LexFault.TheVariants.{Memory};
 ghost use Rattle.est_text.specs.Pieces.{AreTokens, located};
 ghost use Rattle.est_text.specs.Lexing.{IsLexFault};
 
@@ -14,7 +17,7 @@ use std::alloc::{AllocError, Global};
 pub enum LexFault {
     /// The first place where no blank, no comment and no token can stand.
     Lexical(Place),
-    /// Memory was refused.
+    /// Memory was refused; or the text has so many bytes that its end has no number, for which there is no memory.
     Memory,
 }
 
@@ -53,6 +56,7 @@ fn add(
 pub fn lex(alloc: Global, text: &str) -> Result<Tokens<'_>, LexFault>
     ensures source { IfOk result (λ tokens. tokens.source ≡ text.now) }
     ensures tokens { IfOk result (λ tokens. AreTokens text.now tokens.located) }
+    ensures takes { (all : List LocatedValue) → AreTokens text.now all → MatchResult result (λ tokens. tokens.located ≡ all) (λ fault. fault ≡ Memory) }
     ensures fault { IfErr result (λ fault. IsLexFault text.now fault) }
 {
     // The end of a text of so many bytes would have no number. There is no memory for one.

@@ -2,8 +2,8 @@
 //!
 //! `lex` cuts a text into blanks, comments and tokens, and answers the tokens, each with the place where it lies, or
 //! the first place where none of these can stand. The definitions in `specs/` say what a blank, a comment and a token
-//! are, that each goes as far as it can, and that they are the whole text; a public law says that a text can be cut in
-//! one way only. Lines and columns count from 1, and columns count bytes.
+//! are, that words and comments go as far as they can, and that the pieces are the whole text; a public law says that
+//! a text can be cut in one way only. Lines and columns count from 1, and columns count bytes.
 #![tactic(auto)]
 
 pub mod identifier;

@@ -1,6 +1,8 @@
-use Rattle.std.proofs.Common.{◌≡◌, ◌∙◌, ℕ, List, length, take, ◌++◌, ◌∷◌, [], sym, ap, subst, arith}
+use Rattle.std.proofs.Common.{◌≡◌, ◌∙◌, ℕ, List, length, take, ◌++◌, ◌∷◌, [], sym, ap, subst, arith, rules}
 use Rattle.std.proofs.lemmas.List.{length-drop, length-take}
-use Rattle.est_text.specs.Pieces.{Cut, ArePieces, located, tokens_from}
+use Rattle.est_text.specs.Pieces.{Cut, ArePieces, AreTokens, located, tokens_from}
+use Rattle.est_text.specs.Lexing.{IsFirstFault}
+use Rattle.est_text.proofs.OneCut.{tokens_are_one, tokens_or_fault}
 use Rattle.est_text.specs.declared.token.Located.{Located}
 use Rattle.est_text.proofs.Runs.{ArePieces-more, tokens-more}
 use Rattle.est_text.proofs.lex.lex.Goals as goal
@@ -24,3 +26,13 @@ loop-rest-preserved c =
             ∙ ap (λ (n : ℕ). tokens_from 0 far.0 ++ located c.in-Some.piece c.loop-rest.start n) long),
       );
     }
+
+pub returns-in_default-clause-takes : goal.returns-in_default-clause-takes
+returns-in_default-clause-takes c = λ all h.
+    let fault : IsFirstFault c.args.text.now c.loop-rest.start = search rules in
+    absurd (tokens_or_fault c.args.text.now all c.loop-rest.start h fault)
+
+pub returns-clause-takes : goal.returns-clause-takes
+returns-clause-takes c = λ all h.
+    let own : AreTokens c.args.text.now c.new.result.located = search rules in
+    tokens_are_one c.args.text.now c.new.result.located all own h
