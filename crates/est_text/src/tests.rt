@@ -62,8 +62,87 @@ const SYMBOLS: [Symbol; 11] = [
 /// An identifier of 48 bytes, the longest.
 const LONGEST: &str = "Aa0_Aa0_Aa0_Aa0_Aa0_Aa0_Aa0_Aa0_Aa0_Aa0_Aa0_Aa0_";
 
-/// One byte more.
-const TOO_LONG: &str = "% x\n  Aa0_Aa0_Aa0_Aa0_Aa0_Aa0_Aa0_Aa0_Aa0_Aa0_Aa0_Aa0_A";
+/// Two of them.
+const LONGEST_TWICE: &str = "Aa0_Aa0_Aa0_Aa0_Aa0_Aa0_Aa0_Aa0_Aa0_Aa0_Aa0_Aa0_ \
+    inputoutputinputoutputinputoutputinputoutputend0";
+
+/// One byte more, and a fault behind.
+const TOO_LONG: &str = "% x\n  Aa0_Aa0_Aa0_Aa0_Aa0_Aa0_Aa0_Aa0_Aa0_Aa0_Aa0_Aa0_A ?";
+
+/// Texts, how many tokens they have, and line and column just after them.
+const COUNTED: [(&str, usize, u64, u64); 24] = [
+    ("", 0, 1, 1),
+    (" \t\u{c}", 0, 1, 4),
+    ("a\r\nb\n", 2, 3, 1),
+    ("a\rb", 2, 1, 4),
+    // Comments to the end of the line.
+    ("%", 0, 1, 2),
+    ("% a }% %{ b", 0, 1, 12),
+    ("%% %{\r\n%}%\n", 0, 3, 1),
+    ("pause% \u{e9}\u{0}", 1, 1, 11),
+    ("a % \u{0}\u{e9}\r\n b", 2, 2, 3),
+    ("a%b\rc\nd", 2, 2, 2),
+    // Comments with two ends.
+    ("%{ a\n%{ }% b", 1, 2, 8),
+    ("a%{ \u{e9}\u{0}%{}%", 1, 1, 12),
+    ("%{}%%{%}}%", 0, 1, 11),
+    ("%{%}%", 0, 1, 6),
+    ("%{\r\n\r\n}%", 0, 3, 3),
+    ("mod%{ }%ule", 2, 1, 12),
+    // Words and symbols.
+    ("a:b;c,d/[e]", 11, 1, 12),
+    ("||||=>=>", 4, 1, 9),
+    ("inputoutput input output", 3, 1, 25),
+    ("endmodule end_module end1 eNd", 4, 1, 30),
+    ("A_0 a__ Z9", 3, 1, 11),
+    (LONGEST, 1, 1, 49),
+    (LONGEST_TWICE, 2, 1, 98),
+    ("a#b#c", 5, 1, 6),
+];
+
+/// Texts, and line and column of their first fault.
+const FAULTS: [(&str, u64, u64); 32] = [
+    ("module M: await 3 S end module", 1, 17),
+    ("module M: pause. end module", 1, 16),
+    ("module M: %{ x", 1, 11),
+    // NUL and bytes over 127.
+    ("\u{0}", 1, 1),
+    ("module M:\r\n pause; \u{0} end module", 2, 9),
+    ("module M: pause; \u{e9} end module", 1, 18),
+    ("pause\u{e9}", 1, 6),
+    ("% \u{e9}\n%{ \u{e9} }% \u{e9} \u{e9}", 2, 10),
+    ("% \u{0}\n%{ \u{0} }%\u{0}", 2, 8),
+    ("a\u{a0}b", 1, 2),
+    ("\u{feff}module", 1, 1),
+    ("\u{7f}", 1, 1),
+    ("\u{b}", 1, 1),
+    // Comments that are not closed.
+    ("%{", 1, 1),
+    ("%{}", 1, 1),
+    ("%{%", 1, 1),
+    ("%{ }\n%", 1, 1),
+    ("emit %{ x", 1, 6),
+    ("a\n %{ }% %{ %", 2, 8),
+    ("%{ % }\n%{ }", 1, 1),
+    // Comments that end before one thinks.
+    ("%{ %{ }% }%", 1, 10),
+    ("%{ }%}%", 1, 6),
+    ("% a\n}", 2, 1),
+    // Symbols of two bytes.
+    ("emit | _x", 1, 6),
+    ("|||", 1, 3),
+    ("| |", 1, 1),
+    ("a = > b", 1, 3),
+    ("a =", 1, 3),
+    ("a >= b", 1, 3),
+    // Words.
+    ("a _b", 1, 3),
+    ("a 1b", 1, 3),
+    (TOO_LONG, 2, 3),
+];
+
+/// The printable characters with which no token, blank or comment begins.
+const OTHERS: &str = "! \" $ & \' * + - . 0 1 2 3 4 5 6 7 8 9 < = > ? @ \\ ^ _ ` { | } ~";
 
 fn fault_of(alloc: Global, text: &str) -> Option<LexFault> {
     lex(alloc, text).err()
@@ -99,62 +178,9 @@ fn each_symbol_is_read(rt: HostRuntime) -> Result<(), Fail> {
 
 #[test]
 fn tokens_are_counted_and_placed(rt: HostRuntime) -> Result<(), Fail> {
-    let rows = [
-        ("", 0, Place { line: 1, column: 1 }),
-        (" \t\u{c}", 0, Place { line: 1, column: 4 }),
-        ("a\r\nb\n", 2, Place { line: 3, column: 1 }),
-        (
-            "% a }% %{ b",
-            0,
-            Place {
-                line: 1,
-                column: 12,
-            },
-        ),
-        (
-            "pause% \u{e9}\u{0}",
-            1,
-            Place {
-                line: 1,
-                column: 11,
-            },
-        ),
-        ("%{ a\n%{ }% b", 1, Place { line: 2, column: 8 }),
-        (
-            "a%{ \u{e9}\u{0}%{}%",
-            1,
-            Place {
-                line: 1,
-                column: 12,
-            },
-        ),
-        (
-            "%{}%%{%}}%",
-            0,
-            Place {
-                line: 1,
-                column: 11,
-            },
-        ),
-        (
-            "a:b;c,d/[e]",
-            11,
-            Place {
-                line: 1,
-                column: 12,
-            },
-        ),
-        (
-            LONGEST,
-            1,
-            Place {
-                line: 1,
-                column: 49,
-            },
-        ),
-    ];
-    for (text, count, end) in rows {
+    for (text, count, line, column) in COUNTED {
         let tokens = lex(rt.alloc(), text)?;
+        let end = Place { line, column };
         assert_eq!(rt; tokens.as_slice().len(), count, "{text}");
         assert_eq!(rt; tokens.end(), end, "{text}");
         assert_eq!(rt; tokens.place(count), end, "{text}");
@@ -179,24 +205,17 @@ fn texts_are_slices(rt: HostRuntime) -> Result<(), Fail> {
 }
 
 #[test]
-fn first_faults_are_placed(rt: HostRuntime) {
-    let rows = [
-        ("module M: await 3 S end module", 1, 17),
-        ("module M: pause. end module", 1, 16),
-        ("module M:\r\n pause; \u{0} end module", 2, 9),
-        ("module M: pause; \u{e9} end module", 1, 18),
-        ("% \u{e9}\n%{ \u{e9} }% \u{e9} \u{e9}", 2, 10),
-        ("emit %{ x", 1, 6),
-        ("%{ %{ }% }%", 1, 10),
-        ("%{}", 1, 1),
-        ("emit | _x", 1, 6),
-        ("a = > b", 1, 3),
-        ("\u{b}", 1, 1),
-        ("\u{feff}module", 1, 1),
-        (TOO_LONG, 2, 3),
-    ];
-    for (text, line, column) in rows {
+fn first_faults_are_placed(rt: HostRuntime) -> Result<(), Fail> {
+    for (text, line, column) in FAULTS {
         let fault = Some(LexFault::Lexical(Place { line, column }));
         assert_eq!(rt; fault_of(rt.alloc(), text), fault, "{text}");
     }
+    for other in OTHERS.split(' ') {
+        let fault = Some(LexFault::Lexical(Place { line: 2, column: 3 }));
+        let mut text = String::new(rt.alloc());
+        text.push_str("a;\nb;")?;
+        text.push_str(other)?;
+        assert_eq!(rt; fault_of(rt.alloc(), text.as_str()), fault, "{text}");
+    }
+    Ok(())
 }
