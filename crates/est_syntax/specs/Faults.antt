@@ -1,10 +1,10 @@
--- Where tokens stop being the beginning of a library.
+-- Where tokens stop being the beginning of a library (this project's own form).
 use Rattle.std.specs.Prelude.{◌≡◌, ℕ, ◌≤◌, length, List, [], ◌∷◌, ◌++◌}
 use Rattle.est_text.specs.declared.token.Token.{Token}
 use Rattle.est_syntax.specs.Tree.{LibraryTree}
 use Rattle.est_syntax.specs.Grammar.{spelling, library_depth}
 
--- some library is spelt so, with more tokens behind
+-- these tokens, with some more or none behind, spell a library
 abbrev pub Begins : List Token → Type 0
 Begins seen = (l : LibraryTree) × (rest : List Token) × (seen ++ rest ≡ spelling l)
 

@@ -55,9 +55,11 @@ IsOpener t None = NotPlain (unit_start t) → unit_start t ≡ refused
 abbrev pub watched_wants : Want → List Want
 watched_wants w = one (Keyword keyword.When) ∷ may (Keyword keyword.Immediate) ∷ name ∷ w ∷ leave ∷ []
 
+-- `end`, and the keyword that may stand again
 abbrev pub again_wants : Token → List Want
 again_wants t = one kw_end ∷ may t ∷ leave ∷ []
 
+-- the same behind the body of each frame
 abbrev pub head_wants : Head → List Want
 head_wants head.Suspend = watched_wants (may_end (Keyword keyword.Suspend))
 head_wants head.Abort = watched_wants (may_end (Keyword keyword.Abort))
@@ -79,6 +81,7 @@ frame_wants frame.Trap = name ∷ one (Keyword keyword.In) ∷ statement ∷ aga
 frame_wants frame.Signal = name ∷ later_names ∷ one (Keyword keyword.In) ∷ statement ∷ again_wants (Keyword keyword.Signal)
 frame_wants frame.Group = statement ∷ one (Symbol symbol.CloseBracket) ∷ leave ∷ []
 
+-- the same of any unit with a body
 abbrev pub opener_wants : Opener → List Want
 opener_wants opener.Test = name ∷ branches ∷ leave ∷ []
 opener_wants (opener.Frame f) = frame_wants f

@@ -93,6 +93,7 @@ abbrev mutual
   pub sequence_onto : SequenceTree → List Token → List Token
   sequence_onto (sequence u us c) rest = unit_onto u (units_onto us (token_if c (Symbol symbol.Semicolon) rest))
 
+  -- (`;` unit)*
   pub units_onto : UnitsTree → List Token → List Token
   units_onto no_units rest = rest
   units_onto (units u us) rest = Symbol symbol.Semicolon ∷ unit_onto u (units_onto us rest)
@@ -101,6 +102,7 @@ abbrev mutual
   pub statement_onto : StatementTree → List Token → List Token
   statement_onto (statement q qs) rest = sequence_onto q (sequences_onto qs rest)
 
+  -- (`||` sequence)*
   pub sequences_onto : SequencesTree → List Token → List Token
   sequences_onto no_sequences rest = rest
   sequences_onto (sequences q qs) rest = Symbol symbol.Parallel ∷ sequence_onto q (sequences_onto qs rest)
@@ -149,7 +151,7 @@ spelling l = module_onto l.first (modules_onto l.later [])
 -- ---- how deep units are open in one another
 
 abbrev mutual
-  -- the most units that are open at once in a unit, itself counted if it has an end of its own
+  -- the most units that are open at once in a unit, itself counted if it holds a statement
   pub unit_depth : UnitTree → ℕ
   unit_depth (present n b) = suc (branches_depth b)
   unit_depth (suspend t d c) = suc (statement_depth t)
@@ -163,25 +165,31 @@ abbrev mutual
   unit_depth (group t) = suc (statement_depth t)
   unit_depth _ = 0
 
+  -- the same of the branches of a test
   pub branches_depth : BranchesTree → ℕ
   branches_depth (then_only t c) = statement_depth t
   branches_depth (else_only t c) = statement_depth t
   branches_depth (both t e c) = max (statement_depth t) (statement_depth e)
 
+  -- the same of units one after another
   pub sequence_depth : SequenceTree → ℕ
   sequence_depth (sequence u us c) = max (unit_depth u) (units_depth us)
 
+  -- the same of further units
   pub units_depth : UnitsTree → ℕ
   units_depth no_units = 0
   units_depth (units u us) = max (unit_depth u) (units_depth us)
 
+  -- the same of sequences side by side
   pub statement_depth : StatementTree → ℕ
   statement_depth (statement q qs) = max (sequence_depth q) (sequences_depth qs)
 
+  -- the same of further sequences
   pub sequences_depth : SequencesTree → ℕ
   sequences_depth no_sequences = 0
   sequences_depth (sequences q qs) = max (sequence_depth q) (sequences_depth qs)
 
+-- the same of the bodies of modules
 abbrev pub modules_depth : List ModuleTree → ℕ
 modules_depth [] = 0
 modules_depth (m ∷ ms) = max (statement_depth m.body) (modules_depth ms)

@@ -56,6 +56,7 @@ pub data Step : Type 0 where
   to : List Want → Step
   opens : List Want → Step
 
+-- the keyword `end`
 abbrev pub kw_end : Token
 kw_end = Keyword keyword.End
 
@@ -92,10 +93,12 @@ unit_or refused s other = other
 unit_or (to ws) s other = to (ws ++ sequence_tail ∷ s)
 unit_or (opens ws) s other = opens (ws ++ sequence_tail ∷ s)
 
+-- a module, from behind its first word, and then more modules
 abbrev pub module_wants : List Want → List Want
 module_wants s = name ∷ one (Symbol symbol.Colon) ∷ declarations ∷ statement ∷ one kw_end ∷ one (Keyword keyword.Module) ∷ modules ∷ s
 
 abbrev mutual
+  -- what a token leads to where so much is wanted
   pub step : List Want → Token → Step
   step [] b = refused
   step (one t ∷ s) b = if same t b then to s else refused
@@ -198,11 +201,13 @@ pub data Outcome : Type 0 where
   wrong : List Token → Outcome
   deep : List Token → Outcome
 
+-- goes on with what the token led to, if not too many units are open then
 abbrev pub go_on : ℕ → Step → List Token → (List Want → Outcome) → Outcome
 go_on limit refused here f = wrong here
 go_on limit (to s) here f = f s
 go_on limit (opens s) here f = if nat_le (open_count s) limit then f s else deep here
 
+-- takes the tokens one after another
 abbrev pub run : ℕ → List Want → List Token → Outcome
 run limit s [] = if is_done s then right else wrong []
 run limit s (b ∷ bs) = go_on limit (step s b) (b ∷ bs) (λ t. run limit t bs)

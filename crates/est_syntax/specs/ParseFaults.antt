@@ -1,4 +1,4 @@
--- Why tokens have no tree, by the place.
+-- Why tokens have no tree, by the place (this project's own form).
 use Rattle.std.specs.Prelude.{◌≡◌, ℕ}
 use Rattle.est_text.specs.TokenLists.{TokenList, place_of}
 use Rattle.est_syntax.specs.Grammar.{tokens_of}

@@ -57,6 +57,7 @@ pub record ReadsBefore (ends : Bool) (ws : List Want) (bs rest : List Token) : T
   pub passes : (s : List Want) → EndsSo ends s → run MOST_OPEN_UNITS (ws ++ s) bs ≡ run MOST_OPEN_UNITS s rest
   pub shorter : length rest ≤ length bs
 
+-- where the tokens stop there
 abbrev pub FailsBefore : Bool → List Want → List Token → Fault → Type 0
 FailsBefore ends ws bs (Syntax n) = (rest : List Token) × (n ≡ length rest) × ((s : List Want) → EndsSo ends s → run MOST_OPEN_UNITS (ws ++ s) bs ≡ wrong rest)
 FailsBefore ends ws bs (TooDeep n) = (rest : List Token) × (n ≡ length rest) × ((s : List Want) → EndsSo ends s → run MOST_OPEN_UNITS (ws ++ s) bs ≡ deep rest)

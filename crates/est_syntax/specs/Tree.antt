@@ -55,6 +55,7 @@ mutual
   pub data SequenceTree : Type 0 where
     sequence : UnitTree → UnitsTree → Bool → SequenceTree
 
+  -- any number of further units
   pub data UnitsTree : Type 0 where
     no_units : UnitsTree
     units : UnitTree → UnitsTree → UnitsTree
@@ -63,6 +64,7 @@ mutual
   pub data StatementTree : Type 0 where
     statement : SequenceTree → SequencesTree → StatementTree
 
+  -- any number of further sequences
   pub data SequencesTree : Type 0 where
     no_sequences : SequencesTree
     sequences : SequenceTree → SequencesTree → SequencesTree
@@ -78,6 +80,7 @@ pub data DeclarationTree : Type 0 where
   output : NamesTree → DeclarationTree
   relations : RelationTree → List RelationTree → DeclarationTree
 
+-- a module: its name, its declarations in the order of the text, and its body
 pub record ModuleTree : Type 0 where
   pub name : List ℕ
   pub declarations : List DeclarationTree
