@@ -7,3 +7,4 @@ pub mod Parts
 pub mod Libraries
 pub mod Unique
 pub mod Folding
+pub mod Drawings

@@ -7,3 +7,4 @@ pub mod Frames
 pub mod Modules
 pub mod ParseFaults
 pub mod Views
+pub mod Drawing

@@ -9,6 +9,7 @@
 mod closings;
 mod cursor;
 mod declarations;
+pub mod draw;
 mod fault;
 pub mod laws;
 mod modules;

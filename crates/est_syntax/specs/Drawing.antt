@@ -1,0 +1,29 @@
+-- How a place of a text is drawn: its line, and under it a caret (this project's own form).
+use Rattle.std.specs.Prelude.{ℕ, ◌-◌, List, [], ◌∷◌, ◌++◌, take, map, filter, Bool, ◌||◌, nat_lt, nat_le, ◌==◌, if◌then◌else◌, slice_get, unwrap_or}
+use Rattle.std.specs.List.{slice_split}
+use Rattle.est_text.specs.Bytes.{line_feed, tab, space}
+use Rattle.est_text.specs.declared.place.Place.{Place}
+
+-- the byte `^` (ASCII)
+abbrev pub caret : ℕ
+caret = 94
+
+-- the line of this number, from 1, without the LF that ends it; empty where the text has fewer lines
+abbrev pub line_of : ℕ → List ℕ → List ℕ
+line_of number text = unwrap_or (slice_get (slice_split (λ b. b == line_feed) text) (number - 1)) []
+
+-- whether a character begins with this byte of UTF-8: from 128 to 191 it goes on with one (RFC 3629)
+abbrev pub begins_character : ℕ → Bool
+begins_character b = nat_lt b 128 || nat_le 192 b
+
+-- what stands under a byte with which a character begins: a tab under a tab, else a blank
+abbrev pub under : ℕ → ℕ
+under b = if b == tab then tab else space
+
+-- what stands under a part of a line: for each character one byte
+abbrev pub margin : List ℕ → List ℕ
+margin part = map under (filter begins_character part)
+
+-- two lines: that of the place, and a caret under the place
+abbrev pub drawn : List ℕ → Place → List ℕ
+drawn text place = line_of place.line text ++ line_feed ∷ margin (take (place.column - 1) (line_of place.line text)) ++ caret ∷ line_feed ∷ []
