@@ -1,0 +1,86 @@
+//! Texts with a place of each, and how it is drawn.
+use crate::draw::draw;
+use crate::parse::{ParseFault, parse};
+use est_text::lex::{LexFault, lex};
+use est_text::place::Place;
+use std::alloc::Global;
+use std::test::Fail;
+
+/// A text, a line and a column, and what is drawn.
+const PLACES: [(&str, u64, u64, &str); 14] = [
+    // within the first line, and on a later one
+    ("emit O; emt P", 1, 9, "emit O; emt P\n        ^\n"),
+    ("emit O;\nemt P;\nend", 2, 5, "emt P;\n    ^\n"),
+    // tabs before it stay tabs
+    (
+        "loop\n\t\tpause;\tend each",
+        2,
+        10,
+        "\t\tpause;\tend each\n\t\t      \t^\n",
+    ),
+    // characters of two, three and four bytes
+    ("%{ é }% emt O", 1, 10, "%{ é }% emt O\n        ^\n"),
+    ("%{ ⊥𝄞 }%\temt O", 1, 15, "%{ ⊥𝄞 }%\temt O\n        \t^\n"),
+    // at the end of a line, of the text, and behind its last LF
+    ("emit\nO", 1, 5, "emit\n    ^\n"),
+    ("emit\nO", 2, 2, "O\n ^\n"),
+    ("emit O;\n", 2, 1, "\n^\n"),
+    ("", 1, 1, "\n^\n"),
+    // a CR is part of its line
+    ("emit O;\r\n  emt P\r\n", 2, 3, "  emt P\r\n  ^\n"),
+    ("emit O\r\n", 1, 7, "emit O\r\n      ^\n"),
+    // behind the end of the line, behind the text, and before the first line and column
+    ("emit\nO", 1, 90, "emit\n    ^\n"),
+    ("emit\nO", 3, 2, "\n^\n"),
+    ("emit\nO", 0, 0, "emit\n^\n"),
+];
+
+#[test]
+fn places_are_drawn(rt: HostRuntime) -> Result<(), Fail> {
+    for (text, line, column, drawing) in PLACES {
+        let drawn = draw(rt.alloc(), text, Place { line, column })?;
+        assert_eq!(rt; drawn.as_str(), drawing);
+    }
+    Ok(())
+}
+
+/// The place where a text is at fault, if it is.
+fn fault_of(alloc: Global, text: &str) -> Result<Option<Place>, Fail> {
+    let tokens = match lex(alloc, text) {
+        Ok(tokens) => tokens,
+        Err(LexFault::Lexical(place)) => return Ok(Some(place)),
+        Err(fault) => return Err(fault.into()),
+    };
+    match parse(alloc, &tokens) {
+        Ok(_) => Ok(None),
+        Err(ParseFault::Syntax(place) | ParseFault::TooLarge(place)) => Ok(Some(place)),
+        Err(fault) => Err(fault.into()),
+    }
+}
+
+/// Texts at fault, and how the first fault is drawn.
+const FAULTS: [(&str, &str); 4] = [
+    (
+        "module ABRO:\n  input A, B, R;\n  output O;\n  loop\n    [ await A || await B ];\n    emit O\n  each\nend module\n",
+        "end module\n^\n",
+    ),
+    (
+        "module M:\n\temit O;\t%{ à côté }% emit 1\nend module\n",
+        "\temit O;\t%{ à côté }% emit 1\n\t       \t                  ^\n",
+    ),
+    ("module M: pause\n", "\n^\n"),
+    ("module M: pause end module", ""),
+];
+
+#[test]
+fn faults_are_drawn(rt: HostRuntime) -> Result<(), Fail> {
+    for (text, drawing) in FAULTS {
+        if let Some(place) = fault_of(rt.alloc(), text)? {
+            let drawn = draw(rt.alloc(), text, place)?;
+            assert_eq!(rt; drawn.as_str(), drawing);
+        } else {
+            assert_eq!(rt; "", drawing);
+        }
+    }
+    Ok(())
+}
