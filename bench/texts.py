@@ -1,14 +1,15 @@
 #!/usr/bin/env python3
-"""Megabytes a second of the tokens of a module text, beside Python's `re` tokenizer over the same text.
+"""Megabytes a second of the tokens of a module text, and of the tokens and the tree both, beside Python's `re` tokenizer over the same text.
 
 usage: texts.py PROGRAM [SECONDS]
 
-PROGRAM is the built `crates/text_bench/out/text_bench`, which reads a text and cuts it into its tokens as often as it is told.
-The text is a library of 2,000 statements, the same one at each run of this script.
+PROGRAM is the built `crates/text_bench/out/text_bench`, which reads a text and as often as it is told cuts it into its tokens, or
+cuts it and reads the tree of the tokens. The text is a library of 2,000 statements, the same one at each run of this script.
 
 The time is processor time, user and system: of the program taken from outside, of Python's tokenizer from inside. The repetitions are
 doubled until a run takes SECONDS (1 if left out); of three such runs the fastest counts, less the fastest of three runs of one
-repetition. Both have to find the same number of tokens, and the same sum of the places where they end.
+repetition. Both tokenizers have to find the same number of tokens, and the same sum of the places where they end. The program's tree
+has to have the modules, declarations and units that the library was made of. Python's tokenizer makes no tree.
 """
 import os
 import random
@@ -30,25 +31,29 @@ KEYWORDS = frozenset(
     "each every do await abort weak trap in exit signal run and or not".split()
 )
 
+# Statements, each with the number of its units: itself, and those inside it.
 SHAPES = (
-    "  emit {0};\n",
-    "  present {0} then pause else emit {1} end present;\n",
-    "  await immediate Go; % waits for the input\n",
-    "  abort sustain {0} when Stop;\n",
-    "  trap Done in [ pause; exit Done || loop pause end loop ] end trap;\n",
-    "  %{{ two lines\n     of comment }}%\n  run Other [ signal {0} / First, {1} / Second ];\n",
+    ("  emit {0};\n", 1),
+    ("  present {0} then pause else emit {1} end present;\n", 3),
+    ("  await immediate Go; % waits for the input\n", 1),
+    ("  abort sustain {0} when Stop;\n", 2),
+    ("  trap Done in [ pause; exit Done || loop pause end loop ] end trap;\n", 6),
+    ("  %{{ two lines\n     of comment }}%\n  run Other [ signal {0} / First, {1} / Second ];\n", 1),
 )
 
 
 def library():
-    """A module of so many statements of six shapes."""
+    """A module of so many statements of six shapes, and a `halt`; and how many units it has."""
     choice = random.Random(1)
     names = [f"Out_signal_{number}" for number in range(40)]
     parts = ["module Bench:\n  input Go, Stop;\n  output ", ", ".join(names), ";\n"]
+    units = 1
     for _ in range(STATEMENTS):
-        parts.append(choice.choice(SHAPES).format(choice.choice(names), choice.choice(names)))
+        shape, inside = choice.choice(SHAPES)
+        parts.append(shape.format(choice.choice(names), choice.choice(names)))
+        units += inside
     parts.append("  halt\nend module\n")
-    return "".join(parts)
+    return "".join(parts), units
 
 
 def tokens_of(text):
@@ -68,19 +73,23 @@ def tokens_of(text):
     return tokens if at == len(text) else None
 
 
-def line_of(tokens):
+def tokens_line(tokens):
     return f"{len(tokens)} tokens, ends {sum(end for _, _, end in tokens) % 2**64}\n"
 
 
-def program_seconds(program, path, repetitions, line):
-    """The processor time of one run, whose line has to be this one."""
+def tree_line(units):
+    return f"1 modules, 2 declarations, {units} units\n"
+
+
+def program_seconds(program, path, words, wanted):
+    """The processor time of one run with these words, which has to write what is wanted."""
     with open(path, "rb") as text:
-        process = subprocess.Popen([program, str(repetitions)], stdin=text, stdout=subprocess.PIPE)
+        process = subprocess.Popen([program, *words], stdin=text, stdout=subprocess.PIPE)
         written = process.stdout.read().decode()
         _, status, usage = os.wait4(process.pid, 0)
     process.returncode = os.waitstatus_to_exitcode(status)
-    if process.returncode != 0 or written != line:
-        sys.exit(f"status {process.returncode}, {written!r} in place of {line!r}")
+    if process.returncode != 0 or written != wanted:
+        sys.exit(f"status {process.returncode}, {written!r} in place of {wanted!r}")
     return usage.ru_utime + usage.ru_stime
 
 
@@ -101,22 +110,33 @@ def seconds_a_text(run, seconds):
     return (many - one) / (repetitions - 1)
 
 
-def main():
-    program = sys.argv[1]
-    seconds = float(sys.argv[2]) if len(sys.argv) > 2 else 1.0
-    text = library()
-    line = line_of(tokens_of(text))
+def megabytes_a_second(program, text, units, seconds):
+    """The speeds of the program's tokens, of its tokens and tree both, and of Python's tokens."""
+    tokens = tokens_line(tokens_of(text))
+    both = tokens + tree_line(units)
     with tempfile.NamedTemporaryFile("w", suffix=".strl") as file:
         file.write(text)
         file.flush()
-        own = len(text) / seconds_a_text(lambda count: program_seconds(program, file.name, count, line), seconds) / 1e6
-    python = len(text) / seconds_a_text(lambda count: python_seconds(text, count), seconds) / 1e6
-    print(f"A library of {STATEMENTS} statements: {len(text)} bytes, {line}", end="")
-    print("| Tokenizer | Megabytes a second |")
+        runs = (
+            lambda count: program_seconds(program, file.name, [str(count)], tokens),
+            lambda count: program_seconds(program, file.name, [str(count), "parse"], both),
+            lambda count: python_seconds(text, count),
+        )
+        return [len(text) / seconds_a_text(run, seconds) / 1e6 for run in runs]
+
+
+def main():
+    program = sys.argv[1]
+    seconds = float(sys.argv[2]) if len(sys.argv) > 2 else 1.0
+    text, units = library()
+    lexed, parsed, python = megabytes_a_second(program, text, units, seconds)
+    print(f"A library of {STATEMENTS} statements: {len(text)} bytes, {tokens_line(tokens_of(text))}{tree_line(units)}", end="")
+    print("| What is done | Megabytes a second |")
     print("|---|---|")
-    print(f"| `est_text` `lex` | {own:.1f} |")
-    print(f"| Python's `re` | {python:.1f} |")
-    print(f"`lex` is {own / python:.0f} times as fast")
+    print(f"| `est_text` `lex` | {lexed:.1f} |")
+    print(f"| `lex` and `est_syntax` `parse` | {parsed:.1f} |")
+    print(f"| Python's `re`, tokens alone | {python:.1f} |")
+    print(f"`lex` is {lexed / python:.0f} times as fast as Python's `re`, `lex` and `parse` both {parsed / python:.0f} times")
 
 
 if __name__ == "__main__":

@@ -13,7 +13,8 @@ pub struct Count {
     pub ends: u64,
 }
 
-fn counted(tokens: &Tokens<'_>) -> Count
+/// The numbers of tokens.
+pub fn counted(tokens: &Tokens<'_>) -> Count
     ensures tokens { result.tokens ≡ length tokens.now.located }
     ensures ends { result.ends ≡ ends_of tokens.now.located }
 {
