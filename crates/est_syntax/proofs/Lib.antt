@@ -8,3 +8,4 @@ pub mod Libraries
 pub mod Unique
 pub mod Folding
 pub mod Drawings
+pub mod OneFault

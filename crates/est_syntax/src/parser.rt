@@ -1,6 +1,9 @@
 //! From tokens to the tree of a statement.
 //!
 //! The functions call one another in a circle. Each unit that holds a statement takes one from `room`, which begins at
+//! `MOST_OPEN_UNITS`, and lists are read by loops: so the recursion ends, and goes no deeper, on any text.
+//!
+//! The functions call one another in a circle. Each unit that holds a statement takes one from `room`, which begins at
 //! `MOST_OPEN_UNITS`, and lists are read by loops: so the recursion ends, and goes no deeper than that, on any text.
 ghost use Rattle.std.specs.Prelude.{◌≡◌, ◌≤◌, ◌+◌, ◌∷◌, ◌++◌, [], List, length, suc, max, None, Some, IfOk, IfErr, MatchOption, map};
 ghost use Rattle.est_text.specs.declared.token.Token.TheVariants.{Symbol as SymbolToken};
