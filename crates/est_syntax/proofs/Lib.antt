@@ -9,3 +9,4 @@ pub mod Unique
 pub mod Folding
 pub mod Drawings
 pub mod OneFault
+pub mod DrawnParts

@@ -1,7 +1,9 @@
 //! Places of a text as they are drawn for an engineer.
-ghost use Rattle.std.specs.Prelude.{◌≡◌, ◌++◌, ◌↔◌, take, IfOk, OnOk, IsTrue};
+ghost use Rattle.std.specs.Prelude.{◌≡◌, ◌++◌, ℕ, List, map, encode_utf8_all, IfOk, OnOk};
+ghost use Rattle.std.specs.List.{after_last, before_first};
 ghost use Rattle.std.specs.String.{string_bytes};
-ghost use Rattle.est_syntax.specs.Drawing.{line_of, begins_character, under, margin, drawn};
+ghost use Rattle.est_text.specs.Places.{place_after};
+ghost use Rattle.est_syntax.specs.Drawing.{ends_line, line_of, begins_character, under, margin, with_caret, drawn};
 
 use est_text::place::Place;
 use std::alloc::{AllocError, Global};
@@ -43,9 +45,11 @@ fn push_margin(drawing: &mut String, part: &[u8]) -> Result<(), AllocError>
     Ok(())
 }
 
-/// A place of a text as it is drawn: its line, and under it a caret with as many blanks before it as characters stand
-/// before the place, where a tab stays a tab. Each of the two lines ends with LF. A CR before the LF of the line is part
-/// of the line. Behind the end of its line the place is drawn there, and the line of a place behind the text is empty.
+/// A place of a text as compilers draw it: the line of the place, and under it a caret. Before the caret stands a blank
+/// for each character that begins before the place, and for a tab a tab. Each of the two lines ends with LF.
+///
+/// A CR at the end of the line belongs to the line and stays. A column behind the end of the line is drawn at its end, a
+/// line behind the last is empty, and a line or column 0 is drawn as 1.
 pub fn draw(alloc: Global, text: &str, place: Place) -> Result<String, AllocError>
     ensures { IfOk result (λ drawing. string_bytes drawing ≡ drawn text.now place) }
 {
@@ -59,3 +63,14 @@ pub fn draw(alloc: Global, text: &str, place: Place) -> Result<String, AllocErro
     drawing.push_str("^\n")?;
     Ok(drawing)
 }
+
+/// A law: at the place just after a part of a text, the line is drawn on which the part ends, up to the next LF, and the
+/// caret behind what stands under that line as far as it belongs to the part.
+pub fn place_after_a_part()
+    ensures { (before rest : List ℕ) → drawn (before ++ rest) (place_after before) ≡ with_caret (after_last ends_line before ++ before_first ends_line rest) (after_last ends_line before) }
+{}
+
+/// A law: under each character stands one byte, a tab under a tab and else a blank.
+pub fn one_under_each_character()
+    ensures { (characters : List ℕ) → margin (encode_utf8_all characters) ≡ map under characters }
+{}

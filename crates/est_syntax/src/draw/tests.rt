@@ -7,7 +7,7 @@ use std::alloc::Global;
 use std::test::Fail;
 
 /// A text, a line and a column, and what is drawn.
-const PLACES: [(&str, u64, u64, &str); 14] = [
+const PLACES: [(&str, u64, u64, &str); 15] = [
     // within the first line, and on a later one
     ("emit O; emt P", 1, 9, "emit O; emt P\n        ^\n"),
     ("emit O;\nemt P;\nend", 2, 5, "emt P;\n    ^\n"),
@@ -21,6 +21,8 @@ const PLACES: [(&str, u64, u64, &str); 14] = [
     // characters of two, three and four bytes
     ("%{ é }% emt O", 1, 10, "%{ é }% emt O\n        ^\n"),
     ("%{ ⊥𝄞 }%\temt O", 1, 15, "%{ ⊥𝄞 }%\temt O\n        \t^\n"),
+    // within a character, which begins before the place
+    ("%é", 1, 3, "%é\n  ^\n"),
     // at the end of a line, of the text, and behind its last LF
     ("emit\nO", 1, 5, "emit\n    ^\n"),
     ("emit\nO", 2, 2, "O\n ^\n"),
@@ -58,8 +60,12 @@ fn fault_of(alloc: Global, text: &str) -> Result<Option<Place>, Fail> {
     }
 }
 
-/// Texts at fault, and how the first fault is drawn.
+/// Texts at fault, and how the first fault of each is drawn.
 const FAULTS: [(&str, &str); 4] = [
+    (
+        "module ABRO:\n  input A, B, R;\n  output O;\n  loop\n    [ await A || await B ]\n    emit O\n  each R\nend module\n",
+        "    emit O\n    ^\n",
+    ),
     (
         "module ABRO:\n  input A, B, R;\n  output O;\n  loop\n    [ await A || await B ];\n    emit O\n  each\nend module\n",
         "end module\n^\n",
@@ -69,18 +75,16 @@ const FAULTS: [(&str, &str); 4] = [
         "\temit O;\t%{ à côté }% emit 1\n\t       \t                  ^\n",
     ),
     ("module M: pause\n", "\n^\n"),
-    ("module M: pause end module", ""),
 ];
 
 #[test]
 fn faults_are_drawn(rt: HostRuntime) -> Result<(), Fail> {
     for (text, drawing) in FAULTS {
-        if let Some(place) = fault_of(rt.alloc(), text)? {
-            let drawn = draw(rt.alloc(), text, place)?;
-            assert_eq!(rt; drawn.as_str(), drawing);
-        } else {
-            assert_eq!(rt; "", drawing);
-        }
+        let Some(place) = fault_of(rt.alloc(), text)? else {
+            return Err(Fail::new("no fault"));
+        };
+        let drawn = draw(rt.alloc(), text, place)?;
+        assert_eq!(rt; drawn.as_str(), drawing);
     }
     Ok(())
 }

@@ -1,4 +1,4 @@
-use Rattle.std.proofs.Common.{◌∙◌, ap, lit<, ◌-◌, unwrap_or, slice_get, [], ◌==◌, nat_eq}
+use Rattle.std.proofs.Common.{◌∙◌, ap, lit<, unwrap_or, slice_get, [], ◌==◌}
 use Rattle.std.specs.List.{slice_split}
 use Rattle.std.proofs.lemmas.Iterator.Splits.{YieldsList-from_str_split}
 use Rattle.std.proofs.lemmas.Iterator.Consumers.{nth_from_yields_List}
