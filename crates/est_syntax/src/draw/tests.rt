@@ -61,7 +61,11 @@ fn fault_of(alloc: Global, text: &str) -> Result<Option<Place>, Fail> {
 }
 
 /// Texts at fault, and how the first fault of each is drawn.
-const FAULTS: [(&str, &str); 4] = [
+const FAULTS: [(&str, &str); 5] = [
+    (
+        "module M:\n  present I end\nend module\n",
+        "  present I end\n            ^\n",
+    ),
     (
         "module ABRO:\n  input A, B, R;\n  output O;\n  loop\n    [ await A || await B ]\n    emit O\n  each R\nend module\n",
         "    emit O\n    ^\n",
