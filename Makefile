@@ -3,7 +3,7 @@
 # Its last line is 'N passed, M failed'.
 # `make faults`: want of memory in each allocation of a test in turn; no part of `make test`.
 # `make bench`: commands a second of the built program, beside Python's json over the same lines; instants a second of the engine;
-# megabytes a second of the tokens of a text, beside Python's re.
+# megabytes a second of the tokens of a text, and of tokens and tree both, beside Python's re.
 PROGRAM := crates/estserve/out/estserve
 ENGINE := crates/est_bench/out/est_bench
 TEXTS := crates/text_bench/out/text_bench
