@@ -1,0 +1,203 @@
+//! Faults of texts, by line and column.
+use super::Answer::{self, Accepted, Lexical, Syntax};
+use super::{KEYWORDS, answer_of, module_of};
+use std::test::Fail;
+
+/// What the documents show: one fault of each kind, and the forms that are easily mistaken for Esterel's.
+const WORKED: [(&str, Answer); 10] = [
+    ("module M: await 3 S end module", Lexical(1, 17)),
+    ("module M: pause. end module", Lexical(1, 16)),
+    ("module M: output await; pause end module", Syntax(1, 18)),
+    ("module M: present S end module", Syntax(1, 21)),
+    ("module M: input I; pause", Syntax(1, 25)),
+    ("module M: inputoutput B; nothing end module", Syntax(1, 11)),
+    ("module M: await [A] end module", Syntax(1, 17)),
+    ("module M: %{ x", Lexical(1, 11)),
+    ("module M: emit end module", Syntax(1, 16)),
+    ("", Syntax(1, 1)),
+];
+
+/// Texts that end too early: the fault is just after the last byte, blanks and comments counted.
+const SHORT: [(&str, Answer); 15] = [
+    (" \t\n", Syntax(2, 1)),
+    (" % nothing\n", Syntax(2, 1)),
+    ("% nothing", Syntax(1, 10)),
+    ("%{ nothing\r\n}%", Syntax(2, 3)),
+    ("module", Syntax(1, 7)),
+    ("module M", Syntax(1, 9)),
+    ("module M:", Syntax(1, 10)),
+    ("module M: input", Syntax(1, 16)),
+    ("module M: relation A", Syntax(1, 21)),
+    ("module M: pause", Syntax(1, 16)),
+    ("module M: await immediate", Syntax(1, 26)),
+    ("module M: pause end", Syntax(1, 20)),
+    ("module M: pause end \r\n", Syntax(2, 1)),
+    ("module M: pause end %{ \u{e9} }% %", Syntax(1, 31)),
+    (
+        "module M: pause end module module N: pause end",
+        Syntax(1, 47),
+    ),
+];
+
+/// Words of a module that stand where they cannot.
+const MODULES: [(&str, Answer); 19] = [
+    ("modul M: pause end module", Syntax(1, 1)),
+    ("Module M: pause end module", Syntax(1, 1)),
+    ("module module: pause end module", Syntax(1, 8)),
+    ("module M; pause end module", Syntax(1, 9)),
+    ("module M: end module", Syntax(1, 11)),
+    ("module M: pause end loop", Syntax(1, 21)),
+    ("module M:\r\n\tpause\r\n\tend\r\nend", Syntax(4, 1)),
+    ("module M: pause end module end", Syntax(1, 28)),
+    ("module M: pause end module pause", Syntax(1, 28)),
+    (
+        "module M: pause end module\nmodule M: end module",
+        Syntax(2, 11),
+    ),
+    ("module M: input; pause end module", Syntax(1, 16)),
+    ("module M: input I J; pause end module", Syntax(1, 19)),
+    ("module M: output O,; pause end module", Syntax(1, 20)),
+    ("module M: pause; input I; end module", Syntax(1, 18)),
+    ("module M: relation A; pause end module", Syntax(1, 21)),
+    (
+        "module M: relation A => B => C; pause end module",
+        Syntax(1, 27),
+    ),
+    (
+        "module M: relation A # B => C; pause end module",
+        Syntax(1, 26),
+    ),
+    (
+        "module M: relation A => B # C; pause end module",
+        Syntax(1, 27),
+    ),
+    (
+        "module M: %{ \u{e9} }% relation A #; pause end module",
+        Syntax(1, 32),
+    ),
+];
+
+/// Words of a statement that stand where they cannot.
+const STATEMENTS: [(&str, Answer); 41] = [
+    ("; end module", Syntax(1, 11)),
+    ("; pause end module", Syntax(1, 11)),
+    ("pause;; end module", Syntax(1, 17)),
+    ("pause;; pause end module", Syntax(1, 17)),
+    ("pause || ; end module", Syntax(1, 20)),
+    ("pause || end module", Syntax(1, 20)),
+    ("|| pause end module", Syntax(1, 11)),
+    ("pause pause end module", Syntax(1, 17)),
+    ("(pause) end module", Syntax(1, 11)),
+    ("pause, pause end module", Syntax(1, 16)),
+    ("A end module", Syntax(1, 11)),
+    ("emit and end module", Syntax(1, 16)),
+    ("emit A, B end module", Syntax(1, 17)),
+    ("emit immediate A end module", Syntax(1, 16)),
+    ("await A or B end module", Syntax(1, 19)),
+    ("[] end module", Syntax(1, 12)),
+    ("[pause end module", Syntax(1, 18)),
+    ("pause] end module", Syntax(1, 16)),
+    ("[suspend pause when S end] end module", Syntax(1, 36)),
+    ("[suspend pause when S end pause] end module", Syntax(1, 37)),
+    ("[abort pause when S end pause] end module", Syntax(1, 35)),
+    (
+        "[weak abort pause when S end pause] end module",
+        Syntax(1, 40),
+    ),
+    (
+        "[weak abort pause when S end weak pause] end module",
+        Syntax(1, 45),
+    ),
+    ("suspend pause end module", Syntax(1, 25)),
+    ("abort pause end module", Syntax(1, 23)),
+    ("abort pause when end module", Syntax(1, 28)),
+    ("abort pause when S end suspend end module", Syntax(1, 34)),
+    ("weak pause when S end module", Syntax(1, 16)),
+    ("weak abort pause when S end weak end module", Syntax(1, 44)),
+    ("loop end module", Syntax(1, 16)),
+    ("loop pause end every end module", Syntax(1, 26)),
+    ("loop pause each immediate S end module", Syntax(1, 27)),
+    ("every S pause end end module", Syntax(1, 19)),
+    ("present S end present end module", Syntax(1, 21)),
+    (
+        "present S then pause else pause else pause end end module",
+        Syntax(1, 43),
+    ),
+    (
+        "present S else pause then pause end end module",
+        Syntax(1, 32),
+    ),
+    ("trap T, U in pause end end module", Syntax(1, 17)),
+    ("trap T pause end end module", Syntax(1, 18)),
+    ("signal S, in pause end end module", Syntax(1, 21)),
+    ("run P [A/B] end module", Syntax(1, 18)),
+    ("run P [signal A] end module", Syntax(1, 26)),
+];
+
+/// A place where no token, blank or comment stands goes before each fault of the grammar.
+const LEXICAL: [(&str, Answer); 7] = [
+    (
+        "module Aa0_Aa0_Aa0_Aa0_Aa0_Aa0_Aa0_Aa0_Aa0_Aa0_Aa0_Aa0_A end",
+        Lexical(1, 8),
+    ),
+    ("module ; pause _ end module", Lexical(1, 16)),
+    ("end \u{0}", Lexical(1, 5)),
+    ("module M: pause end module \u{e9}", Lexical(1, 28)),
+    ("module M: pause | pause end module", Lexical(1, 17)),
+    (
+        "module M:\r\n relation A = > B; pause end module",
+        Lexical(2, 13),
+    ),
+    ("pause %{ %{ }% }%", Lexical(1, 16)),
+];
+
+#[test]
+fn first_faults_are_placed(rt: HostRuntime) -> Result<(), Fail> {
+    for (text, answer) in WORKED {
+        assert_eq!(rt; answer_of(rt.alloc(), text)?, answer, "{text}");
+    }
+    for (text, answer) in SHORT {
+        assert_eq!(rt; answer_of(rt.alloc(), text)?, answer, "{text}");
+    }
+    for (text, answer) in MODULES {
+        assert_eq!(rt; answer_of(rt.alloc(), text)?, answer, "{text}");
+    }
+    for (text, answer) in LEXICAL {
+        assert_eq!(rt; answer_of(rt.alloc(), text)?, answer, "{text}");
+    }
+    for (end, answer) in STATEMENTS {
+        let mut text = String::new(rt.alloc());
+        text.push_str("module M: ")?;
+        text.push_str(end)?;
+        assert_eq!(rt; answer_of(rt.alloc(), text.as_str())?, answer, "{end}");
+    }
+    Ok(())
+}
+
+/// `emit` of each keyword; and names that only begin like one, or differ in a letter's case.
+#[test]
+fn a_keyword_is_no_name(rt: HostRuntime) -> Result<(), Fail> {
+    for keyword in KEYWORDS.split(' ') {
+        for (letter, answer) in [("", Syntax(1, 16)), ("s", Accepted), ("_", Accepted)] {
+            let mut body = String::new(rt.alloc());
+            body.push_str("emit ")?;
+            body.push_str(keyword)?;
+            body.push_str(letter)?;
+            let text = module_of(rt.alloc(), body.as_str())?;
+            assert_eq!(rt; answer_of(rt.alloc(), text.as_str())?, answer, "{body}");
+        }
+    }
+    for name in ["tick", "End", "modul", "i", "_"] {
+        let mut body = String::new(rt.alloc());
+        body.push_str("emit ")?;
+        body.push_str(name)?;
+        let text = module_of(rt.alloc(), body.as_str())?;
+        let answer = if name == "_" {
+            Lexical(1, 16)
+        } else {
+            Accepted
+        };
+        assert_eq!(rt; answer_of(rt.alloc(), text.as_str())?, answer, "{name}");
+    }
+    Ok(())
+}
