@@ -24,6 +24,12 @@ Fails ws bs (Syntax n) = (rest : List Token) × (n ≡ length rest) × ((s : Lis
 Fails ws bs (TooDeep n) = (rest : List Token) × (n ≡ length rest) × ((s : List Want) → run MOST_OPEN_UNITS (ws ++ s) bs ≡ deep rest)
 Fails ws bs Memory = Unit {0}
 
+-- no memory was asked for
+abbrev pub NotMemory : Fault → Type 0
+NotMemory (Syntax n) = Unit {0}
+NotMemory (TooDeep n) = Unit {0}
+NotMemory Memory = ⊥
+
 -- whether what is round can go on with `end`
 abbrev pub EndsSo : Bool → List Want → Type 0
 EndsSo true s = Ends s

@@ -5,7 +5,7 @@ ghost use Rattle.est_text.specs.declared.keyword.Keyword.TheVariants.{Immediate,
 ghost use Rattle.est_syntax.specs.Grammar.{token_if, end_if, weak_end_onto, delay_onto};
 ghost use Rattle.est_syntax.specs.Views.{weak_end_view, delay_view};
 ghost use Rattle.est_syntax.specs.Machine.{kw_end, one, may, may_end, may_end_weak, name as name_want};
-ghost use Rattle.est_syntax.specs.Parsing.{Fails, Reads, FailsBefore, ReadsBefore};
+ghost use Rattle.est_syntax.specs.Parsing.{Fails, Reads, FailsBefore, ReadsBefore, NotMemory};
 
 use crate::cursor::Cursor;
 use crate::fault::Fault;
@@ -18,6 +18,7 @@ pub fn end_again(cursor: &mut Cursor, keyword: Keyword) -> Result<bool, Fault>
     ensures spelt { IfOk result (λ again. cursor.old ≡ kw_end ∷ token_if again (KeywordToken keyword) cursor.new) }
     ensures reads { IfOk result (λ _. Reads (one kw_end ∷ may (KeywordToken keyword) ∷ []) cursor.old cursor.new) }
     ensures err { IfErr result (λ e. Fails (one kw_end ∷ may (KeywordToken keyword) ∷ []) cursor.old e) }
+    ensures memory { IfErr result NotMemory }
 {
     cursor.expect_keyword(Keyword::End)?;
     Ok(cursor.take_keyword(keyword))
@@ -28,6 +29,7 @@ pub fn watched(cursor: &mut Cursor) -> Result<Delay, Fault>
     ensures spelt { IfOk result (λ d. cursor.old ≡ KeywordToken When ∷ delay_onto (delay_view d) cursor.new) }
     ensures reads { IfOk result (λ _. Reads (one (KeywordToken When) ∷ may (KeywordToken Immediate) ∷ name_want ∷ []) cursor.old cursor.new) }
     ensures err { IfErr result (λ e. Fails (one (KeywordToken When) ∷ may (KeywordToken Immediate) ∷ name_want ∷ []) cursor.old e) }
+    ensures memory { IfErr result NotMemory }
 {
     cursor.expect_keyword(Keyword::When)?;
     delay(cursor)
@@ -38,6 +40,7 @@ pub fn end_pair(cursor: &mut Cursor, keyword: Keyword, ends: bool) -> Result<boo
     ensures spelt { IfOk result (λ written. cursor.old ≡ end_if written (KeywordToken keyword) cursor.new) }
     ensures reads { IfOk result (λ _. ReadsBefore ends (may_end (KeywordToken keyword) ∷ []) cursor.old cursor.new) }
     ensures err { IfErr result (λ e. FailsBefore ends (may_end (KeywordToken keyword) ∷ []) cursor.old e) }
+    ensures memory { IfErr result NotMemory }
 {
     let mut ahead = cursor.fork();
     if !ahead.take_keyword(Keyword::End) {
@@ -59,6 +62,7 @@ pub fn weak_end(cursor: &mut Cursor, ends: bool) -> Result<WeakEnd, Fault>
     ensures spelt { IfOk result (λ w. cursor.old ≡ weak_end_onto (weak_end_view w) cursor.new) }
     ensures reads { IfOk result (λ _. ReadsBefore ends (may_end_weak ∷ []) cursor.old cursor.new) }
     ensures err { IfErr result (λ e. FailsBefore ends (may_end_weak ∷ []) cursor.old e) }
+    ensures memory { IfErr result NotMemory }
 {
     let mut ahead = cursor.fork();
     if !ahead.take_keyword(Keyword::End) {

@@ -2,7 +2,7 @@
 ghost use Rattle.std.specs.Prelude.{◌≡◌, ◌≤◌, ◌∷◌, [], List, length, IsTrue, IfOk, IfErr, OnOk, MatchOption, false, true};
 ghost use Rattle.est_text.specs.declared.token.Token.TheVariants.{Keyword as KeywordToken, Identifier as IdentifierToken, Symbol as SymbolToken};
 ghost use Rattle.est_syntax.specs.Machine.{Want, one, may, name as name_want, Skips, run};
-ghost use Rattle.est_syntax.specs.Parsing.{Fails, StandsFirst};
+ghost use Rattle.est_syntax.specs.Parsing.{Fails, StandsFirst, NotMemory};
 ghost use Rattle.est_syntax.specs.declared.parse.TheConstants.{MOST_OPEN_UNITS};
 ghost use Rattle.est_syntax.specs.Grammar.{tokens_of};
 
@@ -108,6 +108,7 @@ impl<'a> Cursor<'a> {
     pub fn expect_keyword(&mut self, keyword: Keyword) -> Result<(), Fault>
         ensures ok { OnOk result (self.old ≡ KeywordToken keyword ∷ self.new) }
         ensures err { IfErr result (λ e. Fails (one (KeywordToken keyword) ∷ []) self.old e) }
+        ensures memory { IfErr result NotMemory }
     {
         let here = self.count();
         if self.take_keyword(keyword) {
@@ -121,6 +122,7 @@ impl<'a> Cursor<'a> {
     pub fn expect_symbol(&mut self, symbol: Symbol) -> Result<(), Fault>
         ensures ok { OnOk result (self.old ≡ SymbolToken symbol ∷ self.new) }
         ensures err { IfErr result (λ e. Fails (one (SymbolToken symbol) ∷ []) self.old e) }
+        ensures memory { IfErr result NotMemory }
     {
         let here = self.count();
         if self.take_symbol(symbol) {
@@ -134,6 +136,7 @@ impl<'a> Cursor<'a> {
     pub fn expect_name(&mut self) -> Result<Identifier, Fault>
         ensures ok { IfOk result (λ name. self.old ≡ IdentifierToken name ∷ self.new) }
         ensures err { IfErr result (λ e. Fails (name_want ∷ []) self.old e) }
+        ensures memory { IfErr result NotMemory }
     {
         let here = self.count();
         let Some(first) = self.next() else {

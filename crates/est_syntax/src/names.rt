@@ -6,7 +6,7 @@ ghost use Rattle.est_text.specs.declared.token.Symbol.TheVariants.{Slash};
 ghost use Rattle.est_syntax.specs.Grammar.{later_names_onto, names_onto, delay_onto, renaming_onto, renamings_onto};
 ghost use Rattle.est_syntax.specs.Views.{delay_view, names_view, renaming_view};
 ghost use Rattle.est_syntax.specs.Machine.{one, may, name as name_want, later_names as later_names_want, renamings as renamings_want};
-ghost use Rattle.est_syntax.specs.Parsing.{Fails, Reads};
+ghost use Rattle.est_syntax.specs.Parsing.{Fails, Reads, NotMemory};
 
 use crate::cursor::Cursor;
 use crate::fault::Fault;
@@ -46,6 +46,7 @@ pub fn delay(cursor: &mut Cursor) -> Result<Delay, Fault>
     ensures spelt { IfOk result (λ d. cursor.old ≡ delay_onto (delay_view d) cursor.new) }
     ensures reads { IfOk result (λ _. Reads (may (KeywordToken Immediate) ∷ name_want ∷ []) cursor.old cursor.new) }
     ensures err { IfErr result (λ e. Fails (may (KeywordToken Immediate) ∷ name_want ∷ []) cursor.old e) }
+    ensures memory { IfErr result NotMemory }
 {
     let immediate = cursor.take_keyword(Keyword::Immediate);
     let signal = cursor.expect_name()?;
@@ -57,6 +58,7 @@ fn renaming(cursor: &mut Cursor) -> Result<Renaming, Fault>
     ensures spelt { IfOk result (λ r. cursor.old ≡ renaming_onto (renaming_view r) cursor.new) }
     ensures reads { IfOk result (λ _. Reads (name_want ∷ one (SymbolToken Slash) ∷ name_want ∷ []) cursor.old cursor.new) }
     ensures err { IfErr result (λ e. Fails (name_want ∷ one (SymbolToken Slash) ∷ name_want ∷ []) cursor.old e) }
+    ensures memory { IfErr result NotMemory }
 {
     let outer = cursor.expect_name()?;
     cursor.expect_symbol(Symbol::Slash)?;

@@ -3,7 +3,7 @@ ghost use Rattle.std.specs.Prelude.{◌≡◌, ◌≤◌, ◌+◌, ◌∷◌, �
 ghost use Rattle.est_syntax.specs.Grammar.{unit_onto, unit_depth, statement_onto, statement_depth};
 ghost use Rattle.est_syntax.specs.Views.{unit_view, statement_view};
 ghost use Rattle.est_syntax.specs.Machine.{unit as unit_want};
-ghost use Rattle.est_syntax.specs.Parsing.{Fails, Reads, ReadsBefore, FailsBefore};
+ghost use Rattle.est_syntax.specs.Parsing.{Fails, Reads, ReadsBefore, FailsBefore, NotMemory};
 ghost use Rattle.est_syntax.specs.Frames.{IsPlain, frame_token, IsOpener, frame_wants, head_onto, head_wants, body_end, IsHead, IsTail, IsTailAlways};
 
 use crate::closings::{end_again, end_pair, watched, weak_end};
@@ -152,6 +152,7 @@ impl Head {
 fn suspended(cursor: &mut Cursor, body: Statement, ends: bool) -> Result<Unit, Fault>
     ensures ok { IfOk result (λ u. IsTail ends (Head.Suspend) (statement_view body) u cursor.old cursor.new) }
     ensures err { IfErr result (λ e. FailsBefore ends (head_wants (Head.Suspend)) cursor.old e) }
+    ensures memory { IfErr result NotMemory }
 {
     let signal = watched(cursor)?;
     let written = end_pair(cursor, Keyword::Suspend, ends)?;
@@ -162,6 +163,7 @@ fn suspended(cursor: &mut Cursor, body: Statement, ends: bool) -> Result<Unit, F
 fn aborted(cursor: &mut Cursor, body: Statement, ends: bool) -> Result<Unit, Fault>
     ensures ok { IfOk result (λ u. IsTail ends (Head.Abort) (statement_view body) u cursor.old cursor.new) }
     ensures err { IfErr result (λ e. FailsBefore ends (head_wants (Head.Abort)) cursor.old e) }
+    ensures memory { IfErr result NotMemory }
 {
     let signal = watched(cursor)?;
     let written = end_pair(cursor, Keyword::Abort, ends)?;
@@ -172,6 +174,7 @@ fn aborted(cursor: &mut Cursor, body: Statement, ends: bool) -> Result<Unit, Fau
 fn weakly_aborted(cursor: &mut Cursor, body: Statement, ends: bool) -> Result<Unit, Fault>
     ensures ok { IfOk result (λ u. IsTail ends (Head.WeakAbort) (statement_view body) u cursor.old cursor.new) }
     ensures err { IfErr result (λ e. FailsBefore ends (head_wants (Head.WeakAbort)) cursor.old e) }
+    ensures memory { IfErr result NotMemory }
 {
     let signal = watched(cursor)?;
     let written = weak_end(cursor, ends)?;
@@ -182,6 +185,7 @@ fn weakly_aborted(cursor: &mut Cursor, body: Statement, ends: bool) -> Result<Un
 fn looped(cursor: &mut Cursor, body: Statement) -> Result<Unit, Fault>
     ensures ok { IfOk result (λ u. IsTailAlways (Head.Loop) (statement_view body) u cursor.old cursor.new) }
     ensures err { IfErr result (λ e. Fails (head_wants (Head.Loop)) cursor.old e) }
+    ensures memory { IfErr result NotMemory }
 {
     if cursor.take_keyword(Keyword::Each) {
         let signal = cursor.expect_name()?;
@@ -195,6 +199,7 @@ fn looped(cursor: &mut Cursor, body: Statement) -> Result<Unit, Fault>
 fn repeated(cursor: &mut Cursor, signal: Delay, body: Statement) -> Result<Unit, Fault>
     ensures ok { IfOk result (λ u. IsTailAlways (Head.Every signal) (statement_view body) u cursor.old cursor.new) }
     ensures err { IfErr result (λ e. Fails (head_wants (Head.Every signal)) cursor.old e) }
+    ensures memory { IfErr result NotMemory }
 {
     let again = end_again(cursor, Keyword::Every)?;
     Ok(Unit::Every(signal, body, again))
@@ -204,6 +209,7 @@ fn repeated(cursor: &mut Cursor, signal: Delay, body: Statement) -> Result<Unit,
 fn trapped(cursor: &mut Cursor, name: Identifier, body: Statement) -> Result<Unit, Fault>
     ensures ok { IfOk result (λ u. IsTailAlways (Head.Trap name) (statement_view body) u cursor.old cursor.new) }
     ensures err { IfErr result (λ e. Fails (head_wants (Head.Trap name)) cursor.old e) }
+    ensures memory { IfErr result NotMemory }
 {
     let again = end_again(cursor, Keyword::Trap)?;
     Ok(Unit::Trap(name, body, again))
@@ -213,6 +219,7 @@ fn trapped(cursor: &mut Cursor, name: Identifier, body: Statement) -> Result<Uni
 fn local(cursor: &mut Cursor, names: Names, body: Statement) -> Result<Unit, Fault>
     ensures ok { IfOk result (λ u. IsTailAlways (Head.Signal names) (statement_view body) u cursor.old cursor.new) }
     ensures err { IfErr result (λ e. Fails (head_wants (Head.Signal names)) cursor.old e) }
+    ensures memory { IfErr result NotMemory }
 {
     let again = end_again(cursor, Keyword::Signal)?;
     Ok(Unit::Signal(names, body, again))
@@ -222,6 +229,7 @@ fn local(cursor: &mut Cursor, names: Names, body: Statement) -> Result<Unit, Fau
 fn grouped(cursor: &mut Cursor, body: Statement) -> Result<Unit, Fault>
     ensures ok { IfOk result (λ u. IsTailAlways (Head.Group) (statement_view body) u cursor.old cursor.new) }
     ensures err { IfErr result (λ e. Fails (head_wants (Head.Group)) cursor.old e) }
+    ensures memory { IfErr result NotMemory }
 {
     cursor.expect_symbol(Symbol::CloseBracket)?;
     Ok(Unit::Group(body))
@@ -231,6 +239,7 @@ fn grouped(cursor: &mut Cursor, body: Statement) -> Result<Unit, Fault>
 pub fn tail(cursor: &mut Cursor, head: Head, body: Statement, ends: bool) -> Result<Unit, Fault>
     ensures ok { IfOk result (λ u. IsTail ends head (statement_view body) u cursor.old cursor.new) }
     ensures err { IfErr result (λ e. FailsBefore ends (head_wants head) cursor.old e) }
+    ensures memory { IfErr result NotMemory }
 {
     match head {
         Head::Suspend => suspended(cursor, body, ends),
