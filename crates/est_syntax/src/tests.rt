@@ -26,11 +26,7 @@ const KEYWORDS: &str =
 
 /// The text of a module round a body.
 fn module_of(alloc: Global, body: &str) -> Result<String, Fail> {
-    let mut text = String::new(alloc);
-    text.push_str("module M: ")?;
-    text.push_str(body)?;
-    text.push_str(" end module")?;
-    Ok(text)
+    Ok(format!(in alloc; "module M: {body} end module")?)
 }
 
 /// The library of a text.
@@ -52,4 +48,22 @@ fn answer_of(alloc: Global, text: &str) -> Result<Answer, Fail> {
         Err(ParseFault::TooLarge(place)) => Ok(Answer::TooLarge(place.line, place.column)),
         Err(ParseFault::Memory) => Err(Fail::from("no memory")),
     }
+}
+
+/// Fails where a text has another answer.
+fn expect_answer(alloc: Global, text: &str, answer: Answer) -> Result<(), Fail> {
+    let found = answer_of(alloc, text)?;
+    if found == answer {
+        return Ok(());
+    }
+    Err(Fail::from(format!(in alloc; "{found:?} in place of {answer:?}: {text}")?))
+}
+
+/// Fails where a text of a table has another answer. The same begin stands before each.
+fn expect_answers(alloc: Global, begin: &str, rows: &[(&str, Answer)]) -> Result<(), Fail> {
+    for (end, answer) in rows {
+        let text = format!(in alloc; "{begin}{end}")?;
+        expect_answer(alloc, text.as_str(), *answer)?;
+    }
+    Ok(())
 }

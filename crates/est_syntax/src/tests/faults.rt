@@ -1,6 +1,6 @@
 //! Faults of texts, by line and column.
 use super::Answer::{self, Accepted, Lexical, Syntax};
-use super::{KEYWORDS, answer_of, module_of};
+use super::{KEYWORDS, expect_answer, expect_answers};
 use std::test::Fail;
 
 /// What the documents show: one fault of each kind, and the forms that are easily mistaken for Esterel's.
@@ -78,7 +78,7 @@ const MODULES: [(&str, Answer); 19] = [
 ];
 
 /// Words of a statement that stand where they cannot.
-const STATEMENTS: [(&str, Answer); 41] = [
+const STATEMENTS: [(&str, Answer); 48] = [
     ("; end module", Syntax(1, 11)),
     ("; pause end module", Syntax(1, 11)),
     ("pause;; end module", Syntax(1, 17)),
@@ -111,7 +111,21 @@ const STATEMENTS: [(&str, Answer); 41] = [
     ("suspend pause end module", Syntax(1, 25)),
     ("abort pause end module", Syntax(1, 23)),
     ("abort pause when end module", Syntax(1, 28)),
+    // Behind an `end`, another unit's word.
+    ("present S then pause end loop end module", Syntax(1, 36)),
+    ("suspend pause when S end abort end module", Syntax(1, 36)),
     ("abort pause when S end suspend end module", Syntax(1, 34)),
+    (
+        "abort pause when S end weak abort end module",
+        Syntax(1, 34),
+    ),
+    (
+        "weak abort pause when S end suspend end module",
+        Syntax(1, 39),
+    ),
+    ("every S do pause end loop end module", Syntax(1, 32)),
+    ("trap T in pause end signal end module", Syntax(1, 31)),
+    ("signal S in pause end trap end module", Syntax(1, 33)),
     ("weak pause when S end module", Syntax(1, 16)),
     ("weak abort pause when S end weak end module", Syntax(1, 44)),
     ("loop end module", Syntax(1, 16)),
@@ -153,51 +167,21 @@ const LEXICAL: [(&str, Answer); 7] = [
 
 #[test]
 fn first_faults_are_placed(rt: HostRuntime) -> Result<(), Fail> {
-    for (text, answer) in WORKED {
-        assert_eq!(rt; answer_of(rt.alloc(), text)?, answer, "{text}");
-    }
-    for (text, answer) in SHORT {
-        assert_eq!(rt; answer_of(rt.alloc(), text)?, answer, "{text}");
-    }
-    for (text, answer) in MODULES {
-        assert_eq!(rt; answer_of(rt.alloc(), text)?, answer, "{text}");
-    }
-    for (text, answer) in LEXICAL {
-        assert_eq!(rt; answer_of(rt.alloc(), text)?, answer, "{text}");
-    }
-    for (end, answer) in STATEMENTS {
-        let mut text = String::new(rt.alloc());
-        text.push_str("module M: ")?;
-        text.push_str(end)?;
-        assert_eq!(rt; answer_of(rt.alloc(), text.as_str())?, answer, "{end}");
-    }
-    Ok(())
+    expect_answers(rt.alloc(), "", &WORKED)?;
+    expect_answers(rt.alloc(), "", &SHORT)?;
+    expect_answers(rt.alloc(), "", &MODULES)?;
+    expect_answers(rt.alloc(), "module M: ", &STATEMENTS)?;
+    expect_answers(rt.alloc(), "", &LEXICAL)
 }
 
-/// `emit` of each keyword; and names that only begin like one, or differ in a letter's case.
+/// `emit` of each keyword, and of a name that only begins like one.
 #[test]
 fn a_keyword_is_no_name(rt: HostRuntime) -> Result<(), Fail> {
     for keyword in KEYWORDS.split(' ') {
-        for (letter, answer) in [("", Syntax(1, 16)), ("s", Accepted), ("_", Accepted)] {
-            let mut body = String::new(rt.alloc());
-            body.push_str("emit ")?;
-            body.push_str(keyword)?;
-            body.push_str(letter)?;
-            let text = module_of(rt.alloc(), body.as_str())?;
-            assert_eq!(rt; answer_of(rt.alloc(), text.as_str())?, answer, "{body}");
-        }
-    }
-    for name in ["tick", "End", "modul", "i", "_"] {
-        let mut body = String::new(rt.alloc());
-        body.push_str("emit ")?;
-        body.push_str(name)?;
-        let text = module_of(rt.alloc(), body.as_str())?;
-        let answer = if name == "_" {
-            Lexical(1, 16)
-        } else {
-            Accepted
-        };
-        assert_eq!(rt; answer_of(rt.alloc(), text.as_str())?, answer, "{name}");
+        let text = format!(in rt.alloc(); "module M: emit {keyword} end module")?;
+        expect_answer(rt.alloc(), text.as_str(), Syntax(1, 16))?;
+        let text = format!(in rt.alloc(); "module M: emit {keyword}_ end module")?;
+        expect_answer(rt.alloc(), text.as_str(), Accepted)?;
     }
     Ok(())
 }

@@ -1,6 +1,6 @@
 //! Units in one another: 128 may be open at once.
 use super::Answer::{self, Accepted, Lexical, Syntax, TooLarge};
-use super::{answer_of, module_of};
+use super::{expect_answer, module_of};
 use std::alloc::Global;
 use std::test::Fail;
 
@@ -32,8 +32,8 @@ const NESTS: [(&str, &str); 24] = [
     ("[pause || ", ";]"),
 ];
 
-/// So many units in one another, of all kinds in turn, from this one on; without the end of the module. With it comes the
-/// column of the token that opens the last of them.
+/// So many units in one another, of all kinds in turn, from this one on, in a module; and the column of the token that opens
+/// the last of them.
 fn mixed(alloc: Global, first: usize, depth: usize) -> Result<(String, u64), Fail> {
     let mut text = String::new(alloc);
     let mut closes = String::new(alloc);
@@ -46,32 +46,25 @@ fn mixed(alloc: Global, first: usize, depth: usize) -> Result<(String, u64), Fai
     }
     text.push_str("pause")?;
     text.push_str(closes.as_str())?;
+    text.push_str(" end module")?;
     Ok((text, column))
+}
+
+/// So many units of one kind in one another, in a module.
+fn alike(alloc: Global, open: &str, close: &str, depth: usize) -> Result<String, Fail> {
+    let opens = open.repeat(alloc, depth)?;
+    let closes = close.repeat(alloc, depth)?;
+    Ok(format!(in alloc; "module M: {opens}pause{closes} end module")?)
 }
 
 #[test]
 fn units_of_a_kind_are_counted(rt: HostRuntime) -> Result<(), Fail> {
     for (open, close) in NESTS {
-        for depth in [128usize, 129] {
-            let mut body = String::new(rt.alloc());
-            for _ in 0..depth {
-                body.push_str(open)?;
-            }
-            body.push_str("pause")?;
-            for _ in 0..depth {
-                body.push_str(close)?;
-            }
-            let text = module_of(rt.alloc(), body.as_str())?;
-            let answer = if depth == 128 {
-                Accepted
-            } else {
-                TooLarge(
-                    1,
-                    (open.len() as u64).saturating_mul(128).saturating_add(11),
-                )
-            };
-            assert_eq!(rt; answer_of(rt.alloc(), text.as_str())?, answer, "{open}");
-        }
+        let text = alike(rt.alloc(), open, close, 128)?;
+        expect_answer(rt.alloc(), text.as_str(), Accepted)?;
+        let text = alike(rt.alloc(), open, close, 129)?;
+        let column = (open.len() as u64).saturating_mul(128).saturating_add(11);
+        expect_answer(rt.alloc(), text.as_str(), TooLarge(1, column))?;
     }
     Ok(())
 }
@@ -79,13 +72,10 @@ fn units_of_a_kind_are_counted(rt: HostRuntime) -> Result<(), Fail> {
 #[test]
 fn mixed_units_are_counted(rt: HostRuntime) -> Result<(), Fail> {
     for first in 0..NESTS.len() {
-        let (mut text, _) = mixed(rt.alloc(), first, 128)?;
-        text.push_str(" end module")?;
-        assert_eq!(rt; answer_of(rt.alloc(), text.as_str())?, Accepted, "{text}");
-        let (mut text, column) = mixed(rt.alloc(), first, 129)?;
-        text.push_str(" end module")?;
-        let answer = TooLarge(1, column);
-        assert_eq!(rt; answer_of(rt.alloc(), text.as_str())?, answer, "{text}");
+        let (text, _) = mixed(rt.alloc(), first, 128)?;
+        expect_answer(rt.alloc(), text.as_str(), Accepted)?;
+        let (text, column) = mixed(rt.alloc(), first, 129)?;
+        expect_answer(rt.alloc(), text.as_str(), TooLarge(1, column))?;
     }
     Ok(())
 }
@@ -111,23 +101,11 @@ const GROUPS: [(usize, &str, Answer); 9] = [
 #[test]
 fn open_units_are_counted(rt: HostRuntime) -> Result<(), Fail> {
     for (count, end, answer) in GROUPS {
-        let mut text = String::new(rt.alloc());
-        text.push_str("module M: ")?;
-        for _ in 0..count {
-            text.push_str("[")?;
-        }
-        text.push_str(end)?;
-        assert_eq!(rt;
-            answer_of(rt.alloc(), text.as_str())?,
-            answer,
-            "{count} {end}"
-        );
+        let groups = "[".repeat(rt.alloc(), count)?;
+        let text = format!(in rt.alloc(); "module M: {groups}{end}")?;
+        expect_answer(rt.alloc(), text.as_str(), answer)?;
     }
-    let mut body = String::new(rt.alloc());
-    for _ in 0..300 {
-        body.push_str("[pause]; ")?;
-    }
+    let body = "[pause]; ".repeat(rt.alloc(), 300)?;
     let text = module_of(rt.alloc(), body.as_str())?;
-    assert_eq!(rt; answer_of(rt.alloc(), text.as_str())?, Accepted);
-    Ok(())
+    expect_answer(rt.alloc(), text.as_str(), Accepted)
 }

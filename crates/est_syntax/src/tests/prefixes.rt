@@ -1,6 +1,6 @@
 //! Texts that are cut: each proper front of a module's text has a fault, and the text says where.
 use super::Answer::{self, Accepted, Lexical, Syntax};
-use super::{KEYWORDS, answer_of};
+use super::{KEYWORDS, expect_answer};
 use est_text::keyword::Keyword;
 use est_text::lex::lex;
 use est_text::token::{Located, Token};
@@ -90,8 +90,8 @@ fn cut_token(whole: &Tokens<'_>, count: usize) -> Option<Located> {
     None
 }
 
-/// The answer to a front of the text, which is the beginning of a library, by where it is cut and by nothing that the
-/// parser does:
+/// The answer to a front of the text, by where it is cut. Since the whole text is a library and no other ends within it,
+/// only what the cut leaves can be wrong; the parser has no part in this:
 /// - in the comment with two ends, the comment is the fault;
 /// - in `||` or `=>`, its first byte is;
 /// - in a word, another word is left. Where the whole word is a name, or the `immediate` before one, a name may stand:
@@ -120,16 +120,12 @@ fn expected(whole: &Tokens<'_>, front: &str) -> Result<Answer, Fail> {
 
 #[test]
 fn each_proper_front_has_a_fault(rt: HostRuntime) -> Result<(), Fail> {
-    let mut text = String::new(rt.alloc());
-    text.push_str(HEAD)?;
-    text.push_str(COMMENT)?;
-    text.push_str(TAIL)?;
+    let text = format!(in rt.alloc(); "{HEAD}{COMMENT}{TAIL}")?;
     let whole = lex(rt.alloc(), text.as_str())?;
     for count in 0..text.len() {
         let front = text.get(..count).ok_or("no front")?;
         let answer = expected(&whole, front)?;
-        assert_eq!(rt; answer_of(rt.alloc(), front)?, answer, "{front}");
+        expect_answer(rt.alloc(), front, answer)?;
     }
-    assert_eq!(rt; answer_of(rt.alloc(), text.as_str())?, Accepted);
-    Ok(())
+    expect_answer(rt.alloc(), text.as_str(), Accepted)
 }

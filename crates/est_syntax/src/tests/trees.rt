@@ -1,7 +1,8 @@
 //! Texts and their trees.
-use super::Answer::{Accepted, Syntax};
-use super::{answer_of, library_of, module_of};
+use super::Answer::Accepted;
+use super::{expect_answer, library_of, module_of};
 use crate::tree::{Branches, Statement, Unit, WeakEnd};
+use std::alloc::Global;
 use std::test::Fail;
 
 /// Bodies of modules: each form of the grammar, and `;` and `||` in each place where they may stand.
@@ -9,7 +10,7 @@ const BODIES: [&str; 27] = [
     "nothing",
     "pause;",
     "halt; halt",
-    "emit A; sustain B; exit T;",
+    "emit tick; sustain B; exit T;",
     "await S; await immediate S",
     "emit A || emit B; pause || [emit C || pause;];",
     "pause; || pause;",
@@ -52,10 +53,10 @@ const TEXTS: [&str; 9] = [
 fn texts_are_taken(rt: HostRuntime) -> Result<(), Fail> {
     for body in BODIES {
         let text = module_of(rt.alloc(), body)?;
-        assert_eq!(rt; answer_of(rt.alloc(), text.as_str())?, Accepted, "{body}");
+        expect_answer(rt.alloc(), text.as_str(), Accepted)?;
     }
     for text in TEXTS {
-        assert_eq!(rt; answer_of(rt.alloc(), text)?, Accepted, "{text}");
+        expect_answer(rt.alloc(), text, Accepted)?;
     }
     Ok(())
 }
@@ -99,26 +100,19 @@ fn is_closed(unit: &Unit) -> bool {
     }
 }
 
+/// Whether the last words of the first unit of a body are written.
+fn is_body_closed(alloc: Global, body: &str) -> Result<bool, Fail> {
+    let text = module_of(alloc, body)?;
+    let library = library_of(alloc, text.as_str())?;
+    Ok(is_closed(first_of(&library.first.body)))
+}
+
 #[test]
 fn last_words_are_kept(rt: HostRuntime) -> Result<(), Fail> {
     for (unit, last) in CLOSINGS {
-        for (words, written) in [("", false), (last, true)] {
-            let mut body = String::new(rt.alloc());
-            body.push_str(unit)?;
-            body.push_str(words)?;
-            let text = module_of(rt.alloc(), body.as_str())?;
-            let library = library_of(rt.alloc(), text.as_str())?;
-            assert_eq!(rt; is_closed(first_of(&library.first.body)), written, "{body}");
-        }
-        // Another unit's word is the fault.
-        let mut text = String::new(rt.alloc());
-        text.push_str("module M: ")?;
-        text.push_str(unit)?;
-        text.push_str(" end")?;
-        let column = (text.len() as u64).saturating_add(2);
-        text.push_str(" run end module")?;
-        let answer = Syntax(1, column);
-        assert_eq!(rt; answer_of(rt.alloc(), text.as_str())?, answer, "{unit}");
+        let whole = format!(in rt.alloc(); "{unit}{last}")?;
+        assert!(rt; !is_body_closed(rt.alloc(), unit)?, "{unit}");
+        assert!(rt; is_body_closed(rt.alloc(), whole.as_str())?, "{whole}");
     }
     Ok(())
 }
