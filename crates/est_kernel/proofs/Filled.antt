@@ -4,6 +4,7 @@ use Rattle.std.specs.Prelude.{replicate}
 use Rattle.std.proofs.lemmas.List.{length-replicate, drop-replicate}
 use Rattle.std.proofs.lemmas.Bool.Decides.{nat_tests}
 use Rattle.std.proofs.lemmas.Grind.{common_steps}
+use Rattle.est_kernel.specs.declared.identifier.TheConstants.{MOST_BYTES}
 use Rattle.est_kernel.specs.Identifiers.{IsFilled, is_identifier}
 
 -- the text before anything is the front
@@ -18,7 +19,7 @@ filled m text n e h = record {
   rest = rw (front text (drop n (replicate m 0)) n e, drop-replicate {X = ℕ} n m 0) refl;
 }
 
--- an identifier has at most 48 bytes
-pub short_identifier : (text : List ℕ) → is_identifier text ≡ true → length text ≤ 48
+-- an identifier fits
+pub short_identifier : (text : List ℕ) → is_identifier text ≡ true → length text ≤ MOST_BYTES
 short_identifier [] h = grind arith
 short_identifier (b ∷ bs) h = grind (arith, nat_tests, common_steps)

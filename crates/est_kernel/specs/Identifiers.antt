@@ -3,15 +3,16 @@
 use Rattle.std.specs.Prelude.{◌≡◌, ℕ, ◌-◌, ◌≤◌, List, [], ◌∷◌, ◌++◌, length, take, replicate, Bool, false, ◌&&◌, ◌||◌, ◌==◌, nat_le}
 use Rattle.std.specs.List.{list_all}
 use Rattle.std.specs.Char.{is_ascii_alphanumeric, is_ascii_alphabetic}
+use Rattle.est_kernel.specs.declared.identifier.TheConstants.{MOST_BYTES}
 
 -- letters, digits and `_`, of ASCII
 abbrev pub is_identifier_byte : ℕ → Bool
 is_identifier_byte b = is_ascii_alphanumeric b || b == 95
 
--- a letter, and then letters, digits and `_`, at most 48 bytes
+-- a letter, and then letters, digits and `_`, at most `MOST_BYTES`
 abbrev pub is_identifier : List ℕ → Bool
 is_identifier [] = false
-is_identifier (b ∷ bs) = is_ascii_alphabetic b && nat_le (length (b ∷ bs)) 48 && list_all is_identifier_byte (b ∷ bs)
+is_identifier (b ∷ bs) = is_ascii_alphabetic b && nat_le (length (b ∷ bs)) MOST_BYTES && list_all is_identifier_byte (b ∷ bs)
 
 -- the text is the first so many of these places, and zeros stand behind it (this project's own form)
 pub record IsFilled (places : ℕ) (bytes : List ℕ) (count : ℕ) : Type 0 where

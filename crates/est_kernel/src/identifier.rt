@@ -9,24 +9,25 @@ use std::marker::Model;
 /// The most bytes that an identifier may have.
 pub const MOST_BYTES: usize = 48;
 
-/// A letter, and then letters, digits and `_`, at most 48 bytes. A contract sees the list of its bytes.
+/// A letter, and then letters, digits and `_`, at most `MOST_BYTES`. A contract sees the list of its bytes.
 #[derive(Clone, Copy, PartialEq, Eq, Debug)]
 pub struct Identifier {
-    bytes: [u8; 48],
+    bytes: [u8; MOST_BYTES],
     count: u8,
 }
 
 impl Model for Identifier {
     ghost use Rattle.std.specs.Prelude.{List, ℕ, ◌-◌, ◌++◌, length, take, replicate, IsTrue};
     ghost use Rattle.est_kernel.specs.Identifiers.{is_identifier, IsFilled};
+    ghost use Rattle.est_kernel.specs.declared.identifier.TheConstants.{MOST_BYTES};
 
     ghost Value = { List ℕ };
 
     ghost view = { λ n. take n.count n.bytes };
 
-    ghost invariant = { λ n. IsFilled 48 n.bytes n.count × IsTrue (is_identifier (take n.count n.bytes)) };
+    ghost invariant = { λ n. IsFilled MOST_BYTES n.bytes n.count × IsTrue (is_identifier (take n.count n.bytes)) };
 
-    ghost inverse = { λ s. record { bytes = s ++ replicate (48 - length s) 0; count = length s } };
+    ghost inverse = { λ s. record { bytes = s ++ replicate (MOST_BYTES - length s) 0; count = length s } };
 }
 
 fn is_identifier_byte(byte: u8) -> bool
@@ -61,7 +62,7 @@ impl Identifier {
         if !is_identifier(text) {
             return None;
         }
-        let mut bytes = [0u8; 48];
+        let mut bytes = [0u8; MOST_BYTES];
         bytes[..text.len()].copy_from_slice(text);
         Some(Identifier {
             bytes,
@@ -76,7 +77,7 @@ impl Identifier {
         Identifier::from_bytes(text.as_bytes())
     }
 
-    /// Its bytes, at most 48, all of them ASCII.
+    /// Its bytes, at most `MOST_BYTES`, all of them ASCII.
     pub fn as_bytes(&self) -> &[u8]
         ensures { result.now ≡ self.now }
     {

@@ -44,7 +44,7 @@ pub struct Declaration {
     pub kind: Kind,
 }
 
-/// At most 64 signals with names of their own. A contract sees the list of their declarations.
+/// At most `MOST_SIGNALS` signals with names of their own. A contract sees the list of their declarations.
 #[derive(Drop)]
 pub struct Interface {
     declarations: Vec<Declaration>,
@@ -53,13 +53,14 @@ pub struct Interface {
 impl Model for Interface {
     ghost use Rattle.std.specs.Prelude.{List, ◌≤◌, length};
     ghost use Rattle.est_kernel.specs.declared.interface.Declaration.{Declaration};
+    ghost use Rattle.est_kernel.specs.declared.interface.TheConstants.{MOST_SIGNALS};
     ghost use Rattle.est_kernel.specs.Interfaces.{HasDistinctNames};
 
     ghost Value = { List Declaration };
 
     ghost view = { λ i. i.declarations.items };
 
-    ghost invariant = { λ i. (length i.declarations.items ≤ 64) × HasDistinctNames i.declarations.items };
+    ghost invariant = { λ i. (length i.declarations.items ≤ MOST_SIGNALS) × HasDistinctNames i.declarations.items };
 }
 
 impl Interface {

@@ -1,4 +1,4 @@
--- Every set of numbers below 2,048 is a set of pauses.
+-- Every set of numbers below `MOST_STATEMENTS` is a set of pauses.
 use Rattle.std.proofs.Common.{◌≡◌, ◌≤◌, ◌<◌, ℕ, zero, suc, ◌+◌, ◌*◌, ◌/◌, ◌%◌, ◌^◌, Bool, true, false, cond, ◌||◌, nat_eq, List, [], ◌∷◌, inl, inr, refl, ap, sym, ◌∙◌, arith}
 use Rattle.std.specs.Prelude.{bit_or, slice_index}
 use Rattle.std.proofs.lemmas.Bool.{cases_eq, cases_lt, eq-eqb, ne_eqb}
@@ -7,6 +7,7 @@ use Rattle.est_kernel.specs.Bits.{bits}
 use Rattle.est_kernel.specs.Pauses.{pauses_of}
 use Rattle.est_kernel.specs.View.{has_pause}
 use Rattle.est_kernel.proofs.Masks.{bits_or, bits_pow, bits_zero}
+use Rattle.est_kernel.specs.declared.limits.TheConstants.{MOST_STATEMENTS}
 use Rattle.est_kernel.specs.declared.statement.Statement.{Statement}
 use Rattle.est_kernel.specs.declared.statement.Statement.TheVariants.{Nothing, Pause, Emit, Present', Suspend', Seq', Loop', Par', Trap', Exit, Local' as Binder'}
 
@@ -72,9 +73,9 @@ no_word f i (suc m) zero l = absurd (omega (arith, l))
 no_word f i (suc m) (suc k) l = no_word f (suc i) m k (omega (arith, l))
 
 -- those words have these members
-pub has_members : (f : ℕ → Bool) → ((n : ℕ) → 2048 ≤ n → f n ≡ false) → pauses_of (record { words = words_from f 0 32 }) ≡ f
+pub has_members : (f : ℕ → Bool) → ((n : ℕ) → MOST_STATEMENTS ≤ n → f n ≡ false) → pauses_of (record { words = words_from f 0 32 }) ≡ f
 unfolding pauses_of
-has_members f out = fun_ext (λ n. elim (cases_lt n 2048) [
+has_members f out = fun_ext (λ n. elim (cases_lt n MOST_STATEMENTS) [
   | inl l ↦
       let i : n / 64 < 32 = omega (arith, l) in
       let b : n % 64 < 64 = omega arith in
@@ -88,8 +89,8 @@ has_members f out = fun_ext (λ n. elim (cases_lt n 2048) [
 either_false : (x y : Bool) → x ≡ false → y ≡ false → (x || y) ≡ false
 either_false x y p q = rw (p, q) refl
 
--- each pause of a statement has a number below 2,048
-pub no_pause_above : (s : Statement) (i : ℕ) → 2048 ≤ i → has_pause s i ≡ false
+-- each pause of a statement has a number below `MOST_STATEMENTS`
+pub no_pause_above : (s : Statement) (i : ℕ) → MOST_STATEMENTS ≤ i → has_pause s i ≡ false
 no_pause_above Nothing i l = refl
 no_pause_above (Pause n) i l = ne_eqb n.index i (λ e. absurd (omega (arith, l, e, n.in_range)))
 no_pause_above (Emit s) i l = refl
