@@ -5,7 +5,13 @@ use Rattle.est_text.specs.Pieces.{AreTokens}
 use Rattle.est_text.specs.declared.token.Located.{Located}
 use Rattle.est_syntax.specs.Grammar.{tokens_of, spelling}
 use Rattle.est_syntax.specs.Tree.{UnitTree, present, suspend, abort, weak_abort, repeat, repeat_each, every, trap, signal, group, BranchesTree, then_only, else_only, both, SequenceTree, sequence, UnitsTree, no_units, units, StatementTree, statement, SequencesTree, no_sequences, sequences, ModuleTree, LibraryTree}
+use Rattle.est_text.specs.Lexing.{IsLexFault}
+use Rattle.est_text.specs.TokenLists.{TokenList}
+use Rattle.est_syntax.specs.ParseFaults.{IsParseFault}
+use Rattle.est_syntax.specs.declared.parse.TheConstants.{MOST_OPEN_UNITS}
 use Rattle.text_bench.specs.declared.trees.TreeCount.{TreeCount}
+use Rattle.text_bench.specs.declared.trees.TextFault.{TextFault}
+use Rattle.text_bench.specs.declared.trees.TextFault.TheVariants.{Lex, Parse}
 
 abbrev mutual
   -- how many units a unit is, with those inside it
@@ -67,3 +73,8 @@ pub record CountsTreeOf (text : List ℕ) (count : TreeCount) : Type 0 where
   pub modules : count.modules ≡ library_modules tree % 2 ^ 64
   pub declarations : count.declarations ≡ library_declarations tree % 2 ^ 64
   pub units : count.units ≡ library_units tree % 2 ^ 64
+
+-- why a text has no tree: it has no tokens, or its tokens are no library that fits
+abbrev pub IsTextFault : List ℕ → TextFault → Type 0
+IsTextFault text (Lex fault) = IsLexFault text fault
+IsTextFault text (Parse fault) = (tokens : TokenList) × (tokens.source ≡ text) × AreTokens text tokens.located × IsParseFault MOST_OPEN_UNITS tokens fault

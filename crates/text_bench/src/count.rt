@@ -1,5 +1,6 @@
 //! What is counted of a text's tokens.
-ghost use Rattle.std.specs.Prelude.{◌≡◌, IfOk, length};
+ghost use Rattle.std.specs.Prelude.{◌≡◌, IfOk, IfErr, length};
+ghost use Rattle.est_text.specs.Lexing.{IsLexFault};
 ghost use Rattle.text_bench.specs.Counts.{ends_of, CountsTokensOf};
 
 use est_text::lex::{LexFault, lex};
@@ -30,7 +31,8 @@ pub fn counted(tokens: &Tokens<'_>) -> Count
 
 /// Cuts a text into its tokens, once and then again up to so many times, and counts them.
 pub fn count_again(alloc: Global, text: &str, repetitions: u32) -> Result<Count, LexFault>
-    ensures { IfOk result (CountsTokensOf text.now) }
+    ensures tokens { IfOk result (CountsTokensOf text.now) }
+    ensures fault { IfErr result (IsLexFault text.now) }
 {
     let mut last = counted(&lex(alloc, text)?);
     for _ in 1..repetitions {

@@ -1,7 +1,7 @@
 //! What is counted of a text's tree.
-ghost use Rattle.std.specs.Prelude.{◌≡◌, ◌%◌, ◌^◌, IfOk};
+ghost use Rattle.std.specs.Prelude.{◌≡◌, ◌%◌, ◌^◌, IfOk, IfErr};
 ghost use Rattle.est_syntax.specs.Views.{unit_view, branches_view, sequence_view, statement_view, library_view};
-ghost use Rattle.text_bench.specs.Trees.{unit_units, branches_units, sequence_units, statement_units, library_modules, library_declarations, library_units, CountsTreeOf};
+ghost use Rattle.text_bench.specs.Trees.{unit_units, branches_units, sequence_units, statement_units, library_modules, library_declarations, library_units, CountsTreeOf, IsTextFault};
 ghost use Rattle.text_bench.specs.Counts.{CountsTokensOf};
 
 use crate::count::{Count, counted};
@@ -28,12 +28,22 @@ pub enum TextFault {
 }
 
 impl From<LexFault> for TextFault {
+    ghost use Rattle.std.specs.Prelude.{◌≡◌};
+    ghost use Rattle.text_bench.specs.declared.trees.TextFault.TheVariants.{Lex};
+
+    ghost from_gives = { λ fault e. e ≡ Lex fault };
+
     fn from(fault: LexFault) -> TextFault {
         TextFault::Lex(fault)
     }
 }
 
 impl From<ParseFault> for TextFault {
+    ghost use Rattle.std.specs.Prelude.{◌≡◌};
+    ghost use Rattle.text_bench.specs.declared.trees.TextFault.TheVariants.{Parse};
+
+    ghost from_gives = { λ fault e. e ≡ Parse fault };
+
     fn from(fault: ParseFault) -> TextFault {
         TextFault::Parse(fault)
     }
@@ -135,6 +145,7 @@ fn counted_tree(library: &Library) -> TreeCount
 fn both(alloc: Global, text: &str) -> Result<(Count, TreeCount), TextFault>
     ensures tokens { IfOk result (λ counts. CountsTokensOf text.now counts.0) }
     ensures tree { IfOk result (λ counts. CountsTreeOf text.now counts.1) }
+    ensures fault { IfErr result (IsTextFault text.now) }
 {
     let tokens = lex(alloc, text)?;
     let library = parse(alloc, &tokens)?;
@@ -149,6 +160,7 @@ pub fn parse_again(
 ) -> Result<(Count, TreeCount), TextFault>
     ensures tokens { IfOk result (λ counts. CountsTokensOf text.now counts.0) }
     ensures tree { IfOk result (λ counts. CountsTreeOf text.now counts.1) }
+    ensures fault { IfErr result (IsTextFault text.now) }
 {
     let mut last = both(alloc, text)?;
     for _ in 1..repetitions {
