@@ -1,32 +1,49 @@
-# `make run`: prove and build what is needed, and run the opening script on the built program.
-# `make test`: that the documents are in step, that what must not compile doesn't, and then all proofs, wrong bodies, tests and stored runs.
-# Its last line is 'N passed, M failed'.
-# `make faults`: want of memory in each allocation of a test in turn; no part of `make test`.
-# `make bench`: commands a second of the built program, beside Python's json over the same lines; instants a second of the engine;
-# megabytes a second of the tokens of a text, and of tokens and tree both, beside Python's re.
+# The targets, by `make help`, which is what `make` alone does.
 PROGRAM := crates/estserve/out/estserve
 ENGINE := crates/est_bench/out/est_bench
 TEXTS := crates/text_bench/out/text_bench
 
-.PHONY: run build test bench faults
+.PHONY: help try run build examples test bench faults times
+
+help:
+	@echo 'make try       run the opening script on the program as it stands, built WITHOUT proof: about a minute'
+	@echo 'make run       prove what is needed, a line for each crate, and run the opening script on the proved program'
+	@echo 'make test      the gate: documents, examples, what must not compile, and then all proofs, wrong bodies, tests'
+	@echo '               and stored runs; the last line is "N passed, M failed"'
+	@echo 'make build     as make run, without the script'
+	@echo 'make examples  run each script of examples/scripts on the program, built without proof, and compare its answers'
+	@echo 'make bench     prove and build, and then time commands, instants and the reading of texts'
+	@echo 'make faults    refuse each allocation of one test in turn; no part of make test'
+	@echo 'make times     the proofs, wrong bodies and tests of make test, and a table of the time that each crate takes'
+
+try:
+	@echo 'This program is built WITHOUT proof; make run proves it first.' >&2
+	@cd crates/estserve && rt try -- script < stdin
 
 run:
-	@cd crates/estserve && rt run -- script < stdin
+	@python3 scripts/run.py estserve script < crates/estserve/stdin
 
 build:
-	@cd crates/estserve && rt run -- script < /dev/null
+	@python3 scripts/run.py estserve script < /dev/null
+
+examples:
+	cd crates/estserve && rt try --cases ../../examples/scripts -- script
 
 test:
 	python3 tests/documents.py
+	$(MAKE) --no-print-directory examples
 	python3 tests/must-not-compile/run
 	rt ci
 
 bench: build
 	python3 bench/commands.py $(PROGRAM)
-	@cd crates/est_bench && rt run -- all 1 > /dev/null
+	@python3 scripts/run.py est_bench all 1 > /dev/null
 	python3 bench/instants.py $(ENGINE)
-	@cd crates/text_bench && rt run -- 1 < stdin > /dev/null
+	@python3 scripts/run.py text_bench 1 < crates/text_bench/stdin > /dev/null
 	python3 bench/texts.py $(TEXTS)
 
 faults:
 	python3 tests/faults/run
+
+times:
+	python3 scripts/times.py

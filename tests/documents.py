@@ -1,8 +1,10 @@
 #!/usr/bin/env python3
 """Checks that the documents keep up with the repository.
 
-Each wrong body of a crate stands in that crate's row of docs/PROOFS.md, and no other does; each crate stands in
-README.md and docs/ARCHITECTURE.md; each link to a file leads to one. Ends with status 1 after naming what differs.
+The table of wrong bodies in docs/PROOFS.md is the one that scripts/wrong_bodies.py writes; each crate stands in
+README.md, docs/ARCHITECTURE.md and docs/GATE.md; each script of examples/scripts has its answers and its row in
+examples/README.md, and the opening one is the stored run; each link to a file leads to one. Ends with status 1 after
+naming what differs.
 """
 
 import pathlib
@@ -10,38 +12,39 @@ import re
 import sys
 
 ROOT = pathlib.Path(__file__).resolve().parent.parent
+sys.path.insert(0, str(ROOT / "scripts"))
+sys.dont_write_bytecode = True
+import wrong_bodies  # noqa: E402
 
 
-def crates():
-    """The crates' names, as crates.txt lists them."""
-    lines = (ROOT / "crates.txt").read_text().splitlines()
-    return [line.split(":")[0].split()[0] for line in lines if line.strip() and not line.startswith("#")]
-
-
-def edits_on_disk(crate):
-    """The wrong bodies of a crate, in words."""
-    return {edit.stem.replace("_", " ") for edit in (ROOT / "crates" / crate / "must-fail").glob("*.edit")}
-
-
-def edits_in_the_document(crate):
-    """The wrong bodies that docs/PROOFS.md lists in the crate's row of its table."""
-    section = (ROOT / "docs/PROOFS.md").read_text().split("\n## Wrong bodies\n")[1].split("\n##")[0]
-    row = re.search(rf"^\| `{crate}` \| (.*) \|$", section, re.MULTILINE)
-    return {words.strip() for words in row.group(1).split(";")} if row else set()
-
-
-def differing_edits(crate):
-    """A line for each wrong body that only the disk, or only the document, has."""
-    found, listed = edits_on_disk(crate), edits_in_the_document(crate)
-    return [f"docs/PROOFS.md lacks {crate}: {words}" for words in sorted(found - listed)] + [
-        f"docs/PROOFS.md lists {crate}: {words}, which is no edit" for words in sorted(listed - found)
-    ]
+def differing_edits():
+    """What there is to say of the wrong bodies."""
+    text = wrong_bodies.DOCUMENT.read_text()
+    if wrong_bodies.written(text) == text:
+        return []
+    return ["docs/PROOFS.md is out of step with the wrong bodies: run scripts/wrong_bodies.py"]
 
 
 def missing_crates(document):
     """A line for each crate that the document does not name."""
     text = (ROOT / document).read_text()
-    return [f"{document} does not name {crate}" for crate in crates() if f"`{crate}`" not in text]
+    return [f"{document} does not name {crate}" for crate in wrong_bodies.crates() if f"`{crate}`" not in text]
+
+
+def faulty_examples():
+    """What there is to say of the scripts."""
+    folder = ROOT / "examples/scripts"
+    readme = (ROOT / "examples/README.md").read_text()
+    scripts = {file.name for file in folder.iterdir() if file.suffix != ".stdout"}
+    answers = {file.stem for file in folder.glob("*.stdout")}
+    rows = set(re.findall(r"^\| \[[^\]]*\]\(scripts/([^)]*)\)", readme, re.MULTILINE))
+    faults = [f"examples/scripts/{name} has no answers" for name in sorted(scripts - answers)]
+    faults += [f"examples/scripts/{name}.stdout answers no script" for name in sorted(answers - scripts)]
+    faults += [f"examples/README.md does not say what {name} shows" for name in sorted(scripts - rows)]
+    for name, stored in [("opening", "stdin"), ("opening.stdout", "stdout")]:
+        if (folder / name).read_text() != (ROOT / "crates/estserve" / stored).read_text():
+            faults.append(f"examples/scripts/{name} is not crates/estserve/{stored}")
+    return faults
 
 
 def broken_links(document):
@@ -55,9 +58,10 @@ def broken_links(document):
 
 
 def main():
-    faults = [fault for crate in crates() for fault in differing_edits(crate)]
-    faults += missing_crates("README.md") + missing_crates("docs/ARCHITECTURE.md")
-    for document in [ROOT / "README.md", *sorted((ROOT / "docs").glob("*.md"))]:
+    faults = differing_edits() + faulty_examples()
+    for document in ["README.md", "docs/ARCHITECTURE.md", "docs/GATE.md"]:
+        faults += missing_crates(document)
+    for document in [*ROOT.glob("*.md"), *ROOT.glob("docs/*.md"), *ROOT.glob("examples/*.md")]:
         faults += broken_links(document)
     print("\n".join(faults) if faults else "documents: in step with the repository")
     return 1 if faults else 0
