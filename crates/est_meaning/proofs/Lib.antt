@@ -1,5 +1,6 @@
 pub mod Agree
 pub mod CodeSets
+pub mod EmittedIsPresent
 pub mod Learning
 pub mod Monotony
 pub mod MustRules

@@ -197,7 +197,7 @@ must_can_then a b c d f g = go (a.codes 0) (c.codes 0) refl refl
     }
     go false false p q = f
 
-local_below : (e f : Env) (s : ℕ) (v w : Status) → KnowsLess e f → IsBelow v w → KnowsLess (with_local e s v) (with_local f s w)
+pub local_below : (e f : Env) (s : ℕ) (v w : Status) → KnowsLess e f → IsBelow v w → KnowsLess (with_local e s v) (with_local f s w)
 unfolding with_local
 local_below e f s v w k b t = go (same_name (inner s) t)
   where
@@ -273,7 +273,7 @@ verdict_below false false true c' f g i = absurd (both_ways false refl (g (i ref
 verdict_below false false false true f g i = absurd (both_ways false refl (g refl))
 verdict_below false false false false f g i = inr refl
 
-less_same : (e : Env) → KnowsLess e e
+pub less_same : (e : Env) → KnowsLess e e
 less_same e s = inr refl
 
 modes : (m : Mode) (b b' : Bool) → (b ≡ true → b' ≡ true) → (q : Term) (e : Env) → ((e : Env) → IsWithin (can q sure e) (can q maybe e)) → IsWithin (can q (next_mode m b') e) (can q (next_mode m b) e)

@@ -17,7 +17,7 @@ use Rattle.est_meaning.specs.States.{HasPausedAt, IsState, state_term}
 use Rattle.est_kernel.specs.Pauses.{pauses_of}
 use Rattle.est_kernel.specs.declared.state.State.{State}
 use Rattle.est_kernel.specs.declared.state.State.TheVariants.{Fresh, Done, Paused}
-use Rattle.est_meaning.proofs.PauseWords.{words_from, has_members, no_pause_above}
+use Rattle.est_meaning.proofs.PauseWords.{words_from, has_members, is_word_set, no_pause_above}
 use Rattle.est_meaning.proofs.Uniqueness.{unique}
 use Rattle.est_meaning.proofs.Agree.{dead_exclusive, cleared_dead}
 use Rattle.est_meaning.proofs.Stepping.{steps_same, rest_in, seq_stays, seq_goes, seq_second, loop_again, present_on, present_off, present_first, present_second, par_pauses, par_ends, stays_held}
@@ -273,6 +273,7 @@ paused_after s t e o u g n =
     let members = sym (has_members n.next (λ i l. n.own i (no_pause_above s i l))) in
     record {
       state = Paused (record { words = words_from n.next 0 32 });
+      can_be_held = is_word_set n.next;
       stands = record {
         is_state = same_paused s n.next _ members (record { live = n.steps.live; exclusive = n.steps.exclusive; own = n.own });
         term = ap (λ f. term_at s f) (sym members) ∙ (unique t e o 1 (term_at s n.next) o 1 u n.steps.gives g).rest;
@@ -280,7 +281,7 @@ paused_after s t e o u g n =
     }
 
 done_for : (s : Statement) (u : Term) → nothing ≡ u → SomeStateFor s u
-done_for s u e = record { state = Done; stands = record { is_state = tt; term = e } }
+done_for s u e = record { state = Done; can_be_held = tt; stands = record { is_state = tt; term = e } }
 
 -- the state after a step
 state_after : (s : Statement) (t : Term) (e : Env) (o : Signals) (k : ℕ) (u : Term) → Gives t e o k u → Next s t e o k → SomeStateFor s u

@@ -1,6 +1,9 @@
 -- Every set of numbers below `MOST_STATEMENTS` is a set of pauses.
-use Rattle.std.proofs.Common.{◌≡◌, ◌≤◌, ◌<◌, ℕ, zero, suc, ◌+◌, ◌*◌, ◌/◌, ◌%◌, ◌^◌, Bool, true, false, cond, ◌||◌, nat_eq, List, [], ◌∷◌, inl, inr, refl, ap, sym, ◌∙◌, arith}
-use Rattle.std.specs.Prelude.{bit_or, slice_index}
+use Rattle.std.proofs.Common.{◌≡◌, ◌≤◌, ◌<◌, ℕ, zero, suc, ◌+◌, ◌*◌, ◌/◌, ◌%◌, ◌^◌, Bool, true, false, cond, ◌||◌, nat_eq, List, [], ◌∷◌, length, inl, inr, refl, ap, sym, ◌∙◌, arith}
+use Rattle.std.specs.Prelude.{bit_or, slice_index, All}
+use Rattle.std.proofs.Math.Pow.{pow-lt}
+use Rattle.std.proofs.lemmas.List.Elements.{All-nil, All-cons}
+use Rattle.std.proofs.lemmas.Nat.{or_lt, pow_pos}
 use Rattle.std.proofs.lemmas.Bool.{cases_eq, cases_lt, eq-eqb, ne_eqb}
 use mathlib.Core.Path.{fun_ext}
 use Rattle.est_kernel.specs.Bits.{bits}
@@ -9,6 +12,7 @@ use Rattle.est_kernel.specs.View.{has_pause}
 use Rattle.est_kernel.proofs.Masks.{bits_or, bits_pow, bits_zero}
 use Rattle.est_kernel.specs.declared.limits.TheConstants.{MOST_STATEMENTS}
 use Rattle.est_kernel.specs.declared.statement.Statement.{Statement}
+use Rattle.est_meaning.specs.Laws.{IsWordSet}
 use Rattle.est_kernel.specs.declared.statement.Statement.TheVariants.{Nothing, Pause, Emit, Present', Suspend', Seq', Loop', Par', Trap', Exit, Local' as Binder'}
 
 -- the mask of the first n places
@@ -55,6 +59,15 @@ word_below f (suc n) k l = with_last (f n) (word_of f n) n k ∙ elim (cases_eq 
     others false true = refl
     others false false = refl
 
+one_more : (b : Bool) (w n k : ℕ) → n < k → w < 2 ^ k → cond b (bit_or w (2 ^ n)) w < 2 ^ k
+one_more true w n k l h = or_lt k w (2 ^ n) h (pow-lt l)
+one_more false w n k l h = h
+
+-- a mask of n places takes no more than n bits
+word_fits : (f : ℕ → Bool) (n k : ℕ) → n ≤ k → word_of f n < 2 ^ k
+word_fits f zero k l = pow_pos k
+word_fits f (suc n) k l = one_more (f n) (word_of f n) n k l (word_fits f n k (omega (arith, l)))
+
 -- so many words, from word i on
 abbrev pub words_from : (ℕ → Bool) → ℕ → ℕ → List ℕ
 words_from f i zero = []
@@ -71,6 +84,20 @@ no_word : (f : ℕ → Bool) (i m k : ℕ) → m ≤ k → slice_index (words_fr
 no_word f i zero k l = refl
 no_word f i (suc m) zero l = absurd (omega (arith, l))
 no_word f i (suc m) (suc k) l = no_word f (suc i) m k (omega (arith, l))
+
+words_length : (f : ℕ → Bool) (i m : ℕ) → length (words_from f i m) ≡ m
+words_length f i zero = refl
+words_length f i (suc m) = ap suc (words_length f (suc i) m)
+
+words_fit : (f : ℕ → Bool) (i m : ℕ) → All (λ w. w < 2 ^ 64) (words_from f i m)
+words_fit f i zero = All-nil (λ w. w < 2 ^ 64)
+words_fit f i (suc m) =
+    All-cons (λ w. w < 2 ^ 64) (word_of (λ b. f (i * 64 + b)) 64) (words_from f (suc i) m)
+    (word_fits (λ b. f (i * 64 + b)) 64 64 (omega arith)) (words_fit f (suc i) m)
+
+-- the program can hold those words
+pub is_word_set : (f : ℕ → Bool) → IsWordSet (record { words = words_from f 0 32 })
+is_word_set f = record { words = words_length f 0 32; width = words_fit f 0 32 }
 
 -- those words have these members
 pub has_members : (f : ℕ → Bool) → ((n : ℕ) → MOST_STATEMENTS ≤ n → f n ≡ false) → pauses_of (record { words = words_from f 0 32 }) ≡ f

@@ -1,21 +1,25 @@
 -- The laws of the meaning, as the functions of the module of laws promise them (after Berry, The Constructive Semantics of
 -- Pure Esterel; the rounds and the states of fixed size are this project's own form).
-use Rattle.std.specs.Prelude.{◌≡◌, ◌≤◌, ◌<◌, ◌↔◌, ℕ, suc, Bool, true, false, List}
+use Rattle.std.specs.Prelude.{◌≡◌, ◌≢◌, ◌≤◌, ◌<◌, ◌^◌, ◌↔◌, ℕ, suc, Bool, true, false, List, length, All}
 use Rattle.est_kernel.specs.Codes.{code}
 use Rattle.est_kernel.specs.StartCodes.{IsLoopSafe}
-use Rattle.est_kernel.specs.Term.{Term}
+use Rattle.est_kernel.specs.Term.{outer, inner, Term, signal}
 use Rattle.est_kernel.specs.View.{term_of, IsNumbered}
 use Rattle.est_kernel.specs.declared.interface.Declaration.{Declaration}
+use Rattle.est_kernel.specs.declared.pause_set.PauseSet.{PauseSet}
 use Rattle.est_kernel.specs.declared.state.State.{State}
+use Rattle.est_kernel.specs.declared.state.State.TheVariants.{Fresh, Done, Paused}
 use Rattle.est_kernel.specs.declared.statement.Statement.{Statement}
 use Rattle.est_meaning.specs.Knowledge.{KnowsLess, IsWithin}
-use Rattle.est_meaning.specs.MustCan.{Acts, Mode, sure, maybe, must, can}
+use Rattle.est_meaning.specs.MustCan.{Acts, Mode, sure, maybe, must, can, env_within}
 use Rattle.est_meaning.specs.Reaction.{Reacts}
 use Rattle.est_meaning.specs.Rounds.{JudgedSignals, judged_outputs, first_env, env_after, how_many, last_env}
 use Rattle.est_meaning.specs.Rules.{Gives, HasNoRule}
-use Rattle.est_meaning.specs.Signals.{Signals}
+use Rattle.est_meaning.specs.Signals.{Signals, without}
 use Rattle.est_meaning.specs.States.{IsState, state_term}
 use Rattle.est_meaning.specs.Status.{Env}
+use Rattle.est_meaning.specs.declared.status.Status.{Status}
+use Rattle.est_meaning.specs.declared.status.Status.TheVariants.{Present, Absent, Unknown}
 
 -- these signals and this code alone
 abbrev pub just : Signals → ℕ → Acts
@@ -84,21 +88,62 @@ pub record RoundsComeToRest : Type 0 where
   pub settles : (j : JudgedSignals) → IsWithinPlaces j → (inputs : ℕ → Bool) (t : Term) (m : ℕ) → how_many j.has j.places ≤ m → env_after m j t (first_env j inputs) ≡ last_env j inputs t
   pub outputs : (interface : List Declaration) → IsWithinPlaces (judged_outputs interface)
 
+-- a status says whether a signal is there: it is decided, present exactly where the signal is there, absent exactly where not
+pub record IsDecidedAs (v : Status) (is_there : Bool) : Type 0 where
+  pub decided : v ≢ Unknown
+  pub present : (v ≡ Present) ↔ (is_there ≡ true)
+  pub absent : (v ≡ Absent) ↔ (is_there ≡ false)
+
+-- that `signal s in p` emits o and gives code k is a reaction of its body p, in the environment in which s has its own status;
+-- and there s is present exactly where this reaction of the body emits it
+pub record IsDecidedWithin (s : ℕ) (p : Term) (e : Env) (o : Signals) (k : ℕ) : Type 0 where
+  pub emitted : Signals
+  pub left : Term
+  pub gives : Gives p (env_within sure s p e) emitted k left
+  pub seen_outside : o ≡ without s emitted
+  pub status : IsDecidedAs (env_within sure s p e (inner s)) (emitted (inner s))
+
+-- Emitted is present. Why care: what a program finds out about a signal is what happens in that very instant. No test is ever
+-- answered by a presence that nothing brings about, nor by an absence that something contradicts.
+-- Where a term reacts to the inputs of an instant, each judged signal is decided in the last environment: present exactly where
+-- the reaction emits it, absent exactly where not, whatever was offered. A signal that is not judged, an input, is present exactly
+-- where it was offered, whether the term reacts or not. And wherever the rules give `signal s in p` a reaction, s is decided in
+-- the environment of p: present exactly where the reaction of p emits it
+pub record EmittedIsPresent : Type 0 where
+  pub judged : (j : JudgedSignals) → IsWithinPlaces j → (inputs : ℕ → Bool) (t : Term) (outputs : ℕ → Bool) (u : Term)
+      → Reacts j inputs t outputs u → (n : ℕ) → j.has n ≡ true → IsDecidedAs (last_env j inputs t (outer n)) (outputs n)
+  pub offered : (j : JudgedSignals) (inputs : ℕ → Bool) (t : Term) (n : ℕ) → j.has n ≡ false
+      → IsDecidedAs (last_env j inputs t (outer n)) (inputs n)
+  pub within : (s : ℕ) (p : Term) (e : Env) (o : Signals) (k : ℕ) (u : Term) → Gives (signal s p) e o k u
+      → IsDecidedWithin s p e o k
+
 -- the state x of s stands for t
 pub record IsStateFor (s : Statement) (x : State) (t : Term) : Type 0 where
   pub is_state : IsState s x
   pub term : state_term s x ≡ t
 
--- some state of s stands for t
+-- a set of pauses as the program has it: 32 words of 64 bits, one bit for each pause that a kernel may have
+pub record IsWordSet (pauses : PauseSet) : Type 0 where
+  pub words : length pauses.words ≡ 32
+  pub width : All (λ w. w < 2 ^ 64) pauses.words
+
+-- the program can hold this state
+abbrev pub CanBeHeld : State → Type 0
+CanBeHeld Fresh = Unit {0}
+CanBeHeld Done = Unit {0}
+CanBeHeld (Paused pauses) = IsWordSet pauses
+
+-- some state of s that the program can hold stands for t
 pub record SomeStateFor (s : Statement) (t : Term) : Type 0 where
   pub state : State
+  pub can_be_held : CanBeHeld state
   pub stands : IsStateFor s state t
 
 -- Pauses are enough. Why care: what a running module has left to do is kept in one bit for each of its pauses, however long it
 -- runs, so a slot never grows and a step asks for no memory.
 -- Where no two pauses of a statement have one number: wherever the term of a state reacts, in whatever environment and with
--- whatever code, some state stands for what is left. A state stands for one term, and in a state loops' bodies still take time
+-- whatever code, some state stands for what is left, and the program can hold it. In a state loops' bodies still take time
 pub record PausesAreEnough : Type 0 where
-  pub goes_on : (s : Statement) → IsNumbered s → (x : State) (t : Term) → IsStateFor s x t → (e : Env) (o : Signals) (k : ℕ) (u : Term) → Gives t e o k u → SomeStateFor s u
-  pub one_term : (s : Statement) (x : State) (t u : Term) → IsStateFor s x t → IsStateFor s x u → t ≡ u
+  pub goes_on : (s : Statement) → IsNumbered s → (x : State) (t : Term) → IsStateFor s x t
+      → (e : Env) (o : Signals) (k : ℕ) (u : Term) → Gives t e o k u → SomeStateFor s u
   pub safe : (s : Statement) → IsLoopSafe (term_of s) → (x : State) (t : Term) → IsStateFor s x t → IsLoopSafe t

@@ -2,7 +2,7 @@
 //!
 //! They are stated in `specs/Laws` over the definitions that a reaction engine's contract names, and ask nothing of a caller.
 
-ghost use Rattle.est_meaning.specs.Laws.{DecidedByMust, OneReactionAtMost, KnowledgeIsMonotone, RoundsComeToRest, PausesAreEnough};
+ghost use Rattle.est_meaning.specs.Laws.{DecidedByMust, OneReactionAtMost, KnowledgeIsMonotone, RoundsComeToRest, EmittedIsPresent, PausesAreEnough};
 
 /// Whether a step is refused, and what it shows, depends on nothing but what must be emitted: no guess is ever tried.
 ///
@@ -33,9 +33,17 @@ pub fn rounds_come_to_rest()
     ensures { RoundsComeToRest }
 {}
 
+/// What a program finds out about a signal is what happens in that very instant.
+///
+/// A reaction's judged signals, and the local signals of its binders, are all decided: present exactly where they are
+/// emitted. Other signals are present exactly where they were offered.
+pub fn emitted_is_present()
+    ensures { EmittedIsPresent }
+{}
+
 /// What a running module has left to do is kept in one bit for each of its pauses, however long it runs.
 ///
-/// After each step of a state's term some state stands for what is left, and a state stands for one term.
+/// After each step of a state's term some state that the program can hold stands for what is left.
 pub fn pauses_are_enough()
     ensures { PausesAreEnough }
 {}

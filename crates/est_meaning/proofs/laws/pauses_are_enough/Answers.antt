@@ -1,7 +1,6 @@
-use Rattle.std.proofs.Common.{sym, ◌∙◌}
 use Rattle.est_meaning.proofs.NextStates.{goes_on_from}
 use Rattle.est_meaning.proofs.SafeLoops.{safe_for}
 use Rattle.est_meaning.proofs.laws.pauses_are_enough.Goals as goal
 
 pub returns : goal.returns
-returns c = record { goes_on = goes_on_from; one_term = λ s x t u g h. sym g.term ∙ h.term; safe = safe_for }
+returns c = record { goes_on = goes_on_from; safe = safe_for }
