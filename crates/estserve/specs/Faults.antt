@@ -2,8 +2,8 @@
 use Rattle.std.specs.Prelude.{◌≡◌, ℕ, Result, Ok, Err, ⊤}
 use Rattle.estserve.specs.declared.fault.Fault.{Fault}
 use Rattle.estserve.specs.declared.fault.Fault.TheVariants as fault
-use Rattle.estserve.specs.declared.serving.End.{End}
-use Rattle.estserve.specs.declared.serving.End.TheVariants as end
+use Rattle.client_loop.specs.declared.serving.End.{End}
+use Rattle.client_loop.specs.declared.serving.End.TheVariants as end
 
 -- the status of a fault: 2 for the words, and else 1
 abbrev pub status_of : Fault → ℕ

@@ -2,7 +2,7 @@
 ghost use Rattle.std.specs.Prelude.{◌≡◌};
 ghost use Rattle.estserve.specs.Faults.{status_of, IsOutcome};
 
-use crate::serving::End;
+use client_loop::serving::End;
 use thiserror::Error;
 
 /// A fault of the program. Its text goes to standard error.

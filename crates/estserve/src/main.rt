@@ -1,27 +1,18 @@
 //! The program: a shared simulator of Pure Esterel modules under role-based access control, one JSON command a line.
 //!
-//! `answer` goes from the bytes of a line to the bytes of its answer, and says what becomes of the desk and of the connection's login: this is
-//! the contract that carries the program. `reading` gives the request that a line asks for, exactly where it asks for one, and tells a line
-//! that is no JSON from one that is no request. `reply` writes a reply as its one text. `lines` cuts what any reader gives into lines, and
-//! `serving` answers them one after the other on any writer. `words` reads the command line, and `fault` says how the program ends.
+//! Standard input and standard output are one connection: `client_loop` serves it, and its contracts carry the program. `words` reads the
+//! command line, and `fault` says how the program ends.
 #![tactic(auto)]
 
-pub mod answer;
-pub mod connection;
 pub mod fault;
-pub mod lines;
-pub mod reading;
-pub mod reply;
-pub mod request;
-pub mod serving;
 pub mod words;
 
-use crate::connection::Connection;
 use crate::fault::{Fault, outcome};
-use crate::serving::serve;
 use crate::words::Order;
 use access_core::refusal::Refusal;
 use access_core::reply::Reply;
+use client_loop::connection::Connection;
+use client_loop::serving::serve;
 use std::env;
 use std::process::ExitCode;
 

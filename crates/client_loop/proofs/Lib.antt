@@ -1,0 +1,4 @@
+pub mod RunLemmas
+pub mod WritingLemmas
+pub mod CutLemmas
+pub mod RefusalLemmas

@@ -1,8 +1,0 @@
-use Rattle.std.proofs.Common.{◌≡◌, drop, map, length}
-use Rattle.serde_json.specs.View.{view}
-use Rattle.estserve.specs.Reading.{names_from, with_front}
-use Rattle.estserve.proofs.reading.names_from.Given as goal
-
-abbrev pub invariant-loop-value : goal.invariant-loop-value
-invariant-loop-value l =
-    record { names : with_front l.roles (names_from (map view (drop l.value-index l.values))) ≡ names_from (map view l.values); count : length l.roles ≡ l.value-index }

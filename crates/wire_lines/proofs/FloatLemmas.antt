@@ -1,0 +1,33 @@
+-- No reply holds a float.
+use Rattle.std.proofs.Common.{◌≡◌, false, List, [], ◌∷◌, ℕ, map, refl}
+use Rattle.serde_json.specs.Data.{string}
+use Rattle.serde_json.specs.View.{items_of}
+use Rattle.serde_json.specs.Written.{has_float, items_have_float, members_have_float}
+use Rattle.access_core.specs.declared.refusal.Refusal.{Refusal}
+use Rattle.access_core.specs.declared.refusal.Refusal.TheVariants as refusal
+use Rattle.access_core.specs.declared.reply.ShownSignal.{ShownSignal}
+use Rattle.access_core.specs.declared.reply.Reply.{Reply}
+use Rattle.access_core.specs.declared.reply.Reply.TheVariants.{Refused, Login, Changed, Load, Offer, Step, Look, Check}
+use Rattle.wire_lines.specs.Replies.{shown_json, refusal_members, reply_json}
+
+shown_has_no_float : (ss : List ShownSignal) → items_have_float (items_of (map shown_json ss)) ≡ false
+shown_has_no_float [] = refl
+shown_has_no_float (s ∷ ss) = shown_has_no_float ss
+
+texts_have_no_float : (ts : List (List ℕ)) → items_have_float (items_of (map string ts)) ≡ false
+texts_have_no_float [] = refl
+texts_have_no_float (t ∷ ts) = texts_have_no_float ts
+
+refusal_has_no_float : (r : Refusal) → members_have_float (refusal_members r) ≡ false
+refusal_has_no_float (refusal.Stuck undecided) = rw (texts_have_no_float undecided)
+refusal_has_no_float _ = refl
+
+pub reply_has_no_float : (r : Reply) → has_float (reply_json r) ≡ false
+reply_has_no_float (Refused r) = refusal_has_no_float r
+reply_has_no_float (Login session version) = refl
+reply_has_no_float (Changed change version) = refl
+reply_has_no_float (Load place version) = refl
+reply_has_no_float (Offer place version) = refl
+reply_has_no_float (Step instant place version) = refl
+reply_has_no_float (Look instant signals version) = rw (shown_has_no_float signals)
+reply_has_no_float (Check allowed) = refl

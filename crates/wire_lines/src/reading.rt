@@ -1,0 +1,334 @@
+//! From a line to its request.
+ghost use Rattle.std.specs.Prelude.{◌≡◌, ◌≤◌, length, map, option_map, IfOk, List, ℕ};
+ghost use Rattle.serde_json.specs.Data.{object};
+ghost use Rattle.serde_json.specs.View.{view};
+ghost use Rattle.wire_lines.specs.Requests.{IsReadAs, IsRequest, Fits, members_of};
+ghost use Rattle.wire_lines.specs.Inner.Reading.{text_at, name_at, identifier_at, operation_at, object_at, number_at, has_keys, names_are, command_of, login_of, logout_of, grant_of, load_of, offer_of, step_of, look_of, names_from, roles_from, roles_at, request_of};
+ghost use Rattle.wire_lines.specs.declared.request.Request.{Request};
+
+use crate::request::{Command, Request};
+use access_core::refusal::Refusal;
+use est_kernel::identifier::Identifier;
+use rbac_policy::names::{LISTED_ROLES, Name, RoleNames};
+use rbac_policy::objects::{Object, Operation};
+use reactor_core::text::Text;
+use serde_json::Value;
+use serde_json::error::Category;
+use std::alloc::{AllocError, Global};
+use std::collections::btree_map::Keys;
+
+/// Whether the keys that are left are these, in their order.
+fn names_are(keys: &mut Keys<'_, String, Value>, wanted: &[&str]) -> bool
+    ensures { result ≡ names_are keys.old wanted.now }
+{
+    for key in wanted {
+        match keys.next() {
+            Some(found) if found.as_str() == *key => {}
+            _ => return false,
+        }
+    }
+    keys.next().is_none()
+}
+
+/// Whether a value is an object with these keys, in their order.
+fn has_keys(value: &Value, wanted: &[&str]) -> bool
+    ensures { result ≡ has_keys (view value.now) (map (λ key. key.now) wanted.now) }
+{
+    match value.as_object() {
+        Some(fields) => names_are(&mut fields.keys(), wanted),
+        None => false,
+    }
+}
+
+/// The text that a field holds.
+#[tactic(auto, unfolding(crate::specs::Inner::Reading::text_at))]
+fn text_at<'a>(value: &'a Value, key: &str) -> Option<&'a str>
+    ensures { option_map (λ text. text.now) result ≡ text_at key.now (view value.now) }
+{
+    value.get(key)?.as_str()
+}
+
+/// The name that a field holds.
+#[tactic(auto, unfolding(crate::specs::Inner::Reading::name_at))]
+fn name_at(value: &Value, key: &str) -> Option<Name>
+    ensures { result ≡ name_at key.now (view value.now) }
+{
+    Name::from_text(text_at(value, key)?)
+}
+
+/// The identifier that a field holds.
+#[tactic(auto, unfolding(crate::specs::Inner::Reading::identifier_at))]
+fn identifier_at(value: &Value, key: &str) -> Option<Identifier>
+    ensures { result ≡ identifier_at key.now (view value.now) }
+{
+    Identifier::from_text(text_at(value, key)?)
+}
+
+/// The operation that a field names.
+#[tactic(auto, unfolding(crate::specs::Inner::Reading::operation_at))]
+fn operation_at(value: &Value, key: &str) -> Option<Operation>
+    ensures { result ≡ operation_at key.now (view value.now) }
+{
+    Operation::from_text(text_at(value, key)?)
+}
+
+/// The object that a field names.
+#[tactic(auto, unfolding(crate::specs::Inner::Reading::object_at))]
+fn object_at(value: &Value, key: &str) -> Option<Object>
+    ensures { result ≡ object_at key.now (view value.now) }
+{
+    Object::from_text(text_at(value, key)?)
+}
+
+/// The whole number that a field holds.
+#[tactic(auto, unfolding(crate::specs::Inner::Reading::number_at))]
+fn number_at(value: &Value, key: &str) -> Option<u64>
+    ensures { result ≡ number_at key.now (view value.now) }
+{
+    value.get(key)?.as_u64()
+}
+
+/// The names that values are, in their order.
+#[tactic(auto, unfolding(crate::specs::Inner::Reading::names_from))]
+fn names_from(values: &[Value]) -> Option<RoleNames>
+    requires { length values.now ≤ LISTED_ROLES }
+    ensures { result ≡ names_from (map view values.now) }
+{
+    let mut roles = RoleNames::new();
+    for value in values {
+        roles.push(value.as_str().and_then(Name::from_text)?);
+    }
+    Some(roles)
+}
+
+/// As many names as a command may list.
+#[tactic(auto, unfolding(crate::specs::Inner::Reading::roles_from))]
+fn roles_from(values: &[Value]) -> Option<RoleNames>
+    ensures { result ≡ roles_from (map view values.now) }
+{
+    if values.len() <= LISTED_ROLES {
+        names_from(values)
+    } else {
+        None
+    }
+}
+
+/// The roles that a field lists.
+#[tactic(auto, unfolding(crate::specs::Inner::Reading::roles_at), using(crate::proofs::KeyLemmas::list_back))]
+fn roles_at(value: &Value, key: &str) -> Option<RoleNames>
+    ensures { result ≡ roles_at key.now (view value.now) }
+{
+    roles_from(value.get(key)?.as_array()?)
+}
+
+/// The command of a word.
+#[tactic(auto, unfolding(crate::specs::Inner::Reading::command_of))]
+fn command_of(word: &str) -> Option<Command>
+    ensures { result ≡ command_of word.now }
+{
+    match word {
+        "login" => Some(Command::Login),
+        "logout" => Some(Command::Logout),
+        "grant" => Some(Command::Grant),
+        "load" => Some(Command::Load),
+        "offer" => Some(Command::Offer),
+        "step" => Some(Command::Step),
+        "look" => Some(Command::Look),
+        _ => None,
+    }
+}
+
+#[tactic(auto, unfolding(crate::specs::Inner::Reading::login_of))]
+fn login_of(value: &Value) -> Option<Request>
+    ensures { result ≡ login_of (view value.now) }
+{
+    if !has_keys(value, &["cmd", "roles", "user"]) {
+        return None;
+    }
+    let roles = roles_at(value, "roles")?;
+    let user = name_at(value, "user")?;
+    Some(Request::Login { roles, user })
+}
+
+#[tactic(auto, unfolding(crate::specs::Inner::Reading::logout_of))]
+fn logout_of(value: &Value) -> Option<Request>
+    ensures { result ≡ logout_of (view value.now) }
+{
+    if has_keys(value, &["cmd"]) {
+        Some(Request::Logout)
+    } else {
+        None
+    }
+}
+
+#[tactic(auto, unfolding(crate::specs::Inner::Reading::grant_of))]
+fn grant_of(value: &Value) -> Option<Request>
+    ensures { result ≡ grant_of (view value.now) }
+{
+    if !has_keys(value, &["cmd", "object", "op", "role"]) {
+        return None;
+    }
+    let object = object_at(value, "object")?;
+    let operation = operation_at(value, "op")?;
+    let role = name_at(value, "role")?;
+    Some(Request::Grant {
+        object,
+        operation,
+        role,
+    })
+}
+
+#[tactic(auto, unfolding(crate::specs::Inner::Reading::load_of))]
+fn load_of(alloc: Global, value: &Value) -> Result<Option<Request>, AllocError>
+    ensures { IfOk result (λ request. request ≡ load_of (view value.now)) }
+{
+    if !has_keys(value, &["cmd", "main", "slot", "text"]) {
+        return Ok(None);
+    }
+    let Some(main) = identifier_at(value, "main") else {
+        return Ok(None);
+    };
+    let Some(slot) = number_at(value, "slot") else {
+        return Ok(None);
+    };
+    let Some(text) = text_at(value, "text") else {
+        return Ok(None);
+    };
+    let text = Text::copied(alloc, text)?;
+    Ok(Some(Request::Load { main, slot, text }))
+}
+
+#[tactic(auto, unfolding(crate::specs::Inner::Reading::offer_of))]
+fn offer_of(value: &Value) -> Option<Request>
+    ensures { result ≡ offer_of (view value.now) }
+{
+    if !has_keys(value, &["cmd", "signal", "slot"]) {
+        return None;
+    }
+    let signal = identifier_at(value, "signal")?;
+    let slot = number_at(value, "slot")?;
+    Some(Request::Offer { signal, slot })
+}
+
+#[tactic(auto, unfolding(crate::specs::Inner::Reading::step_of))]
+fn step_of(value: &Value) -> Option<Request>
+    ensures { result ≡ step_of (view value.now) }
+{
+    if !has_keys(value, &["cmd", "slot"]) {
+        return None;
+    }
+    let slot = number_at(value, "slot")?;
+    Some(Request::Step { slot })
+}
+
+#[tactic(auto, unfolding(crate::specs::Inner::Reading::look_of))]
+fn look_of(value: &Value) -> Option<Request>
+    ensures { result ≡ look_of (view value.now) }
+{
+    if !has_keys(value, &["cmd", "instant", "slot"]) {
+        return None;
+    }
+    let instant = number_at(value, "instant")?;
+    let slot = number_at(value, "slot")?;
+    Some(Request::Look { instant, slot })
+}
+
+/// The request of a value.
+#[tactic(auto, unfolding(crate::specs::Inner::Reading::request_of))]
+fn request_of(alloc: Global, value: &Value) -> Result<Option<Request>, AllocError>
+    ensures { IfOk result (λ request. request ≡ request_of (view value.now)) }
+{
+    let Some(command) = text_at(value, "cmd").and_then(command_of) else {
+        return Ok(None);
+    };
+    match command {
+        Command::Login => Ok(login_of(value)),
+        Command::Logout => Ok(logout_of(value)),
+        Command::Grant => Ok(grant_of(value)),
+        Command::Load => load_of(alloc, value),
+        Command::Offer => Ok(offer_of(value)),
+        Command::Step => Ok(step_of(value)),
+        Command::Look => Ok(look_of(value)),
+    }
+}
+
+/// The request of a line, or NotJson, NotARequest or Memory.
+pub fn request(alloc: Global, line: &[u8]) -> Result<Request, Refusal>
+    ensures { IsReadAs line.now result }
+{
+    let value = match Value::from_slice(alloc, line) {
+        Ok(value) => value,
+        Err(fault) if fault.classify() == Category::Memory => return Err(Refusal::Memory),
+        Err(_) => return Err(Refusal::NotJson),
+    };
+    match request_of(alloc, &value) {
+        Ok(Some(request)) => Ok(request),
+        Ok(None) => Err(Refusal::NotARequest),
+        Err(_) => Err(Refusal::Memory),
+    }
+}
+
+/// A line has at most one request, and a request is spelt by one JSON value alone.
+pub fn requests_are_told_apart()
+    ensures line { (line : List ℕ) (one other : Request) → IsRequest line one → IsRequest line other → one ≡ other }
+    ensures members { (one other : Request) → Fits one → Fits other → members_of one ≡ members_of other → one ≡ other }
+{}
+
+#[cfg(test)]
+mod tests {
+    use super::*;
+    use std::test::Fail;
+
+    /// Lines, and the numbers of their refusals; 0 is that of a request.
+    const LINES: &[(&str, u8)] = &[
+        (
+            "{\"cmd\":\"login\",\"roles\":[\"root\"],\"user\":\"root\"}",
+            0,
+        ),
+        (
+            "{\"cmd\":\"grant\",\"object\":\"0.O\",\"op\":\"observe\",\"role\":\"root\"}",
+            0,
+        ),
+        (
+            "{\"text\":\"module M: nothing end module\",\"slot\":0,\"cmd\":\"load\",\"main\":\"M\"}",
+            0,
+        ),
+        (
+            "{\"cmd\":\"offer\",\"signal\":\"await\",\"slot\":18446744073709551615}",
+            0,
+        ),
+        (" {\"cmd\" : \"step\", \"slot\" : 1, \"slot\" : 0}\r", 0),
+        ("{\"cmd\":\"look\",\"instant\":1,\"slot\":0}", 0),
+        ("{\"cmd\":\"logout\"}", 0),
+        ("", 2),
+        ("{\"cmd\":\"logout\"} x", 2),
+        ("{\"cmd\":\"step\",\"slot\":1e400}", 2),
+        ("{\"cmd\":\"step\",\"slot\":0,\"x\":1}", 3),
+        ("{\"cmd\":\"step\",\"slot\":0.0}", 3),
+        ("{\"cmd\":\"step\",\"slot\":-0}", 3),
+        ("{\"cmd\":\"step\",\"slot\":18446744073709551616}", 3),
+        ("{\"cmd\":\"fly\"}", 3),
+        ("[]", 3),
+        ("{\"cmd\":\"login\",\"roles\":[],\"user\":\"\"}", 3),
+        (
+            "{\"cmd\":\"grant\",\"object\":\"16\",\"op\":\"step\",\"role\":\"root\"}",
+            3,
+        ),
+        ("{\"cmd\":\"logout\",\"user\":\"root\"}", 3),
+    ];
+
+    fn answer_to(alloc: Global, line: &str) -> u8 {
+        match request(alloc, line.as_bytes()) {
+            Ok(_) => 0,
+            Err(refusal) => refusal.code(),
+        }
+    }
+
+    #[test]
+    fn lines_and_their_answers(rt: HostRuntime) -> Result<(), Fail> {
+        for (line, code) in LINES {
+            assert_eq!(rt; answer_to(rt.alloc(), line), *code, "{line}");
+        }
+        Ok(())
+    }
+}

@@ -1,0 +1,366 @@
+//! Reply lines, as exact bytes.
+ghost use Rattle.std.specs.Prelude.{◌≡◌, ◌++◌, ◌∷◌, [], ℕ, List, codes, decimal, IfOk, map, true};
+ghost use Rattle.std.specs.Cmp.Lexicographic.{slice_cmp};
+ghost use Rattle.std.specs.Ordering.{nat_cmp};
+ghost use Rattle.std.specs.declared.cmp.Ordering.{Ordering};
+ghost use Rattle.json.specs.Print.{quoted};
+ghost use Rattle.serde_json.specs.Data.{object, array, string, no_members};
+ghost use Rattle.serde_json.specs.View.{view, items_of};
+ghost use Rattle.rbac_policy.specs.Texts.{operation_text, object_text};
+ghost use Rattle.access_core.specs.Refusals.{code_of, name_of};
+ghost use Rattle.wire_lines.specs.Requests.{text_member, number_member, texts_member};
+ghost use Rattle.wire_lines.specs.Replies.{refusal_members, refused_with, signals_json, shown_json, reply_json, line_of};
+ghost use Rattle.access_core.specs.declared.reply.Reply.TheVariants.{Refused, Login, Changed, Load, Step, Check};
+ghost use Rattle.access_core.specs.declared.reply.Change.TheVariants as change;
+ghost use Rattle.access_core.specs.declared.refusal.Refusal.TheVariants as refusal;
+ghost use Rattle.reactor_core.specs.declared.refusal.Place.{Place};
+
+use access_core::refusal::{Refusal, limit_text, table_text};
+use access_core::reply::{Reply, ShownSignal};
+use est_kernel::identifier::Identifier;
+use rbac_policy::commands::SessionId;
+use rbac_policy::names::Name;
+use rbac_policy::objects::{Object, Operation};
+use reactor_core::refusal::Place;
+use serde_json::{Value, json};
+use std::alloc::{AllocError, Global};
+
+/// The line for want of memory.
+const NO_MEMORY: &str = "{\"code\":90,\"fault\":\"Memory\"}\n";
+
+/// Names as a list of texts.
+fn names(alloc: Global, names: &[Identifier]) -> Result<Value, AllocError>
+    ensures { IfOk result (λ v. view v ≡ array (items_of (map string names.now))) }
+{
+    let mut list = Vec::new(alloc);
+    for name in names {
+        list.push(Value::String(String::from_str(alloc, name.as_str())?))?;
+    }
+    Ok(Value::Array(list))
+}
+
+/// Signals as a list of pairs.
+fn shown(alloc: Global, signals: &[ShownSignal]) -> Result<Value, AllocError>
+    ensures { IfOk result (λ v. view v ≡ signals_json signals.now) }
+{
+    let mut list = Vec::new(alloc);
+    for signal in signals {
+        list.push(json!(in alloc; [signal.name.as_str(), signal.present])?)?;
+    }
+    Ok(Value::Array(list))
+}
+
+/// A refusal that names nothing.
+fn plain(alloc: Global, refusal: &Refusal) -> Result<Value, AllocError>
+    ensures { IfOk result (λ v. view v ≡ object (refused_with refusal.now no_members)) }
+{
+    let (code, fault) = (refusal.code(), refusal.name());
+    json!(in alloc; {"code": code, "fault": fault})
+}
+
+/// A refusal that names a text under a key that comes after `fault`.
+fn with_text(alloc: Global, refusal: &Refusal, key: &str, text: &str) -> Result<Value, AllocError>
+    requires code { slice_cmp nat_cmp key.now (codes "code") ≡ Ordering.Greater }
+    requires fault { slice_cmp nat_cmp key.now (codes "fault") ≡ Ordering.Greater }
+    ensures { IfOk result (λ v. view v ≡ object (refused_with refusal.now (text_member key.now text.now no_members))) }
+{
+    let (code, fault) = (refusal.code(), refusal.name());
+    json!(in alloc; {"code": code, "fault": fault, key: text})
+}
+
+/// A refusal of a permission.
+fn permission(
+    alloc: Global,
+    refusal: &Refusal,
+    operation: &Operation,
+    on: &Object,
+) -> Result<Value, AllocError>
+    ensures { IfOk result (λ v. view v ≡ object (refused_with refusal.now (text_member (codes "object") (object_text on.now) (text_member (codes "op") (operation_text operation.now) no_members)))) }
+{
+    let (code, fault) = (refusal.code(), refusal.name());
+    let on = on.text(alloc)?;
+    json!(in alloc; {"code": code, "fault": fault, "object": on.as_str(), "op": operation.text()})
+}
+
+/// A refusal at a place of a module text.
+fn at_place(alloc: Global, refusal: &Refusal, place: &Place) -> Result<Value, AllocError>
+    ensures { IfOk result (λ v. view v ≡ object (number_member (codes "code") (code_of refusal.now) (number_member (codes "column") place.now.column (text_member (codes "fault") (name_of refusal.now) (number_member (codes "line") place.now.line no_members))))) }
+{
+    let (code, fault) = (refusal.code(), refusal.name());
+    json!(in alloc; {"code": code, "column": place.column, "fault": fault, "line": place.line})
+}
+
+/// A refusal of a separation set.
+fn separation(
+    alloc: Global,
+    refusal: &Refusal,
+    session: &SessionId,
+    set: &Name,
+) -> Result<Value, AllocError>
+    ensures { IfOk result (λ v. view v ≡ object (refused_with refusal.now (number_member (codes "session") session.now (text_member (codes "set") set.now no_members)))) }
+{
+    let (code, fault) = (refusal.code(), refusal.name());
+    json!(in alloc; {"code": code, "fault": fault, "session": session.number(), "set": set.as_str()})
+}
+
+/// A refusal of a relation that excludes a signal.
+fn excluded(
+    alloc: Global,
+    refusal: &Refusal,
+    relation: u8,
+    signal: &Identifier,
+) -> Result<Value, AllocError>
+    ensures { IfOk result (λ v. view v ≡ object (refused_with refusal.now (number_member (codes "relation") relation (text_member (codes "signal") signal.now no_members)))) }
+{
+    let (code, fault) = (refusal.code(), refusal.name());
+    json!(in alloc; {"code": code, "fault": fault, "relation": relation, "signal": signal.as_str()})
+}
+
+/// A refusal of a relation that misses a signal.
+fn implied(
+    alloc: Global,
+    refusal: &Refusal,
+    relation: u8,
+    missing: &Identifier,
+) -> Result<Value, AllocError>
+    ensures { IfOk result (λ v. view v ≡ object (refused_with refusal.now (text_member (codes "missing") missing.now (number_member (codes "relation") relation no_members)))) }
+{
+    let (code, fault) = (refusal.code(), refusal.name());
+    json!(in alloc; {"code": code, "fault": fault, "missing": missing.as_str(), "relation": relation})
+}
+
+/// A refusal that names a relation alone.
+fn semantics(alloc: Global, refusal: &Refusal, relation: u8) -> Result<Value, AllocError>
+    ensures { IfOk result (λ v. view v ≡ object (refused_with refusal.now (number_member (codes "relation") relation no_members))) }
+{
+    let (code, fault) = (refusal.code(), refusal.name());
+    json!(in alloc; {"code": code, "fault": fault, "relation": relation})
+}
+
+/// A refusal that names undecided signals.
+fn stuck(alloc: Global, refusal: &Refusal, undecided: &[Identifier]) -> Result<Value, AllocError>
+    ensures { IfOk result (λ v. view v ≡ object (refused_with refusal.now (texts_member (codes "undecided") undecided.now no_members))) }
+{
+    let (code, fault) = (refusal.code(), refusal.name());
+    let undecided = names(alloc, undecided)?;
+    json!(in alloc; {"code": code, "fault": fault, "undecided": undecided})
+}
+
+/// A refusal of a version.
+fn behind(alloc: Global, refusal: &Refusal, found: u64, seen: u64) -> Result<Value, AllocError>
+    ensures { IfOk result (λ v. view v ≡ object (refused_with refusal.now (number_member (codes "found") found (number_member (codes "seen") seen no_members)))) }
+{
+    let (code, fault) = (refusal.code(), refusal.name());
+    json!(in alloc; {"code": code, "fault": fault, "found": found, "seen": seen})
+}
+
+/// What a refusal says.
+fn refused(alloc: Global, refusal: &Refusal) -> Result<Value, AllocError>
+    ensures { IfOk result (λ v. view v ≡ object (refusal_members refusal.now)) }
+{
+    match refusal {
+        Refusal::Permission { operation, object } => permission(alloc, refusal, operation, object),
+        Refusal::DsdViolated { session, set } => separation(alloc, refusal, session, set),
+        Refusal::NotAuthorized { role }
+        | Refusal::AlreadyActive { role }
+        | Refusal::NotActive { role }
+        | Refusal::UnknownRole { role }
+        | Refusal::RoleExists { role } => with_text(alloc, refusal, "role", role.as_str()),
+        Refusal::UnknownUser { user } | Refusal::UserExists { user } => {
+            with_text(alloc, refusal, "user", user.as_str())
+        }
+        Refusal::DsdExists { set } | Refusal::NoDsd { set } | Refusal::RoleInDsd { set } => {
+            with_text(alloc, refusal, "set", set.as_str())
+        }
+        Refusal::UnknownModule { name }
+        | Refusal::RecursiveRun { name }
+        | Refusal::UnknownName { name }
+        | Refusal::DuplicateName { name }
+        | Refusal::EmitInput { name }
+        | Refusal::BadRename { name } => with_text(alloc, refusal, "name", name.as_str()),
+        Refusal::Lexical { place } | Refusal::Syntax { place } => at_place(alloc, refusal, place),
+        Refusal::Full { table } => with_text(alloc, refusal, "table", table_text(table)),
+        Refusal::TooLarge { limit } => with_text(alloc, refusal, "limit", limit_text(limit)),
+        Refusal::Excluded { relation, signal } => excluded(alloc, refusal, *relation, signal),
+        Refusal::Implied { relation, missing } => implied(alloc, refusal, *relation, missing),
+        Refusal::Semantics { relation } => semantics(alloc, refusal, *relation),
+        Refusal::Stuck { undecided } => stuck(alloc, refusal, undecided.as_slice()),
+        Refusal::Behind { found, seen } => behind(alloc, refusal, *found, *seen),
+        Refusal::TooLong
+        | Refusal::NotJson
+        | Refusal::NotARequest
+        | Refusal::NoSession
+        | Refusal::AlreadyLoggedIn
+        | Refusal::SessionsExhausted
+        | Refusal::Cycle
+        | Refusal::AlreadyAssigned
+        | Refusal::NotAssigned
+        | Refusal::AlreadyGranted
+        | Refusal::NotGranted
+        | Refusal::EdgeExists
+        | Refusal::NoEdge
+        | Refusal::DsdShape
+        | Refusal::NoSlot
+        | Refusal::Occupied
+        | Refusal::Empty
+        | Refusal::UnknownSignal
+        | Refusal::NotInput
+        | Refusal::AlreadyOffered
+        | Refusal::NoInstant
+        | Refusal::JournalFull
+        | Refusal::InstantLoop
+        | Refusal::Memory => plain(alloc, refusal),
+    }
+}
+
+/// A reply to a command on a slot's journal, or to a policy command: what was done, at this place.
+fn placed(alloc: Global, done: &str, place: u64, version: u64) -> Result<Value, AllocError>
+    ensures { IfOk result (λ v. view v ≡ object (text_member (codes "ok") done.now (number_member (codes "place") place (number_member (codes "version") version no_members)))) }
+{
+    json!(in alloc; {"ok": done, "place": place, "version": version})
+}
+
+/// What a reply says.
+fn value(alloc: Global, reply: &Reply) -> Result<Value, AllocError>
+    ensures { IfOk result (λ v. view v ≡ reply_json reply.now) }
+{
+    match reply {
+        Reply::Refused(refusal) => refused(alloc, refusal),
+        Reply::Login { session, version } => {
+            json!(in alloc; {"ok": "login", "session": session.number(), "version": *version})
+        }
+        Reply::Changed { change, version } => {
+            json!(in alloc; {"ok": change.word(), "version": *version})
+        }
+        Reply::Load { place, version } => placed(alloc, "load", *place, *version),
+        Reply::Offer { place, version } => placed(alloc, "offer", *place, *version),
+        Reply::Step {
+            instant,
+            place,
+            version,
+        } => {
+            json!(in alloc; {"instant": *instant, "ok": "step", "place": *place, "version": *version})
+        }
+        Reply::Look {
+            instant,
+            signals,
+            version,
+        } => {
+            let signals = shown(alloc, signals.as_slice())?;
+            json!(in alloc; {"instant": *instant, "ok": "look", "signals": signals, "version": *version})
+        }
+        Reply::Check { allowed } => json!(in alloc; {"allowed": *allowed, "ok": "check"}),
+    }
+}
+
+/// The line for want of memory, from a constant.
+fn memory_line(alloc: Global) -> Result<Vec<u8>, AllocError>
+    ensures { IfOk result (λ line. line.items ≡ line_of (Refused refusal.Memory)) }
+{
+    Vec::from_slice(alloc, NO_MEMORY.as_bytes())
+}
+
+/// The line of a reply, with its LF. The line for want of memory is a constant.
+pub fn reply_line(alloc: Global, reply: &Reply) -> Result<Vec<u8>, AllocError>
+    ensures { IfOk result (λ line. line.items ≡ line_of reply.now) }
+{
+    if let Reply::Refused(Refusal::Memory) = reply {
+        return memory_line(alloc);
+    }
+    let value = value(alloc, reply)?;
+    let mut line = value.to_vec(alloc)?;
+    line.push(b'\n')?;
+    Ok(line)
+}
+
+/// The lines byte for byte.
+pub fn reply_lines_are_these()
+    ensures login { (session version : ℕ) → line_of (Login session version)
+        ≡ codes "{\"ok\":\"login\",\"session\":" ++ (decimal session ++ (codes ",\"version\":" ++ (decimal version ++ codes "}\n"))) }
+    ensures grant { (version : ℕ) → line_of (Changed change.GrantPermission version)
+        ≡ codes "{\"ok\":\"grant\",\"version\":" ++ (decimal version ++ codes "}\n") }
+    ensures logout { (version : ℕ) → line_of (Changed change.DeleteSession version)
+        ≡ codes "{\"ok\":\"logout\",\"version\":" ++ (decimal version ++ codes "}\n") }
+    ensures load { (place version : ℕ) → line_of (Load place version)
+        ≡ codes "{\"ok\":\"load\",\"place\":" ++ (decimal place ++ (codes ",\"version\":" ++ (decimal version ++ codes "}\n"))) }
+    ensures step { (instant place version : ℕ) → line_of (Step instant place version)
+        ≡ codes "{\"instant\":" ++ (decimal instant ++ (codes ",\"ok\":\"step\",\"place\":" ++ (decimal place
+        ++ (codes ",\"version\":" ++ (decimal version ++ codes "}\n"))))) }
+    ensures check { line_of (Check true) ≡ codes "{\"allowed\":true,\"ok\":\"check\"}\n" }
+    ensures not_json { line_of (Refused refusal.NotJson) ≡ codes "{\"code\":2,\"fault\":\"NotJson\"}\n" }
+    ensures memory { line_of (Refused refusal.Memory) ≡ codes "{\"code\":90,\"fault\":\"Memory\"}\n" }
+    ensures unknown_user { (user : List ℕ) → line_of (Refused (refusal.UnknownUser user))
+        ≡ codes "{\"code\":25,\"fault\":\"UnknownUser\",\"user\":" ++ (quoted user ++ codes "}\n") }
+    ensures syntax { (place : Place) → line_of (Refused (refusal.Syntax place))
+        ≡ codes "{\"code\":71,\"column\":" ++ (decimal place.column ++ (codes ",\"fault\":\"Syntax\",\"line\":" ++ (decimal place.line ++ codes "}\n"))) }
+{}
+
+#[cfg(test)]
+mod tests {
+    use super::*;
+    use access_core::reply::{Change, ShownSignals, SignalNames};
+    use std::test::Fail;
+
+    fn identifier(text: &str) -> Result<Identifier, Fail> {
+        match Identifier::from_text(text) {
+            Some(identifier) => Ok(identifier),
+            None => Err(Fail::new("no identifier")),
+        }
+    }
+
+    #[test]
+    fn reply_texts(rt: HostRuntime) -> Result<(), Fail> {
+        let alloc = rt.alloc();
+        let mut undecided = SignalNames::new(alloc);
+        undecided.push(identifier("O")?)?;
+        let mut signals = ShownSignals::new(alloc);
+        for (name, present) in [("O", true), ("P", false)] {
+            let name = identifier(name)?;
+            signals.push(ShownSignal { name, present })?;
+        }
+        let Some(object) = Object::from_text("0.A") else {
+            return Err(Fail::new("no object"));
+        };
+        let operation = Operation::Offer;
+        let place = Place {
+            line: 1,
+            column: 11,
+        };
+        for (reply, line) in [
+            (
+                Reply::Look {
+                    instant: 1,
+                    signals,
+                    version: 9,
+                },
+                "{\"instant\":1,\"ok\":\"look\",\"signals\":[[\"O\",true],[\"P\",false]],\"version\":9}\n",
+            ),
+            (
+                Reply::Changed {
+                    change: Change::DeleteSession,
+                    version: 10,
+                },
+                "{\"ok\":\"logout\",\"version\":10}\n",
+            ),
+            (
+                Reply::Refused(Refusal::Permission { operation, object }),
+                "{\"code\":10,\"fault\":\"Permission\",\"object\":\"0.A\",\"op\":\"offer\"}\n",
+            ),
+            (
+                Reply::Refused(Refusal::Stuck { undecided }),
+                "{\"code\":50,\"fault\":\"Stuck\",\"undecided\":[\"O\"]}\n",
+            ),
+            (
+                Reply::Refused(Refusal::Lexical { place }),
+                "{\"code\":70,\"column\":11,\"fault\":\"Lexical\",\"line\":1}\n",
+            ),
+        ] {
+            assert!(rt;
+                reply_line(alloc, &reply)?.as_slice() == line.as_bytes(),
+                "{line}"
+            );
+        }
+        assert!(rt; memory_line(alloc)?.as_slice() == NO_MEMORY.as_bytes());
+        Ok(())
+    }
+}
