@@ -1,0 +1,3 @@
+pub mod SetLemmas
+pub mod ChainLemmas
+pub mod EdgeLemmas

@@ -1,0 +1,32 @@
+-- Sets of places of roles, each as the number that has a bit for each of its places (this project's own form).
+use Rattle.std.specs.Prelude.{◌≡◌, ℕ, ◌^◌}
+use Rattle.std.specs.Int.{bit_at}
+use Rattle.std.specs.Int.RustNames.{bit_and, bit_or, bit_xor}
+
+-- the place is in the set
+abbrev pub Has : ℕ → ℕ → Type 0
+Has set place = bit_at set place ≡ 1
+
+-- a place is in both sets
+abbrev pub Meets : ℕ → ℕ → Type 0
+Meets a b = (place : ℕ) × Has a place × Has b place
+
+-- each place of the first set is in the second
+abbrev pub IsWithin : ℕ → ℕ → Type 0
+IsWithin a b = (place : ℕ) → Has a place → Has b place
+
+-- the places of either set
+abbrev pub either : ℕ → ℕ → ℕ
+either a b = bit_or a b
+
+-- the places of both sets
+abbrev pub common : ℕ → ℕ → ℕ
+common a b = bit_and a b
+
+-- the set with the place
+abbrev pub with_place : ℕ → ℕ → ℕ
+with_place set place = bit_or set (2 ^ place)
+
+-- the set without the place: it is put in, and turned
+abbrev pub without_place : ℕ → ℕ → ℕ
+without_place set place = bit_xor (bit_or set (2 ^ place)) (2 ^ place)

@@ -1,0 +1,267 @@
+//! The edges between roles, and what they make: all that lies below each role and above it.
+ghost use Rattle.std.specs.Prelude.{◌≡◌, ◌↔◌, ◌⊎◌, ◌<◌, ◌^◌, ℕ, IsTrue, length, replicate, slice_index, slice_set, map};
+ghost use Rattle.rbac_closure.specs.Sets.{Has, either, without_place};
+ghost use Rattle.rbac_closure.specs.Edges.{IsEdge, IsAbove, IsBelowSome, edge_added, edge_removed, role_cleared};
+ghost use Rattle.rbac_closure.specs.Inner.Rows.{HasJuniors, IsInTable};
+
+use crate::sets::{ROLES, RoleSet};
+use std::marker::Model;
+
+/// Edges from senior roles to junior ones, and what lies below and above each role, itself included. A contract sees the edges alone: for
+/// each place, the set of the juniors to which an edge leads from it.
+#[derive(Clone, Drop)]
+pub struct Rows {
+    juniors: [RoleSet; ROLES],
+    below: [RoleSet; ROLES],
+    above: [RoleSet; ROLES],
+}
+
+impl Model for Rows {
+    ghost use Rattle.std.specs.Prelude.{List, ℕ};
+    ghost use Rattle.rbac_closure.specs.Inner.Rows.{IsClosed};
+
+    ghost Value = { List ℕ };
+
+    ghost view = { λ r. r.juniors };
+
+    ghost invariant = { λ r. IsClosed r.juniors r.below r.above };
+}
+
+// Each place's set has that place alone.
+fn each_alone() -> [RoleSet; ROLES]
+    ensures { (role : ℕ) → role < ROLES → slice_index result role ≡ 2 ^ role }
+{
+    let mut rows = [RoleSet::empty(); ROLES];
+    for role in 0..ROLES {
+        rows[role] = RoleSet::single(role);
+    }
+    rows
+}
+
+// The rows of these places take in the set.
+fn join(rows: &mut [RoleSet; ROLES], places: RoleSet, more: RoleSet)
+    ensures { (role : ℕ) → role < ROLES → (place : ℕ) → Has (slice_index rows.new role) place
+        ↔ (Has (slice_index rows.old role) place ⊎ (Has places role × Has more place)) }
+{
+    for role in 0..ROLES {
+        if places.has(role) {
+            rows[role] = rows[role].union(more);
+        }
+    }
+}
+
+// The place is taken out of each set.
+fn take_out(rows: &mut [RoleSet; ROLES], place: usize)
+    requires { place < ROLES }
+    ensures { rows.new ≡ map (λ row. without_place row place) rows.old }
+{
+    for role in 0..ROLES {
+        rows[role] = rows[role].without(place);
+    }
+}
+
+impl Rows {
+    /// No edges.
+    pub fn new() -> Rows
+        ensures { result ≡ replicate ROLES 0 }
+    {
+        Rows {
+            juniors: [RoleSet::empty(); ROLES],
+            below: each_alone(),
+            above: each_alone(),
+        }
+    }
+
+    /// Whether an edge leads from the senior to the junior.
+    pub fn has_edge(&self, senior: usize, junior: usize) -> bool
+        requires senior_is { senior < ROLES }
+        requires junior_is { junior < ROLES }
+        ensures { IsTrue result ↔ IsEdge self.now senior junior }
+    {
+        self.juniors[senior].has(junior)
+    }
+
+    /// The role, and all that lies below it.
+    pub fn below(&self, role: usize) -> RoleSet
+        requires { role < ROLES }
+        ensures { (place : ℕ) → Has result place ↔ IsAbove self.now role place }
+    {
+        self.below[role]
+    }
+
+    /// The role, and all that lies above it.
+    pub fn above(&self, role: usize) -> RoleSet
+        requires { role < ROLES }
+        ensures { (place : ℕ) → Has result place ↔ IsAbove self.now place role }
+    {
+        self.above[role]
+    }
+
+    /// The roles of the set, and all that lies below one of them.
+    pub fn below_some(&self, roles: RoleSet) -> RoleSet
+        ensures { (place : ℕ) → Has result place ↔ IsBelowSome self.now roles place }
+    {
+        let _ = &self.juniors; // they are of all places
+        let mut found = roles;
+        for role in 0..ROLES {
+            if roles.has(role) {
+                found = found.union(self.below(role));
+            }
+        }
+        found
+    }
+
+    /// Adds the edge. Whether it makes a cycle is the caller's to ask: it does where the senior is at or below the junior.
+    pub fn add_edge(&mut self, senior: usize, junior: usize)
+        requires senior_is { senior < ROLES }
+        requires junior_is { junior < ROLES }
+        ensures added { self.new ≡ edge_added senior junior self.old }
+        ensures again { IsEdge self.old senior junior → self.new ≡ self.old }
+        ensures places { length self.new ≡ ROLES }
+    {
+        let upper = self.above[senior];
+        let lower = self.below[junior];
+        self.juniors[senior] = self.juniors[senior].with(junior);
+        join(&mut self.below, upper, lower);
+        join(&mut self.above, lower, upper);
+    }
+
+    // Adds an edge from the senior to each of these.
+    fn add_edges(&mut self, senior: usize, juniors: RoleSet)
+        requires { senior < ROLES }
+        ensures { HasJuniors self.old self.new senior juniors ROLES }
+    {
+        for junior in 0..ROLES {
+            if juniors.has(junior) {
+                self.add_edge(senior, junior);
+            }
+        }
+    }
+
+    // The rows of these edges.
+    fn rebuild(juniors: &[RoleSet; ROLES]) -> Rows
+        requires { IsInTable juniors.now }
+        ensures { result ≡ juniors.now }
+    {
+        let mut rows = Rows::new();
+        for senior in 0..ROLES {
+            rows.add_edges(senior, juniors[senior]);
+        }
+        rows
+    }
+
+    /// Removes the edge. What lies below the senior by other edges stays there.
+    pub fn remove_edge(&mut self, senior: usize, junior: usize)
+        requires senior_is { senior < ROLES }
+        requires junior_is { junior < ROLES }
+        ensures removed { self.new ≡ edge_removed senior junior self.old }
+        ensures absent { ¬ (IsEdge self.old senior junior) → self.new ≡ self.old }
+    {
+        let mut juniors = self.juniors;
+        juniors[senior] = juniors[senior].without(junior);
+        *self = Rows::rebuild(&juniors);
+    }
+
+    /// Removes all edges from and to the role.
+    pub fn clear_role(&mut self, role: usize)
+        requires { role < ROLES }
+        ensures { self.new ≡ role_cleared role self.old }
+    {
+        let mut juniors = self.juniors;
+        take_out(&mut juniors, role);
+        juniors[role] = RoleSet::empty();
+        *self = Rows::rebuild(&juniors);
+    }
+}
+
+#[cfg(test)]
+mod tests {
+    use super::*;
+
+    fn set(places: &[usize]) -> RoleSet {
+        let mut set = RoleSet::empty();
+        for place in places {
+            if *place < ROLES {
+                set = set.with(*place);
+            }
+        }
+        set
+    }
+
+    #[test]
+    fn chain_of_three(rt: HostRuntime) {
+        let mut rows = Rows::new();
+        rows.add_edge(1, 2);
+        rows.add_edge(0, 1);
+        assert_eq!(rt; rows.below(0), set(&[0, 1, 2]));
+        assert_eq!(rt; rows.above(2), set(&[0, 1, 2]));
+        assert_eq!(rt; rows.below_some(set(&[1, 5])), set(&[1, 2, 5]));
+
+        // what lies below a new junior comes along, and all above the senior take it in
+        rows.add_edge(3, 4);
+        rows.add_edge(2, 3);
+        assert_eq!(rt; rows.below(0), set(&[0, 1, 2, 3, 4]));
+        assert_eq!(rt; rows.below(2), set(&[2, 3, 4]));
+        assert_eq!(rt; rows.above(4), set(&[0, 1, 2, 3, 4]));
+        assert!(rt; rows.has_edge(2, 3) && !rows.has_edge(2, 4) && !rows.has_edge(3, 2));
+    }
+
+    // 0 stands above 3 by 1 and by 2, and above 4 by 2 alone.
+    #[test]
+    fn two_ways_down(rt: HostRuntime) {
+        let mut rows = Rows::new();
+        rows.add_edge(0, 1);
+        rows.add_edge(0, 2);
+        rows.add_edge(1, 3);
+        rows.add_edge(2, 3);
+        rows.add_edge(2, 4);
+        assert_eq!(rt; rows.below(0), set(&[0, 1, 2, 3, 4]));
+        rows.remove_edge(0, 2);
+        assert_eq!(rt; rows.below(0), set(&[0, 1, 3]));
+        assert_eq!(rt; rows.above(3), set(&[0, 1, 2, 3]));
+        assert_eq!(rt; rows.above(4), set(&[2, 4]));
+    }
+
+    #[test]
+    fn nothing_changes(rt: HostRuntime) {
+        let mut rows = Rows::new();
+        rows.add_edge(0, 1);
+        rows.add_edge(1, 2);
+        rows.add_edge(0, 1);
+        rows.remove_edge(0, 2);
+        assert_eq!(rt; rows.below(0), set(&[0, 1, 2]));
+        rows.remove_edge(0, 1);
+        assert_eq!(rt; rows.below(0), set(&[0]));
+        assert_eq!(rt; rows.above(2), set(&[1, 2]));
+    }
+
+    #[test]
+    fn place_is_used_again(rt: HostRuntime) {
+        let mut rows = Rows::new();
+        rows.add_edge(0, 1);
+        rows.add_edge(1, 2);
+        rows.add_edge(3, 1);
+        rows.add_edge(0, 2);
+        rows.clear_role(1);
+        assert_eq!(rt; rows.below(1), set(&[1]));
+        assert_eq!(rt; rows.above(1), set(&[1]));
+        assert_eq!(rt; rows.below(0), set(&[0, 2]));
+        assert_eq!(rt; rows.below(3), set(&[3]));
+        rows.add_edge(2, 1);
+        assert_eq!(rt; rows.below(0), set(&[0, 1, 2]));
+    }
+
+    #[test]
+    fn last_place(rt: HostRuntime) {
+        let last = ROLES - 1;
+        let own = RoleSet::single(last);
+        assert!(rt; own.has(last) && !own.has(0) && !own.is_empty());
+        assert!(rt; own.with(0).without(last).is_subset(RoleSet::single(0)));
+        assert!(rt; own.meets(own.with(0)) && !own.meets(RoleSet::single(0)));
+        assert!(rt; !own.with(0).is_subset(own));
+        assert_eq!(rt; own.with(0).common(own.with(1)), own);
+        let mut rows = Rows::new();
+        rows.add_edge(last, 0);
+        assert_eq!(rt; rows.below(last), set(&[0, last]));
+    }
+}

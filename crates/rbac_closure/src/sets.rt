@@ -1,0 +1,114 @@
+//! Sets of roles, each role being named by its place in a table.
+ghost use Rattle.std.specs.Prelude.{◌≡◌, ◌↔◌, ◌<◌, ◌^◌, ℕ, IsTrue};
+ghost use Rattle.rbac_closure.specs.Sets.{Has, Meets, IsWithin, with_place, without_place, either, common};
+
+use std::marker::Model;
+
+/// A word with a bit for each place.
+type Word = u32;
+
+/// How many places there are, and so how many roles there can be.
+pub const ROLES: usize = Word::BITS as usize;
+
+/// A set of places, in one word. A contract sees the number that has a bit for each of its places.
+#[derive(Clone, Copy, PartialEq, Eq, Debug)]
+pub struct RoleSet {
+    bits: Word,
+}
+
+impl Model for RoleSet {
+    ghost use Rattle.std.specs.Prelude.{ℕ, ◌<◌, ◌^◌};
+    ghost use Rattle.rbac_closure.specs.declared.sets.TheConstants.{ROLES};
+
+    ghost Value = { ℕ };
+
+    ghost view = { λ s. s.bits };
+
+    ghost invariant = { λ s. s.bits < 2 ^ ROLES };
+
+    ghost inverse = { λ n. record { bits = n } };
+}
+
+impl RoleSet {
+    /// The set without a place.
+    pub fn empty() -> RoleSet
+        ensures { result ≡ 0 }
+    {
+        RoleSet { bits: 0 }
+    }
+
+    /// The set of this place alone.
+    pub fn single(place: usize) -> RoleSet
+        requires { place < ROLES }
+        ensures { result ≡ 2 ^ place }
+    {
+        RoleSet { bits: 1 << place }
+    }
+
+    /// Whether the place is in the set.
+    pub fn has(self, place: usize) -> bool
+        requires { place < ROLES }
+        ensures { IsTrue result ↔ Has self place }
+    {
+        (self.bits >> place) & 1 == 1
+    }
+
+    /// The set with the place.
+    pub fn with(self, place: usize) -> RoleSet
+        requires { place < ROLES }
+        ensures { result ≡ with_place self place }
+    {
+        RoleSet {
+            bits: self.bits | 1 << place,
+        }
+    }
+
+    /// The set without the place.
+    pub fn without(self, place: usize) -> RoleSet
+        requires { place < ROLES }
+        ensures { result ≡ without_place self place }
+    {
+        RoleSet {
+            bits: (self.bits | 1 << place) ^ (1 << place),
+        }
+    }
+
+    /// The places of either set.
+    pub fn union(self, other: RoleSet) -> RoleSet
+        ensures { result ≡ either self other }
+    {
+        RoleSet {
+            bits: self.bits | other.bits,
+        }
+    }
+
+    /// The places of both sets.
+    pub fn common(self, other: RoleSet) -> RoleSet
+        ensures { result ≡ common self other }
+    {
+        RoleSet {
+            bits: self.bits & other.bits,
+        }
+    }
+
+    /// Whether the set has no place.
+    pub fn is_empty(self) -> bool
+        ensures { IsTrue result ↔ (self ≡ 0) }
+    {
+        self.bits == 0
+    }
+
+    /// Whether a place is in both sets.
+    pub fn meets(self, other: RoleSet) -> bool
+        ensures { IsTrue result ↔ Meets self other }
+    {
+        !self.common(other).is_empty()
+    }
+
+    /// Whether each place of this set is in the other.
+    pub fn is_subset(self, other: RoleSet) -> bool
+        ensures { IsTrue result ↔ IsWithin self other }
+    {
+        self.union(other) == other
+    }
+}
