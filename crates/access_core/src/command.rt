@@ -1,5 +1,5 @@
 //! Commands on slots.
-use est_kernel::identifier::Identifier;
+use est_text::identifier::Identifier;
 use reactor_core::text::Text;
 
 /// What a slot command asks for.

@@ -3,7 +3,7 @@ ghost use Rattle.std.specs.Prelude.{◌≡◌};
 ghost use Rattle.access_core.specs.Refusals.{code_of, name_of, limit_text, table_text};
 
 use crate::reply::SignalNames;
-use est_kernel::identifier::Identifier;
+use est_text::identifier::Identifier;
 use rbac_policy::commands::{SessionId, Table};
 use rbac_policy::names::Name;
 use rbac_policy::objects::{Object, Operation};

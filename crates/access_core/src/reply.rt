@@ -3,7 +3,7 @@ ghost use Rattle.std.specs.Prelude.{◌≡◌, ◌++◌, ◌∷◌, [], IfOk, On
 ghost use Rattle.access_core.specs.Replies.{word_of};
 
 use crate::refusal::Refusal;
-use est_kernel::identifier::Identifier;
+use est_text::identifier::Identifier;
 use rbac_policy::commands::SessionId;
 use std::alloc::{AllocError, Global};
 use std::marker::Model;

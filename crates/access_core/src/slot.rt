@@ -15,7 +15,7 @@ use crate::conversions::of_reactor;
 use crate::refusal::Refusal;
 use crate::reply::Reply;
 use crate::shown::{names, observed, seen_of, statuses};
-use est_kernel::identifier::Identifier;
+use est_text::identifier::Identifier;
 use est_kernel::state::Stuck;
 use rbac_policy::commands::SessionId;
 use rbac_policy::objects::{Object, Operation, SlotNumber};

@@ -3,7 +3,7 @@ use crate::command::SlotCommand;
 use crate::refusal::Refusal;
 use crate::reply::{Change, Reply, ShownSignals, SignalNames};
 use crate::single::Single;
-use est_kernel::identifier::Identifier;
+use est_text::identifier::Identifier;
 use rbac_policy::commands::{AdminCommand, SessionId};
 use rbac_policy::names::{Name, RoleNames};
 use rbac_policy::objects::{Object, Operation};

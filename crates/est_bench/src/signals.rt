@@ -4,7 +4,7 @@ ghost use Rattle.std.specs.Prelude.{IfOk, ◌≤◌};
 ghost use Rattle.est_bench.specs.Outputs.{HasOutputs};
 
 use anyhow::{Result, bail};
-use est_kernel::identifier::Identifier;
+use est_text::identifier::Identifier;
 use est_kernel::interface::{Declaration, Interface, Kind, MOST_SIGNALS};
 use std::alloc::Global;
 

@@ -5,7 +5,7 @@ ghost use Rattle.std.specs.List.{position, list_any};
 ghost use Rattle.est_kernel.specs.Bits.{bits};
 ghost use Rattle.est_kernel.specs.Interfaces.{same_kind, declares, inputs_of, outputs_of, is_named, HasDistinctNames};
 
-use crate::identifier::Identifier;
+use est_text::identifier::Identifier;
 use crate::mask;
 use crate::statement::InterfaceSignal;
 use std::alloc::{AllocError, Global};

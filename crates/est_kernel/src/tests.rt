@@ -5,11 +5,11 @@ ghost use Rattle.est_kernel.specs.Scope.{IsClosed};
 ghost use Rattle.est_kernel.specs.View.{term_of};
 ghost use Rattle.est_kernel.specs.declared.interface.Declaration.{Declaration};
 
-use crate::identifier::Identifier;
 use crate::interface::{Declaration, Interface, Kind};
 use crate::kernel::{Kernel, LoadFault};
 use crate::limits::Limit;
 use crate::statement::{LocalSignal, PauseIndex, Statement, TrapIndex};
+use est_text::identifier::Identifier;
 use std::alloc::{AllocError, Global};
 use std::process::Abort;
 use std::test::Fail;
@@ -127,20 +127,6 @@ fn instant_loops(rt: HostRuntime) -> Result<(), Fail> {
 
 fn identifier(rt: &impl Abort, text: &str) -> Identifier {
     Identifier::from_text(text).expect(rt, "an identifier")
-}
-
-#[test]
-fn identifiers(rt: HostRuntime) {
-    assert_eq!(rt; identifier(&rt, "A_1z").as_str(), "A_1z");
-    for text in ["", "1A", "_A", "A-B", "A.B", "\u{e4}"] {
-        assert_eq!(rt; Identifier::from_text(text), None, "{text}");
-    }
-    let longest = "abcdefghijklmnopqrstuvwxyzabcdefghijklmnopqrstuv";
-    assert_eq!(rt; identifier(&rt, longest).as_bytes().len(), 48);
-    assert_eq!(rt;
-        Identifier::from_text("abcdefghijklmnopqrstuvwxyzabcdefghijklmnopqrstuvw"),
-        None
-    );
 }
 
 #[test]

@@ -8,7 +8,7 @@ ghost use Rattle.est_rounds.specs.Contract.{AreInputs};
 
 use crate::engine::Engine;
 use crate::rounds::Rounds;
-use est_kernel::identifier::Identifier;
+use est_text::identifier::Identifier;
 use est_kernel::interface::{Declaration, Interface, Kind, MOST_SIGNALS};
 use est_kernel::kernel::{Kernel, LoadFault};
 use est_kernel::state::{Inputs, State};

@@ -1,5 +1,5 @@
-mod Ascii
-mod Filled
+pub mod Ascii
+pub mod Filled
 mod Fronts
 mod Heads
 mod OneCut

@@ -1,10 +1,12 @@
 //! Texts, their tokens and their faults.
+use crate::identifier::Identifier;
 use crate::keyword::Keyword;
 use crate::lex::{LexFault, lex};
 use crate::place::Place;
 use crate::token::{Symbol, Token};
 use crate::tokens::Tokens;
 use std::alloc::Global;
+use std::process::Abort;
 use std::test::Fail;
 
 const KEYWORD_TEXT: &str =
@@ -154,6 +156,24 @@ fn stands(tokens: &Tokens<'_>, index: usize, token: Token, text: &str) -> bool {
         Some(located) => located.token == token && tokens.text(index) == Some(text.as_bytes()),
         None => false,
     }
+}
+
+fn named(rt: &impl Abort, text: &str) -> Identifier {
+    Identifier::from_text(text).expect(rt, "an identifier")
+}
+
+#[test]
+fn identifiers(rt: HostRuntime) {
+    assert_eq!(rt; named(&rt, "A_1z").as_str(), "A_1z");
+    for text in ["", "1A", "_A", "A-B", "A.B", "\u{e4}"] {
+        assert_eq!(rt; Identifier::from_text(text), None, "{text}");
+    }
+    let longest = "abcdefghijklmnopqrstuvwxyzabcdefghijklmnopqrstuv";
+    assert_eq!(rt; named(&rt, longest).as_bytes().len(), 48);
+    assert_eq!(rt;
+        Identifier::from_text("abcdefghijklmnopqrstuvwxyzabcdefghijklmnopqrstuvw"),
+        None
+    );
 }
 
 #[test]

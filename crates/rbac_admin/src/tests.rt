@@ -4,7 +4,7 @@ ghost use Rattle.rbac_admin.specs.PolicyStep.{is_decided};
 
 use crate::decisions::{decide, is_decided};
 use crate::refusals::Refusal;
-use est_kernel::identifier::Identifier;
+use est_text::identifier::Identifier;
 use rbac_policy::commands::{AdminCommand, Entry, SessionId, Table};
 use rbac_policy::names::{LISTED_ROLES, Name, RoleNames};
 use rbac_policy::objects::{Object, Operation, SlotNumber};

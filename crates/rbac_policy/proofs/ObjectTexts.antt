@@ -7,7 +7,7 @@ use Rattle.std.proofs.lemmas.Bool.Decides.{nat_tests}
 use Rattle.std.proofs.lemmas.Grind.{common_steps}
 use Rattle.std.proofs.lemmas.Option.{same_Some}
 use Rattle.std.proofs.lemmas.Slice.Eq.{bytes_eq-Decides}
-use Rattle.est_kernel.specs.Identifiers.{is_identifier}
+use Rattle.est_text.specs.Identifiers.{is_identifier}
 use Rattle.rbac_policy.specs.Texts.{operation_text, operation_of, object_text, IsObject, object_of, object_in, slot_at, units_slot_at, slot_before}
 use Rattle.rbac_policy.specs.declared.objects.TheConstants.{SLOTS}
 use Rattle.rbac_policy.specs.declared.objects.Operation.{Operation}

@@ -1,7 +1,7 @@
 -- Operations and objects as text (this project's own form).
 use Rattle.std.specs.Prelude.{ℕ, ◌+◌, ◌-◌, ◌<◌, ◌*◌, ◌&&◌, ◌==◌, nat_le, nat_lt, IsTrue, List, [], ◌∷◌, ◌++◌, codes, decimal, Option, Some, None, option_and_then, if◌then◌else◌}
 use Rattle.std.specs.Str.{bytes_eq}
-use Rattle.est_kernel.specs.Identifiers.{is_identifier}
+use Rattle.est_text.specs.Identifiers.{is_identifier}
 use Rattle.rbac_policy.specs.declared.objects.Operation.{Operation}
 use Rattle.rbac_policy.specs.declared.objects.Operation.TheVariants as operation
 use Rattle.rbac_policy.specs.declared.objects.Object.{Object}

@@ -21,7 +21,7 @@ pub struct Name {
 
 impl Model for Name {
     ghost use Rattle.std.specs.Prelude.{List, ℕ, ◌-◌, ◌++◌, length, take, replicate, IsTrue};
-    ghost use Rattle.est_kernel.specs.Identifiers.{IsFilled};
+    ghost use Rattle.est_text.specs.Identifiers.{IsFilled};
     ghost use Rattle.rbac_policy.specs.Names.{is_name};
     ghost use Rattle.rbac_policy.specs.declared.names.TheConstants.{NAME_BYTES};
 

@@ -2,7 +2,7 @@
 ghost use Rattle.std.specs.Prelude.{◌≡◌, ◌<◌, ◌==◌, nat_lt, Some, None, if◌then◌else◌};
 ghost use Rattle.rbac_policy.specs.Objects.{operation_number, same_operation, same_object};
 
-use est_kernel::identifier::Identifier;
+use est_text::identifier::Identifier;
 use std::marker::Model;
 
 /// What a permission allows to do.

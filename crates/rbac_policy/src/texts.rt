@@ -7,7 +7,7 @@ ghost use Rattle.rbac_policy.specs.declared.objects.Object.{Object};
 
 use crate::names::Name;
 use crate::objects::{Object, Operation, SlotNumber};
-use est_kernel::identifier::Identifier;
+use est_text::identifier::Identifier;
 use std::alloc::{AllocError, Global};
 
 impl Name {

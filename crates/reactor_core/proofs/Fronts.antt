@@ -6,7 +6,7 @@ use Rattle.std.proofs.lemmas.Bool.Decides.{nat_tests}
 use Rattle.std.specs.List.{list_all}
 use Rattle.std.specs.Bool.{◌==◌}
 use Rattle.std.specs.Char.{is_ascii_alphabetic}
-use Rattle.est_kernel.specs.Identifiers.{is_identifier, is_identifier_byte}
+use Rattle.est_text.specs.Identifiers.{is_identifier, is_identifier_byte}
 use Rattle.reactor_core.specs.Keywords.{keyword_of}
 use Rattle.reactor_core.specs.Lexical.{is_blank, is_in_line, StopsAt, ClosesAt, IsPiece, IsPieceOf, IsFault, symbol_text}
 use Rattle.reactor_core.specs.declared.reader.keyword.Keyword.{Keyword}

@@ -2,7 +2,7 @@
 -- identifier's length, and that `%{` begins a comment up to the next `}%`, are this project's own form).
 use Rattle.std.specs.Prelude.{◌≡◌, ◌≢◌, ◌≤◌, ◌<◌, ◌+◌, ℕ, List, [], ◌∷◌, ◌++◌, length, take, drop, Bool, false, ◌||◌, ◌==◌, nat_lt, IsTrue, slice_index, codes, Some, None}
 use Rattle.std.specs.List.{list_all}
-use Rattle.est_kernel.specs.Identifiers.{is_identifier, is_identifier_byte}
+use Rattle.est_text.specs.Identifiers.{is_identifier, is_identifier_byte}
 use Rattle.reactor_core.specs.Keywords.{keyword_of}
 use Rattle.reactor_core.specs.declared.reader.token.Symbol.{Symbol}
 use Rattle.reactor_core.specs.declared.reader.token.Symbol.TheVariants as symbol

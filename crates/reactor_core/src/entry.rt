@@ -1,6 +1,6 @@
 //! The entries of a slot's journal.
 use crate::text::Text;
-use est_kernel::identifier::Identifier;
+use est_text::identifier::Identifier;
 use est_kernel::kernel::Kernel;
 
 /// The policy version at which a command was judged, and the number of the session that gave it.

@@ -18,7 +18,7 @@ use crate::reactor::instant::Instant;
 use crate::reader::read_kernel;
 use crate::refusal::Refusal;
 use crate::text::Text;
-use est_kernel::identifier::Identifier;
+use est_text::identifier::Identifier;
 use est_kernel::interface::{Interface, Kind};
 use est_kernel::kernel::Kernel;
 use est_kernel::mask;

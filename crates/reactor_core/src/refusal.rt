@@ -1,6 +1,6 @@
 //! What a reactor refuses.
 use crate::reader::fault::ReadFault;
-use est_kernel::identifier::Identifier;
+use est_text::identifier::Identifier;
 use est_kernel::kernel::LoadFault;
 use est_kernel::limits::Limit as KernelLimit;
 

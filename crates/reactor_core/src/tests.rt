@@ -4,7 +4,7 @@ use crate::journal::Journal;
 use crate::reactor::{Reactor, Shown};
 use crate::refusal::{Place, Refusal};
 use crate::text::Text;
-use est_kernel::identifier::Identifier;
+use est_text::identifier::Identifier;
 use est_kernel::state::Stuck;
 use std::alloc::Global;
 use std::process::Abort;

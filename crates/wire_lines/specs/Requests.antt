@@ -4,7 +4,7 @@ use Rattle.std.specs.List.{AllByRecursion}
 use Rattle.serde_json.specs.Data.{Data, number, unsigned, string, array, object, Members, member, no_members}
 use Rattle.serde_json.specs.Read.{read}
 use Rattle.serde_json.specs.View.{items_of}
-use Rattle.est_kernel.specs.Identifiers.{is_identifier}
+use Rattle.est_text.specs.Identifiers.{is_identifier}
 use Rattle.rbac_policy.specs.declared.names.TheConstants.{LISTED_ROLES}
 use Rattle.rbac_policy.specs.Names.{is_name}
 use Rattle.rbac_policy.specs.Texts.{operation_text, object_text, IsObject}

@@ -8,7 +8,7 @@ ghost use Rattle.wire_lines.specs.declared.request.Request.{Request};
 
 use crate::request::{Command, Request};
 use access_core::refusal::Refusal;
-use est_kernel::identifier::Identifier;
+use est_text::identifier::Identifier;
 use rbac_policy::names::{LISTED_ROLES, Name, RoleNames};
 use rbac_policy::objects::{Object, Operation};
 use reactor_core::text::Text;

@@ -17,7 +17,7 @@ ghost use Rattle.reactor_core.specs.declared.refusal.Place.{Place};
 
 use access_core::refusal::{Refusal, limit_text, table_text};
 use access_core::reply::{Reply, ShownSignal};
-use est_kernel::identifier::Identifier;
+use est_text::identifier::Identifier;
 use rbac_policy::commands::SessionId;
 use rbac_policy::names::Name;
 use rbac_policy::objects::{Object, Operation};

@@ -1,5 +1,5 @@
 //! What a line may ask for.
-use est_kernel::identifier::Identifier;
+use est_text::identifier::Identifier;
 use rbac_policy::names::{Name, RoleNames};
 use rbac_policy::objects::{Object, Operation};
 use reactor_core::text::Text;

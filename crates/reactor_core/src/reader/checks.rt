@@ -9,7 +9,7 @@ use crate::reader::names::{Mention, mentions_of};
 use crate::reader::size::sequence_size;
 use crate::reader::tree::Module;
 use crate::refusal::Limit;
-use est_kernel::identifier::Identifier;
+use est_text::identifier::Identifier;
 use est_kernel::interface::{Declaration, Kind, MOST_SIGNALS};
 use est_kernel::limits::MOST_STATEMENTS;
 use std::alloc::Global;

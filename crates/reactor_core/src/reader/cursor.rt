@@ -6,7 +6,7 @@ ghost use Rattle.reactor_core.specs.declared.reader.token.Token.TheVariants.{Key
 use crate::reader::keyword::Keyword;
 use crate::reader::parser::SyntaxFault;
 use crate::reader::token::{Located, Symbol, Token};
-use est_kernel::identifier::Identifier;
+use est_text::identifier::Identifier;
 
 /// The tokens that are left.
 #[derive(Drop)]

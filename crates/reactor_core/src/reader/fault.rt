@@ -1,6 +1,6 @@
 //! Why a module text is not read.
 use crate::refusal::{Limit, Place};
-use est_kernel::identifier::Identifier;
+use est_text::identifier::Identifier;
 use std::alloc::AllocError;
 
 /// The first fault of a text, in the order of the checks.

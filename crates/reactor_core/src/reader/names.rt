@@ -4,7 +4,7 @@ ghost use Rattle.reactor_core.specs.Checks.{mentioned, unit_mentions, branches_m
 ghost use Rattle.reactor_core.specs.Trees.{unit_view, branches_view, sequence_view};
 
 use crate::reader::tree::{Branches, Sequence, Unit};
-use est_kernel::identifier::Identifier;
+use est_text::identifier::Identifier;
 use std::alloc::{AllocError, Global};
 
 /// A signal's name where it is emitted or tested.

@@ -8,7 +8,7 @@ ghost use Rattle.reactor_core.specs.declared.reader.token.Token.TheVariants.{Sym
 use crate::reader::keyword::keyword_of;
 use crate::reader::scan::{close_at, is_blank, line_len, word_len};
 use crate::reader::token::{Symbol, Token};
-use est_kernel::identifier::Identifier;
+use est_text::identifier::Identifier;
 
 /// What a text is cut into.
 #[derive(Clone, Copy, PartialEq, Eq, Debug)]

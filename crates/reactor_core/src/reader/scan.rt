@@ -1,7 +1,7 @@
 //! How far a blank, a word or a comment goes.
 ghost use Rattle.std.specs.Prelude.{◌≡◌, ◌≤◌, ◌<◌, ◌+◌, ℕ, length, take, drop, IsTrue, IfSome, IfNone};
 ghost use Rattle.std.specs.List.{list_all};
-ghost use Rattle.est_kernel.specs.Identifiers.{is_identifier_byte};
+ghost use Rattle.est_text.specs.Identifiers.{is_identifier_byte};
 ghost use Rattle.reactor_core.specs.Lexical.{is_blank, is_in_line, StopsAt, ClosesAt};
 
 /// Space, tab, CR, LF and form feed.

@@ -3,7 +3,7 @@ ghost use Rattle.std.specs.Prelude.{◌≡◌, IsTrue};
 ghost use Rattle.reactor_core.specs.declared.reader.token.Token.TheVariants.{Keyword as KeywordToken, Symbol as SymbolToken};
 
 use crate::reader::keyword::Keyword;
-use est_kernel::identifier::Identifier;
+use est_text::identifier::Identifier;
 
 /// A symbol of the language.
 #[derive(Clone, Copy, PartialEq, Eq, Debug)]

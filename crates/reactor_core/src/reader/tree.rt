@@ -1,5 +1,5 @@
 //! The tree of a module's text, with the names as they are written.
-use est_kernel::identifier::Identifier;
+use est_text::identifier::Identifier;
 use est_kernel::interface::Declaration;
 
 /// A unit.

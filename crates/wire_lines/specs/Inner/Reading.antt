@@ -6,7 +6,7 @@ use Rattle.std.specs.Option.{option_map_or}
 use Rattle.std.specs.declared.alloc.Global.{Global}
 use Rattle.serde_json.specs.Data.{Data, Items, item, no_items, Members, member, no_members}
 use Rattle.serde_json.specs.Find.{get, as_object, as_array, as_str, as_u64, as_number}
-use Rattle.est_kernel.specs.Identifiers.{is_identifier}
+use Rattle.est_text.specs.Identifiers.{is_identifier}
 use Rattle.rbac_policy.specs.declared.names.TheConstants.{LISTED_ROLES}
 use Rattle.rbac_policy.specs.Names.{is_name}
 use Rattle.rbac_policy.specs.Texts.{operation_of, object_of}

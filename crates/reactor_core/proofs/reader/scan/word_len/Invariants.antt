@@ -1,6 +1,6 @@
 use Rattle.std.proofs.Common.{◌-◌, ◌≤◌, length, take, IsTrue}
 use Rattle.std.specs.List.{list_all}
-use Rattle.est_kernel.specs.Identifiers.{is_identifier_byte}
+use Rattle.est_text.specs.Identifiers.{is_identifier_byte}
 use Rattle.reactor_core.proofs.reader.scan.word_len.Given as goal
 
 abbrev pub invariant-loop-count : goal.invariant-loop-count
