@@ -3,7 +3,7 @@ PROGRAM := crates/estserve/out/estserve
 ENGINE := crates/est_bench/out/est_bench
 TEXTS := crates/text_bench/out/text_bench
 
-.PHONY: help try run build examples test bench faults times
+.PHONY: help try run build examples documents test bench faults times
 
 help:
 	@echo 'make try       run the opening script on the program as it stands, built WITHOUT proof: about a minute'
@@ -12,6 +12,7 @@ help:
 	@echo '               and stored runs; the last line is "N passed, M failed"'
 	@echo 'make build     as make run, without the script'
 	@echo 'make examples  run each script of examples/scripts on the program, built without proof, and compare its answers'
+	@echo 'make documents write the tables of docs/PROOFS.md anew from the sources'
 	@echo 'make bench     prove and build, and then time commands, instants and the reading of texts'
 	@echo 'make faults    refuse each allocation of one test in turn; no part of make test'
 	@echo 'make times     the proofs, wrong bodies and tests of make test, and a table of the time that each crate takes'
@@ -28,6 +29,11 @@ build:
 
 examples:
 	cd crates/estserve && rt try --cases ../../examples/scripts -- script
+
+documents:
+	python3 scripts/reading_list.py
+	python3 scripts/wrong_bodies.py
+	python3 tests/documents.py
 
 test:
 	python3 tests/documents.py

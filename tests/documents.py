@@ -14,15 +14,31 @@ import sys
 ROOT = pathlib.Path(__file__).resolve().parent.parent
 sys.path.insert(0, str(ROOT / "scripts"))
 sys.dont_write_bytecode = True
+import reading_list  # noqa: E402
 import wrong_bodies  # noqa: E402
 
 
-def differing_edits():
-    """What there is to say of the wrong bodies."""
+def differing_tables():
+    """A line for each table of docs/PROOFS.md that its script would write otherwise."""
     text = wrong_bodies.DOCUMENT.read_text()
-    if wrong_bodies.written(text) == text:
-        return []
-    return ["docs/PROOFS.md is out of step with the wrong bodies: run scripts/wrong_bodies.py"]
+    return [
+        f"docs/PROOFS.md is out of step: run scripts/{script.__name__}.py"
+        for script in [reading_list, wrong_bodies]
+        if script.written(text) != text
+    ]
+
+
+def missing_functions():
+    """A line for each function of the walk in docs/ARCHITECTURE.md that doesn't stand in its file."""
+    text = (ROOT / "docs/ARCHITECTURE.md").read_text()
+    faults = []
+    for functions, name in re.findall(r"^\| \d+ \| (.*?) \| (crates/\S+) \|", text, re.MULTILINE):
+        file = ROOT / name
+        code = file.read_text() if file.exists() else ""
+        for function in re.findall(r"`(\w+)`", functions):
+            if not re.search(rf"\bfn {function}\b", code):
+                faults.append(f"docs/ARCHITECTURE.md: no function {function} in {name}")
+    return faults
 
 
 def missing_crates(document):
@@ -58,8 +74,8 @@ def broken_links(document):
 
 
 def main():
-    faults = differing_edits() + faulty_examples()
-    for document in ["README.md", "docs/ARCHITECTURE.md", "docs/GATE.md"]:
+    faults = differing_tables() + missing_functions() + faulty_examples()
+    for document in ["README.md", "docs/ARCHITECTURE.md"]:
         faults += missing_crates(document)
     for document in [*ROOT.glob("*.md"), *ROOT.glob("docs/*.md"), *ROOT.glob("examples/*.md")]:
         faults += broken_links(document)
