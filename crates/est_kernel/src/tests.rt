@@ -164,3 +164,60 @@ fn kernels(rt: HostRuntime) -> Result<(), Fail> {
     assert!(rt; matches!(kernel.root(), Statement::Pause(_)));
     Ok(())
 }
+
+/// Seven local signals behind seventeen loops: the loops are told.
+#[test]
+fn first_limit(rt: HostRuntime) -> Result<(), Fail> {
+    let alloc = rt.alloc();
+    let many_loops = Box::new(alloc, loops(alloc, 17)?)?;
+    let many_locals = Box::new(alloc, locals(alloc, 7)?)?;
+    assert_eq!(rt;
+        fault(alloc, Statement::Seq(many_loops, many_locals)),
+        Some(LoadFault::TooLarge(Limit::Loops))
+    );
+    Ok(())
+}
+
+/// The number of a pause.
+fn pause_number(s: &Statement) -> Option<u16> {
+    match s {
+        Statement::Pause(n) => Some(n.index),
+        _ => None,
+    }
+}
+
+/// The numbers of two pauses in sequence.
+fn pause_numbers(s: &Statement) -> Option<(u16, u16)> {
+    match s {
+        Statement::Seq(p, q) => Some((pause_number(p)?, pause_number(q)?)),
+        _ => None,
+    }
+}
+
+/// The number of the inner local signal of two, and those of the two pauses in it.
+fn inner_numbers(s: &Statement) -> Option<(LocalSignal, (u16, u16))> {
+    match s {
+        Statement::Local(s, p) => Some((*s, pause_numbers(p)?)),
+        _ => None,
+    }
+}
+
+/// `signal S in signal T in pause; pause end end`: each pause gets a number of its own, and each binder keeps its own.
+#[test]
+fn numbers(rt: HostRuntime) -> Result<(), Fail> {
+    let alloc = rt.alloc();
+    let pauses = Statement::Seq(Box::new(alloc, pause())?, Box::new(alloc, pause())?);
+    let inner = Statement::Local(LocalSignal { index: 1 }, Box::new(alloc, pauses)?);
+    let outer = Statement::Local(LocalSignal { index: 0 }, Box::new(alloc, inner)?);
+    let kernel = Kernel::build(Interface::new(alloc), outer)
+        .ok()
+        .expect(&rt, "a kernel");
+    let found = match kernel.root() {
+        Statement::Local(_, p) => inner_numbers(p),
+        _ => None,
+    };
+    let (signal, pauses) = found.expect(&rt, "two local signals round two pauses");
+    assert_eq!(rt; signal.index, 1);
+    assert_eq!(rt; pauses, (0, 1));
+    Ok(())
+}

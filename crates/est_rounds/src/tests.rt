@@ -41,6 +41,11 @@ fn exit() -> Statement {
     Statement::Exit(TrapIndex { index: 0 })
 }
 
+/// Leaves the trap round the innermost one.
+fn exit_outer() -> Statement {
+    Statement::Exit(TrapIndex { index: 1 })
+}
+
 fn seq(alloc: Global, p: Statement, q: Statement) -> Result<Statement, AllocError> {
     Ok(Statement::Seq(Box::new(alloc, p)?, Box::new(alloc, q)?))
 }
@@ -208,6 +213,9 @@ enum Program {
     LeftAtOnce,
     LeftWhilePaused,
     LeftAgain,
+    LeftThenPaused,
+    LeftOutwards,
+    PerhapsReached,
     ParallelLocal,
     EitherBranch,
     ForItself,
@@ -250,6 +258,23 @@ fn left_while_paused(a: Global) -> Result<Statement, AllocError> {
 fn left_again(a: Global) -> Result<Statement, AllocError> {
     let body = trap(a, seq(a, pause(), exit())?)?;
     again(a, seq(a, body, emit(O))?)
+}
+
+fn left_then_paused(a: Global) -> Result<Statement, AllocError> {
+    let right = seq(a, emit(O), seq(a, pause(), emit(P))?)?;
+    let left = trap(a, par(a, exit(), right)?)?;
+    seq(a, left, seq(a, pause(), emit(Q))?)
+}
+
+fn left_outwards(a: Global) -> Result<Statement, AllocError> {
+    let inner = seq(a, trap(a, exit_outer())?, emit(O))?;
+    seq(a, trap(a, inner)?, emit(P))
+}
+
+fn perhaps_reached(a: Global) -> Result<Statement, AllocError> {
+    let first = present(a, Test::Status(O), pause(), Statement::Nothing)?;
+    let asks = present(a, Test::Status(S), Statement::Nothing, emit(O))?;
+    seq(a, first, local(a, seq(a, emit(S), asks)?)?)
 }
 
 fn parallel_local(a: Global) -> Result<Statement, AllocError> {
@@ -301,6 +326,9 @@ fn statement(a: Global, program: Program) -> Result<Statement, AllocError> {
         Program::LeftAtOnce => left_at_once(a),
         Program::LeftWhilePaused => left_while_paused(a),
         Program::LeftAgain => left_again(a),
+        Program::LeftThenPaused => left_then_paused(a),
+        Program::LeftOutwards => left_outwards(a),
+        Program::PerhapsReached => perhaps_reached(a),
         Program::ParallelLocal => parallel_local(a),
         Program::EitherBranch => either_branch(a),
         Program::ForItself => for_itself(a),
@@ -317,6 +345,8 @@ const NONE: Shown = Ok(0);
 const ONLY_O: Shown = Ok(0b0010);
 
 const ONLY_P: Shown = Ok(0b0100);
+
+const ONLY_Q: Shown = Ok(0b1000);
 
 const O_AND_P: Shown = Ok(0b0110);
 
@@ -337,7 +367,7 @@ struct Example {
     shown: Result<[Shown; 4], LoadFault>,
 }
 
-const EXAMPLES: [Example; 16] = [
+const EXAMPLES: [Example; 19] = [
     Example {
         text: "emit O; pause; emit P",
         program: Program::Opening,
@@ -381,6 +411,18 @@ const EXAMPLES: [Example; 16] = [
         shown: Ok([NONE, ONLY_O, ONLY_O, ONLY_O]),
     },
     Example {
+        text: "trap T in [exit T || emit O; pause; emit P] end; pause; emit Q",
+        program: Program::LeftThenPaused,
+        inputs: NEVER,
+        shown: Ok([ONLY_O, ONLY_Q, NONE, NONE]),
+    },
+    Example {
+        text: "trap T in [trap U in exit T end; emit O] end; emit P",
+        program: Program::LeftOutwards,
+        inputs: NEVER,
+        shown: Ok([ONLY_P, NONE, NONE, NONE]),
+    },
+    Example {
         text: "signal S in [present S then emit O end || emit S] end",
         program: Program::ParallelLocal,
         inputs: NEVER,
@@ -401,6 +443,12 @@ const EXAMPLES: [Example; 16] = [
     Example {
         text: "present O else emit O end",
         program: Program::AgainstItself,
+        inputs: NEVER,
+        shown: Ok([STUCK_AT_O; 4]),
+    },
+    Example {
+        text: "present O then pause end; signal S in [emit S; present S else emit O end] end",
+        program: Program::PerhapsReached,
         inputs: NEVER,
         shown: Ok([STUCK_AT_O; 4]),
     },
