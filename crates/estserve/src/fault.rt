@@ -42,3 +42,27 @@ pub fn outcome(end: End) -> Result<(), Fault>
         End::Memory => Err(Fault::Memory),
     }
 }
+
+#[cfg(test)]
+mod tests {
+    use super::*;
+    use std::test::Fail;
+
+    #[test]
+    fn statuses_of_ends(rt: HostRuntime) -> Result<(), Fail> {
+        for (end, wanted) in [
+            (End::Closed, 0),
+            (End::TooLong, 0),
+            (End::ReadFault, 1),
+            (End::WriteFault, 1),
+            (End::Memory, 1),
+        ] {
+            let status = match outcome(end) {
+                Ok(()) => 0,
+                Err(fault) => fault.status(),
+            };
+            assert_eq!(rt; status, wanted, "{end:?}");
+        }
+        Ok(())
+    }
+}

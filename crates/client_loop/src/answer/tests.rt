@@ -1,7 +1,8 @@
 //! What one connection is answered, line by line, in the worked examples.
-use super::{answer, hang_up};
+use super::{Turn, answer, hang_up, hold_untold};
 use crate::connection::Connection;
 use crate::serving::Answerer;
+use access_core::refusal::Refusal;
 use access_core::reply::{Change, Reply};
 use access_core::single::Single;
 use rbac_policy::commands::{AdminCommand, SessionId};
@@ -363,6 +364,18 @@ fn long_lines_and_bytes_that_are_no_text(rt: HostRuntime) -> Result<(), Fail> {
     assert!(rt; is_line(text.as_slice(), r#"{"code":1,"fault":"TooLong"}"#));
     let text = connection.answer(alloc, b"\"\xff\"")?;
     assert!(rt; is_line(text.as_slice(), r#"{"code":2,"fault":"NotJson"}"#));
+    Ok(())
+}
+
+/// A logout that is answered NoSession frees the connection, but not where no text was made of the answer; an accepted one does.
+#[test]
+fn the_login_where_no_text_was_made(rt: HostRuntime) -> Result<(), Fail> {
+    let held = Some(SessionId::new(1));
+    let reply = Reply::Refused(Refusal::NoSession);
+    assert!(rt; hold_untold(&Turn { reply, login: None }, &held).is_some());
+    let change = Change::DeleteSession;
+    let reply = Reply::Changed { change, version: 6 };
+    assert!(rt; hold_untold(&Turn { reply, login: None }, &held).is_none());
     Ok(())
 }
 
