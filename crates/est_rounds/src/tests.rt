@@ -8,13 +8,13 @@ ghost use Rattle.est_rounds.specs.Contract.{AreInputs};
 
 use crate::engine::Engine;
 use crate::rounds::Rounds;
-use est_text::identifier::Identifier;
 use est_kernel::interface::{Declaration, Interface, Kind, MOST_SIGNALS};
 use est_kernel::kernel::{Kernel, LoadFault};
 use est_kernel::state::{Inputs, State};
 use est_kernel::statement::{
     InterfaceSignal, LocalSignal, PauseIndex, Signal, Statement, Test, TrapIndex,
 };
+use est_text::identifier::Identifier;
 use std::alloc::{AllocError, Global};
 use std::process::Abort;
 use std::test::Fail;
