@@ -182,10 +182,9 @@ fn kernels(rt: HostRuntime) -> Result<(), Fail> {
 #[test]
 fn first_limit(rt: HostRuntime) -> Result<(), Fail> {
     let alloc = rt.alloc();
-    let many_loops = Box::new(alloc, loops(alloc, 17)?)?;
-    let many_locals = Box::new(alloc, locals(alloc, 7)?)?;
+    let both = Statement::seq(alloc, loops(alloc, 17)?, locals(alloc, 7)?)?;
     assert_eq!(rt;
-        fault(alloc, Statement::Seq(many_loops, many_locals)),
+        fault(alloc, both)?,
         Some(LoadFault::TooLarge(Limit::Loops))
     );
     Ok(())
@@ -219,9 +218,9 @@ fn inner_numbers(s: &Statement) -> Option<(LocalSignal, (u16, u16))> {
 #[test]
 fn numbers(rt: HostRuntime) -> Result<(), Fail> {
     let alloc = rt.alloc();
-    let pauses = Statement::Seq(Box::new(alloc, pause())?, Box::new(alloc, pause())?);
-    let inner = Statement::Local(LocalSignal { index: 1 }, Box::new(alloc, pauses)?);
-    let outer = Statement::Local(LocalSignal { index: 0 }, Box::new(alloc, inner)?);
+    let pauses = Statement::seq(alloc, Statement::pause(), Statement::pause())?;
+    let inner = Statement::local(alloc, 1, pauses)?;
+    let outer = Statement::local(alloc, 0, inner)?;
     let kernel = Kernel::build(Interface::new(alloc), outer)
         .ok()
         .expect(&rt, "a kernel");
