@@ -1,10 +1,11 @@
 #!/usr/bin/env python3
 """Checks that the documents keep up with the repository.
 
-The table of wrong bodies in docs/PROOFS.md is the one that scripts/wrong_bodies.py writes; each crate stands in
-README.md, docs/ARCHITECTURE.md and docs/GATE.md; each script of examples/scripts has its answers and its row in
-examples/README.md, and the opening one is the stored run; each link to a file leads to one. Ends with status 1 after
-naming what differs.
+The reading list and the table of wrong bodies in docs/PROOFS.md are those that scripts/reading_list.py and
+scripts/wrong_bodies.py write, and each wrong body says why it is wrong; each crate stands in README.md and
+docs/ARCHITECTURE.md; each function of the walk there stands in its file; each script of examples/scripts has its
+answers and its row in examples/README.md, and the opening one is the stored run; each link to a file leads to one.
+Ends with status 1 after naming what differs.
 """
 
 import pathlib
