@@ -4,12 +4,12 @@ use Rattle.std.specs.Prelude.{map}
 use Rattle.std.specs.List.{concat}
 use Rattle.std.specs.Io.KnownBytes.{Appends}
 use Rattle.std.proofs.KnownBytes.{Appends-nil, Appends-trans}
-use Rattle.client_loop.specs.Serving.{Connection, Exchange, TakesLine, Runs, KnownCuts}
+use Rattle.client_loop.specs.Serving.{BetweenLines, Exchange, TakesLine, Runs, KnownCuts}
 
 -- what is written is the answers in turn
-pub answers_written : {A : Type 0} (tells : A → List ℕ → List ℕ → A → Type 0) (before after : Connection A) (es : List Exchange) → Runs tells before es after
+pub answers_written : {A : Type 0} (tells : A → List ℕ → List ℕ → A → Type 0) (before after : BetweenLines A) (es : List Exchange) → Runs tells before es after
     → Appends before.written after.written (concat (map (λ (e : Exchange). e.text) es))
-answers_written {A} tells before after [] runs = subst (λ (c : Connection A). Appends before.written c.written []) runs (Appends-nil before.written)
+answers_written {A} tells before after [] runs = subst (λ (c : BetweenLines A). Appends before.written c.written []) runs (Appends-nil before.written)
 answers_written tells before after (e ∷ later) runs =
     Appends-trans before.written runs.0.written after.written e.text _ runs.1.writes (answers_written tells runs.0 after later runs.2)
 
@@ -24,7 +24,7 @@ known_none None = tt
 known_none (Some xs) = refl
 
 -- the lines that are answered are those of the bytes in turn
-pub lines_cut : {A : Type 0} (tells : A → List ℕ → List ℕ → A → Type 0) (before after : Connection A) (es : List Exchange) → Runs tells before es after
+pub lines_cut : {A : Type 0} (tells : A → List ℕ → List ℕ → A → Type 0) (before after : BetweenLines A) (es : List Exchange) → Runs tells before es after
     → KnownCuts before.ahead (map (λ (e : Exchange). e.line) es) after.ahead
-lines_cut {A} tells before after [] runs = subst (λ (c : Connection A). KnownCuts before.ahead [] c.ahead) runs (known_none before.ahead)
+lines_cut {A} tells before after [] runs = subst (λ (c : BetweenLines A). KnownCuts before.ahead [] c.ahead) runs (known_none before.ahead)
 lines_cut tells before after (e ∷ later) runs = known_more before.ahead runs.0.ahead after.ahead e.line _ runs.1.takes (lines_cut tells runs.0 after later runs.2)

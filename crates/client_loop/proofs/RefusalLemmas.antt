@@ -11,7 +11,7 @@ use Rattle.access_core.specs.Needs.{IsAccepted}
 use Rattle.access_core.proofs.Unchanged.{admin_refused, slot_refused}
 use Rattle.wire_lines.specs.declared.request.Request.{Request}
 use Rattle.wire_lines.specs.declared.request.Request.TheVariants.{Login, Logout, Grant, Load, Offer, Step, Look}
-use Rattle.client_loop.specs.Connection.{Asks, with_login, LineStep, TellsNothing}
+use Rattle.client_loop.specs.LineSteps.{Asks, with_login, LineStep, TellsNothing}
 
 asked_stays : (request : Request) (login : Option ℕ) (before : Desk) (refusal : Refusal) (after : Desk)
     → Asks request login before (Refused refusal) after → after ≡ before

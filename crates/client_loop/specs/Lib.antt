@@ -1,2 +1,2 @@
 pub mod Serving
-pub mod Connection
+pub mod LineSteps

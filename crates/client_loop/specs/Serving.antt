@@ -14,10 +14,14 @@ too_long_text = line_of (Refused refusal.TooLong)
 
 -- a connection between two lines: the bytes that are held or still to be read and the bytes that were written, where they are known, and what
 -- answers its lines
-pub record Connection (A : Type 0) : Type 0 where
+pub record BetweenLines (A : Type 0) : Type 0 where
   pub ahead : Option (List ℕ)
   pub written : Option (List ℕ)
   pub desk : A
+
+-- the same with these bytes ahead, these written, and this that answers
+abbrev pub between : {A : Type 0} → Option (List ℕ) → Option (List ℕ) → A → BetweenLines A
+between ahead written desk = record { ahead = ahead; written = written; desk = desk }
 
 -- the next line of known bytes is this one, and these bytes follow it
 abbrev pub TakesLine : Option (List ℕ) → List ℕ → Option (List ℕ) → Type 0
@@ -46,23 +50,23 @@ abbrev pub WritesFront : Option (List ℕ) → Option (List ℕ) → List ℕ �
 WritesFront before after text = (left : List ℕ) × WritesUpTo before after text left
 
 -- the next line was answered by this text, which was written
-pub record AnswersLine {A : Type 0} (tells : A → List ℕ → List ℕ → A → Type 0) (before : Connection A) (line text : List ℕ) (after : Connection A) : Type 0 where
+pub record AnswersLine {A : Type 0} (tells : A → List ℕ → List ℕ → A → Type 0) (before : BetweenLines A) (line text : List ℕ) (after : BetweenLines A) : Type 0 where
   pub takes : TakesLine before.ahead line after.ahead
   pub told : tells before.desk line text after.desk
   pub writes : Appends before.written after.written text
 
 -- nothing was answered or written
-pub record IsSilent {A : Type 0} (before : Connection A) (desk : A) (written : Option (List ℕ)) : Type 0 where
+pub record IsSilent {A : Type 0} (before : BetweenLines A) (desk : A) (written : Option (List ℕ)) : Type 0 where
   pub same_desk : desk ≡ before.desk
   pub same_written : Keeps before.written written
 
 -- the next line is over its limit, and is asked of no desk
-pub record IsOverLongAt {A : Type 0} (before : Connection A) (desk : A) : Type 0 where
+pub record IsOverLongAt {A : Type 0} (before : BetweenLines A) (desk : A) : Type 0 where
   pub long : IsOverLong before.ahead
   pub same_desk : desk ≡ before.desk
 
 -- the answer to the next line found no memory
-pub record FindsNoMemory {A : Type 0} (fails : A → List ℕ → A → Type 0) (before : Connection A) (desk : A) (written : Option (List ℕ)) : Type 0 where
+pub record FindsNoMemory {A : Type 0} (fails : A → List ℕ → A → Type 0) (before : BetweenLines A) (desk : A) (written : Option (List ℕ)) : Type 0 where
   pub line : List ℕ
   pub others : Option (List ℕ)
   pub takes : TakesLine before.ahead line others
@@ -70,7 +74,7 @@ pub record FindsNoMemory {A : Type 0} (fails : A → List ℕ → A → Type 0) 
   pub same_written : Keeps before.written written
 
 -- the answer to the next line was written in part
-pub record AnswersInPart {A : Type 0} (tells : A → List ℕ → List ℕ → A → Type 0) (before : Connection A) (desk : A) (written : Option (List ℕ)) : Type 0 where
+pub record AnswersInPart {A : Type 0} (tells : A → List ℕ → List ℕ → A → Type 0) (before : BetweenLines A) (desk : A) (written : Option (List ℕ)) : Type 0 where
   pub line : List ℕ
   pub text : List ℕ
   pub others : Option (List ℕ)
@@ -80,7 +84,7 @@ pub record AnswersInPart {A : Type 0} (tells : A → List ℕ → List ℕ → A
 
 -- how a connection ends: Closed where nothing is left; TooLong where the next line is over its limit, and this was answered; ReadFault;
 -- WriteFault where an answer was written in part; Memory where there is no answer
-abbrev pub Ends : {A : Type 0} → (A → List ℕ → List ℕ → A → Type 0) → (A → List ℕ → A → Type 0) → Connection A → End → A → Option (List ℕ) → Type 0
+abbrev pub Ends : {A : Type 0} → (A → List ℕ → List ℕ → A → Type 0) → (A → List ℕ → A → Type 0) → BetweenLines A → End → A → Option (List ℕ) → Type 0
 Ends tells fails before Closed desk written = IsOver before.ahead × IsSilent before desk written
 Ends tells fails before TooLong desk written = IsOverLongAt before desk × Appends before.written written too_long_text
 Ends tells fails before ReadFault desk written = IsSilent before desk written
@@ -95,7 +99,7 @@ Refuses before Memory after = Keeps before after
 Refuses before _ after = ⊥
 
 -- one turn: the next line is answered, or the connection ends
-abbrev pub Turns : {A : Type 0} → (A → List ℕ → List ℕ → A → Type 0) → (A → List ℕ → A → Type 0) → Connection A → Result ⊤ End → Connection A → Type 0
+abbrev pub Turns : {A : Type 0} → (A → List ℕ → List ℕ → A → Type 0) → (A → List ℕ → A → Type 0) → BetweenLines A → Result ⊤ End → BetweenLines A → Type 0
 Turns tells fails before (Ok _) after = (line : List ℕ) × (text : List ℕ) × AnswersLine tells before line text after
 Turns tells fails before (Err end) after = Ends tells fails before end after.desk after.written
 
@@ -105,9 +109,9 @@ pub record Exchange : Type 0 where
   pub text : List ℕ
 
 -- lines are answered one after the other
-abbrev pub Runs : {A : Type 0} → (A → List ℕ → List ℕ → A → Type 0) → Connection A → List Exchange → Connection A → Type 0
+abbrev pub Runs : {A : Type 0} → (A → List ℕ → List ℕ → A → Type 0) → BetweenLines A → List Exchange → BetweenLines A → Type 0
 Runs tells before [] after = before ≡ after
-Runs {A} tells before (e ∷ later) after = (next : Connection A) × AnswersLine tells before e.line e.text next × Runs tells next later after
+Runs {A} tells before (e ∷ later) after = (next : BetweenLines A) × AnswersLine tells before e.line e.text next × Runs tells next later after
 
 -- the lines are cut from the bytes in turn, and these are left
 abbrev pub Cuts : List ℕ → List (List ℕ) → List ℕ → Type 0
@@ -121,8 +125,8 @@ KnownCuts (Some bytes) lines None = ⊥
 KnownCuts (Some bytes) lines (Some others) = Cuts bytes lines others
 
 -- a connection to its end: lines are answered one after the other, and then it ends so
-pub record Serves {A : Type 0} (tells : A → List ℕ → List ℕ → A → Type 0) (fails : A → List ℕ → A → Type 0) (before : Connection A) (end : End) (desk : A) (written : Option (List ℕ)) : Type 0 where
+pub record Serves {A : Type 0} (tells : A → List ℕ → List ℕ → A → Type 0) (fails : A → List ℕ → A → Type 0) (before : BetweenLines A) (end : End) (desk : A) (written : Option (List ℕ)) : Type 0 where
   pub exchanges : List Exchange
-  pub last : Connection A
+  pub last : BetweenLines A
   pub runs : Runs tells before exchanges last
   pub ends : Ends tells fails last end desk written

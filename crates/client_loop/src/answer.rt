@@ -4,7 +4,7 @@ ghost use Rattle.rbac_policy.specs.declared.commands.AdminCommand.TheVariants.{D
 ghost use Rattle.rbac_admin.specs.PolicyStep.{is_decided};
 ghost use Rattle.access_core.specs.Desk.{AdminStep, DeskStep};
 ghost use Rattle.wire_lines.specs.declared.request.Request.TheVariants.{Login};
-ghost use Rattle.client_loop.specs.Connection.{Unheld, Held, Asks, after_login, after_logout, login_after, with_login, LineStep, Tells, TellsNothing, HangsUp};
+ghost use Rattle.client_loop.specs.LineSteps.{Unheld, Held, Asks, after_login, after_logout, login_after, with_login, LineStep, Tells, TellsNothing, HangsUp};
 ghost use Rattle.access_core.specs.Needs.{IsAccepted};
 
 use access_core::command::SlotCommand;
@@ -40,7 +40,8 @@ fn log_in(desk: &mut Single, login: &Option<SessionId>, command: AdminCommand) -
 /// A policy command of the session that the connection holds.
 fn administer(desk: &mut Single, login: &Option<SessionId>, command: AdminCommand) -> Reply
     requires { IsTrue (is_decided command) }
-    ensures { Held login.now (λ session. AdminStep (Some session) command) desk.old result desk.new }
+    ensures { Held login.now (λ session. AdminStep (Some session) command)
+        desk.old result desk.new }
 {
     match login {
         Some(session) => desk.admin(Some(*session), command),
@@ -64,7 +65,7 @@ fn command_slot(
 }
 
 /// The login after the reply to a login.
-fn after_login(reply: &Reply, before: &Option<SessionId>) -> Option<SessionId>
+fn hold_after_login(reply: &Reply, before: &Option<SessionId>) -> Option<SessionId>
     ensures { result ≡ after_login reply.now before.now }
 {
     match reply {
@@ -74,7 +75,7 @@ fn after_login(reply: &Reply, before: &Option<SessionId>) -> Option<SessionId>
 }
 
 /// The login after the reply to a logout.
-fn after_logout(reply: &Reply, before: &Option<SessionId>) -> Option<SessionId>
+fn hold_after_logout(reply: &Reply, before: &Option<SessionId>) -> Option<SessionId>
     ensures { result ≡ after_logout reply.now before.now }
 {
     match reply {
@@ -89,7 +90,7 @@ fn ask_login(desk: &mut Single, held: &Option<SessionId>, roles: RoleNames, user
     ensures login { result.login ≡ login_after (Login roles user) result.reply held.now }
 {
     let reply = log_in(desk, held, AdminCommand::CreateSession { user, roles });
-    let login = after_login(&reply, held);
+    let login = hold_after_login(&reply, held);
     Turn { reply, login }
 }
 
@@ -102,7 +103,7 @@ fn ask(desk: &mut Single, held: &Option<SessionId>, request: Request) -> Turn
         Request::Login { roles, user } => return ask_login(desk, held, roles, user),
         Request::Logout => {
             let reply = administer(desk, held, AdminCommand::DeleteSession);
-            let login = after_logout(&reply, held);
+            let login = hold_after_logout(&reply, held);
             return Turn { reply, login };
         }
         Request::Grant {
@@ -134,7 +135,8 @@ fn ask(desk: &mut Single, held: &Option<SessionId>, request: Request) -> Turn
 
 /// What a line does on a connection with this login.
 fn respond(alloc: Global, desk: &mut Single, held: &Option<SessionId>, line: &[u8]) -> Turn
-    ensures { LineStep line.now (with_login desk.old held.now) result.reply (with_login desk.new result.login) }
+    ensures { LineStep line.now (with_login desk.old held.now)
+        result.reply (with_login desk.new result.login) }
 {
     if line.len() > LINE_BYTES {
         let login = *held;
@@ -152,7 +154,7 @@ fn respond(alloc: Global, desk: &mut Single, held: &Option<SessionId>, line: &[u
 }
 
 /// The login where no text was made of the reply: after an accepted command the one that it leaves, and else the one that was held.
-fn untold(turn: &Turn, held: &Option<SessionId>) -> Option<SessionId>
+fn hold_untold(turn: &Turn, held: &Option<SessionId>) -> Option<SessionId>
     ensures accepted { IsAccepted turn.now.reply → result ≡ turn.now.login }
     ensures refused { (IsAccepted turn.now.reply → ⊥) → result ≡ held.now }
 {
@@ -171,8 +173,10 @@ pub fn answer(
     line: &[u8],
 ) -> Result<Vec<u8>, AllocError>
     ensures { MatchResult result
-        (λ text. Tells line.now (with_login desk.old login.old) text.items (with_login desk.new login.new))
-        (λ e. TellsNothing line.now (with_login desk.old login.old) (with_login desk.new login.new)) }
+        (λ text. Tells line.now (with_login desk.old login.old)
+        text.items (with_login desk.new login.new))
+        (λ e. TellsNothing line.now (with_login desk.old login.old)
+        (with_login desk.new login.new)) }
 {
     let turn = respond(alloc, desk, login, line);
     match reply_line(alloc, &turn.reply) {
@@ -181,7 +185,7 @@ pub fn answer(
             Ok(text)
         }
         Err(error) => {
-            *login = untold(&turn, login);
+            *login = hold_untold(&turn, login);
             Err(error)
         }
     }

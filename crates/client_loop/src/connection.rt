@@ -1,7 +1,7 @@
 //! A connection to a desk of its own.
 ghost use Rattle.std.specs.Prelude.{◌≡◌, None, IfOk};
 ghost use Rattle.access_core.specs.Desk.{opening_desk};
-ghost use Rattle.client_loop.specs.Connection.{with_login, Tells, TellsNothing, HangsUp};
+ghost use Rattle.client_loop.specs.LineSteps.{with_login, Tells, TellsNothing, HangsUp};
 
 use crate::answer::{answer, hang_up};
 use crate::serving::Answerer;
@@ -36,9 +36,11 @@ impl Connection {
 }
 
 impl Answerer for Connection {
-    ghost tells = { λ before line text after. Tells line (with_login before.desk before.login) text (with_login after.desk after.login) };
+    ghost tells = { λ before line text after.
+        Tells line (with_login before.desk before.login) text (with_login after.desk after.login) };
 
-    ghost fails = { λ before line after. TellsNothing line (with_login before.desk before.login) (with_login after.desk after.login) };
+    ghost fails = { λ before line after.
+        TellsNothing line (with_login before.desk before.login) (with_login after.desk after.login) };
 
     fn answer(&mut self, alloc: Global, line: &[u8]) -> Result<Vec<u8>, AllocError> {
         answer(alloc, &mut self.desk, &mut self.login, line)

@@ -2,7 +2,7 @@
 ghost use Rattle.std.specs.Prelude.{◌≡◌, ℕ, List, [], MatchResult, IfOk, IfErr, OnOk, map};
 ghost use Rattle.std.specs.Io.KnownBytes.{Appends, prepend_known};
 ghost use Rattle.std.specs.List.{concat};
-ghost use Rattle.client_loop.specs.Serving.{Connection, Exchange, Runs, KnownCuts, WritesFront, Refuses, Turns, Serves};
+ghost use Rattle.client_loop.specs.Serving.{BetweenLines, between, Exchange, Runs, KnownCuts, WritesFront, Refuses, Turns, Serves};
 
 use access_core::refusal::Refusal;
 use access_core::reply::Reply;
@@ -21,7 +21,9 @@ pub trait Answerer {
 
     /// The answer to a line, which comes without its LF.
     fn answer(&mut self, alloc: Global, line: &[u8]) -> Result<Vec<u8>, AllocError>
-        ensures { MatchResult result (λ text. tells self.old line.now text.items self.new) (λ _. fails self.old line.now self.new) };
+        ensures { MatchResult result
+            (λ text. tells self.old line.now text.items self.new)
+            (λ _. fails self.old line.now self.new) };
 }
 
 /// Why a connection ended.
@@ -42,7 +44,8 @@ pub enum End {
 /// Writes a text, in parts where the writer takes no more at once.
 fn put<W: Write>(writer: &mut W, text: &[u8]) -> Result<(), End>
     ensures ok { OnOk result (Appends (W.contents writer.old) (W.contents writer.new) text.now) }
-    ensures err { IfErr result (λ end. (end ≡ End.WriteFault) × WritesFront (W.contents writer.old) (W.contents writer.new) text.now) }
+    ensures err { IfErr result (λ end. (end ≡ End.WriteFault)
+        × WritesFront (W.contents writer.old) (W.contents writer.new) text.now) }
 {
     let mut rest = text;
     while !rest.is_empty() {
@@ -79,9 +82,11 @@ fn turn<R: Read, W: Write, A: Answerer>(
     desk: &mut A,
 ) -> Result<(), End>
     ensures { Turns A.tells A.fails
-        (record { ahead = prepend_known held.old.items (R.remaining reader.old); written = W.contents writer.old; desk = desk.old })
+        (between (prepend_known held.old.items (R.remaining reader.old))
+        (W.contents writer.old) desk.old)
         result
-        (record { ahead = prepend_known held.new.items (R.remaining reader.new); written = W.contents writer.new; desk = desk.new }) }
+        (between (prepend_known held.new.items (R.remaining reader.new))
+        (W.contents writer.new) desk.new) }
 {
     let line = match next_line(held, reader) {
         Ok(Some(line)) => line,
@@ -105,7 +110,7 @@ pub fn serve<R: Read, W: Write, A: Answerer>(
     desk: &mut A,
 ) -> End
     ensures { Serves A.tells A.fails
-        (record { ahead = R.remaining reader.old; written = W.contents writer.old; desk = desk.old })
+        (between (R.remaining reader.old) (W.contents writer.old) desk.old)
         result desk.new (W.contents writer.new) }
 {
     let mut held = Vec::new(alloc);
@@ -119,9 +124,11 @@ pub fn serve<R: Read, W: Write, A: Answerer>(
 
 /// Whatever answers the lines: the lines that are answered are those of the bytes in turn, and what is written is their answers in turn.
 pub fn lines_are_answered_in_turn<A: Answerer>()
-    ensures lines { (before after : Connection A) (exchanges : List Exchange) → Runs A.tells before exchanges after
+    ensures lines { (before after : BetweenLines A) (exchanges : List Exchange)
+        → Runs A.tells before exchanges after
         → KnownCuts before.ahead (map (λ e. e.line) exchanges) after.ahead }
-    ensures texts { (before after : Connection A) (exchanges : List Exchange) → Runs A.tells before exchanges after
+    ensures texts { (before after : BetweenLines A) (exchanges : List Exchange)
+        → Runs A.tells before exchanges after
         → Appends before.written after.written (concat (map (λ e. e.text) exchanges)) }
 {}
 

@@ -3,5 +3,5 @@ use Rattle.client_loop.proofs.answer.answer.Goals as goal
 
 pub returns : goal.returns
 returns c =
-    nothing_told c.args.line.now c.args.desk.now c.args.login.now c.respond-turn.result.reply c.respond-turn.new.desk c.respond-turn.result.login c.untold.result
-    c.respond-turn.ensures c.untold.ensures.accepted c.untold.ensures.refused
+    nothing_told c.args.line.now c.args.desk.now c.args.login.now c.respond-turn.result.reply c.respond-turn.new.desk c.respond-turn.result.login c.hold_untold.result
+    c.respond-turn.ensures c.hold_untold.ensures.accepted c.hold_untold.ensures.refused

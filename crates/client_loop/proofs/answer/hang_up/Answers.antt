@@ -1,4 +1,4 @@
-use Rattle.client_loop.specs.Connection.{none_held, logs_out}
+use Rattle.client_loop.specs.LineSteps.{none_held, logs_out}
 use Rattle.client_loop.proofs.answer.hang_up.Goals as goal
 
 pub returns-in-Some : goal.returns-in-Some

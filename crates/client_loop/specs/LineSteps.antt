@@ -1,4 +1,4 @@
--- A connection: what one line is answered, and the desk and the connection's login afterwards (this project's own form).
+-- One line of a connection: what it is answered, and the desk and the connection's login afterwards (this project's own form).
 use Rattle.std.specs.Prelude.{◌≡◌, ℕ, ◌<◌, ◌≤◌, ◌⊎◌, List, Option, Some, None, Err, length}
 use Rattle.rbac_policy.specs.declared.commands.AdminCommand.TheVariants.{CreateSession, DeleteSession, GrantPermission}
 use Rattle.access_core.specs.declared.command.SlotCommand.TheVariants as slot
