@@ -41,10 +41,13 @@ HasNoCode a = (k : ℕ) → a.codes k ≡ false
 -- In every environment: in a term whose loops' bodies take time the rules react just where Must has a code, with that code; they
 -- have none just where Must has none; and where they react, Must, and Can too, is that reaction and nothing else
 pub record DecidedByMust : Type 0 where
-  pub reacts : (t : Term) (e : Env) → IsLoopSafe t → (k : ℕ) → HasRule t e k ↔ ((must t e).codes k ≡ true)
+  pub reacts : (t : Term) (e : Env) → IsLoopSafe t → (k : ℕ)
+      → HasRule t e k ↔ ((must t e).codes k ≡ true)
   pub none : (t : Term) (e : Env) → IsLoopSafe t → HasNoRule t e ↔ HasNoCode (must t e)
-  pub must_is : (t : Term) (e : Env) (o : Signals) (k : ℕ) (u : Term) → Gives t e o k u → must t e ≡ just o k
-  pub can_is : (t : Term) (e : Env) (o : Signals) (k : ℕ) (u : Term) → Gives t e o k u → can t sure e ≡ just o k
+  pub must_is : (t : Term) (e : Env) (o : Signals) (k : ℕ) (u : Term)
+      → Gives t e o k u → must t e ≡ just o k
+  pub can_is : (t : Term) (e : Env) (o : Signals) (k : ℕ) (u : Term)
+      → Gives t e o k u → can t sure e ≡ just o k
 
 -- two steps are the same
 pub record IsSame (o : Signals) (k : ℕ) (u : Term) (o' : Signals) (k' : ℕ) (u' : Term) : Type 0 where
@@ -62,9 +65,15 @@ pub record IsSameReaction (outputs : ℕ → Bool) (u : Term) (outputs' : ℕ �
 -- In one environment a term reacts with one set of signals, one code and one next term at most, and so to the inputs of an
 -- instant; and a next term's loops take time again, so that the laws which ask for that hold from instant to instant
 pub record OneReactionAtMost : Type 0 where
-  pub same : (t : Term) (e : Env) (o : Signals) (k : ℕ) (u : Term) (o' : Signals) (k' : ℕ) (u' : Term) → Gives t e o k u → Gives t e o' k' u' → IsSame o k u o' k' u'
-  pub same_reaction : (j : JudgedSignals) (inputs : ℕ → Bool) (t : Term) (outputs : ℕ → Bool) (u : Term) (outputs' : ℕ → Bool) (u' : Term) → Reacts j inputs t outputs u → Reacts j inputs t outputs' u' → IsSameReaction outputs u outputs' u'
-  pub safe_again : (t : Term) (e : Env) (o : Signals) (k : ℕ) (u : Term) → IsLoopSafe t → Gives t e o k u → IsLoopSafe u
+  pub same : (t : Term) (e : Env)
+      (o : Signals) (k : ℕ) (u : Term) (o' : Signals) (k' : ℕ) (u' : Term)
+      → Gives t e o k u → Gives t e o' k' u' → IsSame o k u o' k' u'
+  pub same_reaction : (j : JudgedSignals) (inputs : ℕ → Bool) (t : Term)
+      (outputs : ℕ → Bool) (u : Term) (outputs' : ℕ → Bool) (u' : Term)
+      → Reacts j inputs t outputs u → Reacts j inputs t outputs' u'
+      → IsSameReaction outputs u outputs' u'
+  pub safe_again : (t : Term) (e : Env) (o : Signals) (k : ℕ) (u : Term)
+      → IsLoopSafe t → Gives t e o k u → IsLoopSafe u
 
 -- Knowledge is monotone. Why care: what an engine has found out stays true, in whatever order it looks, and nothing that it
 -- shows has to be taken back.
@@ -72,7 +81,8 @@ pub record OneReactionAtMost : Type 0 where
 -- done where a term is surely reached can be done where that is in doubt
 pub record KnowledgeIsMonotone : Type 0 where
   pub must_grows : (t : Term) (e f : Env) → KnowsLess e f → IsWithin (must t e) (must t f)
-  pub can_shrinks : (t : Term) (m : Mode) (e f : Env) → KnowsLess e f → IsWithin (can t m f) (can t m e)
+  pub can_shrinks : (t : Term) (m : Mode) (e f : Env)
+      → KnowsLess e f → IsWithin (can t m f) (can t m e)
   pub must_in_can : (t : Term) (e : Env) → IsWithin (must t e) (can t sure e)
   pub sure_in_maybe : (t : Term) (e : Env) → IsWithin (can t sure e) (can t maybe e)
 
@@ -80,13 +90,19 @@ pub record KnowledgeIsMonotone : Type 0 where
 abbrev pub IsWithinPlaces : JudgedSignals → Type 0
 IsWithinPlaces j = (n : ℕ) → j.has n ≡ true → n < j.places
 
+-- the environment after n rounds from the first one
+abbrev pub known_after : ℕ → JudgedSignals → (ℕ → Bool) → Term → Env
+known_after n j inputs t = env_after n j t (first_env j inputs)
+
 -- Rounds come to rest. Why care: an instant takes a bounded number of rounds, and an output that is called undecided is one
 -- that no further look at the program would decide.
 -- From the first environment on a round never takes back what was decided; after as many rounds as there are judged signals
 -- nothing changes; and the outputs of an interface are signals that may be judged so
 pub record RoundsComeToRest : Type 0 where
-  pub learns : (j : JudgedSignals) (inputs : ℕ → Bool) (t : Term) (n : ℕ) → KnowsLess (env_after n j t (first_env j inputs)) (env_after (suc n) j t (first_env j inputs))
-  pub settles : (j : JudgedSignals) → IsWithinPlaces j → (inputs : ℕ → Bool) (t : Term) (m : ℕ) → how_many j.has j.places ≤ m → env_after m j t (first_env j inputs) ≡ last_env j inputs t
+  pub learns : (j : JudgedSignals) (inputs : ℕ → Bool) (t : Term) (n : ℕ)
+      → KnowsLess (known_after n j inputs t) (known_after (suc n) j inputs t)
+  pub settles : (j : JudgedSignals) → IsWithinPlaces j → (inputs : ℕ → Bool) (t : Term) (m : ℕ)
+      → how_many j.has j.places ≤ m → known_after m j inputs t ≡ last_env j inputs t
   pub outputs : (interface : List Declaration) → IsWithinPlaces (judged_outputs interface)
 
 -- a status says whether a signal is there: it is decided, present exactly where the signal is there, absent exactly where not
@@ -111,12 +127,14 @@ pub record IsDecidedWithin (s : ℕ) (p : Term) (e : Env) (o : Signals) (k : ℕ
 -- where it was offered, whether the term reacts or not. And wherever the rules give `signal s in p` a reaction, s is decided in
 -- the environment of p: present exactly where the reaction of p emits it
 pub record EmittedIsPresent : Type 0 where
-  pub judged : (j : JudgedSignals) → IsWithinPlaces j → (inputs : ℕ → Bool) (t : Term) (outputs : ℕ → Bool) (u : Term)
-      → Reacts j inputs t outputs u → (n : ℕ) → j.has n ≡ true → IsDecidedAs (last_env j inputs t (outer n)) (outputs n)
-  pub offered : (j : JudgedSignals) (inputs : ℕ → Bool) (t : Term) (n : ℕ) → j.has n ≡ false
-      → IsDecidedAs (last_env j inputs t (outer n)) (inputs n)
-  pub within : (s : ℕ) (p : Term) (e : Env) (o : Signals) (k : ℕ) (u : Term) → Gives (signal s p) e o k u
-      → IsDecidedWithin s p e o k
+  pub judged : (j : JudgedSignals) → IsWithinPlaces j
+      → (inputs : ℕ → Bool) (t : Term) (outputs : ℕ → Bool) (u : Term)
+      → Reacts j inputs t outputs u → (n : ℕ) → j.has n ≡ true
+      → IsDecidedAs (last_env j inputs t (outer n)) (outputs n)
+  pub offered : (j : JudgedSignals) (inputs : ℕ → Bool) (t : Term) (n : ℕ)
+      → j.has n ≡ false → IsDecidedAs (last_env j inputs t (outer n)) (inputs n)
+  pub within : (s : ℕ) (p : Term) (e : Env) (o : Signals) (k : ℕ) (u : Term)
+      → Gives (signal s p) e o k u → IsDecidedWithin s p e o k
 
 -- the state x of s stands for t
 pub record IsStateFor (s : Statement) (x : State) (t : Term) : Type 0 where
@@ -147,4 +165,5 @@ pub record SomeStateFor (s : Statement) (t : Term) : Type 0 where
 pub record PausesAreEnough : Type 0 where
   pub goes_on : (s : Statement) → HasDistinctPauses s → (x : State) (t : Term) → IsStateFor s x t
       → (e : Env) (o : Signals) (k : ℕ) (u : Term) → Gives t e o k u → SomeStateFor s u
-  pub safe : (s : Statement) → IsLoopSafe (term_of s) → (x : State) (t : Term) → IsStateFor s x t → IsLoopSafe t
+  pub safe : (s : Statement) → IsLoopSafe (term_of s) → (x : State) (t : Term)
+      → IsStateFor s x t → IsLoopSafe t

@@ -140,3 +140,32 @@ fn lists_keep_their_order(rt: HostRuntime) -> Result<(), Fail> {
     assert_eq!(rt; library.later[0].name.as_str(), "N");
     Ok(())
 }
+
+#[test]
+fn renamings_keep_their_sides(rt: HostRuntime) -> Result<(), Fail> {
+    let library = library_of(rt.alloc(), "module M: run P [signal A/B, C/D] end module")?;
+    match first_of(&library.first.body) {
+        Unit::Run(name, renamings) => {
+            assert_eq!(rt; name.as_str(), "P");
+            assert_eq!(rt; renamings.len(), 2);
+            assert_eq!(rt; renamings[0].outer.as_str(), "A");
+            assert_eq!(rt; renamings[0].inner.as_str(), "B");
+            assert_eq!(rt; renamings[1].outer.as_str(), "C");
+            assert_eq!(rt; renamings[1].inner.as_str(), "D");
+            Ok(())
+        }
+        _ => Err(Fail::from("no module is run")),
+    }
+}
+
+#[test]
+fn units_keep_their_order(rt: HostRuntime) -> Result<(), Fail> {
+    let library = library_of(rt.alloc(), "module M: pause; halt; nothing end module")?;
+    let sequence = &library.first.body.first;
+    assert!(rt; !sequence.closed);
+    assert!(rt; matches!(*sequence.first, Unit::Pause));
+    assert_eq!(rt; sequence.later.len(), 2);
+    assert!(rt; matches!(sequence.later[0], Unit::Halt));
+    assert!(rt; matches!(sequence.later[1], Unit::Nothing));
+    Ok(())
+}
