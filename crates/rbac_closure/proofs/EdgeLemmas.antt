@@ -4,6 +4,7 @@ use Rattle.std.specs.Prelude.{slice_index, slice_set}
 use Rattle.std.proofs.lemmas.Bool.{cases_lt, cases_eq}
 use Rattle.std.proofs.lemmas.List.{get_or_past, get_or-map, length-map, get_or-replicate, length-replicate}
 use Rattle.std.proofs.lemmas.Grind.{same_number_lists}
+use Rattle.std.proofs.lemmas.Nat.Bits.{bit_at_above}
 use Rattle.rbac_closure.specs.declared.sets.TheConstants.{ROLES}
 use Rattle.rbac_closure.specs.Sets.{Has, either, with_place, without_place}
 use Rattle.rbac_closure.specs.Edges.{stay, step, IsEdge, IsAbove, IsBelowSome, edge_added, edge_removed, role_cleared}
@@ -373,3 +374,15 @@ found_ends edges set found many place all f = (
     before = elim (begins_in_table edges b.chain) [ inl l ↦ inl (omega (arith, l)) | inr e ↦ inr e ];
   }),
 )
+
+-- a chain from a place of the table ends at one
+ends_in_table : (edges : List ℕ) → IsInTable edges → {a b : ℕ} → IsAbove edges a b → a < ROLES → b < ROLES
+ends_in_table edges table stay low = low
+ends_in_table edges table (step e rest) low = ends_in_table edges table rest (table _ _ e)
+
+-- below places of the table lie places of the table
+pub below_in_table : (edges : List ℕ) (set place : ℕ) → IsInTable edges → set < 2 ^ ROLES → IsBelowSome edges set place → place < ROLES
+below_in_table edges set place table fits b = ends_in_table edges table b.chain (elim (cases_lt b.top ROLES) [
+  | inl l ↦ l
+  | inr g ↦ absurd (omega (arith, b.within, bit_at_above set ROLES b.top fits g))
+])

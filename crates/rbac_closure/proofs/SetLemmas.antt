@@ -1,5 +1,5 @@
 -- The places of sets that are made of others.
-use Rattle.std.proofs.Common.{◌≡◌, ℕ, zero, suc, ◌≤◌, ◌/◌, ◌%◌, ◌^◌, ◌⊎◌, ◌↔◌, inl, inr, arith, sym, ◌∙◌, subst}
+use Rattle.std.proofs.Common.{◌≡◌, ℕ, zero, suc, ◌≤◌, ◌/◌, ◌%◌, ◌^◌, ◌⊎◌, ◌↔◌, inl, inr, arith, sym, ◌∙◌, subst, refl}
 use Rattle.std.specs.Int.{bit_at}
 use Rattle.std.specs.Int.Bits.{bit_or}
 use Rattle.std.proofs.lemmas.Bool.{cases_lt, cases_eq}
@@ -46,6 +46,12 @@ has_with set k p = (
   λ h. elim ((has_either set (2 ^ k) p).0 h) [ inl x ↦ inl x | inr x ↦ inr ((has_single k p).0 x) ],
   λ h. elim h [ inl x ↦ (has_either set (2 ^ k) p).1 (inl x) | inr e ↦ (has_either set (2 ^ k) p).1 (inr ((has_single k p).1 e)) ],
 )
+
+pub with_same : (set k : ℕ) → Has (with_place set k) k
+with_same set k = (has_with set k k).1 (inr refl)
+
+pub with_other : (set k p : ℕ) → (p ≡ k → ⊥) → bit_at (with_place set k) p ≡ bit_at set p
+with_other set k p d = omega (arith, bit_at_or set (2 ^ k) p, bit_at-pow_other k p d)
 
 pub has_without : (set k p : ℕ) → Has (without_place set k) p ↔ (Has set p × (p ≡ k → ⊥))
 has_without set k p = elim (cases_eq p k) [

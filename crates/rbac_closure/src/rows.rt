@@ -99,9 +99,13 @@ impl Rows {
 
     /// The roles of the set, and all that lies below one of them.
     pub fn below_some(&self, roles: RoleSet) -> RoleSet
-        ensures { (place : ℕ) → Has result place ↔ IsBelowSome self.now roles place }
+        ensures found { (place : ℕ) → Has result place ↔ IsBelowSome self.now roles place }
+        ensures within { (place : ℕ) → Has result place → place < ROLES }
+        ensures places { length self.now ≡ ROLES }
     {
-        let _ = &self.juniors; // they are of all places
+        // Both are of places of the table.
+        let _ = &self.juniors;
+        let _ = &roles.bits;
         let mut found = roles;
         for role in 0..ROLES {
             if roles.has(role) {

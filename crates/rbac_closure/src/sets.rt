@@ -13,7 +13,7 @@ pub const ROLES: usize = Word::BITS as usize;
 /// A set of places, in one word. A contract sees the number that has a bit for each of its places.
 #[derive(Clone, Copy, PartialEq, Eq, Debug)]
 pub struct RoleSet {
-    bits: Word,
+    pub(crate) bits: Word,
 }
 
 impl Model for RoleSet {
