@@ -4,8 +4,8 @@ ghost use Rattle.std.specs.Prelude.{IfOk, ◌≤◌};
 ghost use Rattle.est_bench.specs.Outputs.{HasOutputs};
 
 use anyhow::{Result, bail};
-use est_text::identifier::Identifier;
 use est_kernel::interface::{Declaration, Interface, Kind, MOST_SIGNALS};
+use est_text::identifier::Identifier;
 use std::alloc::Global;
 
 /// The interface of so many outputs, named `O0`, `O1` and so on.

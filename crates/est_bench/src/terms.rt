@@ -5,15 +5,8 @@ ghost use Rattle.est_kernel.specs.Term.{outer, inner, of, nothing, pause, emit, 
 ghost use Rattle.est_kernel.specs.View.{term_of, name_of};
 ghost use Rattle.est_bench.specs.Terms.{opening, blinker, blinkers, told, chain, part, nested_right, nested_left, under_locals, emissions, relay};
 
-use est_kernel::statement::{InterfaceSignal, LocalSignal, PauseIndex, Signal, Statement, Test};
+use est_kernel::statement::{InterfaceSignal, LocalSignal, Signal, Statement, Test};
 use std::alloc::{AllocError, Global};
-
-/// `pause`
-pub fn pause() -> Statement
-    ensures { term_of result ≡ pause }
-{
-    Statement::Pause(PauseIndex { index: 0 })
-}
 
 /// An output.
 fn output(n: u8) -> Signal
@@ -24,66 +17,25 @@ fn output(n: u8) -> Signal
 }
 
 /// A local signal.
-fn inside(n: u8) -> Signal
-    requires { n < 64 }
+fn inside(n: u16) -> Signal
     ensures { name_of result ≡ inner n }
 {
     Signal::Local(LocalSignal { index: n })
-}
-
-/// `emit S`
-fn emit(signal: Signal) -> Statement
-    ensures { term_of result ≡ emit (name_of signal) }
-{
-    Statement::Emit(signal)
-}
-
-/// `p; q`
-pub fn sequence(alloc: Global, p: Statement, q: Statement) -> Result<Statement, AllocError>
-    ensures { IfOk result (λ s. term_of s ≡ seq (term_of p) (term_of q)) }
-{
-    Ok(Statement::Seq(Box::new(alloc, p)?, Box::new(alloc, q)?))
-}
-
-/// `p || q`
-fn beside(alloc: Global, p: Statement, q: Statement) -> Result<Statement, AllocError>
-    ensures { IfOk result (λ s. term_of s ≡ par (term_of p) (term_of q)) }
-{
-    Ok(Statement::Par(Box::new(alloc, p)?, Box::new(alloc, q)?))
-}
-
-/// `loop p end`
-pub fn again(alloc: Global, p: Statement) -> Result<Statement, AllocError>
-    ensures { IfOk result (λ s. term_of s ≡ loop (term_of p)) }
-{
-    Ok(Statement::Loop(Box::new(alloc, p)?))
-}
-
-/// `signal S in p end`
-fn local(alloc: Global, n: u8, p: Statement) -> Result<Statement, AllocError>
-    requires { n < 64 }
-    ensures { IfOk result (λ s. term_of s ≡ signal n (term_of p)) }
-{
-    Ok(Statement::Local(LocalSignal { index: n }, Box::new(alloc, p)?))
 }
 
 /// `present S then p end`
 fn where_present(alloc: Global, signal: Signal, p: Statement) -> Result<Statement, AllocError>
     ensures { IfOk result (λ s. term_of s ≡ present (of (name_of signal)) (term_of p) nothing) }
 {
-    Ok(Statement::Present(
-        Test::Status(signal),
-        Box::new(alloc, p)?,
-        Box::new(alloc, Statement::Nothing)?,
-    ))
+    Statement::present(alloc, Test::Status(signal), p, Statement::Nothing)
 }
 
 /// The module of the opening script.
 pub fn opening(alloc: Global) -> Result<Statement, AllocError>
     ensures { IfOk result (λ s. term_of s ≡ opening) }
 {
-    let rest = sequence(alloc, pause(), emit(output(1)))?;
-    sequence(alloc, emit(output(0)), rest)
+    let rest = Statement::seq(alloc, Statement::pause(), Statement::Emit(output(1)))?;
+    Statement::seq(alloc, Statement::Emit(output(0)), rest)
 }
 
 /// A loop of two states, over so many outputs.
@@ -95,10 +47,10 @@ fn blinker(alloc: Global, outputs: u8, n: u8) -> Result<Statement, AllocError>
     let outputs = u16::from(outputs);
     let first = (2 * u16::from(n) % outputs) as u8;
     let second = ((2 * u16::from(n) + 1) % outputs) as u8;
-    let last = sequence(alloc, emit(output(second)), pause())?;
-    let rest = sequence(alloc, pause(), last)?;
-    let body = sequence(alloc, emit(output(first)), rest)?;
-    again(alloc, body)
+    let last = Statement::seq(alloc, Statement::Emit(output(second)), Statement::pause())?;
+    let rest = Statement::seq(alloc, Statement::pause(), last)?;
+    let body = Statement::seq(alloc, Statement::Emit(output(first)), rest)?;
+    Statement::repeat(alloc, body)
 }
 
 /// The loops with the numbers 0 to `last`, side by side.
@@ -110,20 +62,19 @@ pub fn blinkers(alloc: Global, outputs: u8, last: u8) -> Result<Statement, Alloc
 {
     let mut whole = blinker(alloc, outputs, 0)?;
     'grow: for n in 0..last {
-        whole = beside(alloc, whole, blinker(alloc, outputs, n + 1)?)?;
+        whole = Statement::par(alloc, whole, blinker(alloc, outputs, n + 1)?)?;
     }
     Ok(whole)
 }
 
 /// What makes a local signal present.
-fn told(alloc: Global, n: u8) -> Result<Statement, AllocError>
-    requires { n < 64 }
+fn told(alloc: Global, n: u16) -> Result<Statement, AllocError>
     ensures { IfOk result (λ s. term_of s ≡ told n) }
 {
     if n == 0 {
-        Ok(emit(inside(0)))
+        Ok(Statement::Emit(inside(0)))
     } else {
-        where_present(alloc, inside(n - 1), emit(inside(n)))
+        where_present(alloc, inside(n - 1), Statement::Emit(inside(n)))
     }
 }
 
@@ -132,9 +83,13 @@ fn told(alloc: Global, n: u8) -> Result<Statement, AllocError>
 pub fn chain(alloc: Global) -> Result<Statement, AllocError>
     ensures { IfOk result (λ s. term_of s ≡ chain 6) }
 {
-    let mut whole = where_present(alloc, inside(5), emit(output(0)))?;
-    'wrap: for d in 0..6u8 {
-        whole = local(alloc, 5 - d, beside(alloc, told(alloc, 5 - d)?, whole)?)?;
+    let mut whole = where_present(alloc, inside(5), Statement::Emit(output(0)))?;
+    'wrap: for d in 0..6u16 {
+        whole = Statement::local(
+            alloc,
+            5 - d,
+            Statement::par(alloc, told(alloc, 5 - d)?, whole)?,
+        )?;
     }
     Ok(whole)
 }
@@ -143,7 +98,11 @@ pub fn chain(alloc: Global) -> Result<Statement, AllocError>
 fn part(alloc: Global, n: u16) -> Result<Statement, AllocError>
     ensures { IfOk result (λ s. term_of s ≡ part n) }
 {
-    where_present(alloc, inside((n % 6) as u8), emit(output((n % 64) as u8)))
+    where_present(
+        alloc,
+        inside(n % 6),
+        Statement::Emit(output((n % 64) as u8)),
+    )
 }
 
 /// The parts with the numbers `last` to 0, nested to the right.
@@ -153,7 +112,7 @@ pub fn nested_right(alloc: Global, last: u16) -> Result<Statement, AllocError>
 {
     let mut whole = part(alloc, 0)?;
     'grow: for n in 0..last {
-        whole = sequence(alloc, part(alloc, n + 1)?, whole)?;
+        whole = Statement::seq(alloc, part(alloc, n + 1)?, whole)?;
     }
     Ok(whole)
 }
@@ -165,7 +124,7 @@ pub fn nested_left(alloc: Global, last: u16) -> Result<Statement, AllocError>
 {
     let mut whole = part(alloc, 0)?;
     'grow: for n in 0..last {
-        whole = sequence(alloc, whole, part(alloc, n + 1)?)?;
+        whole = Statement::seq(alloc, whole, part(alloc, n + 1)?)?;
     }
     Ok(whole)
 }
@@ -176,9 +135,9 @@ fn under_locals(alloc: Global, body: Statement) -> Result<Statement, AllocError>
     ensures { IfOk result (λ s. term_of s ≡ under_locals 6 (term_of body)) }
 {
     let mut whole = body;
-    'wrap: for d in 0..6u8 {
-        let emitted = sequence(alloc, emit(inside(5 - d)), whole)?;
-        whole = local(alloc, 5 - d, emitted)?;
+    'wrap: for d in 0..6u16 {
+        let emitted = Statement::seq(alloc, Statement::Emit(inside(5 - d)), whole)?;
+        whole = Statement::local(alloc, 5 - d, emitted)?;
     }
     Ok(whole)
 }
@@ -187,8 +146,8 @@ fn under_locals(alloc: Global, body: Statement) -> Result<Statement, AllocError>
 pub fn looped_under_locals(alloc: Global, parts: Statement) -> Result<Statement, AllocError>
     ensures { IfOk result (λ s. term_of s ≡ loop (under_locals 6 (seq (term_of parts) pause))) }
 {
-    let body = sequence(alloc, parts, pause())?;
-    again(alloc, under_locals(alloc, body)?)
+    let body = Statement::seq(alloc, parts, Statement::pause())?;
+    Statement::repeat(alloc, under_locals(alloc, body)?)
 }
 
 /// So many emissions, of each of the outputs in turn, and then a pause.
@@ -198,9 +157,9 @@ pub fn emissions(alloc: Global, outputs: u8, count: u8) -> Result<Statement, All
     requires few { outputs ≤ 64 }
     ensures { IfOk result (λ s. term_of s ≡ emissions outputs count) }
 {
-    let mut whole = pause();
+    let mut whole = Statement::pause();
     'grow: for n in 0..count {
-        whole = sequence(alloc, emit(output(n % outputs)), whole)?;
+        whole = Statement::seq(alloc, Statement::Emit(output(n % outputs)), whole)?;
     }
     Ok(whole)
 }
@@ -211,10 +170,10 @@ pub fn relay(alloc: Global, last: u8) -> Result<Statement, AllocError>
     requires { last < 64 }
     ensures { IfOk result (λ s. term_of s ≡ relay last) }
 {
-    let mut whole = emit(output(0));
+    let mut whole = Statement::Emit(output(0));
     'grow: for n in 0..last {
-        let next = where_present(alloc, output(n), emit(output(n + 1)))?;
-        whole = beside(alloc, next, whole)?;
+        let next = where_present(alloc, output(n), Statement::Emit(output(n + 1)))?;
+        whole = Statement::par(alloc, next, whole)?;
     }
     Ok(whole)
 }

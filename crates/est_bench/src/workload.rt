@@ -81,8 +81,8 @@ impl Workload {
             Workload::Opening => terms::opening(alloc),
             Workload::Parallel => terms::blinkers(alloc, 32, 15),
             Workload::Locals => {
-                let body = terms::sequence(alloc, terms::chain(alloc)?, terms::pause())?;
-                terms::again(alloc, body)
+                let body = Statement::seq(alloc, terms::chain(alloc)?, Statement::pause())?;
+                Statement::repeat(alloc, body)
             }
             Workload::Large => terms::blinkers(alloc, 64, 226),
             Workload::Sequence => {
@@ -95,15 +95,15 @@ impl Workload {
             }
             Workload::OneOutput => {
                 let body = terms::emissions(alloc, 1, 64)?;
-                terms::again(alloc, body)
+                Statement::repeat(alloc, body)
             }
             Workload::ManyOutputs => {
                 let body = terms::emissions(alloc, 64, 64)?;
-                terms::again(alloc, body)
+                Statement::repeat(alloc, body)
             }
             Workload::Relay => {
-                let body = terms::sequence(alloc, terms::relay(alloc, 63)?, terms::pause())?;
-                terms::again(alloc, body)
+                let body = Statement::seq(alloc, terms::relay(alloc, 63)?, Statement::pause())?;
+                Statement::repeat(alloc, body)
             }
         }
     }

@@ -8,7 +8,7 @@ use Rattle.std.proofs.Common.{inl, inr}
 use Rattle.std.proofs.lemmas.Nat.Bits.{bit_at_above, bit_at_mask_inside, bit_at_mask_below, bit_at-trailing_zeros}
 use Rattle.std.specs.Int.{trailing_zeros}
 use mathlib.Core.Path.{fun_ext}
-use Rattle.est_kernel.specs.Codes.{code, either_code, but_zero, max_codes, down, Codes, some_up_to}
+use Rattle.est_kernel.specs.Codes.{no_codes, code, either_code, but_zero, max_codes, codes_out_of_trap, Codes, some_up_to}
 use Rattle.est_kernel.specs.Bits.{bits}
 
 max_one : (x y : ℕ) → x < 2 → y < 2 → nat_eq (max x y) 1 ≡ (nat_eq x 1 || nat_eq y 1)
@@ -65,6 +65,11 @@ pub bits_zero : (n : ℕ) → bits 0 n ≡ false
 unfolding bits
 bits_zero n = ap (λ x. nat_eq x 1) (bit_at-zero n)
 
+-- the empty mask of codes
+pub zero_codes : bits 0 ≡ no_codes
+unfolding no_codes
+zero_codes = fun_ext bits_zero
+
 -- no bit past the width is set
 pub bits_above : (x n : ℕ) → x < 2 ^ 64 → 64 ≤ n → bits x n ≡ false
 unfolding bits
@@ -94,9 +99,9 @@ quarter a n = bits-suc a (suc n) ∙ (bits-suc (a / 2) n ∙ ap (λ x. bits x n)
 four_times : (x n : ℕ) → bits (x * 4) (suc (suc n)) ≡ bits x n
 four_times x n = quarter (x * 4) n ∙ ap (λ y. bits y n) (omega arith)
 
-lowered_parts : (a n : ℕ) → bits (bit_or (bit_or (bit_and (bit_or a (a / 4)) 1) (bit_and a 2)) (a / 8 * 4)) n
+out_of_trap_parts : (a n : ℕ) → bits (bit_or (bit_or (bit_and (bit_or a (a / 4)) 1) (bit_and a 2)) (a / 8 * 4)) n
     ≡ ((((bits a n || bits (a / 4) n) && bits 1 n) || (bits a n && bits 2 n)) || bits (a / 8 * 4) n)
-lowered_parts a n = rw (bits_or, bits_or, bits_and, bits_or, bits_and) refl
+out_of_trap_parts a n = rw (bits_or, bits_or, bits_and, bits_or, bits_and) refl
 
 bits_1_0 : bits 1 0 ≡ true
 unfolding bits
@@ -139,18 +144,18 @@ at_more true false z = refl
 at_more false true z = refl
 at_more false false z = refl
 
-lowered_at : (a n : ℕ) → bits (bit_or (bit_or (bit_and (bit_or a (a / 4)) 1) (bit_and a 2)) (a / 8 * 4)) n ≡ down (bits a) n
-unfolding down
-lowered_at a zero = lowered_parts a 0 ∙ rw (bits_1_0, bits_2_0, bits_four_0 (a / 8), quarter a 0) (at_0 (bits a 0) (bits (a / 4) 0))
-lowered_at a (suc zero) = lowered_parts a 1 ∙ rw (bits_1_1, bits_2_1, bits_four_1 (a / 8)) (at_1 (bits a 1) (bits (a / 4) 1))
-lowered_at a (suc (suc k)) =
-    lowered_parts a (suc (suc k))
+out_of_trap_at : (a n : ℕ) → bits (bit_or (bit_or (bit_and (bit_or a (a / 4)) 1) (bit_and a 2)) (a / 8 * 4)) n ≡ codes_out_of_trap (bits a) n
+unfolding codes_out_of_trap
+out_of_trap_at a zero = out_of_trap_parts a 0 ∙ rw (bits_1_0, bits_2_0, bits_four_0 (a / 8), quarter a 0) (at_0 (bits a 0) (bits (a / 4) 0))
+out_of_trap_at a (suc zero) = out_of_trap_parts a 1 ∙ rw (bits_1_1, bits_2_1, bits_four_1 (a / 8)) (at_1 (bits a 1) (bits (a / 4) 1))
+out_of_trap_at a (suc (suc k)) =
+    out_of_trap_parts a (suc (suc k))
     ∙ rw (quarter 1 k, quarter 2 k, bits_zero k, four_times (a / 8) k) (at_more (bits a (suc (suc k))) (bits (a / 4) (suc (suc k))) (bits (a / 8) k)
     ∙ sym (quarter a (suc k) ∙ (bits-suc (a / 4) k ∙ ap (λ x. bits x k) (omega arith))))
 
 -- the codes outside a trap, as a mask
-pub lowered_bits : (a : ℕ) → bits (bit_or (bit_or (bit_and (bit_or a (a / 4)) 1) (bit_and a 2)) (a / 8 * 4)) ≡ down (bits a)
-lowered_bits a = fun_ext (λ n. lowered_at a n)
+pub out_of_trap_bits : (a : ℕ) → bits (bit_or (bit_or (bit_and (bit_or a (a / 4)) 1) (bit_and a 2)) (a / 8 * 4)) ≡ codes_out_of_trap (bits a)
+out_of_trap_bits a = fun_ext (λ n. out_of_trap_at a n)
 
 -- no number up to n is in the empty set
 pub up_to_none : (n : ℕ) → some_up_to (bits 0) n ≡ false

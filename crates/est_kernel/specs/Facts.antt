@@ -6,24 +6,24 @@ use Rattle.std.specs.Coded.{Unit-prop, le_prop, ×_prop}
 use Rattle.est_kernel.specs.Term.{Name, outer, inner, Query, tick, of, Term, nothing, pause, emit, present, suspend, held, seq, loop, par, trap, exit, signal}
 use Rattle.est_kernel.specs.Scope.{IsVisible, IsAsked, IsEmitted, IsClosed}
 use Rattle.est_kernel.specs.StartCodes.{IsLoopSafe}
-use Rattle.est_kernel.specs.View.{IsNumbered}
+use Rattle.est_kernel.specs.PauseNumbers.{HasDistinctPauses}
 use Rattle.est_kernel.specs.declared.interface.Declaration.{Declaration}
 use Rattle.est_kernel.specs.declared.statement.Statement.{Statement}
 use Rattle.est_kernel.specs.declared.statement.Statement.TheVariants.{Nothing, Pause, Emit, Present', Suspend', Seq', Loop', Par', Trap', Exit, Local' as Binder'}
 
 -- that no two pauses have one number
-pub IsNumbered-prop : (s : Statement) → IsProp (IsNumbered s)
-IsNumbered-prop Nothing = Unit-prop
-IsNumbered-prop (Pause n) = Unit-prop
-IsNumbered-prop (Emit s) = Unit-prop
-IsNumbered-prop (Present' t x p y q) = hlevel (Bool-set, IsNumbered-prop p, IsNumbered-prop q)
-IsNumbered-prop (Suspend' t x p) = IsNumbered-prop p
-IsNumbered-prop (Seq' x p y q) = hlevel (Bool-set, IsNumbered-prop p, IsNumbered-prop q)
-IsNumbered-prop (Loop' x p) = IsNumbered-prop p
-IsNumbered-prop (Par' x p y q) = hlevel (Bool-set, IsNumbered-prop p, IsNumbered-prop q)
-IsNumbered-prop (Trap' x p) = IsNumbered-prop p
-IsNumbered-prop (Exit k) = Unit-prop
-IsNumbered-prop (Binder' s x p) = IsNumbered-prop p
+pub HasDistinctPauses-prop : (s : Statement) → IsProp (HasDistinctPauses s)
+HasDistinctPauses-prop Nothing = Unit-prop
+HasDistinctPauses-prop (Pause n) = Unit-prop
+HasDistinctPauses-prop (Emit s) = Unit-prop
+HasDistinctPauses-prop (Present' t x p y q) = hlevel (Bool-set, HasDistinctPauses-prop p, HasDistinctPauses-prop q)
+HasDistinctPauses-prop (Suspend' t x p) = HasDistinctPauses-prop p
+HasDistinctPauses-prop (Seq' x p y q) = hlevel (Bool-set, HasDistinctPauses-prop p, HasDistinctPauses-prop q)
+HasDistinctPauses-prop (Loop' x p) = HasDistinctPauses-prop p
+HasDistinctPauses-prop (Par' x p y q) = hlevel (Bool-set, HasDistinctPauses-prop p, HasDistinctPauses-prop q)
+HasDistinctPauses-prop (Trap' x p) = HasDistinctPauses-prop p
+HasDistinctPauses-prop (Exit k) = Unit-prop
+HasDistinctPauses-prop (Binder' s x p) = HasDistinctPauses-prop p
 
 -- that loops' bodies take time
 pub IsLoopSafe-prop : (t : Term) → IsProp (IsLoopSafe t)

@@ -1,7 +1,7 @@
 -- The completion codes with which a term can be begun, and loops whose bodies take time.
 -- (Berry, The Constructive Semantics of Pure Esterel, instantaneous loops; the codes by cases are this project's own form)
 use Rattle.std.specs.Prelude.{◌≡◌, ◌+◌, false, cond}
-use Rattle.est_kernel.specs.Codes.{Codes, code, either_code, but_zero, max_codes, down}
+use Rattle.est_kernel.specs.Codes.{Codes, code, either_code, but_zero, max_codes, codes_out_of_trap}
 use Rattle.est_kernel.specs.Term.{Term, nothing, pause, emit, present, suspend, held, seq, loop, par, trap, exit, signal}
 
 -- the codes with which a term can be begun, both branches of each test taken
@@ -15,7 +15,7 @@ start_codes (held s p) = either_code (start_codes p) (code 1)
 start_codes (seq p q) = cond (start_codes p 0) (either_code (but_zero (start_codes p)) (start_codes q)) (start_codes p)
 start_codes (loop p) = start_codes p
 start_codes (par p q) = max_codes (start_codes p) (start_codes q)
-start_codes (trap p) = down (start_codes p)
+start_codes (trap p) = codes_out_of_trap (start_codes p)
 start_codes (exit k) = code (k + 2)
 start_codes (signal s p) = start_codes p
 

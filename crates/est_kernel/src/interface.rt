@@ -5,9 +5,9 @@ ghost use Rattle.std.specs.List.{position, list_any};
 ghost use Rattle.est_kernel.specs.Bits.{bits};
 ghost use Rattle.est_kernel.specs.Interfaces.{same_kind, declares, inputs_of, outputs_of, is_named, HasDistinctNames};
 
-use est_text::identifier::Identifier;
 use crate::mask;
 use crate::statement::InterfaceSignal;
+use est_text::identifier::Identifier;
 use std::alloc::{AllocError, Global};
 use std::marker::Model;
 

@@ -1,37 +1,44 @@
 //! The codes with which a statement can be begun.
 
 ghost use Rattle.std.specs.Prelude.{◌≡◌, MatchOption};
-ghost use Rattle.est_kernel.specs.Bits.{bits};
+ghost use Rattle.est_kernel.specs.Codes.{codes_of};
+ghost use Rattle.est_kernel.specs.Masks.{FitsMasks};
 ghost use Rattle.est_kernel.specs.StartCodes.{start_codes, IsLoopSafe};
 ghost use Rattle.est_kernel.specs.View.{term_of};
 
-use crate::mask;
+use crate::code_set::CodeSet;
+use crate::completion::Completion;
 use crate::statement::Statement;
 
-/// The codes with which a statement can be begun, as a mask, if no loop in it has a body that can end at once.
-pub fn start_codes(s: &Statement) -> Option<u64>
-    ensures { MatchOption result (¬ IsLoopSafe (term_of s.now)) (λ codes. IsLoopSafe (term_of s.now) × (bits codes ≡ start_codes (term_of s.now))) }
+/// The codes with which a statement can be begun, if no loop in it has a body that can end at once.
+pub fn start_codes(s: &Statement) -> Option<CodeSet>
+    requires fits { FitsMasks s.now }
+    ensures { MatchOption result (¬ IsLoopSafe (term_of s.now)) (λ codes. IsLoopSafe (term_of s.now) × (codes_of codes ≡ start_codes (term_of s.now))) }
 {
     match s {
-        Statement::Nothing | Statement::Emit(_) => Some(mask::single(0)),
-        Statement::Pause(_) => Some(mask::single(1)),
-        Statement::Exit(trap) => Some(mask::single(trap.index + 2)),
-        Statement::Present(_, p, q) => Some(mask::either(start_codes(p)?, start_codes(q)?)),
+        Statement::Nothing | Statement::Emit(_) => Some(CodeSet::single(Completion::End)),
+        Statement::Pause(_) => Some(CodeSet::single(Completion::Pause)),
+        Statement::Exit(trap) => Some(CodeSet::single(Completion::Exit(*trap))),
+        Statement::Present(_, p, q) => Some(start_codes(p)?.either(start_codes(q)?)),
         Statement::Suspend(_, p) | Statement::Local(_, p) => start_codes(p),
         Statement::Seq(p, q) => {
             let first = start_codes(p)?;
             let second = start_codes(q)?;
-            if mask::has(first, 0) {
-                Some(mask::either(mask::without_zero(first), second))
+            if first.has(Completion::End) {
+                Some(first.without_zero().either(second))
             } else {
                 Some(first)
             }
         }
         Statement::Loop(p) => {
             let body = start_codes(p)?;
-            if mask::has(body, 0) { None } else { Some(body) }
+            if body.has(Completion::End) {
+                None
+            } else {
+                Some(body)
+            }
         }
-        Statement::Par(p, q) => Some(mask::greater_of_pairs(start_codes(p)?, start_codes(q)?)),
-        Statement::Trap(p) => Some(mask::lowered(start_codes(p)?)),
+        Statement::Par(p, q) => Some(start_codes(p)?.greater_of_pairs(start_codes(q)?)),
+        Statement::Trap(p) => Some(start_codes(p)?.out_of_trap()),
     }
 }

@@ -1,124 +1,137 @@
 //! Interfaces and kernels at the edges of their limits.
 
-ghost use Rattle.std.specs.Prelude.{IfOk, ℕ, List, ◌<◌};
-ghost use Rattle.est_kernel.specs.Scope.{IsClosed};
-ghost use Rattle.est_kernel.specs.View.{term_of};
-ghost use Rattle.est_kernel.specs.declared.interface.Declaration.{Declaration};
-
+use crate::closed::is_closed;
 use crate::interface::{Declaration, Interface, Kind};
 use crate::kernel::{Kernel, LoadFault};
 use crate::limits::Limit;
-use crate::statement::{LocalSignal, PauseIndex, Statement, TrapIndex};
+use crate::statement::{InterfaceSignal, LocalSignal, Signal, Statement};
 use est_text::identifier::Identifier;
 use std::alloc::{AllocError, Global};
 use std::process::Abort;
 use std::test::Fail;
 
-fn pause() -> Statement
-    ensures closed { (i : List Declaration) (traps locals : ℕ) → IsClosed i traps locals (term_of result) }
-{
-    Statement::Pause(PauseIndex { index: 0 })
-}
-
 /// Pauses before a statement, each of two nodes more.
-fn after_pauses(alloc: Global, last: Statement, count: u16) -> Result<Statement, AllocError>
-    requires { (i : List Declaration) → IsClosed i 0 0 (term_of last) }
-    ensures { IfOk result (λ s. (i : List Declaration) → IsClosed i 0 0 (term_of s)) }
-{
+fn after_pauses(alloc: Global, last: Statement, count: u16) -> Result<Statement, AllocError> {
     let mut whole = last;
     'grow: for _ in 0..count {
-        whole = Statement::Seq(Box::new(alloc, pause())?, Box::new(alloc, whole)?);
+        whole = Statement::seq(alloc, Statement::pause(), whole)?;
     }
     Ok(whole)
 }
 
 /// Loops in one another, round a pause.
-fn loops(alloc: Global, depth: u8) -> Result<Statement, AllocError>
-    ensures { IfOk result (λ s. (i : List Declaration) → IsClosed i 0 0 (term_of s)) }
-{
-    let mut whole = pause();
+fn loops(alloc: Global, depth: u16) -> Result<Statement, AllocError> {
+    let mut whole = Statement::pause();
     'grow: for _ in 0..depth {
-        whole = Statement::Loop(Box::new(alloc, whole)?);
+        whole = Statement::repeat(alloc, whole)?;
     }
     Ok(whole)
 }
 
-/// Traps in one another, round a pause.
-fn traps(alloc: Global, depth: u8) -> Result<Statement, AllocError>
-    ensures { IfOk result (λ s. (i : List Declaration) → IsClosed i 0 0 (term_of s)) }
-{
-    let mut whole = pause();
+/// Traps in one another, round a statement.
+fn traps(alloc: Global, depth: u16, inside: Statement) -> Result<Statement, AllocError> {
+    let mut whole = inside;
     'grow: for _ in 0..depth {
-        whole = Statement::Trap(Box::new(alloc, whole)?);
+        whole = Statement::trap(alloc, whole)?;
     }
     Ok(whole)
 }
 
 /// Local signals in one another, round a pause.
-fn locals(alloc: Global, depth: u8) -> Result<Statement, AllocError>
-    requires { depth < 64 }
-    ensures { IfOk result (λ s. (i : List Declaration) → IsClosed i 0 0 (term_of s)) }
-{
-    let mut whole = pause();
-    let mut around = depth;
-    'grow: while around > 0 {
-        around -= 1;
-        whole = Statement::Local(LocalSignal { index: around }, Box::new(alloc, whole)?);
+fn locals(alloc: Global, depth: u16) -> Result<Statement, AllocError> {
+    let mut whole = Statement::pause();
+    for around in (0..depth).rev() {
+        whole = Statement::local(alloc, around, whole)?;
     }
     Ok(whole)
 }
 
-fn fault(alloc: Global, root: Statement) -> Option<LoadFault>
-    requires { (i : List Declaration) → IsClosed i 0 0 (term_of root) }
-{
-    Kernel::build(Interface::new(alloc), root).err()
+/// Why a statement over an empty interface makes no kernel, or that it is not closed.
+fn fault(alloc: Global, root: Statement) -> Result<Option<LoadFault>, Fail> {
+    let interface = Interface::new(alloc);
+    if is_closed(&interface, &root) {
+        Ok(Kernel::build(interface, root).err())
+    } else {
+        Err(Fail::from("a name without a binder"))
+    }
 }
 
 #[test]
 fn limits(rt: HostRuntime) -> Result<(), Fail> {
     let alloc = rt.alloc();
-    let looped = Statement::Loop(Box::new(alloc, pause())?);
+    let looped = Statement::repeat(alloc, Statement::pause())?;
     assert_eq!(rt;
-        fault(alloc, after_pauses(alloc, looped, 1023)?),
+        fault(alloc, after_pauses(alloc, looped, 1023)?)?,
         None,
         "2,048 statements"
     );
     assert_eq!(rt;
-        fault(alloc, after_pauses(alloc, pause(), 1024)?),
+        fault(alloc, after_pauses(alloc, Statement::pause(), 1024)?)?,
         Some(LoadFault::TooLarge(Limit::Statements)),
         "2,049 statements"
     );
-    assert_eq!(rt; fault(alloc, loops(alloc, 16)?), None);
+    assert_eq!(rt; fault(alloc, loops(alloc, 16)?)?, None);
     assert_eq!(rt;
-        fault(alloc, loops(alloc, 17)?),
+        fault(alloc, loops(alloc, 17)?)?,
         Some(LoadFault::TooLarge(Limit::Loops))
     );
-    assert_eq!(rt; fault(alloc, traps(alloc, 16)?), None);
-    assert_eq!(rt;
-        fault(alloc, traps(alloc, 17)?),
-        Some(LoadFault::TooLarge(Limit::Traps))
+    for (depth, limit) in [
+        (16, None),
+        (17, Some(LoadFault::TooLarge(Limit::Traps))),
+        (40, Some(LoadFault::TooLarge(Limit::Traps))),
+    ] {
+        let exit = Statement::exit(depth - 1);
+        assert_eq!(rt;
+            fault(alloc, traps(alloc, depth, exit)?)?,
+            limit,
+            "an exit out of {depth} traps"
+        );
+    }
+    for (depth, limit) in [
+        (6, None),
+        (7, Some(LoadFault::TooLarge(Limit::Locals))),
+        (70, Some(LoadFault::TooLarge(Limit::Locals))),
+    ] {
+        assert_eq!(rt;
+            fault(alloc, locals(alloc, depth)?)?,
+            limit,
+            "{depth} local signals"
+        );
+    }
+    Ok(())
+}
+
+#[test]
+fn binders(rt: HostRuntime) -> Result<(), Fail> {
+    let alloc = rt.alloc();
+    let interface = Interface::new(alloc);
+    let local = Signal::Local(LocalSignal { index: 0 });
+    let output = Signal::Interface(InterfaceSignal { index: 0 });
+    assert!(rt; !is_closed(&interface, &Statement::exit(0)));
+    assert!(rt; is_closed(&interface, &Statement::trap(alloc, Statement::exit(0))?));
+    assert!(rt; !is_closed(&interface, &Statement::Emit(local)));
+    assert!(rt; !is_closed(&interface, &Statement::Emit(output)));
+    assert!(rt;
+        is_closed(
+            &interface,
+            &Statement::local(alloc, 0, Statement::Emit(local))?
+        )
     );
-    assert_eq!(rt; fault(alloc, locals(alloc, 6)?), None);
-    assert_eq!(rt;
-        fault(alloc, locals(alloc, 7)?),
-        Some(LoadFault::TooLarge(Limit::Locals))
-    );
+    assert!(rt; !is_closed(&interface, &Statement::local(alloc, 1, Statement::pause())?));
     Ok(())
 }
 
 #[test]
 fn instant_loops(rt: HostRuntime) -> Result<(), Fail> {
     let alloc = rt.alloc();
-    let empty = Statement::Loop(Box::new(alloc, Statement::Nothing)?);
-    assert_eq!(rt; fault(alloc, empty), Some(LoadFault::InstantLoop));
-    let left = Statement::Exit(TrapIndex { index: 0 });
-    let body = Statement::Seq(Box::new(alloc, pause())?, Box::new(alloc, left)?);
-    let slow = Statement::Trap(Box::new(alloc, body)?);
-    assert_eq!(rt; fault(alloc, Statement::Loop(Box::new(alloc, slow)?)), None);
-    let left = Statement::Exit(TrapIndex { index: 0 });
-    let quick = Statement::Trap(Box::new(alloc, left)?);
+    let empty = Statement::repeat(alloc, Statement::Nothing)?;
+    assert_eq!(rt; fault(alloc, empty)?, Some(LoadFault::InstantLoop));
+    let body = Statement::seq(alloc, Statement::pause(), Statement::exit(0))?;
+    let slow = Statement::trap(alloc, body)?;
+    assert_eq!(rt; fault(alloc, Statement::repeat(alloc, slow)?)?, None);
+    let quick = Statement::trap(alloc, Statement::exit(0))?;
     assert_eq!(rt;
-        fault(alloc, Statement::Loop(Box::new(alloc, quick)?)),
+        fault(alloc, Statement::repeat(alloc, quick)?)?,
         Some(LoadFault::InstantLoop),
         "a trap that is left at once"
     );
@@ -157,7 +170,7 @@ fn interfaces(rt: HostRuntime) -> Result<(), Fail> {
 #[test]
 fn kernels(rt: HostRuntime) -> Result<(), Fail> {
     let alloc = rt.alloc();
-    let kernel = Kernel::build(Interface::new(alloc), pause())
+    let kernel = Kernel::build(Interface::new(alloc), Statement::pause())
         .ok()
         .expect(&rt, "a kernel");
     assert!(rt; kernel.interface().is_empty());
@@ -169,10 +182,9 @@ fn kernels(rt: HostRuntime) -> Result<(), Fail> {
 #[test]
 fn first_limit(rt: HostRuntime) -> Result<(), Fail> {
     let alloc = rt.alloc();
-    let many_loops = Box::new(alloc, loops(alloc, 17)?)?;
-    let many_locals = Box::new(alloc, locals(alloc, 7)?)?;
+    let both = Statement::seq(alloc, loops(alloc, 17)?, locals(alloc, 7)?)?;
     assert_eq!(rt;
-        fault(alloc, Statement::Seq(many_loops, many_locals)),
+        fault(alloc, both)?,
         Some(LoadFault::TooLarge(Limit::Loops))
     );
     Ok(())
@@ -206,9 +218,9 @@ fn inner_numbers(s: &Statement) -> Option<(LocalSignal, (u16, u16))> {
 #[test]
 fn numbers(rt: HostRuntime) -> Result<(), Fail> {
     let alloc = rt.alloc();
-    let pauses = Statement::Seq(Box::new(alloc, pause())?, Box::new(alloc, pause())?);
-    let inner = Statement::Local(LocalSignal { index: 1 }, Box::new(alloc, pauses)?);
-    let outer = Statement::Local(LocalSignal { index: 0 }, Box::new(alloc, inner)?);
+    let pauses = Statement::seq(alloc, Statement::pause(), Statement::pause())?;
+    let inner = Statement::local(alloc, 1, pauses)?;
+    let outer = Statement::local(alloc, 0, inner)?;
     let kernel = Kernel::build(Interface::new(alloc), outer)
         .ok()
         .expect(&rt, "a kernel");

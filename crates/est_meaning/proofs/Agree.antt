@@ -1,7 +1,9 @@
 -- What a statement's reading depends on: its own pauses.
 use Rattle.std.proofs.Common.{◌≡◌, ℕ, Bool, true, false, ◌||◌, refl, ap, sym}
 use Rattle.std.proofs.lemmas.Bool.{or_parts, eq-eqb, both_ways}
-use Rattle.est_kernel.specs.View.{term_of, term_at, is_live, has_pause, IsExclusive, AreApart, query_of}
+use Rattle.est_kernel.specs.PauseNumbers.{has_pause, AreApart}
+use Rattle.est_kernel.specs.View.{term_of, query_of}
+use Rattle.est_meaning.specs.States.{term_at, is_live, IsExclusive}
 use Rattle.est_kernel.specs.Term.{held, seq, loop, trap, signal}
 use Rattle.est_kernel.specs.declared.statement.Statement.{Statement}
 use Rattle.est_kernel.specs.declared.statement.Statement.TheVariants.{Nothing, Pause, Emit, Present', Suspend', Seq', Loop', Par', Trap', Exit, Local' as Binder'}

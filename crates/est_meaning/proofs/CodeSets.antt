@@ -3,8 +3,7 @@ use Rattle.std.specs.Prelude.{◌≡◌, ◌≢◌, ℕ, zero, suc, ◌≤◌, �
 use Rattle.std.proofs.Common.{inl, inr, sym, ◌∙◌, refl, arith}
 use Rattle.std.proofs.lemmas.Bool.{eq-eqb, ne_eqb, eqb-true, cases_eq, or_cases, and_parts, cases_lt}
 use mathlib.Core.Path.{fun_ext}
-use Rattle.est_kernel.specs.Codes.{Codes, no_codes, code, either_code, but_zero, max_codes, some_up_to, down}
-use Rattle.est_meaning.specs.Rules.{outside}
+use Rattle.est_kernel.specs.Codes.{Codes, no_codes, code, either_code, but_zero, max_codes, some_up_to, codes_out_of_trap, code_out_of_trap}
 
 -- a code alone, as a test
 pub code_at : (k n : ℕ) → code k n ≡ nat_eq k n
@@ -85,24 +84,24 @@ pub max_of_codes : (i j : ℕ) → max_codes (code i) (code j) ≡ code (max i j
 unfolding max_codes
 max_of_codes i j = fun_ext (λ k. max_at i j k)
 
-down_at : (i k : ℕ) → down (code i) k ≡ code (outside i) k
-unfolding down code
-down_at zero zero = refl
-down_at zero (suc zero) = refl
-down_at zero (suc (suc k)) = same_test 0 (suc (suc (suc k))) 0 (suc (suc k)) (λ h. absurd (omega arith)) (λ h. absurd (omega arith))
-down_at (suc zero) zero = refl
-down_at (suc zero) (suc zero) = refl
-down_at (suc zero) (suc (suc k)) = same_test 1 (suc (suc (suc k))) 1 (suc (suc k)) (λ h. absurd (omega arith)) (λ h. absurd (omega arith))
-down_at (suc (suc zero)) zero = refl
-down_at (suc (suc zero)) (suc zero) = refl
-down_at (suc (suc zero)) (suc (suc k)) = same_test 2 (suc (suc (suc k))) 0 (suc (suc k)) (λ h. absurd (omega arith)) (λ h. absurd (omega arith))
-down_at (suc (suc (suc i))) zero = rw (ne_eqb (suc (suc (suc i))) 0 (λ h. absurd (omega arith)), ne_eqb (suc (suc (suc i))) 2 (λ h. absurd (omega arith)), ne_eqb (suc (suc i)) 0 (λ h. absurd (omega arith))) refl
-down_at (suc (suc (suc i))) (suc zero) = same_test (suc (suc (suc i))) 1 (suc (suc i)) 1 (λ h. absurd (omega arith)) (λ h. absurd (omega arith))
-down_at (suc (suc (suc i))) (suc (suc k)) = same_test (suc (suc (suc i))) (suc (suc (suc k))) (suc (suc i)) (suc (suc k)) (λ h. omega arith) (λ h. omega arith)
+out_of_trap_at : (i k : ℕ) → codes_out_of_trap (code i) k ≡ code (code_out_of_trap i) k
+unfolding codes_out_of_trap code
+out_of_trap_at zero zero = refl
+out_of_trap_at zero (suc zero) = refl
+out_of_trap_at zero (suc (suc k)) = same_test 0 (suc (suc (suc k))) 0 (suc (suc k)) (λ h. absurd (omega arith)) (λ h. absurd (omega arith))
+out_of_trap_at (suc zero) zero = refl
+out_of_trap_at (suc zero) (suc zero) = refl
+out_of_trap_at (suc zero) (suc (suc k)) = same_test 1 (suc (suc (suc k))) 1 (suc (suc k)) (λ h. absurd (omega arith)) (λ h. absurd (omega arith))
+out_of_trap_at (suc (suc zero)) zero = refl
+out_of_trap_at (suc (suc zero)) (suc zero) = refl
+out_of_trap_at (suc (suc zero)) (suc (suc k)) = same_test 2 (suc (suc (suc k))) 0 (suc (suc k)) (λ h. absurd (omega arith)) (λ h. absurd (omega arith))
+out_of_trap_at (suc (suc (suc i))) zero = rw (ne_eqb (suc (suc (suc i))) 0 (λ h. absurd (omega arith)), ne_eqb (suc (suc (suc i))) 2 (λ h. absurd (omega arith)), ne_eqb (suc (suc i)) 0 (λ h. absurd (omega arith))) refl
+out_of_trap_at (suc (suc (suc i))) (suc zero) = same_test (suc (suc (suc i))) 1 (suc (suc i)) 1 (λ h. absurd (omega arith)) (λ h. absurd (omega arith))
+out_of_trap_at (suc (suc (suc i))) (suc (suc k)) = same_test (suc (suc (suc i))) (suc (suc (suc k))) (suc (suc i)) (suc (suc k)) (λ h. omega arith) (λ h. omega arith)
 
 -- a code alone, outside a trap
-pub down_code : (i : ℕ) → down (code i) ≡ code (outside i)
-down_code i = fun_ext (λ k. down_at i k)
+pub out_of_trap_code : (i : ℕ) → codes_out_of_trap (code i) ≡ code (code_out_of_trap i)
+out_of_trap_code i = fun_ext (λ k. out_of_trap_at i k)
 
 -- after an end, the later code alone
 pub later_code : (k : ℕ) → either_code (but_zero (code 0)) (code k) ≡ code k
@@ -133,11 +132,11 @@ max_mono a b a' b' k f g h = elim (or_cases (a k && some_up_to b k) (b k && some
 ]
 
 -- of a larger set more is left outside a trap
-pub down_mono : (a b : Codes) (k : ℕ) → ((i : ℕ) → a i ≡ true → b i ≡ true) → down a k ≡ true → down b k ≡ true
-unfolding down
-down_mono a b zero f h = elim (or_cases (a 0) (a 2) h) [ inl g ↦ rw (f 0 g) refl | inr g ↦ both_true (b 0) (b 2) (f 2 g) ]
-down_mono a b (suc zero) f h = f 1 h
-down_mono a b (suc (suc k)) f h = f (suc (suc (suc k))) h
+pub out_of_trap_mono : (a b : Codes) (k : ℕ) → ((i : ℕ) → a i ≡ true → b i ≡ true) → codes_out_of_trap a k ≡ true → codes_out_of_trap b k ≡ true
+unfolding codes_out_of_trap
+out_of_trap_mono a b zero f h = elim (or_cases (a 0) (a 2) h) [ inl g ↦ rw (f 0 g) refl | inr g ↦ both_true (b 0) (b 2) (f 2 g) ]
+out_of_trap_mono a b (suc zero) f h = f 1 h
+out_of_trap_mono a b (suc (suc k)) f h = f (suc (suc (suc k))) h
 
 -- the only member of a code alone
 pub code_true : (n k : ℕ) → code n k ≡ true → k ≡ n

@@ -3,15 +3,14 @@ use Rattle.std.specs.Prelude.{◌≡◌, ℕ, zero, suc, ◌+◌, Bool, true, fa
 use Rattle.std.proofs.Common.{inl, inr, ap, sym, ◌∙◌, refl, arith, subst}
 use Rattle.std.proofs.lemmas.Bool.{or_cases, and_parts, both_ways}
 use Rattle.est_kernel.specs.Term.{inner, Query, tick, of, Term, nothing, pause, emit, present, suspend, held, seq, loop, par, trap, exit, signal}
-use Rattle.est_kernel.specs.Codes.{Codes, no_codes, code, either_code, but_zero, max_codes, some_up_to, down}
+use Rattle.est_kernel.specs.Codes.{Codes, no_codes, code, either_code, but_zero, max_codes, some_up_to, codes_out_of_trap, code_out_of_trap}
 use Rattle.est_meaning.specs.Signals.{Signals, no_signals, union, without, same_name}
 use Rattle.est_meaning.specs.declared.status.Status.{Status}
 use Rattle.est_meaning.specs.declared.status.Status.TheVariants.{Present, Absent, Unknown}
 use Rattle.est_meaning.specs.Status.{Env, status_of, with_local, verdict, by_status}
-use Rattle.est_meaning.specs.MustCan.{Acts, no_acts, ends, either, together, trapped, hide, may_stay, must_then, can_then, Mode, sure, maybe, next_mode, must, can, env_within}
-use Rattle.est_meaning.specs.Rules.{outside}
+use Rattle.est_meaning.specs.MustCan.{Acts, no_acts, just_code, either, together, acts_out_of_trap, hide, may_stay, must_then, can_then, Mode, sure, maybe, next_mode, must, can, env_within}
 use Rattle.est_meaning.specs.Knowledge.{IsBelow, KnowsLess, IsIn, IsWithin}
-use Rattle.est_meaning.proofs.CodeSets.{both_true, max_mono, down_mono, up_to_found, code_true}
+use Rattle.est_meaning.proofs.CodeSets.{both_true, max_mono, out_of_trap_mono, up_to_found, code_true}
 
 same_within : (a : Acts) → IsWithin a a
 same_within a = record { signals = λ x h. h; codes = λ x h. h }
@@ -62,8 +61,8 @@ either_within a b c d f g = record { signals = union_in _ _ _ _ f.signals g.sign
 together_within : (a b c d : Acts) → IsWithin a c → IsWithin b d → IsWithin (together a b) (together c d)
 together_within a b c d f g = record { signals = union_in _ _ _ _ f.signals g.signals; codes = λ k h. max_mono a.codes b.codes c.codes d.codes k f.codes g.codes h }
 
-trapped_within : (a b : Acts) → IsWithin a b → IsWithin (trapped a) (trapped b)
-trapped_within a b f = record { signals = f.signals; codes = λ k h. down_mono a.codes b.codes k f.codes h }
+out_of_trap_within : (a b : Acts) → IsWithin a b → IsWithin (acts_out_of_trap a) (acts_out_of_trap b)
+out_of_trap_within a b f = record { signals = f.signals; codes = λ k h. out_of_trap_mono a.codes b.codes k f.codes h }
 
 hide_within : (s : ℕ) (a b : Acts) → IsWithin a b → IsWithin (hide s a) (hide s b)
 hide_within s a b f = record { signals = without_in s a.signals b.signals f.signals; codes = f.codes }
@@ -80,7 +79,7 @@ stay_within a b f = record { signals = f.signals; codes = either_in _ _ _ _ f.co
 more_within : (a : Acts) → IsWithin a (may_stay a)
 more_within a = record { signals = λ x h. h; codes = left_in _ _ }
 
-one_within : (a : Acts) → IsWithin (ends 1) (may_stay a)
+one_within : (a : Acts) → IsWithin (just_code 1) (may_stay a)
 unfolding no_signals
 one_within a = record { signals = λ x h. cc; codes = right_in _ _ }
 
@@ -108,11 +107,11 @@ max_found a b k h = elim (or_cases (a k && some_up_to b k) (b k && some_up_to a 
       (f.0, k, f.2, x.0, omega (arith, f.1))
 ]
 
-down_found : (a : Codes) (k : ℕ) → down a k ≡ true → (i : ℕ) × (a i ≡ true) × (k ≡ outside i)
-unfolding down
-down_found a zero h = elim (or_cases (a 0) (a 2) h) [ inl l ↦ (0, l, refl) | inr l ↦ (2, l, refl) ]
-down_found a (suc zero) h = (1, h, refl)
-down_found a (suc (suc k)) h = (suc (suc (suc k)), h, refl)
+out_of_trap_found : (a : Codes) (k : ℕ) → codes_out_of_trap a k ≡ true → (i : ℕ) × (a i ≡ true) × (k ≡ code_out_of_trap i)
+unfolding codes_out_of_trap
+out_of_trap_found a zero h = elim (or_cases (a 0) (a 2) h) [ inl l ↦ (0, l, refl) | inr l ↦ (2, l, refl) ]
+out_of_trap_found a (suc zero) h = (1, h, refl)
+out_of_trap_found a (suc (suc k)) h = (suc (suc (suc k)), h, refl)
 
 one_max : (a b : Codes) → IsOne a → IsOne b → IsOne (max_codes a b)
 one_max a b f g i j h l =
@@ -122,11 +121,11 @@ one_max a b f g i j h l =
     let q : x.1 ≡ y.1 = g x.1 y.1 x.3 y.3 in
     omega (arith, p, q, x.4, y.4)
 
-one_down : (a : Codes) → IsOne a → IsOne (down a)
-one_down a f i j h l =
-    let x = down_found a i h in
-    let y = down_found a j l in
-    x.2 ∙ (ap outside (f x.0 y.0 x.1 y.1) ∙ sym y.2)
+one_out_of_trap : (a : Codes) → IsOne a → IsOne (codes_out_of_trap a)
+one_out_of_trap a f i j h l =
+    let x = out_of_trap_found a i h in
+    let y = out_of_trap_found a j l in
+    x.2 ∙ (ap code_out_of_trap (f x.0 y.0 x.1 y.1) ∙ sym y.2)
 
 one_chosen : (v : Status) (a b : Acts) → IsOne a.codes → IsOne b.codes → IsOne (by_status v a b no_acts).codes
 one_chosen Present a b f g = f
@@ -145,11 +144,11 @@ must_one (emit s) e = one_code_alone 0
 must_one (exit k) e = one_code_alone (k + 2)
 must_one (present s p q) e = one_chosen (status_of e s) (must p e) (must q e) (must_one p e) (must_one q e)
 must_one (suspend s p) e = must_one p e
-must_one (held s p) e = one_chosen (status_of e s) (ends 1) (must p e) (one_code_alone 1) (must_one p e)
+must_one (held s p) e = one_chosen (status_of e s) (just_code 1) (must p e) (one_code_alone 1) (must_one p e)
 must_one (seq p q) e = one_then ((must p e).codes 0) (must p e) (must q e) (must_one p e) (must_one q e)
 must_one (loop p) e = must_one p e
 must_one (par p q) e = one_max _ _ (must_one p e) (must_one q e)
-must_one (trap p) e = one_down _ (must_one p e)
+must_one (trap p) e = one_out_of_trap _ (must_one p e)
 must_one (signal s p) e = must_one p _
 
 -- what goes on after the first part
@@ -218,12 +217,12 @@ must_can (emit s) e = same_within _
 must_can (exit k) e = same_within _
 must_can (present s p q) e = must_can_chosen (status_of e s) _ _ _ _ _ (must_can p e) (must_can q e)
 must_can (suspend s p) e = must_can p e
-must_can (held s p) e = must_can_chosen (status_of e s) _ _ _ _ _ (same_within (ends 1)) (must_can p e)
+must_can (held s p) e = must_can_chosen (status_of e s) _ _ _ _ _ (same_within (just_code 1)) (must_can p e)
 must_can (seq p q) e =
     must_can_then _ _ _ _ (must_can p e) (λ h. subst (λ b. IsWithin (must q e) (can q (next_mode sure b) e)) (sym h) (must_can q e))
 must_can (loop p) e = must_can p e
 must_can (par p q) e = together_within _ _ _ _ (must_can p e) (must_can q e)
-must_can (trap p) e = trapped_within _ _ (must_can p e)
+must_can (trap p) e = out_of_trap_within _ _ (must_can p e)
 must_can (signal s p) e = hide_within s _ _ (must_can p _)
 
 -- the three at once, since each needs the others at the parts
@@ -332,11 +331,11 @@ monotone (suspend s p) = let P = monotone p in record { must_up = P.must_up; can
 monotone (held s p) =
     let P = monotone p in
     record {
-      must_up = λ e f k. must_chosen (status_of e s) (status_of f s) _ _ _ _ (query_below e f s k) (same_within (ends 1)) (P.must_up e f k);
-      can_down = λ m e f k. can_chosen (status_of e s) (status_of f s) _ _ _ _ _ _ (query_below e f s k) (same_within (ends 1)) (P.can_down m e f k)
+      must_up = λ e f k. must_chosen (status_of e s) (status_of f s) _ _ _ _ (query_below e f s k) (same_within (just_code 1)) (P.must_up e f k);
+      can_down = λ m e f k. can_chosen (status_of e s) (status_of f s) _ _ _ _ _ _ (query_below e f s k) (same_within (just_code 1)) (P.can_down m e f k)
           (stay_within _ _ (P.can_down maybe e f k)) (one_within _)
           (then_within (P.can_down m e f k) (then_within (in_doubt p P m e) (more_within _)));
-      eased = λ e. can_chosen (status_of e s) (status_of e s) _ _ _ _ _ _ (inr refl) (same_within (ends 1)) (P.eased e) (same_within _)
+      eased = λ e. can_chosen (status_of e s) (status_of e s) _ _ _ _ _ _ (inr refl) (same_within (just_code 1)) (P.eased e) (same_within _)
           (one_within _) (then_within (P.eased e) (more_within _));
     }
 monotone (seq p q) =
@@ -360,9 +359,9 @@ monotone (par p q) =
 monotone (trap p) =
     let P = monotone p in
     record {
-      must_up = λ e f k. trapped_within _ _ (P.must_up e f k);
-      can_down = λ m e f k. trapped_within _ _ (P.can_down m e f k);
-      eased = λ e. trapped_within _ _ (P.eased e);
+      must_up = λ e f k. out_of_trap_within _ _ (P.must_up e f k);
+      can_down = λ m e f k. out_of_trap_within _ _ (P.can_down m e f k);
+      eased = λ e. out_of_trap_within _ _ (P.eased e);
     }
 monotone (signal s p) =
     let P = monotone p in

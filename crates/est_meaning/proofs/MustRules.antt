@@ -3,16 +3,16 @@ use Rattle.std.specs.Prelude.{◌≡◌, ◌≢◌, ℕ, zero, suc, ◌+◌, Boo
 use Rattle.std.proofs.Common.{inl, inr, ap, sym, ◌∙◌, refl, arith}
 use Rattle.std.proofs.lemmas.Bool.{eq-eqb, or_cases, and_parts, both_ways}
 use Rattle.est_kernel.specs.Term.{inner, Query, Term, nothing, pause, emit, present, suspend, held, seq, loop, par, trap, exit, signal}
-use Rattle.est_kernel.specs.Codes.{Codes, no_codes, code, either_code, but_zero, max_codes, some_up_to, down}
+use Rattle.est_kernel.specs.Codes.{Codes, no_codes, code, either_code, but_zero, max_codes, some_up_to, codes_out_of_trap, code_out_of_trap}
 use Rattle.est_meaning.specs.Signals.{Signals, no_signals, only, union, without}
 use Rattle.est_meaning.specs.declared.status.Status.{Status}
 use Rattle.est_meaning.specs.declared.status.Status.TheVariants.{Present, Absent, Unknown}
 use Rattle.est_meaning.specs.Status.{Env, status_of, with_local, verdict, by_status}
-use Rattle.est_meaning.specs.MustCan.{Acts, no_acts, ends, must_then, sure, must, can, status_within, env_within}
+use Rattle.est_meaning.specs.MustCan.{Acts, no_acts, just_code, must_then, sure, must, can, status_within, env_within}
 use Rattle.est_kernel.specs.StartCodes.{start_codes, IsLoopSafe}
-use Rattle.est_meaning.specs.Rules.{Gives, HasNoRule, rest_of, outside, takes_first, takes_second, is_held, is_resumed, goes_on, ends_then}
+use Rattle.est_meaning.specs.Rules.{Gives, HasNoRule, rest_of, takes_first, takes_second, is_held, is_resumed, goes_on, ends_then}
 use Rattle.est_meaning.specs.Laws.{just, HasRule, HasNoCode}
-use Rattle.est_meaning.proofs.CodeSets.{both_true, code_at, code_zero, max_of_codes, down_code, later_code, up_to_found, max_mono, down_mono, code_true, none_true}
+use Rattle.est_meaning.proofs.CodeSets.{both_true, code_at, code_zero, max_of_codes, out_of_trap_code, later_code, up_to_found, max_mono, out_of_trap_mono, code_true, none_true}
 
 -- the rules against Must
 pub gives_must : (t : Term) (e : Env) (o : Signals) (k : ℕ) (u : Term) → Gives t e o k u → must t e ≡ just o k
@@ -36,7 +36,7 @@ gives_must (par p q) e o k u g =
       g.signals,
       g.code,
     ) refl
-gives_must (trap p) e o k u g = rw (gives_must p e o g.body_code g.left g.gives, down_code g.body_code, g.code) refl
+gives_must (trap p) e o k u g = rw (gives_must p e o g.body_code g.left g.gives, out_of_trap_code g.body_code, g.code) refl
 gives_must (signal s p) e o k u g = rw (gives_must p (env_within sure s p e) g.body_signals k g.left g.gives, g.signals) refl
 
 -- the rules against Can
@@ -62,7 +62,7 @@ gives_can (par p q) e o k u g =
       g.signals,
       g.code,
     ) refl
-gives_can (trap p) e o k u g = rw (gives_can p e o g.body_code g.left g.gives, down_code g.body_code, g.code) refl
+gives_can (trap p) e o k u g = rw (gives_can p e o g.body_code g.left g.gives, out_of_trap_code g.body_code, g.code) refl
 gives_can (signal s p) e o k u g = rw (gives_can p (env_within sure s p e) g.body_signals k g.left g.gives, g.signals) refl
 
 chosen_starts : (v : Status) (a b : Acts) (c d : Codes) (k : ℕ) → (a.codes k ≡ true → c k ≡ true) → (b.codes k ≡ true → d k ≡ true)
@@ -73,7 +73,7 @@ chosen_starts Absent a b c d k f g h = both_true (c k) (d k) (g h)
 chosen_starts Unknown a b c d k f g h = cc
 
 held_starts : (v : Status) (a : Acts) (c : Codes) (k : ℕ) → (a.codes k ≡ true → c k ≡ true)
-    → (by_status v (ends 1) a no_acts).codes k ≡ true → either_code c (code 1) k ≡ true
+    → (by_status v (just_code 1) a no_acts).codes k ≡ true → either_code c (code 1) k ≡ true
 unfolding either_code no_codes
 held_starts Present a c k f h = both_true (c k) (code 1 k) h
 held_starts Absent a c k f h = rw (f h) refl
@@ -105,7 +105,7 @@ must_starts (held s p) e k h = held_starts (status_of e s) (must p e) _ k (must_
 must_starts (seq p q) e k h = seq_starts (must p e) (must q e) _ _ k (must_starts p e) (must_starts q e k) h
 must_starts (loop p) e k h = must_starts p e k h
 must_starts (par p q) e k h = max_mono _ _ _ _ k (must_starts p e) (must_starts q e) h
-must_starts (trap p) e k h = down_mono _ _ k (must_starts p e) h
+must_starts (trap p) e k h = out_of_trap_mono _ _ k (must_starts p e) h
 must_starts (signal s p) e k h = must_starts p _ k h
 
 present_has : (s : Query) (p q : Term) (e : Env) (k : ℕ) (v : Status) → status_of e s ≡ v → ((must p e).codes k ≡ true → HasRule p e k) → ((must q e).codes k ≡ true → HasRule q e k)
@@ -115,7 +115,7 @@ present_has s p q e k Absent d f g h = let r = g h in record { signals = r.signa
 present_has s p q e k Unknown d f g h = none_true k h
 
 held_has : (s : Query) (p : Term) (e : Env) (k : ℕ) (v : Status) → status_of e s ≡ v → ((must p e).codes k ≡ true → HasRule p e k)
-    → (by_status v (ends 1) (must p e) no_acts).codes k ≡ true → HasRule (held s p) e k
+    → (by_status v (just_code 1) (must p e) no_acts).codes k ≡ true → HasRule (held s p) e k
 held_has s p e k Present d f h = record { signals = no_signals; rest = held s p; gives = is_held d (record { signals = refl; code = code_true 1 k h; rest = refl }) }
 held_has s p e k Absent d f h =
     let r = f h in
@@ -169,15 +169,15 @@ par_has p q e k f g h = elim (or_cases ((must p e).codes k && some_up_to (must q
       both_have p q e j.0 k k (f j.0 j.2) (g k x.0) (omega (arith, j.1))
 ]
 
-trap_with : (p : Term) (e : Env) (i k : ℕ) → HasRule p e i → k ≡ outside i → HasRule (trap p) e k
+trap_with : (p : Term) (e : Env) (i k : ℕ) → HasRule p e i → k ≡ code_out_of_trap i → HasRule (trap p) e k
 trap_with p e i k r c = record {
   signals = r.signals;
   rest = rest_of k (trap r.rest);
   gives = record { body_code = i; left = r.rest; gives = r.gives; code = c; rest = refl };
 }
 
-trap_has : (p : Term) (e : Env) (k : ℕ) → ((i : ℕ) → (must p e).codes i ≡ true → HasRule p e i) → down (must p e).codes k ≡ true → HasRule (trap p) e k
-unfolding down
+trap_has : (p : Term) (e : Env) (k : ℕ) → ((i : ℕ) → (must p e).codes i ≡ true → HasRule p e i) → codes_out_of_trap (must p e).codes k ≡ true → HasRule (trap p) e k
+unfolding codes_out_of_trap
 trap_has p e zero f h = elim (or_cases ((must p e).codes 0) ((must p e).codes 2) h) [
   | inl l ↦ trap_with p e 0 0 (f 0 l) refl
   | inr l ↦ trap_with p e 2 0 (f 2 l) refl

@@ -1,7 +1,9 @@
 -- Where the rules react, some set of pauses stands for what is left.
 use Rattle.std.proofs.Common.{ap, ◌≡◌, ◌≢◌, ℕ, zero, suc, Bool, true, false, ◌&&◌, ◌||◌, cond, nat_eq, max, refl, sym, ◌∙◌, inl, inr, subst, arith}
 use Rattle.std.proofs.lemmas.Bool.{ne_eqb, eq-eqb, or_parts, both_ways, cases_eq}
-use Rattle.est_kernel.specs.View.{term_of, term_at, is_live, has_pause, IsNumbered, IsExclusive, AreApart, query_of}
+use Rattle.est_kernel.specs.Codes.{code_out_of_trap}
+use Rattle.est_kernel.specs.PauseNumbers.{has_pause, HasDistinctPauses, AreApart}
+use Rattle.est_kernel.specs.View.{term_of, query_of}
 use Rattle.est_kernel.specs.Term.{Term, nothing, suspend, held, seq, loop, par, trap, signal}
 use Rattle.est_kernel.specs.declared.statement.Statement.{Statement}
 use Rattle.est_kernel.specs.declared.statement.Statement.TheVariants.{Nothing, Pause, Emit, Present', Suspend', Seq', Loop', Par', Trap', Exit, Local' as Binder'}
@@ -10,10 +12,10 @@ use Rattle.est_meaning.specs.Signals.{Signals, no_signals, union, without}
 use Rattle.est_meaning.specs.declared.status.Status.TheVariants.{Unknown}
 use Rattle.est_meaning.specs.Status.{Env}
 use Rattle.est_meaning.specs.MustCan.{sure, status_within, env_within}
-use Rattle.est_meaning.specs.Rules.{Gives, rest_of, outside, takes_first, takes_second, is_held, is_resumed, goes_on, ends_then}
+use Rattle.est_meaning.specs.Rules.{Gives, rest_of, takes_first, takes_second, is_held, is_resumed, goes_on, ends_then}
 use Rattle.est_meaning.specs.Steps.{StepsTo}
 use Rattle.est_meaning.specs.Laws.{IsStateFor, SomeStateFor}
-use Rattle.est_meaning.specs.States.{HasPausedAt, IsState, state_term}
+use Rattle.est_meaning.specs.States.{term_at, is_live, IsExclusive, HasPausedAt, IsState, state_term}
 use Rattle.est_kernel.specs.Pauses.{pauses_of}
 use Rattle.est_kernel.specs.declared.state.State.{State}
 use Rattle.est_kernel.specs.declared.state.State.TheVariants.{Fresh, Done, Paused}
@@ -71,24 +73,24 @@ loops {p = p} {k = k} d n = record {
   own = n.own;
 }
 
-trapped_live : (i : ℕ) → nat_eq i 1 ≡ nat_eq (outside i) 1
-trapped_live zero = refl
-trapped_live (suc zero) = refl
-trapped_live (suc (suc zero)) = ne_eqb 2 1 (λ h. absurd (omega arith))
-trapped_live (suc (suc (suc i))) = ne_eqb (suc (suc (suc i))) 1 (λ h. absurd (omega arith)) ∙ sym (ne_eqb (suc (suc i)) 1 (λ h. absurd (omega arith)))
+out_of_trap_live : (i : ℕ) → nat_eq i 1 ≡ nat_eq (code_out_of_trap i) 1
+out_of_trap_live zero = refl
+out_of_trap_live (suc zero) = refl
+out_of_trap_live (suc (suc zero)) = ne_eqb 2 1 (λ h. absurd (omega arith))
+out_of_trap_live (suc (suc (suc i))) = ne_eqb (suc (suc (suc i))) 1 (λ h. absurd (omega arith)) ∙ sym (ne_eqb (suc (suc i)) 1 (λ h. absurd (omega arith)))
 
-trapped_rest : (i : ℕ) (x : Term) → rest_of (outside i) (trap x) ≡ rest_of (outside i) (trap (rest_of i x))
-trapped_rest zero x = refl
-trapped_rest (suc zero) x = refl
-trapped_rest (suc (suc zero)) x = refl
-trapped_rest (suc (suc (suc i))) x = refl
+out_of_trap_rest : (i : ℕ) (x : Term) → rest_of (code_out_of_trap i) (trap x) ≡ rest_of (code_out_of_trap i) (trap (rest_of i x))
+out_of_trap_rest zero x = refl
+out_of_trap_rest (suc zero) x = refl
+out_of_trap_rest (suc (suc zero)) x = refl
+out_of_trap_rest (suc (suc (suc i))) x = refl
 
-traps : {a : _} {p : Statement} {t : Term} {e : Env} {o : Signals} {i k : ℕ} → k ≡ outside i → Next p t e o i → Next (Trap' a p) (trap t) e o k
+traps : {a : _} {p : Statement} {t : Term} {e : Env} {o : Signals} {i k : ℕ} → k ≡ code_out_of_trap i → Next p t e o i → Next (Trap' a p) (trap t) e o k
 traps {p = p} {t = t} {e = e} {o = o} {i = i} {k = k} z n = record {
   next = n.next;
   steps = record {
-    gives = record { body_code = i; left = rest_of i (term_at p n.next); gives = n.steps.gives; code = z; rest = rw z (trapped_rest i (term_at p n.next)) };
-    live = rw z (n.steps.live ∙ trapped_live i);
+    gives = record { body_code = i; left = rest_of i (term_at p n.next); gives = n.steps.gives; code = z; rest = rw z (out_of_trap_rest i (term_at p n.next)) };
+    live = rw z (n.steps.live ∙ out_of_trap_live i);
     exclusive = n.steps.exclusive;
   };
   own = n.own;
@@ -127,7 +129,7 @@ sides {a = a} {b = b} {p = p} {q = q} {t = t} {u = u} {e = e} {o = o} {o' = o'} 
     right = steps_same q u e o' j n.next both (λ x h. in_right (m.next x) (n.next x) (m.own x (turned p q apart x h))) n.steps
 
 -- a statement that begins
-pub begins : (s : Statement) → IsNumbered s → (e : Env) (o : Signals) (k : ℕ) (u : Term) → Gives (term_of s) e o k u → Next s (term_of s) e o k
+pub begins : (s : Statement) → HasDistinctPauses s → (e : Env) (o : Signals) (k : ℕ) (u : Term) → Gives (term_of s) e o k u → Next s (term_of s) e o k
 begins Nothing num e o k u g = quiet_at Nothing _ e o k (not_one k g.code) refl (record { signals = g.signals; code = g.code; rest = rw g.code refl })
 begins (Emit s) num e o k u g = quiet_at (Emit s) _ e o k (not_one k g.code) refl (record { signals = g.signals; code = g.code; rest = rw g.code refl })
 begins (Exit n) num e o k u g = quiet_at (Exit n) _ e o k (λ h. absurd (omega (arith, h, g.code))) refl (record { signals = g.signals; code = g.code; rest = gone k (λ h. absurd (omega (arith, h, g.code))) })
@@ -181,7 +183,7 @@ present_goes p q apart b e o k u false l live f h g =
     let n = h (rw l at live) g in
     record { next = n.next; steps = present_second n.steps (other_dead q p n.next apart n.own); own = λ i d. n.own i (or_parts (has_pause p i) (has_pause q i) d).1 }
 
-seq_on : {a c : _} (p q : Statement) → IsNumbered q → AreApart p q → (b : ℕ → Bool) (e : Env) (o : Signals) (k : ℕ) (u : Term) (x : Bool) → is_live p b ≡ x → (is_live p b || is_live q b) ≡ true
+seq_on : {a c : _} (p q : Statement) → HasDistinctPauses q → AreApart p q → (b : ℕ → Bool) (e : Env) (o : Signals) (k : ℕ) (u : Term) (x : Bool) → is_live p b ≡ x → (is_live p b || is_live q b) ≡ true
     → (is_live p b ≡ true → (o : Signals) (k : ℕ) (u : Term) → Gives (term_at p b) e o k u → Next p (term_at p b) e o k)
     → (is_live q b ≡ true → Gives (term_at q b) e o k u → Next q (term_at q b) e o k)
     → Gives (cond x (seq (term_at p b) (term_of q)) (term_at q b)) e o k u → Next (Seq' a p c q) (cond x (seq (term_at p b) (term_of q)) (term_at q b)) e o k
@@ -200,7 +202,7 @@ seq_on p q numq apart b e o k u false l live f h g =
     let n = h (rw l at live) g in
     record { next = n.next; steps = seq_second n.steps (other_dead q p n.next apart n.own); own = λ i d. n.own i (or_parts (has_pause p i) (has_pause q i) d).1 }
 
-loop_on : {a : _} (p : Statement) → IsNumbered p → (t : Term) (e : Env) (o : Signals) (k : ℕ) (u : Term) → ((o : Signals) (k : ℕ) (u : Term) → Gives t e o k u → Next p t e o k)
+loop_on : {a : _} (p : Statement) → HasDistinctPauses p → (t : Term) (e : Env) (o : Signals) (k : ℕ) (u : Term) → ((o : Signals) (k : ℕ) (u : Term) → Gives t e o k u → Next p t e o k)
     → Gives (seq t (loop (term_of p))) e o k u → Next (Loop' a p) (seq t (loop (term_of p))) e o k
 loop_on p num t e o k u f (goes_on d g) =
     let n = f o k g.left g.gives in
@@ -245,7 +247,7 @@ dead_cannot : {A : Type 0} → false ≡ true → A
 dead_cannot h = cc
 
 -- a statement that goes on
-pub resumes : (s : Statement) → IsNumbered s → (b : ℕ → Bool) → is_live s b ≡ true → IsExclusive s b → (e : Env) (o : Signals) (k : ℕ) (u : Term) → Gives (term_at s b) e o k u → Next s (term_at s b) e o k
+pub resumes : (s : Statement) → HasDistinctPauses s → (b : ℕ → Bool) → is_live s b ≡ true → IsExclusive s b → (e : Env) (o : Signals) (k : ℕ) (u : Term) → Gives (term_at s b) e o k u → Next s (term_at s b) e o k
 resumes Nothing num b l x e o k u g = dead_cannot l
 resumes (Pause n) num b l x e o k u g = quiet_at (Pause n) nothing e o k (not_one k g.code) refl (record { signals = g.signals; code = g.code; rest = rw g.code refl })
 resumes (Emit s) num b l x e o k u g = dead_cannot l
@@ -290,12 +292,12 @@ state_after s t e o (suc zero) u g n = paused_after s t e o u g n
 state_after s t e o (suc (suc k)) u g n = done_for s u (unique t e o (suc (suc k)) nothing o (suc (suc k)) u n.steps.gives g).rest
 
 -- what is left of a state's term has a state
-next_stands : (s : Statement) → IsNumbered s → (x : State) → IsState s x → (e : Env) (o : Signals) (k : ℕ) (u : Term) → Gives (state_term s x) e o k u → SomeStateFor s u
+next_stands : (s : Statement) → HasDistinctPauses s → (x : State) → IsState s x → (e : Env) (o : Signals) (k : ℕ) (u : Term) → Gives (state_term s x) e o k u → SomeStateFor s u
 next_stands s num Fresh h e o k u g = state_after s (term_of s) e o k u g (begins s num e o k u g)
 next_stands s num Done h e o k u g = done_for s u (sym g.rest)
 next_stands s num (Paused p) h e o k u g =
     state_after s (term_at s (pauses_of p)) e o k u g (resumes s num (pauses_of p) h.live h.exclusive e o k u g)
 
 -- what is left of the term that a state stands for has a state
-pub goes_on_from : (s : Statement) → IsNumbered s → (x : State) (t : Term) → IsStateFor s x t → (e : Env) (o : Signals) (k : ℕ) (u : Term) → Gives t e o k u → SomeStateFor s u
+pub goes_on_from : (s : Statement) → HasDistinctPauses s → (x : State) (t : Term) → IsStateFor s x t → (e : Env) (o : Signals) (k : ℕ) (u : Term) → Gives t e o k u → SomeStateFor s u
 goes_on_from s num x t h e o k u g = next_stands s num x h.is_state e o k u (subst (λ (v : Term). Gives v e o k u) (sym h.term) g)

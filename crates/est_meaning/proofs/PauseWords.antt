@@ -8,7 +8,7 @@ use Rattle.std.proofs.lemmas.Bool.{cases_eq, cases_lt, eq-eqb, ne_eqb}
 use mathlib.Core.Path.{fun_ext}
 use Rattle.est_kernel.specs.Bits.{bits}
 use Rattle.est_kernel.specs.Pauses.{pauses_of}
-use Rattle.est_kernel.specs.View.{has_pause}
+use Rattle.est_kernel.specs.PauseNumbers.{has_pause}
 use Rattle.est_kernel.proofs.Masks.{bits_or, bits_pow, bits_zero}
 use Rattle.est_kernel.specs.declared.limits.TheConstants.{MOST_STATEMENTS}
 use Rattle.est_kernel.specs.declared.statement.Statement.{Statement}

@@ -4,7 +4,7 @@ use Rattle.std.proofs.Common.{subst}
 use Rattle.est_kernel.specs.Pauses.{pauses_of}
 use Rattle.est_kernel.specs.StartCodes.{IsLoopSafe}
 use Rattle.est_kernel.specs.Term.{Term, nothing, pause, emit, present, suspend, held, seq, loop, par, trap, exit, signal}
-use Rattle.est_kernel.specs.View.{term_of, term_at, is_live}
+use Rattle.est_kernel.specs.View.{term_of}
 use Rattle.est_kernel.specs.declared.state.State.{State}
 use Rattle.est_kernel.specs.declared.state.State.TheVariants.{Fresh, Done, Paused}
 use Rattle.est_kernel.specs.declared.statement.Statement.{Statement}
@@ -13,7 +13,7 @@ use Rattle.est_meaning.specs.Laws.{IsStateFor}
 use Rattle.est_meaning.specs.MustCan.{sure, env_within}
 use Rattle.est_meaning.specs.Rules.{Gives, rest_of, takes_first, takes_second, is_held, is_resumed, goes_on, ends_then}
 use Rattle.est_meaning.specs.Signals.{Signals}
-use Rattle.est_meaning.specs.States.{state_term}
+use Rattle.est_meaning.specs.States.{term_at, is_live, state_term}
 use Rattle.est_meaning.specs.Status.{Env}
 
 safe_rest : (k : ℕ) (u v : Term) → v ≡ rest_of k u → IsLoopSafe u → IsLoopSafe v

@@ -1,6 +1,8 @@
 -- Steps of a statement from those of its parts.
 use Rattle.std.proofs.Common.{inl, inr, ◌≡◌, ◌≢◌, ℕ, zero, suc, Bool, true, false, ◌&&◌, ◌||◌, cond, nat_eq, max, refl, ap, sym, ◌∙◌, subst, arith, Option, Some, None, IfSome, IfNone}
-use Rattle.est_kernel.specs.View.{term_of, term_at, is_live, has_pause, IsNumbered, IsExclusive, AreApart, query_of}
+use Rattle.est_kernel.specs.PauseNumbers.{has_pause, HasDistinctPauses, AreApart}
+use Rattle.est_kernel.specs.View.{term_of, query_of}
+use Rattle.est_meaning.specs.States.{term_at, is_live, IsExclusive}
 use Rattle.est_kernel.specs.Term.{Term, nothing, present, held, seq, loop, par}
 use Rattle.est_kernel.specs.declared.statement.Statement.{Statement}
 use Rattle.est_kernel.specs.declared.statement.Statement.TheVariants.{Present', Suspend', Seq', Loop', Par'}
@@ -69,20 +71,20 @@ seq_goes {p = p} {q = q} {t = t} {e = e} {o = o} {o' = o'} {k = k} {m = m} {n = 
 }
 
 -- what the second part needs after a step of the first
-pub ready : (p q p' q' : Statement) (m n : ℕ → Bool) → p' ≡ p → q' ≡ q → IsNumbered p × IsNumbered q × AreApart p q
-    → (is_live p m || is_live q m) ≡ false → ((i : ℕ) → has_pause p' i ≡ false → n i ≡ m i) → IsNumbered q' × (is_live q' n ≡ false)
+pub ready : (p q p' q' : Statement) (m n : ℕ → Bool) → p' ≡ p → q' ≡ q → HasDistinctPauses p × HasDistinctPauses q × AreApart p q
+    → (is_live p m || is_live q m) ≡ false → ((i : ℕ) → has_pause p' i ≡ false → n i ≡ m i) → HasDistinctPauses q' × (is_live q' n ≡ false)
 ready p q p' q' m n ep eq num dead f =
     let f' : (i : ℕ) → has_pause p i ≡ false → n i ≡ m i = λ i h. f i (rw ep h) in
     rw eq (num.1, sym (live_same q m n (apart_right p q m n num.2 f')) ∙ (or_parts (is_live p m) (is_live q m) dead).1)
 
 -- what the first part is after a step of the second
-pub stays_dead : (p q q' : Statement) (m n : ℕ → Bool) → q' ≡ q → IsNumbered p × IsNumbered q × AreApart p q
+pub stays_dead : (p q q' : Statement) (m n : ℕ → Bool) → q' ≡ q → HasDistinctPauses p × HasDistinctPauses q × AreApart p q
     → is_live p m ≡ false → ((i : ℕ) → has_pause q' i ≡ false → n i ≡ m i) → is_live p n ≡ false
 stays_dead p q q' m n eq num dead f =
     sym (live_same p m n (apart_left p q m n num.2 (λ i h. f i (rw eq h)))) ∙ dead
 
 -- the first part stays without pauses
-pub first_dead : (p q q' : Statement) (m n : ℕ → Bool) → q' ≡ q → IsNumbered p × IsNumbered q × AreApart p q
+pub first_dead : (p q q' : Statement) (m n : ℕ → Bool) → q' ≡ q → HasDistinctPauses p × HasDistinctPauses q × AreApart p q
     → (is_live p m || is_live q m) ≡ false → ((i : ℕ) → has_pause q' i ≡ false → n i ≡ m i) → is_live p n ≡ false
 first_dead p q q' m n eq num dead f = stays_dead p q q' m n eq num (or_parts (is_live p m) (is_live q m) dead).0 f
 

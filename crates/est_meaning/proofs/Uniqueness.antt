@@ -1,13 +1,14 @@
 -- A term reacts in one way at most.
 use Rattle.std.proofs.Common.{◌≡◌, ℕ, Bool, max, ap, sym, ◌∙◌}
 use mathlib.Core.Path.{fun_ext}
+use Rattle.est_kernel.specs.Codes.{code_out_of_trap}
 use Rattle.est_kernel.specs.Term.{outer, Term, nothing, pause, emit, present, suspend, held, seq, loop, par, trap, exit, signal}
 use Rattle.est_meaning.specs.Signals.{Signals, union, without}
 use Rattle.est_meaning.specs.declared.status.Status.{Status}
 use Rattle.est_meaning.specs.declared.status.Status.TheVariants.{Present, Absent}
 use Rattle.est_meaning.specs.Status.{Env, status_of}
 use Rattle.est_meaning.specs.MustCan.{sure, env_within}
-use Rattle.est_meaning.specs.Rules.{Gives, Behaviour, rest_of, outside, IsJust, Inside, takes_first, takes_second, is_held, is_resumed, goes_on, ends_then}
+use Rattle.est_meaning.specs.Rules.{Gives, Behaviour, rest_of, IsJust, Inside, takes_first, takes_second, is_held, is_resumed, goes_on, ends_then}
 use Rattle.est_meaning.specs.Laws.{IsSame, IsSameReaction}
 use Rattle.est_meaning.specs.Reaction.{Reacts}
 use Rattle.est_meaning.specs.Rounds.{JudgedSignals, last_env}
@@ -72,7 +73,7 @@ unique (par p q) e o k u o' k' u' g h =
     }
 unique (trap p) e o k u o' k' u' g h =
     let x = unique p e o g.body_code g.left o' h.body_code h.left g.gives h.gives in
-    let c = g.code ∙ (ap outside x.code ∙ sym h.code) in
+    let c = g.code ∙ (ap code_out_of_trap x.code ∙ sym h.code) in
     record {
       signals = x.signals;
       code = c;

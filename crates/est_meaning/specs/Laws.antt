@@ -4,7 +4,8 @@ use Rattle.std.specs.Prelude.{◌≡◌, ◌≢◌, ◌≤◌, ◌<◌, ◌^◌,
 use Rattle.est_kernel.specs.Codes.{code}
 use Rattle.est_kernel.specs.StartCodes.{IsLoopSafe}
 use Rattle.est_kernel.specs.Term.{outer, inner, Term, signal}
-use Rattle.est_kernel.specs.View.{term_of, IsNumbered}
+use Rattle.est_kernel.specs.PauseNumbers.{HasDistinctPauses}
+use Rattle.est_kernel.specs.View.{term_of}
 use Rattle.est_kernel.specs.declared.interface.Declaration.{Declaration}
 use Rattle.est_kernel.specs.declared.pause_set.PauseSet.{PauseSet}
 use Rattle.est_kernel.specs.declared.state.State.{State}
@@ -162,7 +163,7 @@ pub record SomeStateFor (s : Statement) (t : Term) : Type 0 where
 -- Where no two pauses of a statement have one number: wherever the term of a state reacts, in whatever environment and with
 -- whatever code, some state stands for what is left, and the program can hold it. In a state loops' bodies still take time
 pub record PausesAreEnough : Type 0 where
-  pub goes_on : (s : Statement) → IsNumbered s → (x : State) (t : Term) → IsStateFor s x t
+  pub goes_on : (s : Statement) → HasDistinctPauses s → (x : State) (t : Term) → IsStateFor s x t
       → (e : Env) (o : Signals) (k : ℕ) (u : Term) → Gives t e o k u → SomeStateFor s u
   pub safe : (s : Statement) → IsLoopSafe (term_of s) → (x : State) (t : Term)
       → IsStateFor s x t → IsLoopSafe t

@@ -1,5 +1,6 @@
 -- The behaviour rules: how a term reacts once an environment is decided (Berry, The Constructive Semantics of Pure Esterel).
 use Rattle.std.specs.Prelude.{◌≡◌, ◌≢◌, ℕ, zero, suc, ◌+◌, max}
+use Rattle.est_kernel.specs.Codes.{code_out_of_trap}
 use Rattle.est_kernel.specs.Term.{Query, Term, nothing, pause, emit, present, suspend, held, seq, loop, par, trap, exit, signal}
 use Rattle.est_meaning.specs.Signals.{Signals, no_signals, only, union, without}
 use Rattle.est_meaning.specs.declared.status.Status.{Status}
@@ -12,13 +13,6 @@ abbrev pub rest_of : ℕ → Term → Term
 rest_of zero t = nothing
 rest_of (suc zero) t = t
 rest_of (suc (suc k)) t = nothing
-
--- a code outside a trap: the trap's own exit ends it, an outer exit comes one nearer
-abbrev pub outside : ℕ → ℕ
-outside zero = 0
-outside (suc zero) = 1
-outside (suc (suc zero)) = 0
-outside (suc (suc (suc k))) = suc (suc k)
 
 -- a way to react: the signals emitted, the code given, the term that is left
 abbrev pub Behaviour : Type 1
@@ -75,7 +69,7 @@ pub record TrapRule (body : Behaviour) (o : Signals) (k : ℕ) (u : Term) : Type
   pub body_code : ℕ
   pub left : Term
   pub gives : body o body_code left
-  pub code : k ≡ outside body_code
+  pub code : k ≡ code_out_of_trap body_code
   pub rest : u ≡ rest_of k (trap left)
 
 -- `signal`: the body reacts once the local signal's status is decided, and the signal is not seen outside

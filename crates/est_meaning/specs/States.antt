@@ -1,11 +1,59 @@
--- The term that a state of a running statement stands for (this project's own form).
-use Rattle.std.specs.Prelude.{◌≡◌, ℕ, Bool, true, false}
-use Rattle.est_kernel.specs.Term.{Term, nothing}
-use Rattle.est_kernel.specs.View.{term_of, term_at, is_live, has_pause, IsExclusive}
+-- The term that the set pauses of a statement stand for, and the states of a running statement (this project's own form of
+-- the residual statements in Berry, The Constructive Semantics of Pure Esterel).
+use Rattle.std.specs.Prelude.{◌≡◌, ℕ, Bool, true, false, cond, ◌&&◌, ◌||◌}
+use Rattle.est_kernel.specs.Term.{Term, nothing, seq, loop, par, trap, signal, held}
+use Rattle.est_kernel.specs.PauseNumbers.{has_pause}
+use Rattle.est_kernel.specs.View.{term_of, query_of}
 use Rattle.est_kernel.specs.Pauses.{pauses_of}
 use Rattle.est_kernel.specs.declared.statement.Statement.{Statement}
+use Rattle.est_kernel.specs.declared.statement.Statement.TheVariants.{Nothing, Pause, Emit, Present', Suspend', Seq', Loop', Par', Trap', Exit, Local' as Binder'}
 use Rattle.est_kernel.specs.declared.state.State.{State}
 use Rattle.est_kernel.specs.declared.state.State.TheVariants.{Fresh, Done, Paused}
+
+-- whether a pause of the statement is set
+abbrev pub is_live : Statement → (ℕ → Bool) → Bool
+is_live Nothing bits = false
+is_live (Pause n) bits = bits n.index
+is_live (Emit s) bits = false
+is_live (Present' t a p b q) bits = is_live p bits || is_live q bits
+is_live (Suspend' t a p) bits = is_live p bits
+is_live (Seq' a p b q) bits = is_live p bits || is_live q bits
+is_live (Loop' a p) bits = is_live p bits
+is_live (Par' a p b q) bits = is_live p bits || is_live q bits
+is_live (Trap' a p) bits = is_live p bits
+is_live (Exit k) bits = false
+is_live (Binder' s a p) bits = is_live p bits
+
+-- the term that the set pauses of a live statement stand for
+abbrev pub term_at : Statement → (ℕ → Bool) → Term
+term_at Nothing bits = nothing
+term_at (Pause n) bits = nothing
+term_at (Emit s) bits = nothing
+term_at (Present' t a p b q) bits = cond (is_live p bits) (term_at p bits) (term_at q bits)
+term_at (Suspend' t a p) bits = held (query_of t) (term_at p bits)
+term_at (Seq' a p b q) bits = cond (is_live p bits) (seq (term_at p bits) (term_of q)) (term_at q bits)
+term_at (Loop' a p) bits = seq (term_at p bits) (loop (term_of p))
+term_at (Par' a p b q) bits =
+    par (cond (is_live p bits) (term_at p bits) nothing) (cond (is_live q bits) (term_at q bits) nothing)
+term_at (Trap' a p) bits = trap (term_at p bits)
+term_at (Exit k) bits = nothing
+term_at (Binder' s a p) bits = signal s.index (term_at p bits)
+
+-- no `;` and no `present` has set pauses on both sides
+abbrev pub IsExclusive : Statement → (ℕ → Bool) → Type 0
+IsExclusive Nothing bits = Unit {0}
+IsExclusive (Pause n) bits = Unit {0}
+IsExclusive (Emit s) bits = Unit {0}
+IsExclusive (Present' t a p b q) bits =
+    IsExclusive p bits × IsExclusive q bits × ((is_live p bits && is_live q bits) ≡ false)
+IsExclusive (Suspend' t a p) bits = IsExclusive p bits
+IsExclusive (Seq' a p b q) bits =
+    IsExclusive p bits × IsExclusive q bits × ((is_live p bits && is_live q bits) ≡ false)
+IsExclusive (Loop' a p) bits = IsExclusive p bits
+IsExclusive (Par' a p b q) bits = IsExclusive p bits × IsExclusive q bits
+IsExclusive (Trap' a p) bits = IsExclusive p bits
+IsExclusive (Exit k) bits = Unit {0}
+IsExclusive (Binder' s a p) bits = IsExclusive p bits
 
 -- s can have paused at exactly these pauses: there is one, none stands on both sides of a `;` or a `present`, and each is a pause of s
 pub record HasPausedAt (s : Statement) (pauses : ℕ → Bool) : Type 0 where

@@ -1,7 +1,7 @@
 -- A step of a statement, with the pauses at which it then stands (this project's own form).
 use Rattle.std.specs.Prelude.{◌≡◌, ℕ, Bool, nat_eq}
 use Rattle.est_kernel.specs.Term.{Term}
-use Rattle.est_kernel.specs.View.{is_live, term_at, IsExclusive}
+use Rattle.est_meaning.specs.States.{is_live, term_at, IsExclusive}
 use Rattle.est_kernel.specs.declared.statement.Statement.{Statement}
 use Rattle.est_meaning.specs.Signals.{Signals}
 use Rattle.est_meaning.specs.Status.{Env}

@@ -2,7 +2,6 @@
 use Rattle.std.proofs.Common.{◌≡◌, ℕ, Bool, true, false, not, ◌&&◌, ◌||◌, cond, refl, ap, sym, ◌∙◌}
 use mathlib.Core.Path.{fun_ext}
 use Rattle.est_kernel.specs.Bits.{bits}
-use Rattle.est_kernel.specs.Codes.{either_code}
 use Rattle.est_kernel.specs.Term.{outer, inner, Term}
 use Rattle.est_kernel.proofs.Masks.{bits_zero}
 use Rattle.est_meaning.specs.Status as meaning
@@ -21,11 +20,11 @@ first_verdict false true = refl
 first_verdict false false = refl
 
 -- before the first round
-pub first_known_is : (j : JudgedSignals) (i p q : ℕ) → ((n : ℕ) → bits p n ≡ (bits i n && not (bits j.signals n))) → bits q ≡ either_code (bits j.signals) (bits i)
+pub first_known_is : (j : JudgedSignals) (i p q : ℕ) → ((n : ℕ) → bits p n ≡ (bits i n && not (bits j.signals n))) → ((n : ℕ) → bits q n ≡ (bits j.signals n || bits i n))
     → env_of (record { present = record { interface = p; local = 0 }; possible = record { interface = q; local = 0 } }) ≡ first_env (judged_by j) (bits i)
-unfolding env_of set_of first_env either_code
+unfolding env_of set_of first_env
 first_known_is j i p q f g = fun_ext (elim [
-  | outer n ↦ ap (λ x. meaning.verdict x (bits q n)) (f n) ∙ (ap (λ h. meaning.verdict (bits i n && not (bits j.signals n)) (h n)) g ∙ first_verdict (bits j.signals n) (bits i n))
+  | outer n ↦ ap (λ x. meaning.verdict x (bits q n)) (f n) ∙ (ap (λ x. meaning.verdict (bits i n && not (bits j.signals n)) x) (g n) ∙ first_verdict (bits j.signals n) (bits i n))
   | inner n ↦ ap (λ x. meaning.verdict x (bits 0 n)) (bits_zero n) ∙ ap (λ x. meaning.verdict false x) (bits_zero n)
 ])
 
@@ -41,9 +40,8 @@ chosen false false false = refl
 
 -- a mask of which some places are judged again
 pub judged_again_is : (o before now kept found : ℕ) (all : ℕ) → ((n : ℕ) → bits kept n ≡ (bits before n && not (bits o n))) → ((n : ℕ) → bits found n ≡ (bits o n && bits now n))
-    → bits all ≡ either_code (bits kept) (bits found) → (n : ℕ) → bits all n ≡ cond (bits o n) (bits now n) (bits before n)
-unfolding either_code
-judged_again_is o before now kept found all fk ff e n = ap (λ h. h n) e ∙ rw (fk n, ff n) (chosen (bits o n) (bits before n) (bits now n))
+    → ((n : ℕ) → bits all n ≡ (bits kept n || bits found n)) → (n : ℕ) → bits all n ≡ cond (bits o n) (bits now n) (bits before n)
+judged_again_is o before now kept found all fk ff e n = e n ∙ rw (fk n, ff n) (chosen (bits o n) (bits before n) (bits now n))
 
 both_chosen : (o m c p q : Bool) → meaning.verdict (cond o m p) (cond o c q) ≡ cond o (meaning.verdict m c) (meaning.verdict p q)
 both_chosen true m c p q = refl

@@ -3,7 +3,7 @@ use Rattle.std.proofs.Common.{◌≡◌, ◌≢◌, ℕ, zero, suc, Bool, false,
 use Rattle.est_kernel.specs.Bits.{bits}
 use Rattle.est_kernel.specs.Pauses.{pauses_of}
 use Rattle.est_kernel.specs.Term.{Term, nothing}
-use Rattle.est_kernel.specs.View.{has_pause, term_at}
+use Rattle.est_kernel.specs.PauseNumbers.{has_pause}
 use Rattle.est_kernel.specs.declared.statement.Statement.{Statement}
 use Rattle.est_kernel.specs.declared.pause_set.PauseSet.{PauseSet}
 use Rattle.est_kernel.specs.declared.state.State.TheVariants.{Paused}
@@ -12,7 +12,7 @@ use Rattle.est_meaning.specs.Signals.{Signals}
 use Rattle.est_meaning.specs.Rules.{Gives, rest_of}
 use Rattle.est_meaning.specs.Rounds.{JudgedSignals, last_env}
 use Rattle.est_meaning.specs.Reaction.{Reacts}
-use Rattle.est_meaning.specs.States.{IsState, state_term}
+use Rattle.est_meaning.specs.States.{term_at, IsState, state_term}
 use Rattle.est_meaning.specs.Steps.{StepsTo}
 use Rattle.est_rounds.specs.Views.{set_of}
 use Rattle.est_rounds.specs.declared.signal_set.SignalSet.{SignalSet}

@@ -1,9 +1,8 @@
 -- Sets of signals by their masks.
-use Rattle.std.proofs.Common.{◌≡◌, ◌≢◌, ℕ, Bool, true, false, not, ◌&&◌, cond, refl, ap, sym, ◌∙◌, inl, inr}
+use Rattle.std.proofs.Common.{◌≡◌, ◌≢◌, ℕ, Bool, true, false, not, ◌&&◌, cond, nat_eq, refl, ap, sym, ◌∙◌, inl, inr}
 use Rattle.std.proofs.lemmas.Bool.{eq-eqb, ne_eqb, cases_eq}
 use mathlib.Core.Path.{fun_ext}
 use Rattle.est_kernel.specs.Term.{outer, inner}
-use Rattle.est_kernel.specs.Codes.{code, no_codes}
 use Rattle.est_meaning.specs.Signals.{Signals, no_signals, only, without, same_name}
 use Rattle.est_meaning.specs.Status.{verdict, with_local}
 use Rattle.est_kernel.specs.Bits.{bits}
@@ -16,20 +15,15 @@ pub no_signals_set : set_of (record { interface = 0; local = 0 }) ≡ no_signals
 unfolding set_of no_signals
 no_signals_set = fun_ext (elim [ outer n ↦ bits_zero n | inner n ↦ bits_zero n ])
 
--- the empty mask of codes
-pub zero_codes : bits 0 ≡ no_codes
-unfolding no_codes
-zero_codes = fun_ext (λ n. bits_zero n)
-
 -- one signal of the interface
-pub only_outer : (m k : ℕ) → bits m ≡ code k → set_of (record { interface = m; local = 0 }) ≡ only (outer k)
-unfolding set_of only code
-only_outer m k e = fun_ext (elim [ outer n ↦ ap (λ f. f n) e | inner n ↦ bits_zero n ])
+pub only_outer : (m k : ℕ) → ((n : ℕ) → bits m n ≡ nat_eq k n) → set_of (record { interface = m; local = 0 }) ≡ only (outer k)
+unfolding set_of only
+only_outer m k e = fun_ext (elim [ outer n ↦ e n | inner n ↦ bits_zero n ])
 
 -- one local signal
-pub only_inner : (m k : ℕ) → bits m ≡ code k → set_of (record { interface = 0; local = m }) ≡ only (inner k)
-unfolding set_of only code
-only_inner m k e = fun_ext (elim [ outer n ↦ bits_zero n | inner n ↦ ap (λ f. f n) e ])
+pub only_inner : (m k : ℕ) → ((n : ℕ) → bits m n ≡ nat_eq k n) → set_of (record { interface = 0; local = m }) ≡ only (inner k)
+unfolding set_of only
+only_inner m k e = fun_ext (elim [ outer n ↦ bits_zero n | inner n ↦ e n ])
 
 -- a mask of local signals with one bit set as said
 pub with_member_set : (i l m k : ℕ) (b : Bool) → bits m k ≡ b → ((n : ℕ) → n ≢ k → bits m n ≡ bits l n)

@@ -1,29 +1,30 @@
 -- What is judged of a statement that goes on from its pauses (this project's own form).
-use Rattle.std.specs.Prelude.{◌≡◌, ℕ, Bool, true}
-use Rattle.est_kernel.specs.Term.{Term}
-use Rattle.est_kernel.specs.View.{is_live, term_at}
-use Rattle.est_kernel.specs.declared.statement.Statement.{Statement}
-use Rattle.est_meaning.specs.Status.{Env}
+use Rattle.std.specs.Prelude.{◌≡◌, ℕ, Bool, true, false, Option, Some, None}
 use Rattle.est_meaning.specs.MustCan.{must, can, sure, maybe}
+use Rattle.est_meaning.specs.States.{is_live, term_at}
+use Rattle.est_meaning.specs.Status.{Env}
+use Rattle.est_kernel.specs.declared.statement.Statement.{Statement}
 use Rattle.est_rounds.specs.Views.{acts_of}
 use Rattle.est_rounds.specs.declared.acts.Acts.{Acts}
 use Rattle.est_rounds.specs.declared.acts.Judgement.{Judgement}
 
--- a statement is live, and these are the acts that its term can do, in doubt whether it is reached
-pub record CanDoAs (is_live : Bool) (t : Term) (e : Env) (acts : Acts) : Type 0 where
-  pub live : is_live ≡ true
-  pub can_is : acts_of acts ≡ can t maybe e
-
 -- s has a pause in the set, and these are the acts that what is left of it can do, in doubt whether it is reached
-abbrev pub CanDo : Statement → (ℕ → Bool) → Env → Acts → Type 0
-CanDo s pauses e acts = CanDoAs (is_live s pauses) (term_at s pauses) e acts
+pub record CanDo (s : Statement) (pauses : ℕ → Bool) (e : Env) (acts : Acts) : Type 0 where
+  pub live : is_live s pauses ≡ true
+  pub can_is : acts_of acts ≡ can (term_at s pauses) maybe e
 
--- a statement is live, and this is what its term is judged to do
-pub record IsJudgedAs (is_live : Bool) (t : Term) (e : Env) (judged : Judgement) : Type 0 where
-  pub live : is_live ≡ true
-  pub must_is : acts_of judged.must ≡ must t e
-  pub can_is : acts_of judged.can ≡ can t sure e
+-- what is answered of s in doubt: its acts, or none where it has no pause in the set
+abbrev pub IsJudgedInDoubt : Option Acts → Statement → (ℕ → Bool) → Env → Type 0
+IsJudgedInDoubt (Some acts) s pauses e = CanDo s pauses e acts
+IsJudgedInDoubt None s pauses e = is_live s pauses ≡ false
 
 -- s has a pause in the set, and this is what is left of it judged to do
-abbrev pub IsJudged : Statement → (ℕ → Bool) → Env → Judgement → Type 0
-IsJudged s pauses e judged = IsJudgedAs (is_live s pauses) (term_at s pauses) e judged
+pub record MustAndCanDo (s : Statement) (pauses : ℕ → Bool) (e : Env) (judged : Judgement) : Type 0 where
+  pub live : is_live s pauses ≡ true
+  pub must_is : acts_of judged.must ≡ must (term_at s pauses) e
+  pub can_is : acts_of judged.can ≡ can (term_at s pauses) sure e
+
+-- what is answered of s: what it is judged to do, or none where it has no pause in the set
+abbrev pub IsJudged : Option Judgement → Statement → (ℕ → Bool) → Env → Type 0
+IsJudged (Some judged) s pauses e = MustAndCanDo s pauses e judged
+IsJudged None s pauses e = is_live s pauses ≡ false

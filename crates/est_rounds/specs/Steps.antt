@@ -1,6 +1,7 @@
 -- What the going on of a statement answers (this project's own form).
 use Rattle.std.specs.Prelude.{◌≡◌, ℕ, Bool, true, false}
-use Rattle.est_kernel.specs.View.{is_live, term_at}
+use Rattle.est_kernel.specs.Codes.{code_of}
+use Rattle.est_meaning.specs.States.{is_live, term_at}
 use Rattle.est_kernel.specs.declared.statement.Statement.{Statement}
 use Rattle.est_meaning.specs.Status.{Env}
 use Rattle.est_meaning.specs.Rules.{HasNoRule}
@@ -23,7 +24,7 @@ pub record CannotMove (s : Statement) (pauses : ℕ → Bool) (e : Env) : Type 0
 -- s has a pause in the set, and what is left of it takes this step
 pub record Moves (s : Statement) (pauses : ℕ → Bool) (e : Env) (step : Step) (next : ℕ → Bool) : Type 0 where
   pub live : is_live s pauses ≡ true
-  pub steps : StepsTo s (term_at s pauses) e (set_of step.signals) step.code next
+  pub steps : StepsTo s (term_at s pauses) e (set_of step.signals) (code_of step.completion) next
 
 -- what s does from these pauses, and at which pauses it then stands
 abbrev pub IsResumed : Resumed → Statement → (ℕ → Bool) → Env → (ℕ → Bool) → Type 0

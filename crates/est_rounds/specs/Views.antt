@@ -1,6 +1,7 @@
 -- What the values of the code stand for (this project's own form).
 use Rattle.std.specs.Prelude.{ℕ, Bool, cond}
 use Rattle.est_kernel.specs.Bits.{bits}
+use Rattle.est_kernel.specs.Codes.{codes_of}
 use Rattle.est_kernel.specs.Term.{outer, inner}
 use Rattle.est_meaning.specs.Signals.{Signals, same_name}
 use Rattle.est_meaning.specs.Status as meaning
@@ -24,9 +25,9 @@ with_member a s is_in t = cond (same_name (inner s) t) is_in (a t)
 unfoldable pub env_of : Env → meaning.Env
 env_of e s = meaning.verdict (set_of e.present s) (set_of e.possible s)
 
--- two sets of signals and a mask of codes, as the acts of a statement
+-- a set of signals and a set of codes, as the acts of a statement
 abbrev pub acts_of : Acts → must_can.Acts
-acts_of a = record { signals = set_of a.signals; codes = bits a.codes }
+acts_of a = record { signals = set_of a.signals; codes = codes_of a.codes }
 
 -- the signals of the mask, as those that the rounds judge
 abbrev pub judged_by : JudgedSignals → rounds.JudgedSignals

@@ -1,32 +1,36 @@
 //! What a statement must do and what it can do, as sets of signals and of completion codes.
 
-ghost use Rattle.std.specs.Prelude.{◌≡◌, ◌<◌, IsTrue};
-ghost use Rattle.est_kernel.specs.Bits.{bits};
-ghost use Rattle.est_meaning.specs.MustCan.{ends, no_acts, either, together, trapped, hide, may_stay, must_then, can_then};
-ghost use Rattle.est_rounds.specs.Views.{acts_of};
+ghost use Rattle.std.specs.Prelude.{◌≡◌, ◌<◌, IsTrue, false};
+ghost use Rattle.est_kernel.specs.Codes.{code_of, codes_of};
+ghost use Rattle.est_kernel.specs.Term.{inner};
+ghost use Rattle.est_meaning.specs.MustCan.{just_code, no_acts, either, together, acts_out_of_trap, hide, local_status, may_stay, must_then, can_then, sure};
+ghost use Rattle.est_meaning.specs.Status.{verdict};
+ghost use Rattle.est_rounds.specs.Views.{acts_of, set_of};
 
 use crate::signal_set::{self, SignalSet};
-use est_kernel::mask;
+use est_kernel::code_set::CodeSet;
+use est_kernel::completion::Completion;
 use est_kernel::statement::LocalSignal;
+use est_meaning::status::Status;
 
 /// Signals that are emitted, and completion codes that are given.
 #[derive(Clone, Copy)]
 pub struct Acts {
     /// The signals.
     pub signals: SignalSet,
-    /// A bit for each code.
-    pub codes: u64,
+    /// The codes.
+    pub codes: CodeSet,
 }
 
 impl Acts {
     /// This code alone, and no signal.
-    pub fn ending(code: u8) -> Acts
-        requires { code < 64 }
-        ensures { acts_of result ≡ ends code }
+    pub fn just_code(completion: Completion) -> Acts
+        requires { code_of completion < 64 }
+        ensures { acts_of result ≡ just_code (code_of completion) }
     {
         Acts {
             signals: signal_set::no_signal(),
-            codes: mask::single(code),
+            codes: CodeSet::single(completion),
         }
     }
 
@@ -36,7 +40,7 @@ impl Acts {
     {
         Acts {
             signals: signal_set::no_signal(),
-            codes: 0,
+            codes: CodeSet::empty(),
         }
     }
 
@@ -46,7 +50,7 @@ impl Acts {
     {
         Acts {
             signals: signal_set::union_of(self.signals, other.signals),
-            codes: mask::either(self.codes, other.codes),
+            codes: self.codes.either(other.codes),
         }
     }
 
@@ -56,22 +60,23 @@ impl Acts {
     {
         Acts {
             signals: signal_set::union_of(self.signals, other.signals),
-            codes: mask::greater_of_pairs(self.codes, other.codes),
+            codes: self.codes.greater_of_pairs(other.codes),
         }
     }
 
     /// The acts as they are seen outside a trap.
     pub fn out_of_trap(self) -> Acts
-        ensures { acts_of result ≡ trapped (acts_of self) }
+        ensures { acts_of result ≡ acts_out_of_trap (acts_of self) }
     {
         Acts {
             signals: self.signals,
-            codes: mask::lowered(self.codes),
+            codes: self.codes.out_of_trap(),
         }
     }
 
     /// The acts as they are seen outside the binder of this local signal.
     pub fn hiding(self, s: LocalSignal) -> Acts
+        requires { s.index < 64 }
         ensures { acts_of result ≡ hide s.index (acts_of self) }
     {
         Acts {
@@ -86,31 +91,39 @@ impl Acts {
     {
         Acts {
             signals: self.signals,
-            codes: mask::either(self.codes, mask::single(1)),
+            codes: self.codes.either(CodeSet::single(Completion::Pause)),
         }
+    }
+
+    /// The status of a local signal whose body can do this while nothing is known of it, in doubt whether it is reached.
+    pub fn status_in_doubt(self, s: LocalSignal) -> Status
+        requires { s.index < 64 }
+        ensures { result ≡ verdict false (set_of self.signals (inner s.index)) }
+    {
+        signal_set::decide(false, signal_set::has_local(self.signals, s))
     }
 
     /// Whether code 0 is among the codes.
     pub fn has_end(self) -> bool
-        ensures { result ≡ bits self.codes 0 }
+        ensures { result ≡ codes_of self.codes 0 }
     {
-        mask::has(self.codes, 0)
+        self.codes.has(Completion::End)
     }
 
     /// What can be done where what follows can be reached.
     pub fn can_then(self, next: Acts) -> Acts
-        requires { IsTrue (bits self.codes 0) }
+        requires { IsTrue (codes_of self.codes 0) }
         ensures { acts_of result ≡ can_then (acts_of self) (acts_of next) }
     {
         Acts {
             signals: signal_set::union_of(self.signals, next.signals),
-            codes: mask::either(mask::without_zero(self.codes), next.codes),
+            codes: self.codes.without_zero().either(next.codes),
         }
     }
 
     /// What must be done where what follows must be reached.
     pub fn must_then(self, next: Acts) -> Acts
-        requires { IsTrue (bits self.codes 0) }
+        requires { IsTrue (codes_of self.codes 0) }
         ensures { acts_of result ≡ must_then (acts_of self) (acts_of next) }
     {
         Acts {
@@ -154,8 +167,8 @@ impl Judgement {
 
     /// What is judged outside a trap.
     pub fn out_of_trap(self) -> Judgement
-        ensures must { acts_of result.must ≡ trapped (acts_of self.must) }
-        ensures can { acts_of result.can ≡ trapped (acts_of self.can) }
+        ensures must { acts_of result.must ≡ acts_out_of_trap (acts_of self.must) }
+        ensures can { acts_of result.can ≡ acts_out_of_trap (acts_of self.can) }
     {
         Judgement {
             must: self.must.out_of_trap(),
@@ -163,8 +176,18 @@ impl Judgement {
         }
     }
 
+    /// The status of a local signal whose body is judged so while nothing is known of it.
+    pub fn status_of(self, s: LocalSignal) -> Status
+        requires { s.index < 64 }
+        ensures { result ≡ local_status sure s.index (acts_of self.must) (acts_of self.can) }
+    {
+        let must_be = signal_set::has_local(self.must.signals, s);
+        signal_set::decide(must_be, signal_set::has_local(self.can.signals, s))
+    }
+
     /// What is judged outside the binder of this local signal.
     pub fn hiding(self, s: LocalSignal) -> Judgement
+        requires { s.index < 64 }
         ensures must { acts_of result.must ≡ hide s.index (acts_of self.must) }
         ensures can { acts_of result.can ≡ hide s.index (acts_of self.can) }
     {

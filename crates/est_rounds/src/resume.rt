@@ -1,29 +1,51 @@
 //! What a statement that goes on from its pauses must do and can do.
 
-ghost use Rattle.std.specs.Prelude.{◌≡◌, ◌||◌, MatchOption, cond, false};
+ghost use Rattle.std.specs.Prelude.{◌≡◌, ◌<◌};
+ghost use Rattle.est_kernel.specs.Masks.{FitsMasks, HasTestBit};
 ghost use Rattle.est_kernel.specs.Pauses.{pauses_of};
-ghost use Rattle.est_kernel.specs.Term.{held, loop, nothing, par, seq, signal, trap};
-ghost use Rattle.est_kernel.specs.View.{is_live, query_of, term_at, term_of};
-ghost use Rattle.est_rounds.specs.Judging.{CanDo, CanDoAs, IsJudged, IsJudgedAs};
+ghost use Rattle.est_kernel.specs.declared.statement.Statement.TheVariants.{Suspend', Seq', Loop', Par', Trap', Local'};
+ghost use Rattle.est_meaning.specs.States.{is_live};
+ghost use Rattle.est_rounds.specs.Judging.{IsJudged, IsJudgedInDoubt};
 ghost use Rattle.est_rounds.specs.Views.{env_of};
 
 use crate::acts::{Acts, Judgement};
 use crate::signal_set::{self, Env};
 use crate::start::{then_start, then_start_maybe};
+use est_kernel::completion::Completion;
 use est_kernel::pause_set::PauseSet;
 use est_kernel::statement::{LocalSignal, Statement, Test};
 use est_meaning::status::Status;
 
+/// Whether a pause of the statement is in the set.
+pub fn has_live(s: &Statement, pauses: &PauseSet) -> bool
+    ensures { result ≡ is_live s.now (pauses_of pauses.now) }
+{
+    match s {
+        Statement::Nothing => false,
+        Statement::Pause(n) => pauses.has(*n),
+        Statement::Emit(_) => false,
+        Statement::Present(_, p, q) => has_live(p, pauses) || has_live(q, pauses),
+        Statement::Suspend(_, p) => has_live(p, pauses),
+        Statement::Seq(p, q) => has_live(p, pauses) || has_live(q, pauses),
+        Statement::Loop(p) => has_live(p, pauses),
+        Statement::Par(p, q) => has_live(p, pauses) || has_live(q, pauses),
+        Statement::Trap(p) => has_live(p, pauses),
+        Statement::Exit(_) => false,
+        Statement::Local(_, p) => has_live(p, pauses),
+    }
+}
+
 /// What a statement can do as it goes on, in doubt whether it is reached; none where it has no pause in the set.
 #[cycle(doubt)]
 pub fn resume_maybe(s: &Statement, pauses: &PauseSet, env: &Env) -> Option<Acts>
-    ensures { MatchOption result (is_live s.now (pauses_of pauses.now) ≡ false) (CanDo s.now (pauses_of pauses.now) (env_of env.now)) }
+    requires fits { FitsMasks s.now }
+    ensures { IsJudgedInDoubt result s.now (pauses_of pauses.now) (env_of env.now) }
 {
     match s {
         Statement::Nothing => None,
         Statement::Pause(n) => {
             if pauses.has(*n) {
-                Some(Acts::ending(0))
+                Some(Acts::just_code(Completion::End))
             } else {
                 None
             }
@@ -46,20 +68,27 @@ pub fn resume_maybe(s: &Statement, pauses: &PauseSet, env: &Env) -> Option<Acts>
 /// What `suspend p when t` can do as it goes on, in doubt whether it is reached.
 #[cycle(doubt)]
 fn suspend_maybe(t: Test, p: &Statement, pauses: &PauseSet, env: &Env) -> Option<Acts>
-    ensures { MatchOption result (is_live p.now (pauses_of pauses.now) ≡ false) (CanDoAs (is_live p.now (pauses_of pauses.now)) (held (query_of t) (term_at p.now (pauses_of pauses.now))) (env_of env.now)) }
+    requires fits { HasTestBit t × FitsMasks p.now }
+    ensures { (x : _) → IsJudgedInDoubt result (Suspend' t x p.now) (pauses_of pauses.now) (env_of env.now) }
 {
-    let acts = resume_maybe(p, pauses, env)?;
     match signal_set::answer_to(env, t) {
-        Status::Present => Some(Acts::ending(1)),
-        Status::Absent => Some(acts),
-        Status::Unknown => Some(acts.or_stays()),
+        Status::Present => {
+            if has_live(p, pauses) {
+                Some(Acts::just_code(Completion::Pause))
+            } else {
+                None
+            }
+        }
+        Status::Absent => resume_maybe(p, pauses, env),
+        Status::Unknown => Some(resume_maybe(p, pauses, env)?.or_stays()),
     }
 }
 
 /// What `p; q` can do as it goes on, in doubt whether it is reached.
 #[cycle(doubt)]
 fn seq_maybe(p: &Statement, q: &Statement, pauses: &PauseSet, env: &Env) -> Option<Acts>
-    ensures { MatchOption result ((is_live p.now (pauses_of pauses.now) || is_live q.now (pauses_of pauses.now)) ≡ false) (CanDoAs (is_live p.now (pauses_of pauses.now) || is_live q.now (pauses_of pauses.now)) (cond (is_live p.now (pauses_of pauses.now)) (seq (term_at p.now (pauses_of pauses.now)) (term_of q.now)) (term_at q.now (pauses_of pauses.now))) (env_of env.now)) }
+    requires fits { FitsMasks p.now × FitsMasks q.now }
+    ensures { (x y : _) → IsJudgedInDoubt result (Seq' x p.now y q.now) (pauses_of pauses.now) (env_of env.now) }
 {
     match resume_maybe(p, pauses, env) {
         Some(first) => Some(then_start_maybe(first, q, env)),
@@ -70,7 +99,8 @@ fn seq_maybe(p: &Statement, q: &Statement, pauses: &PauseSet, env: &Env) -> Opti
 /// What `loop p end` can do as it goes on, in doubt whether it is reached.
 #[cycle(doubt)]
 fn loop_maybe(p: &Statement, pauses: &PauseSet, env: &Env) -> Option<Acts>
-    ensures { MatchOption result (is_live p.now (pauses_of pauses.now) ≡ false) (CanDoAs (is_live p.now (pauses_of pauses.now)) (seq (term_at p.now (pauses_of pauses.now)) (loop (term_of p.now))) (env_of env.now)) }
+    requires fits { FitsMasks p.now }
+    ensures { (x : _) → IsJudgedInDoubt result (Loop' x p.now) (pauses_of pauses.now) (env_of env.now) }
 {
     let first = resume_maybe(p, pauses, env)?;
     Some(then_start_maybe(first, p, env))
@@ -79,12 +109,13 @@ fn loop_maybe(p: &Statement, pauses: &PauseSet, env: &Env) -> Option<Acts>
 /// What `p || q` can do as it goes on, in doubt whether it is reached.
 #[cycle(doubt)]
 fn par_maybe(p: &Statement, q: &Statement, pauses: &PauseSet, env: &Env) -> Option<Acts>
-    ensures { MatchOption result ((is_live p.now (pauses_of pauses.now) || is_live q.now (pauses_of pauses.now)) ≡ false) (CanDoAs (is_live p.now (pauses_of pauses.now) || is_live q.now (pauses_of pauses.now)) (par (cond (is_live p.now (pauses_of pauses.now)) (term_at p.now (pauses_of pauses.now)) nothing) (cond (is_live q.now (pauses_of pauses.now)) (term_at q.now (pauses_of pauses.now)) nothing)) (env_of env.now)) }
+    requires fits { FitsMasks p.now × FitsMasks q.now }
+    ensures { (x y : _) → IsJudgedInDoubt result (Par' x p.now y q.now) (pauses_of pauses.now) (env_of env.now) }
 {
     match (resume_maybe(p, pauses, env), resume_maybe(q, pauses, env)) {
         (None, None) => None,
-        (Some(left), None) => Some(left.beside(Acts::ending(0))),
-        (None, Some(right)) => Some(Acts::ending(0).beside(right)),
+        (Some(left), None) => Some(left.beside(Acts::just_code(Completion::End))),
+        (None, Some(right)) => Some(Acts::just_code(Completion::End).beside(right)),
         (Some(left), Some(right)) => Some(left.beside(right)),
     }
 }
@@ -92,7 +123,8 @@ fn par_maybe(p: &Statement, q: &Statement, pauses: &PauseSet, env: &Env) -> Opti
 /// What `trap p end` can do as it goes on, in doubt whether it is reached.
 #[cycle(doubt)]
 fn trap_maybe(p: &Statement, pauses: &PauseSet, env: &Env) -> Option<Acts>
-    ensures { MatchOption result (is_live p.now (pauses_of pauses.now) ≡ false) (CanDoAs (is_live p.now (pauses_of pauses.now)) (trap (term_at p.now (pauses_of pauses.now))) (env_of env.now)) }
+    requires fits { FitsMasks p.now }
+    ensures { (x : _) → IsJudgedInDoubt result (Trap' x p.now) (pauses_of pauses.now) (env_of env.now) }
 {
     Some(resume_maybe(p, pauses, env)?.out_of_trap())
 }
@@ -100,25 +132,26 @@ fn trap_maybe(p: &Statement, pauses: &PauseSet, env: &Env) -> Option<Acts>
 /// What `signal s in p end` can do as it goes on, in doubt whether it is reached.
 #[cycle(doubt)]
 fn local_maybe(s: LocalSignal, p: &Statement, pauses: &PauseSet, env: &Env) -> Option<Acts>
-    ensures { MatchOption result (is_live p.now (pauses_of pauses.now) ≡ false) (CanDoAs (is_live p.now (pauses_of pauses.now)) (signal s.index (term_at p.now (pauses_of pauses.now))) (env_of env.now)) }
+    requires fits { (s.index < 64) × FitsMasks p.now }
+    ensures { (x : _) → IsJudgedInDoubt result (Local' s x p.now) (pauses_of pauses.now) (env_of env.now) }
 {
-    let open = signal_set::set_local(env, s, false, true);
+    let open = signal_set::set_local(env, s, Status::Unknown);
     let first = resume_maybe(p, pauses, &open)?;
-    let possible = signal_set::has_local(first.signals, s);
-    let known = signal_set::set_local(env, s, false, possible);
+    let known = signal_set::set_local(env, s, first.status_in_doubt(s));
     Some(resume_maybe(p, pauses, &known)?.hiding(s))
 }
 
 /// What a statement must do and can do as it goes on; none where it has no pause in the set.
 #[cycle(sure)]
 pub fn resume_sure(s: &Statement, pauses: &PauseSet, env: &Env) -> Option<Judgement>
-    ensures { MatchOption result (is_live s.now (pauses_of pauses.now) ≡ false) (IsJudged s.now (pauses_of pauses.now) (env_of env.now)) }
+    requires fits { FitsMasks s.now }
+    ensures { IsJudged result s.now (pauses_of pauses.now) (env_of env.now) }
 {
     match s {
         Statement::Nothing => None,
         Statement::Pause(n) => {
             if pauses.has(*n) {
-                Some(Judgement::exactly(Acts::ending(0)))
+                Some(Judgement::exactly(Acts::just_code(Completion::End)))
             } else {
                 None
             }
@@ -141,12 +174,16 @@ pub fn resume_sure(s: &Statement, pauses: &PauseSet, env: &Env) -> Option<Judgem
 /// What `suspend p when t` must do and can do as it goes on.
 #[cycle(sure)]
 fn suspend_sure(t: Test, p: &Statement, pauses: &PauseSet, env: &Env) -> Option<Judgement>
-    ensures { MatchOption result (is_live p.now (pauses_of pauses.now) ≡ false) (IsJudgedAs (is_live p.now (pauses_of pauses.now)) (held (query_of t) (term_at p.now (pauses_of pauses.now))) (env_of env.now)) }
+    requires fits { HasTestBit t × FitsMasks p.now }
+    ensures { (x : _) → IsJudged result (Suspend' t x p.now) (pauses_of pauses.now) (env_of env.now) }
 {
     match signal_set::answer_to(env, t) {
         Status::Present => {
-            let _paused = resume_maybe(p, pauses, env)?;
-            Some(Judgement::exactly(Acts::ending(1)))
+            if has_live(p, pauses) {
+                Some(Judgement::exactly(Acts::just_code(Completion::Pause)))
+            } else {
+                None
+            }
         }
         Status::Absent => resume_sure(p, pauses, env),
         Status::Unknown => {
@@ -162,7 +199,8 @@ fn suspend_sure(t: Test, p: &Statement, pauses: &PauseSet, env: &Env) -> Option<
 /// What `p; q` must do and can do as it goes on.
 #[cycle(sure)]
 fn seq_sure(p: &Statement, q: &Statement, pauses: &PauseSet, env: &Env) -> Option<Judgement>
-    ensures { MatchOption result ((is_live p.now (pauses_of pauses.now) || is_live q.now (pauses_of pauses.now)) ≡ false) (IsJudgedAs (is_live p.now (pauses_of pauses.now) || is_live q.now (pauses_of pauses.now)) (cond (is_live p.now (pauses_of pauses.now)) (seq (term_at p.now (pauses_of pauses.now)) (term_of q.now)) (term_at q.now (pauses_of pauses.now))) (env_of env.now)) }
+    requires fits { FitsMasks p.now × FitsMasks q.now }
+    ensures { (x y : _) → IsJudged result (Seq' x p.now y q.now) (pauses_of pauses.now) (env_of env.now) }
 {
     match resume_sure(p, pauses, env) {
         Some(first) => Some(then_start(first, q, env)),
@@ -173,7 +211,8 @@ fn seq_sure(p: &Statement, q: &Statement, pauses: &PauseSet, env: &Env) -> Optio
 /// What `loop p end` must do and can do as it goes on.
 #[cycle(sure)]
 fn loop_sure(p: &Statement, pauses: &PauseSet, env: &Env) -> Option<Judgement>
-    ensures { MatchOption result (is_live p.now (pauses_of pauses.now) ≡ false) (IsJudgedAs (is_live p.now (pauses_of pauses.now)) (seq (term_at p.now (pauses_of pauses.now)) (loop (term_of p.now))) (env_of env.now)) }
+    requires fits { FitsMasks p.now }
+    ensures { (x : _) → IsJudged result (Loop' x p.now) (pauses_of pauses.now) (env_of env.now) }
 {
     let first = resume_sure(p, pauses, env)?;
     Some(then_start(first, p, env))
@@ -182,12 +221,17 @@ fn loop_sure(p: &Statement, pauses: &PauseSet, env: &Env) -> Option<Judgement>
 /// What `p || q` must do and can do as it goes on.
 #[cycle(sure)]
 fn par_sure(p: &Statement, q: &Statement, pauses: &PauseSet, env: &Env) -> Option<Judgement>
-    ensures { MatchOption result ((is_live p.now (pauses_of pauses.now) || is_live q.now (pauses_of pauses.now)) ≡ false) (IsJudgedAs (is_live p.now (pauses_of pauses.now) || is_live q.now (pauses_of pauses.now)) (par (cond (is_live p.now (pauses_of pauses.now)) (term_at p.now (pauses_of pauses.now)) nothing) (cond (is_live q.now (pauses_of pauses.now)) (term_at q.now (pauses_of pauses.now)) nothing)) (env_of env.now)) }
+    requires fits { FitsMasks p.now × FitsMasks q.now }
+    ensures { (x y : _) → IsJudged result (Par' x p.now y q.now) (pauses_of pauses.now) (env_of env.now) }
 {
     match (resume_sure(p, pauses, env), resume_sure(q, pauses, env)) {
         (None, None) => None,
-        (Some(left), None) => Some(left.beside(Judgement::exactly(Acts::ending(0)))),
-        (None, Some(right)) => Some(Judgement::exactly(Acts::ending(0)).beside(right)),
+        (Some(left), None) => Some(left.beside(Judgement::exactly(Acts::just_code(
+            Completion::End,
+        )))),
+        (None, Some(right)) => Some(Judgement::exactly(Acts::just_code(Completion::End)).beside(
+            right,
+        )),
         (Some(left), Some(right)) => Some(left.beside(right)),
     }
 }
@@ -195,7 +239,8 @@ fn par_sure(p: &Statement, q: &Statement, pauses: &PauseSet, env: &Env) -> Optio
 /// What `trap p end` must do and can do as it goes on.
 #[cycle(sure)]
 fn trap_sure(p: &Statement, pauses: &PauseSet, env: &Env) -> Option<Judgement>
-    ensures { MatchOption result (is_live p.now (pauses_of pauses.now) ≡ false) (IsJudgedAs (is_live p.now (pauses_of pauses.now)) (trap (term_at p.now (pauses_of pauses.now))) (env_of env.now)) }
+    requires fits { FitsMasks p.now }
+    ensures { (x : _) → IsJudged result (Trap' x p.now) (pauses_of pauses.now) (env_of env.now) }
 {
     Some(resume_sure(p, pauses, env)?.out_of_trap())
 }
@@ -203,12 +248,11 @@ fn trap_sure(p: &Statement, pauses: &PauseSet, env: &Env) -> Option<Judgement>
 /// What `signal s in p end` must do and can do as it goes on.
 #[cycle(sure)]
 fn local_sure(s: LocalSignal, p: &Statement, pauses: &PauseSet, env: &Env) -> Option<Judgement>
-    ensures { MatchOption result (is_live p.now (pauses_of pauses.now) ≡ false) (IsJudgedAs (is_live p.now (pauses_of pauses.now)) (signal s.index (term_at p.now (pauses_of pauses.now))) (env_of env.now)) }
+    requires fits { (s.index < 64) × FitsMasks p.now }
+    ensures { (x : _) → IsJudged result (Local' s x p.now) (pauses_of pauses.now) (env_of env.now) }
 {
-    let open = signal_set::set_local(env, s, false, true);
+    let open = signal_set::set_local(env, s, Status::Unknown);
     let first = resume_sure(p, pauses, &open)?;
-    let present = signal_set::has_local(first.must.signals, s);
-    let possible = signal_set::has_local(first.can.signals, s);
-    let known = signal_set::set_local(env, s, present, possible);
+    let known = signal_set::set_local(env, s, first.status_of(s));
     Some(resume_sure(p, pauses, &known)?.hiding(s))
 }

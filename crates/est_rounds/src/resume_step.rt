@@ -1,15 +1,18 @@
 //! The step of a statement that goes on from its pauses.
 
-ghost use Rattle.std.specs.Prelude.{◌≡◌, ◌||◌, ◌&&◌, ℕ, true, false, cond};
-ghost use Rattle.est_kernel.specs.View.{is_live, has_pause, IsNumbered, IsExclusive, AreApart};
+ghost use Rattle.std.specs.Prelude.{◌≡◌, ◌<◌, ◌||◌, ◌&&◌, ℕ, true, false, cond};
+ghost use Rattle.est_kernel.specs.Masks.{FitsMasks, HasTestBit};
+ghost use Rattle.est_kernel.specs.PauseNumbers.{has_pause, HasDistinctPauses, AreApart};
+ghost use Rattle.est_meaning.specs.States.{is_live, IsExclusive};
 ghost use Rattle.est_kernel.specs.Pauses.{pauses_of};
 ghost use Rattle.est_kernel.specs.declared.statement.Statement.TheVariants.{Suspend', Seq', Loop', Par', Trap', Local'};
 ghost use Rattle.est_rounds.specs.Views.{env_of};
 ghost use Rattle.est_rounds.specs.Steps.{IsResumed};
 
-use crate::resume::resume_sure;
+use crate::resume::{has_live, resume_sure};
 use crate::signal_set::{self, Env};
-use crate::step::{Step, both, out_of_trap, quiet, start_step};
+use crate::step::{Step, both, start_step};
+use est_kernel::completion::Completion;
 use est_kernel::pause_set::PauseSet;
 use est_kernel::statement::{LocalSignal, Statement, Test};
 use est_meaning::status::Status;
@@ -23,25 +26,6 @@ pub enum Resumed {
     Stuck,
     /// It takes this step.
     Moved(Step),
-}
-
-/// Whether a pause of the statement is in the set.
-fn has_live(s: &Statement, pauses: &PauseSet) -> bool
-    ensures { result ≡ is_live s.now (pauses_of pauses.now) }
-{
-    match s {
-        Statement::Nothing => false,
-        Statement::Pause(n) => pauses.has(*n),
-        Statement::Emit(_) => false,
-        Statement::Present(_, p, q) => has_live(p, pauses) || has_live(q, pauses),
-        Statement::Suspend(_, p) => has_live(p, pauses),
-        Statement::Seq(p, q) => has_live(p, pauses) || has_live(q, pauses),
-        Statement::Loop(p) => has_live(p, pauses),
-        Statement::Par(p, q) => has_live(p, pauses) || has_live(q, pauses),
-        Statement::Trap(p) => has_live(p, pauses),
-        Statement::Exit(_) => false,
-        Statement::Local(_, p) => has_live(p, pauses),
-    }
 }
 
 /// Takes the pauses of a statement over from one set into another.
@@ -81,7 +65,8 @@ fn keep(s: &Statement, pauses: &PauseSet, next: &mut PauseSet)
 /// What a statement does from its pauses. Where it moves, the pauses at which it then stands are put into `next`.
 #[cycle(resume)]
 pub fn resume_step(s: &Statement, pauses: &PauseSet, env: &Env, next: &mut PauseSet) -> Resumed
-    requires numbered { IsNumbered s.now }
+    requires fits { FitsMasks s.now }
+    requires distinct { HasDistinctPauses s.now }
     requires exclusive { IsExclusive s.now (pauses_of pauses.now) }
     requires clear { is_live s.now (pauses_of next.old) ≡ false }
     ensures resumed { IsResumed result s.now (pauses_of pauses.now) (env_of env.now) (pauses_of next.new) }
@@ -91,7 +76,7 @@ pub fn resume_step(s: &Statement, pauses: &PauseSet, env: &Env, next: &mut Pause
         Statement::Nothing => Resumed::Asleep,
         Statement::Pause(n) => {
             if pauses.has(*n) {
-                Resumed::Moved(quiet(0))
+                Resumed::Moved(Step::quiet(Completion::End))
             } else {
                 Resumed::Asleep
             }
@@ -121,7 +106,8 @@ fn resume_suspend(
     env: &Env,
     next: &mut PauseSet,
 ) -> Resumed
-    requires numbered { IsNumbered p.now }
+    requires fits { HasTestBit t × FitsMasks p.now }
+    requires distinct { HasDistinctPauses p.now }
     requires exclusive { IsExclusive p.now (pauses_of pauses.now) }
     requires clear { is_live p.now (pauses_of next.old) ≡ false }
     ensures resumed { (x : _) → IsResumed result (Suspend' t x p.now) (pauses_of pauses.now) (env_of env.now) (pauses_of next.new) }
@@ -132,7 +118,7 @@ fn resume_suspend(
         Status::Present => {
             if has_live(p, pauses) {
                 keep(p, pauses, next);
-                Resumed::Moved(quiet(1))
+                Resumed::Moved(Step::quiet(Completion::Pause))
             } else {
                 Resumed::Asleep
             }
@@ -156,7 +142,8 @@ fn resume_seq(
     env: &Env,
     next: &mut PauseSet,
 ) -> Resumed
-    requires numbered { IsNumbered p.now × IsNumbered q.now × AreApart p.now q.now }
+    requires fits { FitsMasks p.now × FitsMasks q.now }
+    requires distinct { HasDistinctPauses p.now × HasDistinctPauses q.now × AreApart p.now q.now }
     requires exclusive { IsExclusive p.now (pauses_of pauses.now) × IsExclusive q.now (pauses_of pauses.now) × ((is_live p.now (pauses_of pauses.now) && is_live q.now (pauses_of pauses.now)) ≡ false) }
     requires clear { (is_live p.now (pauses_of next.old) || is_live q.now (pauses_of next.old)) ≡ false }
     ensures resumed { (x y : _) → IsResumed result (Seq' x p.now y q.now) (pauses_of pauses.now) (env_of env.now) (pauses_of next.new) }
@@ -166,15 +153,12 @@ fn resume_seq(
         Resumed::Asleep => resume_step(q, pauses, env, next),
         Resumed::Stuck => Resumed::Stuck,
         Resumed::Moved(first) => {
-            if first.code != 0 {
+            if !first.completion.is_end() {
                 return Resumed::Moved(first);
             }
             match start_step(q, env, next) {
                 None => Resumed::Stuck,
-                Some(second) => Resumed::Moved(Step {
-                    signals: signal_set::union_of(first.signals, second.signals),
-                    code: second.code,
-                }),
+                Some(second) => Resumed::Moved(first.then(second)),
             }
         }
     }
@@ -183,7 +167,8 @@ fn resume_seq(
 /// What `loop p end` does from its pauses.
 #[cycle(resume)]
 fn resume_loop(p: &Statement, pauses: &PauseSet, env: &Env, next: &mut PauseSet) -> Resumed
-    requires numbered { IsNumbered p.now }
+    requires fits { FitsMasks p.now }
+    requires distinct { HasDistinctPauses p.now }
     requires exclusive { IsExclusive p.now (pauses_of pauses.now) }
     requires clear { is_live p.now (pauses_of next.old) ≡ false }
     ensures resumed { (x : _) → IsResumed result (Loop' x p.now) (pauses_of pauses.now) (env_of env.now) (pauses_of next.new) }
@@ -193,19 +178,16 @@ fn resume_loop(p: &Statement, pauses: &PauseSet, env: &Env, next: &mut PauseSet)
         Resumed::Asleep => Resumed::Asleep,
         Resumed::Stuck => Resumed::Stuck,
         Resumed::Moved(first) => {
-            if first.code != 0 {
+            if !first.completion.is_end() {
                 return Resumed::Moved(first);
             }
             match start_step(p, env, next) {
                 None => Resumed::Stuck,
                 Some(again) => {
-                    if again.code == 0 {
+                    if again.completion.is_end() {
                         return Resumed::Stuck;
                     }
-                    Resumed::Moved(Step {
-                        signals: signal_set::union_of(first.signals, again.signals),
-                        code: again.code,
-                    })
+                    Resumed::Moved(first.then(again))
                 }
             }
         }
@@ -221,7 +203,8 @@ fn resume_par(
     env: &Env,
     next: &mut PauseSet,
 ) -> Resumed
-    requires numbered { IsNumbered p.now × IsNumbered q.now × AreApart p.now q.now }
+    requires fits { FitsMasks p.now × FitsMasks q.now }
+    requires distinct { HasDistinctPauses p.now × HasDistinctPauses q.now × AreApart p.now q.now }
     requires exclusive { IsExclusive p.now (pauses_of pauses.now) × IsExclusive q.now (pauses_of pauses.now) }
     requires clear { (is_live p.now (pauses_of next.old) || is_live q.now (pauses_of next.old)) ≡ false }
     ensures resumed { (x y : _) → IsResumed result (Par' x p.now y q.now) (pauses_of pauses.now) (env_of env.now) (pauses_of next.new) }
@@ -232,10 +215,16 @@ fn resume_par(
         Resumed::Asleep => match resume_step(q, pauses, env, next) {
             Resumed::Asleep => Resumed::Asleep,
             Resumed::Stuck => Resumed::Stuck,
-            Resumed::Moved(right) => Resumed::Moved(both(p, q, quiet(0), right, next)),
+            Resumed::Moved(right) => Resumed::Moved(both(
+                p,
+                q,
+                Step::quiet(Completion::End),
+                right,
+                next,
+            )),
         },
         Resumed::Moved(left) => match resume_step(q, pauses, env, next) {
-            Resumed::Asleep => Resumed::Moved(both(p, q, left, quiet(0), next)),
+            Resumed::Asleep => Resumed::Moved(both(p, q, left, Step::quiet(Completion::End), next)),
             Resumed::Stuck => Resumed::Stuck,
             Resumed::Moved(right) => Resumed::Moved(both(p, q, left, right, next)),
         },
@@ -245,7 +234,8 @@ fn resume_par(
 /// What `trap p end` does from its pauses.
 #[cycle(resume)]
 fn resume_trap(p: &Statement, pauses: &PauseSet, env: &Env, next: &mut PauseSet) -> Resumed
-    requires numbered { IsNumbered p.now }
+    requires fits { FitsMasks p.now }
+    requires distinct { HasDistinctPauses p.now }
     requires exclusive { IsExclusive p.now (pauses_of pauses.now) }
     requires clear { is_live p.now (pauses_of next.old) ≡ false }
     ensures resumed { (x : _) → IsResumed result (Trap' x p.now) (pauses_of pauses.now) (env_of env.now) (pauses_of next.new) }
@@ -254,10 +244,7 @@ fn resume_trap(p: &Statement, pauses: &PauseSet, env: &Env, next: &mut PauseSet)
     match resume_step(p, pauses, env, next) {
         Resumed::Asleep => Resumed::Asleep,
         Resumed::Stuck => Resumed::Stuck,
-        Resumed::Moved(step) => Resumed::Moved(Step {
-            signals: step.signals,
-            code: out_of_trap(step.code),
-        }),
+        Resumed::Moved(step) => Resumed::Moved(step.out_of_trap()),
     }
 }
 
@@ -270,29 +257,26 @@ fn resume_local(
     env: &Env,
     next: &mut PauseSet,
 ) -> Resumed
-    requires numbered { IsNumbered p.now }
+    requires fits { (s.index < 64) × FitsMasks p.now }
+    requires distinct { HasDistinctPauses p.now }
     requires exclusive { IsExclusive p.now (pauses_of pauses.now) }
     requires clear { is_live p.now (pauses_of next.old) ≡ false }
     ensures resumed { (x : _) → IsResumed result (Local' s x p.now) (pauses_of pauses.now) (env_of env.now) (pauses_of next.new) }
     ensures others { (i : ℕ) → has_pause p.now i ≡ false → pauses_of next.new i ≡ pauses_of next.old i }
 {
-    let open = signal_set::set_local(env, s, false, true);
+    let open = signal_set::set_local(env, s, Status::Unknown);
     let first = match resume_sure(p, pauses, &open) {
         None => return Resumed::Asleep,
         Some(first) => first,
     };
-    let present = signal_set::has_local(first.must.signals, s);
-    let possible = signal_set::has_local(first.can.signals, s);
-    if possible && !present {
+    let status = first.status_of(s);
+    if status == Status::Unknown {
         return Resumed::Stuck;
     }
-    let known = signal_set::set_local(env, s, present, possible);
+    let known = signal_set::set_local(env, s, status);
     match resume_step(p, pauses, &known, next) {
         Resumed::Asleep => Resumed::Asleep,
         Resumed::Stuck => Resumed::Stuck,
-        Resumed::Moved(step) => Resumed::Moved(Step {
-            signals: signal_set::all_but(s, step.signals),
-            code: step.code,
-        }),
+        Resumed::Moved(step) => Resumed::Moved(step.hiding(s)),
     }
 }

@@ -2,13 +2,14 @@
 
 ghost use Rattle.std.specs.Prelude.{◌≡◌, ◌≤◌, length, IfSome, IfNone, ℕ, false, not, cond, ◌&&◌};
 ghost use Rattle.est_kernel.specs.Bits.{bits};
+ghost use Rattle.est_kernel.specs.Codes.{code_of};
 ghost use Rattle.est_kernel.specs.Pauses.{pauses_of};
-ghost use Rattle.est_kernel.specs.View.{has_pause, is_live};
+ghost use Rattle.est_kernel.specs.PauseNumbers.{has_pause};
 ghost use Rattle.est_kernel.specs.declared.kernel.Kernel.{Kernel as KernelValue};
 ghost use Rattle.est_meaning.specs.MustCan.{must, can, sure};
 ghost use Rattle.est_meaning.specs.Rounds.{first_env, round, how_many, last_env};
 ghost use Rattle.est_meaning.specs.Rules.{HasNoRule};
-ghost use Rattle.est_meaning.specs.States.{IsState, state_term};
+ghost use Rattle.est_meaning.specs.States.{is_live, IsState, state_term};
 ghost use Rattle.est_meaning.specs.Steps.{StepsTo};
 ghost use Rattle.est_rounds.specs.Contract.{judged_of};
 ghost use Rattle.est_rounds.specs.Views.{set_of, env_of, acts_of, judged_by};
@@ -20,7 +21,8 @@ use crate::resume::resume_sure;
 use crate::resume_step::{Resumed, resume_step};
 use crate::signal_set::{Env, SignalSet};
 use crate::start::start_sure;
-use crate::step::{Step, quiet, start_step};
+use crate::step::{Step, start_step};
+use est_kernel::completion::Completion;
 use est_kernel::kernel::Kernel;
 use est_kernel::mask;
 use est_kernel::pause_set::PauseSet;
@@ -67,6 +69,7 @@ fn first_known(judged: JudgedSignals, inputs: u64) -> Env
 }
 
 /// What a kernel must do and can do from this state.
+#[tactic(auto, using(est_kernel::proofs::FitsMasks::fits_within_limits))]
 fn judge(kernel: &Kernel, state: &State, env: &Env) -> Judgement
     requires { IsState kernel.now.root state.now }
     ensures must { acts_of result.must ≡ must (state_term kernel.now.root state.now) (env_of env.now) }
@@ -74,10 +77,10 @@ fn judge(kernel: &Kernel, state: &State, env: &Env) -> Judgement
 {
     match state {
         State::Fresh => start_sure(kernel.root(), env),
-        State::Done => Judgement::exactly(Acts::ending(0)),
+        State::Done => Judgement::exactly(Acts::just_code(Completion::End)),
         State::Paused(pauses) => match resume_sure(kernel.root(), pauses, env) {
             Some(judged) => judged,
-            None => Judgement::exactly(Acts::ending(0)),
+            None => Judgement::exactly(Acts::just_code(Completion::End)),
         },
     }
 }
@@ -137,16 +140,17 @@ fn undecided_of(judged: JudgedSignals, env: &Env) -> u64
 }
 
 /// The step of a kernel from this state, if the rules give one. The pauses at which it then stands are put into `next`.
+#[tactic(auto, using(est_kernel::proofs::FitsMasks::fits_within_limits))]
 fn step_of(kernel: &Kernel, state: &State, env: &Env, next: &mut PauseSet) -> Option<Step>
     requires state { IsState kernel.now.root state.now }
     requires clear { is_live kernel.now.root (pauses_of next.old) ≡ false }
-    ensures some { IfSome result (λ r. StepsTo kernel.now.root (state_term kernel.now.root state.now) (env_of env.now) (set_of r.signals) r.code (pauses_of next.new)) }
+    ensures some { IfSome result (λ r. StepsTo kernel.now.root (state_term kernel.now.root state.now) (env_of env.now) (set_of r.signals) (code_of r.completion) (pauses_of next.new)) }
     ensures none { IfNone result (HasNoRule (state_term kernel.now.root state.now) (env_of env.now)) }
     ensures others { (i : ℕ) → has_pause kernel.now.root i ≡ false → pauses_of next.new i ≡ pauses_of next.old i }
 {
     match state {
         State::Fresh => start_step(kernel.root(), env, next),
-        State::Done => Some(quiet(0)),
+        State::Done => Some(Step::quiet(Completion::End)),
         State::Paused(pauses) => match resume_step(kernel.root(), pauses, env, next) {
             Resumed::Moved(step) => Some(step),
             Resumed::Stuck => None,
@@ -180,7 +184,7 @@ impl Engine for Rounds {
         match step_of(kernel, state, &env, &mut next) {
             Some(step) => Ok(Outcome {
                 outputs: step.signals.interface,
-                next: if step.code == 1 {
+                next: if step.completion.is_pause() {
                     State::Paused(next)
                 } else {
                     State::Done

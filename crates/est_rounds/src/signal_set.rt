@@ -1,6 +1,7 @@
 //! Sets of signals as masks, and what is known of each signal.
 
-ghost use Rattle.std.specs.Prelude.{◌≡◌};
+ghost use Rattle.std.specs.Prelude.{◌≡◌, ◌<◌};
+ghost use Rattle.est_kernel.specs.Masks.{HasSignalBit, HasTestBit};
 ghost use Rattle.est_kernel.specs.Term.{inner};
 ghost use Rattle.est_kernel.specs.View.{name_of, query_of};
 ghost use Rattle.est_meaning.specs.Signals.{no_signals, only, union, without};
@@ -32,6 +33,7 @@ pub fn no_signal() -> SignalSet
 
 /// The set of this signal alone.
 pub fn only_signal(s: Signal) -> SignalSet
+    requires { HasSignalBit s }
     ensures { set_of result ≡ only (name_of s) }
 {
     match s {
@@ -41,7 +43,7 @@ pub fn only_signal(s: Signal) -> SignalSet
         },
         Signal::Local(s) => SignalSet {
             interface: 0,
-            local: mask::single(s.index),
+            local: mask::single(s.index as u8),
         },
     }
 }
@@ -58,28 +60,31 @@ pub fn union_of(a: SignalSet, b: SignalSet) -> SignalSet
 
 /// The members but this local signal.
 pub fn all_but(s: LocalSignal, a: SignalSet) -> SignalSet
+    requires { s.index < 64 }
     ensures { set_of result ≡ without s.index (set_of a) }
 {
     SignalSet {
         interface: a.interface,
-        local: mask::without(a.local, s.index),
+        local: mask::without(a.local, s.index as u8),
     }
 }
 
 /// Whether the local signal is a member.
 pub fn has_local(a: SignalSet, s: LocalSignal) -> bool
+    requires { s.index < 64 }
     ensures { result ≡ set_of a (inner s.index) }
 {
-    mask::has(a.local, s.index)
+    mask::has(a.local, s.index as u8)
 }
 
 /// Whether the signal is a member.
 pub fn has_signal(a: SignalSet, s: Signal) -> bool
+    requires { HasSignalBit s }
     ensures { result ≡ set_of a (name_of s) }
 {
     match s {
         Signal::Interface(s) => mask::has(a.interface, s.index),
-        Signal::Local(s) => mask::has(a.local, s.index),
+        Signal::Local(s) => mask::has(a.local, s.index as u8),
     }
 }
 
@@ -94,24 +99,43 @@ pub struct Env {
 
 /// What is known of that which a test asks.
 pub fn answer_to(env: &Env, test: Test) -> Status
+    requires { HasTestBit test }
     ensures { result ≡ status_of (env_of env.now) (query_of test) }
 {
     match test {
         Test::Tick => Status::Present,
-        Test::Status(s) => {
-            if has_signal(env.present, s) {
-                Status::Present
-            } else if has_signal(env.possible, s) {
-                Status::Unknown
-            } else {
-                Status::Absent
-            }
-        }
+        Test::Status(s) => decide(has_signal(env.present, s), has_signal(env.possible, s)),
     }
 }
 
-/// The environment in which the local signal is as it was decided.
-pub fn set_local(env: &Env, s: LocalSignal, present: bool, possible: bool) -> Env
+/// The verdict on a signal, by whether it must be emitted and whether it can be.
+pub fn decide(must_be: bool, can_be: bool) -> Status
+    ensures { result ≡ verdict must_be can_be }
+{
+    if must_be {
+        Status::Present
+    } else if can_be {
+        Status::Unknown
+    } else {
+        Status::Absent
+    }
+}
+
+/// The environment in which the local signal has this status.
+pub fn set_local(env: &Env, s: LocalSignal, status: Status) -> Env
+    requires { s.index < 64 }
+    ensures { env_of result ≡ with_local (env_of env.now) s.index status }
+{
+    match status {
+        Status::Present => put(env, s, true, true),
+        Status::Absent => put(env, s, false, false),
+        Status::Unknown => put(env, s, false, true),
+    }
+}
+
+/// The environment in which the local signal is present or not, and may be or not.
+fn put(env: &Env, s: LocalSignal, present: bool, possible: bool) -> Env
+    requires { s.index < 64 }
     ensures { env_of result ≡ with_local (env_of env.now) s.index (verdict present possible) }
 {
     Env {
@@ -122,14 +146,15 @@ pub fn set_local(env: &Env, s: LocalSignal, present: bool, possible: bool) -> En
 
 /// The set with this local signal in it, or not.
 fn put_local(a: SignalSet, s: LocalSignal, is_in: bool) -> SignalSet
+    requires { s.index < 64 }
     ensures { set_of result ≡ with_member (set_of a) s.index is_in }
 {
     SignalSet {
         interface: a.interface,
         local: if is_in {
-            mask::with(a.local, s.index)
+            mask::with(a.local, s.index as u8)
         } else {
-            mask::without(a.local, s.index)
+            mask::without(a.local, s.index as u8)
         },
     }
 }

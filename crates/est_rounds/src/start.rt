@@ -1,7 +1,8 @@
 //! What a statement that is begun must do and can do.
 
-ghost use Rattle.std.specs.Prelude.{◌≡◌};
-ghost use Rattle.est_kernel.specs.Bits.{bits};
+ghost use Rattle.std.specs.Prelude.{◌≡◌, ◌<◌};
+ghost use Rattle.est_kernel.specs.Codes.{codes_of};
+ghost use Rattle.est_kernel.specs.Masks.{FitsMasks};
 ghost use Rattle.est_kernel.specs.Term.{par, signal, trap};
 ghost use Rattle.est_kernel.specs.View.{term_of};
 ghost use Rattle.est_meaning.specs.MustCan.{must, can, sure, maybe, must_then, can_then, next_mode};
@@ -9,21 +10,23 @@ ghost use Rattle.est_rounds.specs.Views.{acts_of, env_of};
 
 use crate::acts::{Acts, Judgement};
 use crate::signal_set::{self, Env};
-use est_kernel::mask;
+use est_kernel::code_set::CodeSet;
+use est_kernel::completion::Completion;
 use est_kernel::statement::{LocalSignal, Statement};
 use est_meaning::status::Status;
 
 /// What a statement can do, in doubt whether it is reached.
 #[cycle(doubt)]
 pub fn start_maybe(s: &Statement, env: &Env) -> Acts
+    requires fits { FitsMasks s.now }
     ensures { acts_of result ≡ can (term_of s.now) maybe (env_of env.now) }
 {
     match s {
-        Statement::Nothing => Acts::ending(0),
-        Statement::Pause(_) => Acts::ending(1),
+        Statement::Nothing => Acts::just_code(Completion::End),
+        Statement::Pause(_) => Acts::just_code(Completion::Pause),
         Statement::Emit(s) => Acts {
             signals: signal_set::only_signal(*s),
-            codes: mask::single(0),
+            codes: CodeSet::single(Completion::End),
         },
         Statement::Present(t, p, q) => match signal_set::answer_to(env, *t) {
             Status::Present => start_maybe(p, env),
@@ -35,7 +38,7 @@ pub fn start_maybe(s: &Statement, env: &Env) -> Acts
         Statement::Loop(p) => start_maybe(p, env),
         Statement::Par(p, q) => par_maybe(p, q, env),
         Statement::Trap(p) => trap_maybe(p, env),
-        Statement::Exit(k) => Acts::ending(k.index + 2),
+        Statement::Exit(k) => Acts::just_code(Completion::Exit(*k)),
         Statement::Local(s, p) => local_maybe(*s, p, env),
     }
 }
@@ -43,6 +46,7 @@ pub fn start_maybe(s: &Statement, env: &Env) -> Acts
 /// What `p || q` can do, in doubt whether it is reached.
 #[cycle(doubt)]
 fn par_maybe(p: &Statement, q: &Statement, env: &Env) -> Acts
+    requires fits { FitsMasks p.now × FitsMasks q.now }
     ensures { acts_of result ≡ can (par (term_of p.now) (term_of q.now)) maybe (env_of env.now) }
 {
     start_maybe(p, env).beside(start_maybe(q, env))
@@ -51,6 +55,7 @@ fn par_maybe(p: &Statement, q: &Statement, env: &Env) -> Acts
 /// What `trap p end` can do, in doubt whether it is reached.
 #[cycle(doubt)]
 fn trap_maybe(p: &Statement, env: &Env) -> Acts
+    requires fits { FitsMasks p.now }
     ensures { acts_of result ≡ can (trap (term_of p.now)) maybe (env_of env.now) }
 {
     start_maybe(p, env).out_of_trap()
@@ -59,18 +64,19 @@ fn trap_maybe(p: &Statement, env: &Env) -> Acts
 /// What `signal s in p end` can do, in doubt whether it is reached.
 #[cycle(doubt)]
 fn local_maybe(s: LocalSignal, p: &Statement, env: &Env) -> Acts
+    requires fits { (s.index < 64) × FitsMasks p.now }
     ensures { acts_of result ≡ can (signal s.index (term_of p.now)) maybe (env_of env.now) }
 {
-    let open = signal_set::set_local(env, s, false, true);
+    let open = signal_set::set_local(env, s, Status::Unknown);
     let first = start_maybe(p, &open);
-    let possible = signal_set::has_local(first.signals, s);
-    let known = signal_set::set_local(env, s, false, possible);
+    let known = signal_set::set_local(env, s, first.status_in_doubt(s));
     start_maybe(p, &known).hiding(s)
 }
 
 /// What a first part can do and then a statement that follows it, in doubt whether they are reached.
 #[cycle(doubt)]
 pub fn then_start_maybe(first: Acts, q: &Statement, env: &Env) -> Acts
+    requires fits { FitsMasks q.now }
     ensures { acts_of result ≡ can_then (acts_of first) (can (term_of q.now) maybe (env_of env.now)) }
 {
     if first.has_end() {
@@ -83,15 +89,16 @@ pub fn then_start_maybe(first: Acts, q: &Statement, env: &Env) -> Acts
 /// What a statement must do and can do.
 #[cycle(start)]
 pub fn start_sure(s: &Statement, env: &Env) -> Judgement
+    requires fits { FitsMasks s.now }
     ensures must { acts_of result.must ≡ must (term_of s.now) (env_of env.now) }
     ensures can { acts_of result.can ≡ can (term_of s.now) sure (env_of env.now) }
 {
     match s {
-        Statement::Nothing => Judgement::exactly(Acts::ending(0)),
-        Statement::Pause(_) => Judgement::exactly(Acts::ending(1)),
+        Statement::Nothing => Judgement::exactly(Acts::just_code(Completion::End)),
+        Statement::Pause(_) => Judgement::exactly(Acts::just_code(Completion::Pause)),
         Statement::Emit(s) => Judgement::exactly(Acts {
             signals: signal_set::only_signal(*s),
-            codes: mask::single(0),
+            codes: CodeSet::single(Completion::End),
         }),
         Statement::Present(t, p, q) => match signal_set::answer_to(env, *t) {
             Status::Present => start_sure(p, env),
@@ -106,7 +113,7 @@ pub fn start_sure(s: &Statement, env: &Env) -> Judgement
         Statement::Loop(p) => start_sure(p, env),
         Statement::Par(p, q) => par_sure(p, q, env),
         Statement::Trap(p) => trap_sure(p, env),
-        Statement::Exit(k) => Judgement::exactly(Acts::ending(k.index + 2)),
+        Statement::Exit(k) => Judgement::exactly(Acts::just_code(Completion::Exit(*k))),
         Statement::Local(s, p) => local_sure(*s, p, env),
     }
 }
@@ -114,6 +121,7 @@ pub fn start_sure(s: &Statement, env: &Env) -> Judgement
 /// What `p || q` must do and can do.
 #[cycle(start)]
 fn par_sure(p: &Statement, q: &Statement, env: &Env) -> Judgement
+    requires fits { FitsMasks p.now × FitsMasks q.now }
     ensures must { acts_of result.must ≡ must (par (term_of p.now) (term_of q.now)) (env_of env.now) }
     ensures can { acts_of result.can ≡ can (par (term_of p.now) (term_of q.now)) sure (env_of env.now) }
 {
@@ -123,6 +131,7 @@ fn par_sure(p: &Statement, q: &Statement, env: &Env) -> Judgement
 /// What `trap p end` must do and can do.
 #[cycle(start)]
 fn trap_sure(p: &Statement, env: &Env) -> Judgement
+    requires fits { FitsMasks p.now }
     ensures must { acts_of result.must ≡ must (trap (term_of p.now)) (env_of env.now) }
     ensures can { acts_of result.can ≡ can (trap (term_of p.now)) sure (env_of env.now) }
 {
@@ -132,22 +141,22 @@ fn trap_sure(p: &Statement, env: &Env) -> Judgement
 /// What `signal s in p end` must do and can do.
 #[cycle(start)]
 fn local_sure(s: LocalSignal, p: &Statement, env: &Env) -> Judgement
+    requires fits { (s.index < 64) × FitsMasks p.now }
     ensures must { acts_of result.must ≡ must (signal s.index (term_of p.now)) (env_of env.now) }
     ensures can { acts_of result.can ≡ can (signal s.index (term_of p.now)) sure (env_of env.now) }
 {
-    let open = signal_set::set_local(env, s, false, true);
+    let open = signal_set::set_local(env, s, Status::Unknown);
     let first = start_sure(p, &open);
-    let present = signal_set::has_local(first.must.signals, s);
-    let possible = signal_set::has_local(first.can.signals, s);
-    let known = signal_set::set_local(env, s, present, possible);
+    let known = signal_set::set_local(env, s, first.status_of(s));
     start_sure(p, &known).hiding(s)
 }
 
 /// What is judged of a first part and of a statement that follows it.
 #[cycle(start)]
 pub fn then_start(first: Judgement, q: &Statement, env: &Env) -> Judgement
+    requires fits { FitsMasks q.now }
     ensures must { acts_of result.must ≡ must_then (acts_of first.must) (must (term_of q.now) (env_of env.now)) }
-    ensures can { acts_of result.can ≡ can_then (acts_of first.can) (can (term_of q.now) (next_mode sure (bits first.must.codes 0)) (env_of env.now)) }
+    ensures can { acts_of result.can ≡ can_then (acts_of first.can) (can (term_of q.now) (next_mode sure (codes_of first.must.codes 0)) (env_of env.now)) }
 {
     if first.must.has_end() {
         let second = start_sure(q, env);

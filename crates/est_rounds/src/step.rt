@@ -1,28 +1,80 @@
 //! The step of a statement that is begun: what it emits, its completion code, and the pauses at which it then stands.
 
-ghost use Rattle.std.specs.Prelude.{◌≡◌, ◌≢◌, ℕ, true, false, not, ◌&&◌, ◌||◌, cond, nat_eq, max, IfSome, IfNone};
-ghost use Rattle.est_kernel.specs.View.{term_of, is_live, has_pause, IsNumbered, AreApart};
+ghost use Rattle.std.specs.Prelude.{◌≡◌, ◌≢◌, ◌<◌, ℕ, true, false, not, ◌&&◌, ◌||◌, cond, nat_eq, max, IfSome, IfNone};
+ghost use Rattle.est_kernel.specs.Codes.{code_of, code_out_of_trap};
+ghost use Rattle.est_kernel.specs.Masks.{FitsMasks};
+ghost use Rattle.est_kernel.specs.PauseNumbers.{has_pause, HasDistinctPauses, AreApart};
+ghost use Rattle.est_kernel.specs.View.{term_of};
+ghost use Rattle.est_meaning.specs.States.{is_live};
 ghost use Rattle.est_kernel.specs.Pauses.{pauses_of};
 ghost use Rattle.est_kernel.specs.Term.{par, seq, signal, trap};
 ghost use Rattle.est_kernel.specs.declared.statement.Statement.TheVariants.{Local', Par', Seq', Trap'};
-ghost use Rattle.est_meaning.specs.Rules.{HasNoRule, outside};
-ghost use Rattle.est_meaning.specs.Signals.{no_signals, union};
+ghost use Rattle.est_meaning.specs.Rules.{HasNoRule};
+ghost use Rattle.est_meaning.specs.Signals.{no_signals, union, without};
 ghost use Rattle.est_meaning.specs.Steps.{StepsTo};
 ghost use Rattle.est_rounds.specs.Views.{set_of, env_of};
 
 use crate::signal_set::{self, Env, SignalSet};
 use crate::start::start_sure;
+use est_kernel::completion::Completion;
 use est_kernel::pause_set::PauseSet;
 use est_kernel::statement::{LocalSignal, Statement};
 use est_meaning::status::Status;
 
-/// The signals that are emitted, and the completion code.
+/// The signals that are emitted, and how the statement completes.
 #[derive(Clone, Copy)]
 pub struct Step {
     /// The signals that are emitted.
     pub signals: SignalSet,
-    /// The completion code.
-    pub code: u8,
+    /// How the statement completes.
+    pub completion: Completion,
+}
+
+impl Step {
+    /// The step that emits nothing and completes so.
+    pub fn quiet(completion: Completion) -> Step
+        ensures signals { set_of result.signals ≡ no_signals }
+        ensures completion { result.completion ≡ completion }
+    {
+        Step {
+            signals: signal_set::no_signal(),
+            completion,
+        }
+    }
+
+    /// The step of a part that has ended and of the one that follows it.
+    pub fn then(self, next: Step) -> Step
+        ensures signals { set_of result.signals ≡ union (set_of self.signals) (set_of next.signals) }
+        ensures completion { result.completion ≡ next.completion }
+    {
+        Step {
+            signals: signal_set::union_of(self.signals, next.signals),
+            completion: next.completion,
+        }
+    }
+
+    /// The step as it is seen outside a trap.
+    pub fn out_of_trap(self) -> Step
+        ensures signals { result.signals ≡ self.signals }
+        ensures code { code_of result.completion ≡ code_out_of_trap (code_of self.completion) }
+    {
+        Step {
+            signals: self.signals,
+            completion: self.completion.out_of_trap(),
+        }
+    }
+
+    /// The step as it is seen outside the binder of this local signal.
+    pub fn hiding(self, s: LocalSignal) -> Step
+        requires { s.index < 64 }
+        ensures signals { set_of result.signals ≡ without s.index (set_of self.signals) }
+        ensures completion { result.completion ≡ self.completion }
+    {
+        Step {
+            signals: signal_set::all_but(s, self.signals),
+            completion: self.completion,
+        }
+    }
 }
 
 /// Takes the pauses of a statement out of the set.
@@ -53,80 +105,51 @@ fn clear(s: &Statement, next: &mut PauseSet)
     }
 }
 
-/// A completion code as it is seen outside a trap.
-pub fn out_of_trap(code: u8) -> u8
-    ensures { result ≡ outside code }
-{
-    match code {
-        0 => 0,
-        1 => 1,
-        2 => 0,
-        k => k - 1,
-    }
-}
-
-/// The step that emits nothing and gives this code.
-pub fn quiet(code: u8) -> Step
-    ensures signals { set_of result.signals ≡ no_signals }
-    ensures code { result.code ≡ code }
-{
-    Step {
-        signals: signal_set::no_signal(),
-        code,
-    }
-}
-
-/// The code of a parallel, by those of its sides: the greater.
-fn greater_code(left: u8, right: u8) -> u8
-    ensures { result ≡ max left right }
-{
-    left.max(right)
-}
-
 /// The step of both sides of a parallel: where it doesn't pause, a side that has paused is left.
 pub fn both(p: &Statement, q: &Statement, left: Step, right: Step, next: &mut PauseSet) -> Step
     requires apart { AreApart p.now q.now }
-    requires left { is_live p.now (pauses_of next.old) ≡ nat_eq left.code 1 }
-    requires right { is_live q.now (pauses_of next.old) ≡ nat_eq right.code 1 }
+    requires left { is_live p.now (pauses_of next.old) ≡ nat_eq (code_of left.completion) 1 }
+    requires right { is_live q.now (pauses_of next.old) ≡ nat_eq (code_of right.completion) 1 }
     ensures signals { set_of result.signals ≡ union (set_of left.signals) (set_of right.signals) }
-    ensures code { result.code ≡ max left.code right.code }
-    ensures kept { result.code ≡ 1 → (i : ℕ) → pauses_of next.new i ≡ pauses_of next.old i }
-    ensures left_ended { result.code ≢ 1 → is_live p.now (pauses_of next.new) ≡ false }
-    ensures right_ended { result.code ≢ 1 → is_live q.now (pauses_of next.new) ≡ false }
+    ensures code { code_of result.completion ≡ max (code_of left.completion) (code_of right.completion) }
+    ensures kept { code_of result.completion ≡ 1 → (i : ℕ) → pauses_of next.new i ≡ pauses_of next.old i }
+    ensures left_ended { code_of result.completion ≢ 1 → is_live p.now (pauses_of next.new) ≡ false }
+    ensures right_ended { code_of result.completion ≢ 1 → is_live q.now (pauses_of next.new) ≡ false }
     ensures others { (i : ℕ) → has_pause p.now i ≡ false → has_pause q.now i ≡ false → pauses_of next.new i ≡ pauses_of next.old i }
 {
-    let code = greater_code(left.code, right.code);
-    if code != 1 {
-        if left.code == 1 {
+    let completion = left.completion.greater(right.completion);
+    if !completion.is_pause() {
+        if left.completion.is_pause() {
             clear(p, next);
-        } else if right.code == 1 {
+        } else if right.completion.is_pause() {
             clear(q, next);
         }
     }
     Step {
         signals: signal_set::union_of(left.signals, right.signals),
-        code,
+        completion,
     }
 }
 
 /// The step of a statement that is begun, if the rules give one.
 #[cycle(begin)]
 pub fn start_step(s: &Statement, env: &Env, next: &mut PauseSet) -> Option<Step>
-    requires numbered { IsNumbered s.now }
+    requires fits { FitsMasks s.now }
+    requires distinct { HasDistinctPauses s.now }
     requires clear { is_live s.now (pauses_of next.old) ≡ false }
-    ensures some { IfSome result (λ r. StepsTo s.now (term_of s.now) (env_of env.now) (set_of r.signals) r.code (pauses_of next.new)) }
+    ensures some { IfSome result (λ r. StepsTo s.now (term_of s.now) (env_of env.now) (set_of r.signals) (code_of r.completion) (pauses_of next.new)) }
     ensures none { IfNone result (HasNoRule (term_of s.now) (env_of env.now)) }
     ensures others { (i : ℕ) → has_pause s.now i ≡ false → pauses_of next.new i ≡ pauses_of next.old i }
 {
     match s {
-        Statement::Nothing => Some(quiet(0)),
+        Statement::Nothing => Some(Step::quiet(Completion::End)),
         Statement::Pause(n) => {
             next.insert(*n);
-            Some(quiet(1))
+            Some(Step::quiet(Completion::Pause))
         }
         Statement::Emit(s) => Some(Step {
             signals: signal_set::only_signal(*s),
-            code: 0,
+            completion: Completion::End,
         }),
         Statement::Present(t, p, q) => match signal_set::answer_to(env, *t) {
             Status::Present => start_step(p, env, next),
@@ -137,11 +160,15 @@ pub fn start_step(s: &Statement, env: &Env, next: &mut PauseSet) -> Option<Step>
         Statement::Seq(p, q) => start_seq(p, q, env, next),
         Statement::Loop(p) => {
             let first = start_step(p, env, next)?;
-            if first.code == 0 { None } else { Some(first) }
+            if first.completion.is_end() {
+                None
+            } else {
+                Some(first)
+            }
         }
         Statement::Par(p, q) => start_par(p, q, env, next),
         Statement::Trap(p) => start_trap(p, env, next),
-        Statement::Exit(k) => Some(quiet(k.index + 2)),
+        Statement::Exit(k) => Some(Step::quiet(Completion::Exit(*k))),
         Statement::Local(s, p) => start_local(*s, p, env, next),
     }
 }
@@ -149,19 +176,16 @@ pub fn start_step(s: &Statement, env: &Env, next: &mut PauseSet) -> Option<Step>
 /// The step of `p; q` that is begun, if the rules give one.
 #[cycle(begin)]
 fn start_seq(p: &Statement, q: &Statement, env: &Env, next: &mut PauseSet) -> Option<Step>
-    requires numbered { IsNumbered p.now × IsNumbered q.now × AreApart p.now q.now }
+    requires fits { FitsMasks p.now × FitsMasks q.now }
+    requires distinct { HasDistinctPauses p.now × HasDistinctPauses q.now × AreApart p.now q.now }
     requires clear { (is_live p.now (pauses_of next.old) || is_live q.now (pauses_of next.old)) ≡ false }
-    ensures some { (x y : _) → IfSome result (λ r. StepsTo (Seq' x p.now y q.now) (seq (term_of p.now) (term_of q.now)) (env_of env.now) (set_of r.signals) r.code (pauses_of next.new)) }
+    ensures some { (x y : _) → IfSome result (λ r. StepsTo (Seq' x p.now y q.now) (seq (term_of p.now) (term_of q.now)) (env_of env.now) (set_of r.signals) (code_of r.completion) (pauses_of next.new)) }
     ensures none { IfNone result (HasNoRule (seq (term_of p.now) (term_of q.now)) (env_of env.now)) }
     ensures others { (i : ℕ) → (has_pause p.now i || has_pause q.now i) ≡ false → pauses_of next.new i ≡ pauses_of next.old i }
 {
     let first = start_step(p, env, next)?;
-    if first.code == 0 {
-        let second = start_step(q, env, next)?;
-        Some(Step {
-            signals: signal_set::union_of(first.signals, second.signals),
-            code: second.code,
-        })
+    if first.completion.is_end() {
+        Some(first.then(start_step(q, env, next)?))
     } else {
         Some(first)
     }
@@ -170,9 +194,10 @@ fn start_seq(p: &Statement, q: &Statement, env: &Env, next: &mut PauseSet) -> Op
 /// The step of `p || q` that is begun, if the rules give one.
 #[cycle(begin)]
 fn start_par(p: &Statement, q: &Statement, env: &Env, next: &mut PauseSet) -> Option<Step>
-    requires numbered { IsNumbered p.now × IsNumbered q.now × AreApart p.now q.now }
+    requires fits { FitsMasks p.now × FitsMasks q.now }
+    requires distinct { HasDistinctPauses p.now × HasDistinctPauses q.now × AreApart p.now q.now }
     requires clear { (is_live p.now (pauses_of next.old) || is_live q.now (pauses_of next.old)) ≡ false }
-    ensures some { (x y : _) → IfSome result (λ r. StepsTo (Par' x p.now y q.now) (par (term_of p.now) (term_of q.now)) (env_of env.now) (set_of r.signals) r.code (pauses_of next.new)) }
+    ensures some { (x y : _) → IfSome result (λ r. StepsTo (Par' x p.now y q.now) (par (term_of p.now) (term_of q.now)) (env_of env.now) (set_of r.signals) (code_of r.completion) (pauses_of next.new)) }
     ensures none { IfNone result (HasNoRule (par (term_of p.now) (term_of q.now)) (env_of env.now)) }
     ensures others { (i : ℕ) → (has_pause p.now i || has_pause q.now i) ≡ false → pauses_of next.new i ≡ pauses_of next.old i }
 {
@@ -184,39 +209,31 @@ fn start_par(p: &Statement, q: &Statement, env: &Env, next: &mut PauseSet) -> Op
 /// The step of `trap p end` that is begun, if the rules give one.
 #[cycle(begin)]
 fn start_trap(p: &Statement, env: &Env, next: &mut PauseSet) -> Option<Step>
-    requires numbered { IsNumbered p.now }
+    requires fits { FitsMasks p.now }
+    requires distinct { HasDistinctPauses p.now }
     requires clear { is_live p.now (pauses_of next.old) ≡ false }
-    ensures some { (x : _) → IfSome result (λ r. StepsTo (Trap' x p.now) (trap (term_of p.now)) (env_of env.now) (set_of r.signals) r.code (pauses_of next.new)) }
+    ensures some { (x : _) → IfSome result (λ r. StepsTo (Trap' x p.now) (trap (term_of p.now)) (env_of env.now) (set_of r.signals) (code_of r.completion) (pauses_of next.new)) }
     ensures none { IfNone result (HasNoRule (trap (term_of p.now)) (env_of env.now)) }
     ensures others { (i : ℕ) → has_pause p.now i ≡ false → pauses_of next.new i ≡ pauses_of next.old i }
 {
-    let first = start_step(p, env, next)?;
-    Some(Step {
-        signals: first.signals,
-        code: out_of_trap(first.code),
-    })
+    Some(start_step(p, env, next)?.out_of_trap())
 }
 
 /// The step of `signal s in p end` that is begun, if the rules give one.
 #[cycle(begin)]
 fn start_local(s: LocalSignal, p: &Statement, env: &Env, next: &mut PauseSet) -> Option<Step>
-    requires numbered { IsNumbered p.now }
+    requires fits { (s.index < 64) × FitsMasks p.now }
+    requires distinct { HasDistinctPauses p.now }
     requires clear { is_live p.now (pauses_of next.old) ≡ false }
-    ensures some { (x : _) → IfSome result (λ r. StepsTo (Local' s x p.now) (signal s.index (term_of p.now)) (env_of env.now) (set_of r.signals) r.code (pauses_of next.new)) }
+    ensures some { (x : _) → IfSome result (λ r. StepsTo (Local' s x p.now) (signal s.index (term_of p.now)) (env_of env.now) (set_of r.signals) (code_of r.completion) (pauses_of next.new)) }
     ensures none { IfNone result (HasNoRule (signal s.index (term_of p.now)) (env_of env.now)) }
     ensures others { (i : ℕ) → has_pause p.now i ≡ false → pauses_of next.new i ≡ pauses_of next.old i }
 {
-    let open = signal_set::set_local(env, s, false, true);
-    let first = start_sure(p, &open);
-    let present = signal_set::has_local(first.must.signals, s);
-    let possible = signal_set::has_local(first.can.signals, s);
-    if possible && !present {
+    let open = signal_set::set_local(env, s, Status::Unknown);
+    let status = start_sure(p, &open).status_of(s);
+    if status == Status::Unknown {
         return None;
     }
-    let known = signal_set::set_local(env, s, present, possible);
-    let step = start_step(p, &known, next)?;
-    Some(Step {
-        signals: signal_set::all_but(s, step.signals),
-        code: step.code,
-    })
+    let known = signal_set::set_local(env, s, status);
+    Some(start_step(p, &known, next)?.hiding(s))
 }

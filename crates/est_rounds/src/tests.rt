@@ -1,20 +1,15 @@
 //! Worked examples, run instant by instant. The interface is `input I; output O, P, Q`.
 
-ghost use Rattle.std.specs.Prelude.{IfOk, IsTrue, ◌<◌, ◌≡◌, length};
-ghost use Rattle.est_kernel.specs.Scope.{IsClosed, IsVisible, IsAsked, IsEmitted};
-ghost use Rattle.est_kernel.specs.View.{term_of, name_of, query_of};
-ghost use Rattle.est_meaning.specs.States.{IsState};
 ghost use Rattle.est_rounds.specs.Contract.{AreInputs};
 
 use crate::engine::Engine;
 use crate::rounds::Rounds;
-use est_text::identifier::Identifier;
+use est_kernel::closed::is_closed;
 use est_kernel::interface::{Declaration, Interface, Kind, MOST_SIGNALS};
 use est_kernel::kernel::{Kernel, LoadFault};
 use est_kernel::state::{Inputs, State};
-use est_kernel::statement::{
-    InterfaceSignal, LocalSignal, PauseIndex, Signal, Statement, Test, TrapIndex,
-};
+use est_kernel::statement::{InterfaceSignal, LocalSignal, Signal, Statement, Test};
+use est_text::identifier::Identifier;
 use std::alloc::{AllocError, Global};
 use std::process::Abort;
 use std::test::Fail;
@@ -34,114 +29,22 @@ fn emit(signal: Signal) -> Statement {
 }
 
 fn pause() -> Statement {
-    Statement::Pause(PauseIndex { index: 0 })
+    Statement::pause()
 }
 
+/// Leaves the innermost trap.
 fn exit() -> Statement {
-    Statement::Exit(TrapIndex { index: 0 })
+    Statement::exit(0)
 }
 
 /// Leaves the trap round the innermost one.
 fn exit_outer() -> Statement {
-    Statement::Exit(TrapIndex { index: 1 })
+    Statement::exit(1)
 }
 
-fn seq(alloc: Global, p: Statement, q: Statement) -> Result<Statement, AllocError> {
-    Ok(Statement::Seq(Box::new(alloc, p)?, Box::new(alloc, q)?))
-}
-
-fn par(alloc: Global, p: Statement, q: Statement) -> Result<Statement, AllocError> {
-    Ok(Statement::Par(Box::new(alloc, p)?, Box::new(alloc, q)?))
-}
-
-fn present(alloc: Global, t: Test, p: Statement, q: Statement) -> Result<Statement, AllocError> {
-    Ok(Statement::Present(t, Box::new(alloc, p)?, Box::new(alloc, q)?))
-}
-
-fn trap(alloc: Global, p: Statement) -> Result<Statement, AllocError> {
-    Ok(Statement::Trap(Box::new(alloc, p)?))
-}
-
-fn again(alloc: Global, p: Statement) -> Result<Statement, AllocError> {
-    Ok(Statement::Loop(Box::new(alloc, p)?))
-}
-
-fn suspend(alloc: Global, t: Test, p: Statement) -> Result<Statement, AllocError> {
-    Ok(Statement::Suspend(t, Box::new(alloc, p)?))
-}
-
+/// The outermost local signal round a statement.
 fn local(alloc: Global, p: Statement) -> Result<Statement, AllocError> {
-    Ok(Statement::Local(LocalSignal { index: 0 }, Box::new(alloc, p)?))
-}
-
-fn is_visible(signal: Signal, interface: &Interface, locals: u8) -> bool
-    ensures { IsTrue result → IsVisible interface.now locals (name_of signal) }
-{
-    match signal {
-        Signal::Interface(s) => (s.index as usize) < interface.len(),
-        Signal::Local(s) => s.index < locals,
-    }
-}
-
-fn is_asked(test: Test, interface: &Interface, locals: u8) -> bool
-    ensures { IsTrue result → IsAsked interface.now locals (query_of test) }
-{
-    match test {
-        Test::Tick => true,
-        Test::Status(s) => is_visible(s, interface, locals),
-    }
-}
-
-fn is_emitted(signal: Signal, interface: &Interface, locals: u8) -> bool
-    ensures { IsTrue result → IsEmitted interface.now locals (name_of signal) }
-{
-    match signal {
-        Signal::Interface(s) => {
-            if (s.index as usize) < interface.len() {
-                match interface.kind(s) {
-                    Kind::Input => false,
-                    Kind::Output => true,
-                }
-            } else {
-                false
-            }
-        }
-        Signal::Local(s) => s.index < locals,
-    }
-}
-
-/// Whether each name has its binder.
-fn is_closed(s: &Statement, interface: &Interface, traps: u8, locals: u8) -> bool
-    ensures { IsTrue result → IsClosed interface.now traps locals (term_of s.now) }
-{
-    if traps >= 100 || locals >= 100 {
-        return false;
-    }
-    match s {
-        Statement::Nothing => true,
-        Statement::Pause(_) => true,
-        Statement::Emit(s) => is_emitted(*s, interface, locals),
-        Statement::Present(t, p, q) => {
-            is_asked(*t, interface, locals)
-                && is_closed(p, interface, traps, locals)
-                && is_closed(q, interface, traps, locals)
-        }
-        Statement::Suspend(t, p) => {
-            is_asked(*t, interface, locals) && is_closed(p, interface, traps, locals)
-        }
-        Statement::Seq(p, q) => {
-            is_closed(p, interface, traps, locals) && is_closed(q, interface, traps, locals)
-        }
-        Statement::Loop(p) => is_closed(p, interface, traps, locals),
-        Statement::Par(p, q) => {
-            is_closed(p, interface, traps, locals) && is_closed(q, interface, traps, locals)
-        }
-        Statement::Trap(p) => is_closed(p, interface, traps + 1, locals),
-        Statement::Exit(k) => k.index < traps,
-        Statement::Local(s, p) => {
-            s.index == locals && is_closed(p, interface, traps, locals + 1)
-        }
-    }
+    Statement::local(alloc, 0, p)
 }
 
 fn interface(rt: &impl Abort, alloc: Global) -> Result<Interface, AllocError> {
@@ -166,7 +69,7 @@ fn build(
     root: Statement,
 ) -> Result<Result<Kernel, LoadFault>, AllocError> {
     let interface = interface(rt, alloc)?;
-    assert!(rt; is_closed(&root, &interface, 0, 0));
+    assert!(rt; is_closed(&interface, &root));
     Ok(Kernel::build(interface, root))
 }
 
@@ -227,92 +130,108 @@ enum Program {
 }
 
 fn opening(a: Global) -> Result<Statement, AllocError> {
-    seq(a, emit(O), seq(a, pause(), emit(P))?)
+    Statement::seq(a, emit(O), Statement::seq(a, pause(), emit(P))?)
 }
 
 fn suspended(a: Global) -> Result<Statement, AllocError> {
-    suspend(a, I, seq(a, pause(), emit(O))?)
+    Statement::suspend(a, I, Statement::seq(a, pause(), emit(O))?)
 }
 
 fn restarted(a: Global) -> Result<Statement, AllocError> {
-    let asks = present(a, Test::Status(S), emit(O), emit(P))?;
-    let body = seq(a, asks, seq(a, pause(), emit(S))?)?;
-    again(a, local(a, body)?)
+    let asks = Statement::present(a, Test::Status(S), emit(O), emit(P))?;
+    let body = Statement::seq(a, asks, Statement::seq(a, pause(), emit(S))?)?;
+    Statement::repeat(a, local(a, body)?)
 }
 
 fn instantaneous(a: Global) -> Result<Statement, AllocError> {
-    again(a, present(a, I, pause(), Statement::Nothing)?)
+    Statement::repeat(a, Statement::present(a, I, pause(), Statement::Nothing)?)
 }
 
 fn left_at_once(a: Global) -> Result<Statement, AllocError> {
-    let left = seq(a, emit(O), exit())?;
-    let right = seq(a, pause(), emit(P))?;
-    seq(a, trap(a, par(a, left, right)?)?, emit(Q))
+    let left = Statement::seq(a, emit(O), exit())?;
+    let right = Statement::seq(a, pause(), emit(P))?;
+    Statement::seq(
+        a,
+        Statement::trap(a, Statement::par(a, left, right)?)?,
+        emit(Q),
+    )
 }
 
 fn left_while_paused(a: Global) -> Result<Statement, AllocError> {
-    let right = seq(a, emit(O), seq(a, pause(), emit(P))?)?;
-    seq(a, trap(a, par(a, exit(), right)?)?, emit(P))
+    let right = Statement::seq(a, emit(O), Statement::seq(a, pause(), emit(P))?)?;
+    Statement::seq(
+        a,
+        Statement::trap(a, Statement::par(a, exit(), right)?)?,
+        emit(P),
+    )
 }
 
 fn left_again(a: Global) -> Result<Statement, AllocError> {
-    let body = trap(a, seq(a, pause(), exit())?)?;
-    again(a, seq(a, body, emit(O))?)
+    let body = Statement::trap(a, Statement::seq(a, pause(), exit())?)?;
+    Statement::repeat(a, Statement::seq(a, body, emit(O))?)
 }
 
 fn left_then_paused(a: Global) -> Result<Statement, AllocError> {
-    let right = seq(a, emit(O), seq(a, pause(), emit(P))?)?;
-    let left = trap(a, par(a, exit(), right)?)?;
-    seq(a, left, seq(a, pause(), emit(Q))?)
+    let right = Statement::seq(a, emit(O), Statement::seq(a, pause(), emit(P))?)?;
+    let left = Statement::trap(a, Statement::par(a, exit(), right)?)?;
+    Statement::seq(a, left, Statement::seq(a, pause(), emit(Q))?)
 }
 
 fn left_outwards(a: Global) -> Result<Statement, AllocError> {
-    let inner = seq(a, trap(a, exit_outer())?, emit(O))?;
-    seq(a, trap(a, inner)?, emit(P))
+    let inner = Statement::seq(a, Statement::trap(a, exit_outer())?, emit(O))?;
+    Statement::seq(a, Statement::trap(a, inner)?, emit(P))
 }
 
 fn perhaps_reached(a: Global) -> Result<Statement, AllocError> {
-    let first = present(a, Test::Status(O), pause(), Statement::Nothing)?;
-    let asks = present(a, Test::Status(S), Statement::Nothing, emit(O))?;
-    seq(a, first, local(a, seq(a, emit(S), asks)?)?)
+    let first = Statement::present(a, Test::Status(O), pause(), Statement::Nothing)?;
+    let asks = Statement::present(a, Test::Status(S), Statement::Nothing, emit(O))?;
+    Statement::seq(a, first, local(a, Statement::seq(a, emit(S), asks)?)?)
 }
 
 fn parallel_local(a: Global) -> Result<Statement, AllocError> {
-    let asks = present(a, Test::Status(S), emit(O), Statement::Nothing)?;
-    local(a, par(a, asks, emit(S))?)
+    let asks = Statement::present(a, Test::Status(S), emit(O), Statement::Nothing)?;
+    local(a, Statement::par(a, asks, emit(S))?)
 }
 
 fn either_branch(a: Global) -> Result<Statement, AllocError> {
-    present(a, Test::Status(O), emit(O), emit(O))
+    Statement::present(a, Test::Status(O), emit(O), emit(O))
 }
 
 fn for_itself(a: Global) -> Result<Statement, AllocError> {
-    present(a, Test::Status(O), emit(O), Statement::Nothing)
+    Statement::present(a, Test::Status(O), emit(O), Statement::Nothing)
 }
 
 fn against_itself(a: Global) -> Result<Statement, AllocError> {
-    present(a, Test::Status(O), Statement::Nothing, emit(O))
+    Statement::present(a, Test::Status(O), Statement::Nothing, emit(O))
 }
 
 fn circle_in_text(a: Global) -> Result<Statement, AllocError> {
-    let p_by_o = present(a, Test::Status(O), emit(P), Statement::Nothing)?;
-    let o_by_p = present(a, Test::Status(P), emit(O), Statement::Nothing)?;
-    present(a, I, seq(a, emit(O), p_by_o)?, seq(a, emit(P), o_by_p)?)
+    let p_by_o = Statement::present(a, Test::Status(O), emit(P), Statement::Nothing)?;
+    let o_by_p = Statement::present(a, Test::Status(P), emit(O), Statement::Nothing)?;
+    Statement::present(
+        a,
+        I,
+        Statement::seq(a, emit(O), p_by_o)?,
+        Statement::seq(a, emit(P), o_by_p)?,
+    )
 }
 
 fn only_itself(a: Global) -> Result<Statement, AllocError> {
-    local(a, present(a, Test::Status(S), emit(S), Statement::Nothing)?)
+    local(
+        a,
+        Statement::present(a, Test::Status(S), emit(S), Statement::Nothing)?,
+    )
 }
 
 fn emitted_after(a: Global) -> Result<Statement, AllocError> {
-    let asks = present(a, Test::Status(S), emit(O), Statement::Nothing)?;
-    local(a, seq(a, asks, emit(S))?)
+    let asks = Statement::present(a, Test::Status(S), emit(O), Statement::Nothing)?;
+    local(a, Statement::seq(a, asks, emit(S))?)
 }
 
 fn ticking(a: Global) -> Result<Statement, AllocError> {
-    again(
+    Statement::repeat(
         a,
-        present(a, Test::Tick, seq(a, emit(O), pause())?, pause())?,
+        Statement::present(a, Test::Tick, Statement::seq(a, emit(O), pause())?, pause())?,
     )
 }
 
@@ -505,10 +424,10 @@ fn long_sequence(a: Global) -> Result<Statement, AllocError> {
     let mut first = pause();
     let mut last = pause();
     for _ in 0..500 {
-        first = seq(a, first, pause())?;
-        last = seq(a, pause(), last)?;
+        first = Statement::seq(a, first, pause())?;
+        last = Statement::seq(a, pause(), last)?;
     }
-    seq(a, first, last)
+    Statement::seq(a, first, last)
 }
 
 /// Runs four instants of a long sequence under six local signals.
@@ -516,8 +435,8 @@ fn long_sequence(a: Global) -> Result<Statement, AllocError> {
 fn long_sequences(rt: HostRuntime) -> Result<(), Fail> {
     let a = rt.alloc();
     let mut root = long_sequence(a)?;
-    for outer in 0..6u8 {
-        root = Statement::Local(LocalSignal { index: 5 - outer }, Box::new(a, root)?);
+    for locals in (0..6u16).rev() {
+        root = Statement::local(a, locals, root)?;
     }
     let kernel = build(&rt, a, root)?.ok().expect(&rt, "a kernel");
     assert_eq!(rt; run(&kernel, NEVER), [NONE; 4]);

@@ -13,7 +13,7 @@ use crate::reader::checks::is_tick;
 use crate::reader::tree::{Branches, Sequence, Unit};
 use est_text::identifier::Identifier;
 use est_kernel::interface::{Declaration, Interface, MOST_SIGNALS};
-use est_kernel::statement::{InterfaceSignal, PauseIndex, Signal, Statement, Test};
+use est_kernel::statement::{InterfaceSignal, Signal, Statement, Test};
 use std::alloc::{AllocError, Global};
 
 /// The interface of these declarations.
@@ -71,12 +71,12 @@ fn statement_of_unit(
 {
     match unit {
         Unit::Nothing => Ok(Statement::Nothing),
-        Unit::Pause => Ok(Statement::Pause(PauseIndex { index: 0 })),
+        Unit::Pause => Ok(Statement::pause()),
         Unit::Emit(name) => Ok(Statement::Emit(emitted(interface, name))),
         Unit::Present(name, branches) => {
             let test = tested(interface, name);
             let (then, other) = statements_of_branches(alloc, interface, branches)?;
-            Ok(Statement::Present(test, Box::new(alloc, then)?, Box::new(alloc, other)?))
+            Statement::present(alloc, test, then, other)
         }
         Unit::Group(body) => statement_of(alloc, interface, body),
     }
@@ -118,7 +118,7 @@ pub fn statement_of(
     let mut statement = statement_of_unit(alloc, interface, &sequence.last)?;
     for at in (0..sequence.earlier.len()).rev() {
         let front = statement_of_unit(alloc, interface, &sequence.earlier[at])?;
-        statement = Statement::Seq(Box::new(alloc, front)?, Box::new(alloc, statement)?);
+        statement = Statement::seq(alloc, front, statement)?;
     }
     Ok(statement)
 }

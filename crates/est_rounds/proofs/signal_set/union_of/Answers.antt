@@ -1,11 +1,9 @@
-use Rattle.std.proofs.Common.{ap}
 use mathlib.Core.Path.{fun_ext}
 use Rattle.est_kernel.specs.Term.{outer, inner}
-use Rattle.est_kernel.specs.Codes.{either_code}
 use Rattle.est_meaning.specs.Signals.{union}
 use Rattle.est_rounds.specs.Views.{set_of}
 use Rattle.est_rounds.proofs.signal_set.union_of.Goals as goal
 
 pub returns : goal.returns
-unfolding set_of union either_code
-returns c = fun_ext (elim [ outer n ↦ ap (λ f. f n) c.either.ensures | inner n ↦ ap (λ f. f n) c.either-2.ensures ])
+unfolding set_of union
+returns c = fun_ext (elim [ outer n ↦ c.either.ensures n | inner n ↦ c.either-2.ensures n ])

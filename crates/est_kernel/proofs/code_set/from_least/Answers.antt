@@ -4,7 +4,7 @@ use Rattle.std.proofs.lemmas.Nat.Bits.{ones_shl, bit_at-trailing_zeros}
 use Rattle.est_kernel.proofs.Masks.{up_to_none, least_bits}
 use Rattle.est_kernel.proofs.Masks.{bits_zero}
 use Rattle.std.proofs.Common.{◌∙◌}
-use Rattle.est_kernel.proofs.mask.from_least.Goals as goal
+use Rattle.est_kernel.proofs.code_set.from_least.Goals as goal
 
 pub returns-then-a-eq0 : goal.returns-then-a-eq0
 returns-then-a-eq0 c n l = rw c.if-a-eq0.true (bits_zero n ∙ sym (up_to_none n))

@@ -1,0 +1,69 @@
+-- A statement that is closed and within the limits has its numbers' bits in masks.
+use Rattle.std.proofs.Common.{◌≡◌, ◌≤◌, ◌<◌, ℕ, ◌+◌, None, Option, List, arith}
+use Rattle.std.specs.Prelude.{if◌then◌else◌, nat_lt, Some}
+use Rattle.std.proofs.lemmas.Bool.Decides.{nat_tests}
+use Rattle.est_kernel.specs.Limits.{statement_count, loop_depth, trap_depth, local_depth, limit_passed}
+use Rattle.est_kernel.specs.Masks.{HasSignalBit, HasTestBit, FitsMasks}
+use Rattle.est_kernel.specs.Scope.{IsAsked, IsClosed, IsEmitted, IsVisible}
+use Rattle.est_kernel.specs.View.{name_of, query_of, term_of}
+use Rattle.est_kernel.specs.declared.interface.Declaration.{Declaration}
+use Rattle.est_kernel.specs.declared.limits.Limit.{Limit}
+use Rattle.est_kernel.specs.declared.limits.Limit.TheVariants.{Statements, Loops, Traps, Locals}
+use Rattle.est_kernel.specs.declared.limits.TheConstants.{MOST_STATEMENTS, MOST_LOOPS, MOST_TRAPS, MOST_LOCALS}
+use Rattle.est_kernel.specs.declared.statement.Signal.{Signal}
+use Rattle.est_kernel.specs.declared.statement.Signal.TheVariants.{Interface, Local}
+use Rattle.est_kernel.specs.declared.statement.Test.{Test}
+use Rattle.est_kernel.specs.declared.statement.Test.TheVariants.{Tick, Status}
+use Rattle.est_kernel.specs.declared.statement.Statement.{Statement}
+use Rattle.est_kernel.specs.declared.statement.Statement.TheVariants.{Nothing, Pause, Emit, Present', Suspend', Seq', Loop', Par', Trap', Exit, Local' as Binder'}
+
+visible_bit : (i : List Declaration) (locals : ℕ) (s : Signal) → IsVisible i locals (name_of s) → locals ≤ 64 → HasSignalBit s
+visible_bit i locals (Interface s) h l = tt
+visible_bit i locals (Local s) h l = omega (arith, h, l)
+
+emitted_bit : (i : List Declaration) (locals : ℕ) (s : Signal) → IsEmitted i locals (name_of s) → locals ≤ 64 → HasSignalBit s
+emitted_bit i locals (Interface s) h l = tt
+emitted_bit i locals (Local s) h l = omega (arith, h, l)
+
+test_bit : (i : List Declaration) (locals : ℕ) (t : Test) → IsAsked i locals (query_of t) → locals ≤ 64 → HasTestBit t
+test_bit i locals Tick h l = tt
+test_bit i locals (Status s) h l = visible_bit i locals s h l
+
+-- where few binders lie round each other, each number has its bit
+pub few_binders : (i : List Declaration) (traps locals : ℕ) (s : Statement) → IsClosed i traps locals (term_of s)
+    → traps + trap_depth (term_of s) ≤ 62 → locals + local_depth (term_of s) ≤ 64 → FitsMasks s
+few_binders i traps locals Nothing h t l = tt
+few_binders i traps locals (Pause n) h t l = tt
+few_binders i traps locals (Emit s) h t l = emitted_bit i locals s h (omega (arith, l))
+few_binders i traps locals (Present' k x p y q) h t l = (
+  test_bit i locals k h.0 (omega (arith, l)),
+  few_binders i traps locals p h.1 (omega (arith, t)) (omega (arith, l)),
+  few_binders i traps locals q h.2 (omega (arith, t)) (omega (arith, l)),
+)
+few_binders i traps locals (Suspend' k x p) h t l = (test_bit i locals k h.0 (omega (arith, l)), few_binders i traps locals p h.1 t l)
+few_binders i traps locals (Seq' x p y q) h t l = (
+  few_binders i traps locals p h.0 (omega (arith, t)) (omega (arith, l)),
+  few_binders i traps locals q h.1 (omega (arith, t)) (omega (arith, l)),
+)
+few_binders i traps locals (Loop' x p) h t l = few_binders i traps locals p h t l
+few_binders i traps locals (Par' x p y q) h t l = (
+  few_binders i traps locals p h.0 (omega (arith, t)) (omega (arith, l)),
+  few_binders i traps locals q h.1 (omega (arith, t)) (omega (arith, l)),
+)
+few_binders i traps locals (Trap' x p) h t l = few_binders i (traps + 1) locals p h (omega (arith, t)) l
+few_binders i traps locals (Exit k) h t l = omega (arith, h, t)
+few_binders i traps locals (Binder' s x p) h t l = (omega (arith, h.0, l), few_binders i traps (locals + 1) p h.1 t (omega (arith, l)))
+
+depths_kept : (statements loops traps locals : ℕ)
+    → (if nat_lt MOST_STATEMENTS statements then Some Statements else (
+    if nat_lt MOST_LOOPS loops then Some Loops else (
+    if nat_lt MOST_TRAPS traps then Some Traps else (
+    if nat_lt MOST_LOCALS locals then Some Locals else None)))) ≡ None
+    → (traps ≤ MOST_TRAPS) × (locals ≤ MOST_LOCALS)
+depths_kept statements loops traps locals h = (grind (arith, nat_tests), grind (arith, nat_tests))
+
+-- a closed statement within the limits has its numbers' bits in masks
+pub fits_within_limits : (i : List Declaration) (s : Statement) → IsClosed i 0 0 (term_of s) → limit_passed (term_of s) ≡ None → FitsMasks s
+fits_within_limits i s h l =
+    let kept = depths_kept (statement_count (term_of s)) (loop_depth (term_of s)) (trap_depth (term_of s)) (local_depth (term_of s)) l in
+    few_binders i 0 0 s h (omega (arith, kept.0)) (omega (arith, kept.1))

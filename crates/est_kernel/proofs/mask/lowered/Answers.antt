@@ -1,6 +1,0 @@
-use Rattle.std.proofs.Common.{◌≡◌, ◌*◌, ◌/◌, ◌%◌, arith}
-use Rattle.est_kernel.proofs.Masks.{lowered_bits}
-use Rattle.est_kernel.proofs.mask.lowered.Goals as goal
-
-pub returns : goal.returns
-returns c = let e : c.args.a / 8 * 4 % 18446744073709551616 ≡ c.args.a / 8 * 4 = omega (arith, c.ranges.a.fits) in rw e (lowered_bits c.args.a)

@@ -1,0 +1,77 @@
+//! Whether each name of a statement has its binder.
+
+ghost use Rattle.std.specs.Prelude.{◌↔◌, ℕ, IsTrue};
+ghost use Rattle.est_kernel.specs.Inner.Counting.{Counts};
+ghost use Rattle.est_kernel.specs.Scope.{IsAsked, IsClosed, IsEmitted, IsVisible};
+ghost use Rattle.est_kernel.specs.View.{name_of, query_of, term_of};
+
+use crate::interface::Interface;
+use crate::mask;
+use crate::statement::{Signal, Statement, Test};
+
+/// Whether each signal is of the interface or of a binder round it, no input is emitted, each exit has its trap, and each
+/// local signal's number is the number of those round its binder.
+pub fn is_closed(interface: &Interface, s: &Statement) -> bool
+    ensures { IsTrue result ↔ IsClosed interface.now 0 0 (term_of s.now) }
+{
+    is_closed_within(interface, 0, 0, s)
+}
+
+/// Whether the signal is of the interface, or of one of so many local signals.
+fn is_visible(interface: &Interface, locals: u32, s: Signal) -> bool
+    ensures { (l : ℕ) → Counts l locals → IsTrue result ↔ IsVisible interface.now l (name_of s) }
+{
+    match s {
+        Signal::Interface(s) => (s.index as usize) < interface.len(),
+        Signal::Local(s) => (s.index as u32) < locals,
+    }
+}
+
+/// Whether what is asked is `tick` or a visible signal.
+fn is_asked(interface: &Interface, locals: u32, test: Test) -> bool
+    ensures { (l : ℕ) → Counts l locals → IsTrue result ↔ IsAsked interface.now l (query_of test) }
+{
+    match test {
+        Test::Tick => true,
+        Test::Status(s) => is_visible(interface, locals, s),
+    }
+}
+
+/// Whether the signal is an output, or of one of so many local signals.
+fn is_emitted(interface: &Interface, locals: u32, s: Signal) -> bool
+    ensures { (l : ℕ) → Counts l locals → IsTrue result ↔ IsEmitted interface.now l (name_of s) }
+{
+    match s {
+        Signal::Interface(s) => mask::has(interface.outputs(), s.index),
+        Signal::Local(s) => (s.index as u32) < locals,
+    }
+}
+
+/// The same, within so many traps and local signals. Counts stop at the largest `u32`, which no number of a statement reaches.
+fn is_closed_within(interface: &Interface, traps: u32, locals: u32, s: &Statement) -> bool
+    ensures { (t l : ℕ) → Counts t traps → Counts l locals → IsTrue result ↔ IsClosed interface.now t l (term_of s.now) }
+{
+    match s {
+        Statement::Nothing | Statement::Pause(_) => true,
+        Statement::Emit(s) => is_emitted(interface, locals, *s),
+        Statement::Present(t, p, q) => {
+            is_asked(interface, locals, *t)
+                && is_closed_within(interface, traps, locals, p)
+                && is_closed_within(interface, traps, locals, q)
+        }
+        Statement::Suspend(t, p) => {
+            is_asked(interface, locals, *t) && is_closed_within(interface, traps, locals, p)
+        }
+        Statement::Seq(p, q) | Statement::Par(p, q) => {
+            is_closed_within(interface, traps, locals, p)
+                && is_closed_within(interface, traps, locals, q)
+        }
+        Statement::Loop(p) => is_closed_within(interface, traps, locals, p),
+        Statement::Trap(p) => is_closed_within(interface, traps.saturating_add(1), locals, p),
+        Statement::Exit(k) => (k.index as u32) < traps,
+        Statement::Local(s, p) => {
+            s.index as u32 == locals
+                && is_closed_within(interface, traps, locals.saturating_add(1), p)
+        }
+    }
+}
