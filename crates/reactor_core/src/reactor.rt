@@ -18,13 +18,13 @@ use crate::reactor::instant::Instant;
 use crate::reader::read_kernel;
 use crate::refusal::Refusal;
 use crate::text::Text;
-use est_text::identifier::Identifier;
 use est_kernel::interface::{Interface, Kind};
 use est_kernel::kernel::Kernel;
 use est_kernel::mask;
 use est_kernel::state::{Inputs, Outcome, State, Stuck};
 use est_kernel::statement::InterfaceSignal;
 use est_rounds::engine::Engine;
+use est_text::identifier::Identifier;
 use std::alloc::Global;
 use std::marker::Model;
 
