@@ -1,30 +1,64 @@
--- A journal leaves one term at most.
-use Rattle.std.proofs.Common.{◌≡◌, ℕ, List, [], ◌∷◌, ◌++◌, refl, ap, sym, ◌∙◌, subst}
-use Rattle.std.specs.Prelude.{Some}
+-- After a journal one module runs at most, and it leaves one term at most.
+use Rattle.std.proofs.Common.{◌≡◌, ℕ, Bool, List, [], ◌∷◌, ◌++◌, refl, ap, sym, ◌∙◌, subst}
 use Rattle.std.proofs.lemmas.Option.{same_Some}
 use Rattle.est_kernel.specs.Bits.{bits}
 use Rattle.est_kernel.specs.Term.{Term}
-use Rattle.est_meaning.specs.Rounds.{last_env}
-use Rattle.est_rounds.specs.Contract.{judged_of}
-use Rattle.est_meaning.proofs.Uniqueness.{unique}
+use Rattle.est_kernel.specs.declared.interface.Declaration.{Declaration}
+use Rattle.est_meaning.specs.Rounds.{judged_outputs}
+use Rattle.est_meaning.proofs.Uniqueness.{one_reaction}
+use Rattle.reactor_core.specs.declared.entry.Load.{Load as LoadEntry}
+use Rattle.reactor_core.specs.declared.entry.PastInstant.{PastInstant}
 use Rattle.reactor_core.specs.declared.entry.Action.{Action}
 use Rattle.reactor_core.specs.declared.entry.Action.TheVariants.{Load, Offer, Step}
 use Rattle.reactor_core.specs.declared.entry.SlotEntry.{SlotEntry}
-use Rattle.reactor_core.specs.Reacting.{start_of, ReactsWith}
-use Rattle.reactor_core.specs.Meaning.{entry, instant, Running, running_of, Leaves, loaded, offered, stepped}
+use Rattle.reactor_core.specs.Reacting.{ReactsWith}
+use Rattle.reactor_core.specs.Meaning.{entry, instant, ModuleOf, Running, Runs, Leaves, loaded, offered, stepped, mask_of, offers_of}
+use Rattle.reactor_core.specs.Instants.{IsOutcome, HasNoOutcome}
+
+-- a load entry is of one module at most
+pub same_module : (load : LoadEntry) (i j : List Declaration) (t u : Term) → ModuleOf load i t → ModuleOf load j u → (i ≡ j) × (t ≡ u)
+same_module load i j t u one other = (one.declares ∙ sym other.declares, one.begins ∙ sym other.begins)
+
+-- what runs with the same parts is the same
+same_parts : (r s : Running) → r.interface ≡ s.interface → r.pending ≡ s.pending → r.instants ≡ s.instants → r ≡ s
+same_parts r s interface pending instants =
+    ap (λ (i : List Declaration). let x : Running = record { interface = i; pending = r.pending; instants = r.instants } in x) interface
+    ∙ ap (λ (p : ℕ). let x : Running = record { interface = s.interface; pending = p; instants = r.instants } in x) pending
+    ∙ ap (λ (past : List PastInstant). let x : Running = record { interface = s.interface; pending = s.pending; instants = past } in x) instants
+
+-- one module runs at most
+pub same_running : (journal : List SlotEntry) (r s : Running) → Runs journal r → Runs journal s → r ≡ s
+same_running journal r s one other =
+    let load : one.load ≡ other.load = same_Some one.load other.load (sym one.last ∙ other.last) in
+    let is : ModuleOf other.load r.interface one.term = subst (λ (l : LoadEntry). ModuleOf l r.interface one.term) load one.is in
+    let interface : r.interface ≡ s.interface = (same_module other.load r.interface s.interface one.term other.term is other.is).0 in
+    let offers : mask_of r.interface (offers_of journal) ≡ mask_of s.interface (offers_of journal) =
+    ap (λ (i : List Declaration). mask_of i (offers_of journal)) interface in
+    same_parts r s interface (one.offered ∙ offers ∙ sym other.offered) (one.past ∙ sym other.past)
+
+-- two reactions of what runs emit the same signals and leave the same term
+same_reaction : (r s : Running) (t u next rest : Term) (a b : ℕ) → r ≡ s → t ≡ u
+    → ReactsWith r.interface t r.pending a next → ReactsWith s.interface u s.pending b rest
+    → ((n : ℕ) → bits a n ≡ bits b n) × (next ≡ rest)
+same_reaction r s t u next rest a b runs terms one other =
+    let same : ReactsWith r.interface t r.pending b rest =
+    subst (λ (m : Running). ReactsWith m.interface t m.pending b rest) (sym runs)
+    (subst (λ (v : Term). ReactsWith s.interface v s.pending b rest) (sym terms) other) in
+    let g = one_reaction (judged_outputs r.interface) (bits r.pending) t (bits a) next (bits b) rest one same in
+    ((λ n. ap (λ (f : ℕ → Bool). f n) g.shown), g.next)
 
 -- a step of the term that is left leaves this one
 record StepLeaves (before : List SlotEntry) (inputs : ℕ) (next : Term) : Type 0 where
   term : Term
   leaves : Leaves before term
   r : Running
-  running : running_of before ≡ Some r
+  running : Runs before r
   outputs : ℕ
-  reacts : ReactsWith r.kernel term r.pending outputs next
+  reacts : ReactsWith r.interface term r.pending outputs next
 
 -- what the last entry, after those before it, leaves
 abbrev LeavesAfter : List SlotEntry → Action → Term → Type 0
-LeavesAfter before (Load l) t = t ≡ start_of l.kernel
+LeavesAfter before (Load l) t = (i : List Declaration) × ModuleOf l i t
 LeavesAfter before (Offer name) t = Leaves before t
 LeavesAfter before (Step i) t = StepLeaves before i.inputs t
 
@@ -35,7 +69,8 @@ record IsLast (journal : List SlotEntry) (t : Term) : Type 0 where
   leaves : LeavesAfter before last.action t
 
 last_of : (journal : List SlotEntry) (t : Term) → Leaves journal t → IsLast journal t
-last_of _ _ (loaded before stamp l) = record { before = before; last = entry stamp (Load l); whole = refl; leaves = refl }
+last_of _ _ (loaded before stamp l interface term is) =
+    record { before = before; last = entry stamp (Load l); whole = refl; leaves = (interface, is) }
 last_of _ _ (offered before term h stamp name) = record { before = before; last = entry stamp (Offer name); whole = refl; leaves = h }
 last_of _ _ (stepped before term h r running outputs next reacts stamp) =
     record {
@@ -59,10 +94,11 @@ snoc_same (w ∷ xs) (z ∷ ys) x y e =
     let r = snoc_same xs ys x y tails in (cc, r.1)
 
 pub one_term : (journal : List SlotEntry) (t u : Term) → Leaves journal t → Leaves journal u → t ≡ u
-one_term _ _ u (loaded before stamp l) h =
+one_term _ _ u (loaded before stamp l interface term is) h =
     let g = last_of _ u h in
     let s = snoc_same before g.before (entry stamp (Load l)) g.last g.whole in
-    sym (subst (λ (e : SlotEntry). LeavesAfter g.before e.action u) (sym s.1) g.leaves)
+    let x = subst (λ (e : SlotEntry). LeavesAfter g.before e.action u) (sym s.1) g.leaves in
+    (same_module l interface x.0 term u is x.1).1
 one_term _ _ u (offered before term k stamp name) h =
     let g = last_of _ u h in
     let s = snoc_same before g.before (entry stamp (Offer name)) g.last g.whole in
@@ -73,8 +109,24 @@ one_term _ _ u (stepped before term k r running outputs next reacts stamp) h =
     let s = snoc_same before g.before (entry stamp (Step (instant r.pending outputs))) g.last g.whole in
     let x = subst (λ (e : SlotEntry). LeavesAfter g.before e.action u) (sym s.1) g.leaves in
     let terms : term ≡ x.term = one_term before term x.term k (subst (λ (b : List SlotEntry). Leaves b x.term) (sym s.0) x.leaves) in
-    let rs : r ≡ x.r = same_Some r x.r (sym running ∙ (ap running_of s.0 ∙ x.running)) in
-    let same : ReactsWith r.kernel term r.pending x.outputs u =
-    subst (λ (m : Running). ReactsWith m.kernel term m.pending x.outputs u) (sym rs)
-    (subst (λ (v : Term). ReactsWith x.r.kernel v x.r.pending x.outputs u) (sym terms) x.reacts) in
-    (unique term (last_env (judged_of r.kernel) (bits r.pending) term) reacts.signals reacts.code next same.signals same.code u reacts.gives same.gives).rest
+    let runs : r ≡ x.r = same_running before r x.r running (subst (λ (b : List SlotEntry). Runs b x.r) (sym s.0) x.running) in
+    (same_reaction r x.r term x.term next u outputs x.outputs runs terms reacts x.reacts).1
+
+-- the next instant has one outcome at most
+pub same_outcome : (journal : List SlotEntry) (a b : ℕ) (t u : Term) → IsOutcome journal a t → IsOutcome journal b u
+    → ((n : ℕ) → bits a n ≡ bits b n) × (t ≡ u)
+same_outcome journal a b t u one other =
+    same_reaction one.running other.running one.term other.term t u a b
+    (same_running journal one.running other.running one.runs other.runs)
+    (one_term journal one.term other.term one.leaves other.leaves) one.reacts other.reacts
+
+-- where there is an outcome, nothing is stuck
+pub not_both : (journal : List SlotEntry) (outputs : ℕ) (next : Term) (undecided : ℕ)
+    → IsOutcome journal outputs next → HasNoOutcome journal undecided → ⊥
+not_both journal outputs next undecided h k =
+    let runs : h.running ≡ k.running = same_running journal h.running k.running h.runs k.runs in
+    let terms : h.term ≡ k.term = one_term journal h.term k.term h.leaves k.leaves in
+    let same : ReactsWith k.running.interface k.term k.running.pending outputs next =
+    subst (λ (t : Term). ReactsWith k.running.interface t k.running.pending outputs next) terms
+    (subst (λ (r : Running). ReactsWith r.interface h.term r.pending outputs next) runs h.reacts) in
+    k.stuck.cannot same.signals same.code next same.gives

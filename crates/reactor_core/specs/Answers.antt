@@ -4,9 +4,9 @@ use Rattle.est_kernel.specs.Interfaces.{declares}
 use Rattle.est_kernel.specs.declared.interface.Declaration.{Declaration}
 use Rattle.est_kernel.specs.declared.interface.Kind.{Kind}
 use Rattle.est_kernel.specs.declared.interface.Kind.TheVariants.{Input, Output}
-use Rattle.est_kernel.specs.declared.kernel.Kernel.{Kernel}
 use Rattle.est_kernel.specs.Bits.{bits}
 use Rattle.reactor_core.specs.declared.entry.Stamp.{Stamp}
+use Rattle.reactor_core.specs.declared.entry.Load.{Load as LoadEntry}
 use Rattle.reactor_core.specs.declared.entry.PastInstant.{PastInstant}
 use Rattle.reactor_core.specs.declared.entry.Action.TheVariants.{Load, Offer}
 use Rattle.reactor_core.specs.declared.entry.SlotEntry.{SlotEntry}
@@ -14,8 +14,8 @@ use Rattle.reactor_core.specs.declared.refusal.Refusal.{Refusal}
 use Rattle.reactor_core.specs.declared.refusal.Refusal.TheVariants.{UnknownSignal, NotInput, AlreadyOffered, NoInstant, JournalFull, Memory}
 use Rattle.reactor_core.specs.declared.journal.TheConstants.{JOURNAL_ENTRIES}
 use Rattle.reactor_core.specs.declared.reactor.Shown.{Shown}
-use Rattle.reactor_core.specs.Loading.{IsKernelOf, IsLoadFault}
-use Rattle.reactor_core.specs.Meaning.{entry, Running, running_of, place_of}
+use Rattle.reactor_core.specs.Loading.{IsLoadOf, IsLoadFault}
+use Rattle.reactor_core.specs.Meaning.{entry, instants_of, Running, Runs, place_of}
 
 -- the journal may take another entry
 abbrev pub HasRoom : List SlotEntry → Type 0
@@ -33,7 +33,7 @@ pub record IsSignal (interface : List Declaration) (name : List ℕ) (place : �
 -- the name is that of an input that is not pending
 pub record CanOffer (r : Running) (name : List ℕ) : Type 0 where
   pub place : ℕ
-  pub input : IsSignal r.kernel.interface name place Input
+  pub input : IsSignal r.interface name place Input
   pub new : bits r.pending place ≡ false
 
 -- why no further entry is added
@@ -67,7 +67,7 @@ pub record IsUnrecordedOffer (journal : List SlotEntry) (r : Running) (name : Li
 
 -- why an offer of the name is refused: by its name, or else by the journal
 abbrev pub RefusesOffer : List SlotEntry → Running → List ℕ → Refusal → Type 0
-RefusesOffer journal r name e = RefusesName r.kernel.interface r.pending name e ⊎ IsUnrecordedOffer journal r name e
+RefusesOffer journal r name e = RefusesName r.interface r.pending name e ⊎ IsUnrecordedOffer journal r name e
 
 -- an offer is accepted: its entry is added
 pub record AcceptsOffer (before : List SlotEntry) (stamp : Stamp) (r : Running) (name : List ℕ) (after : List SlotEntry) : Type 0 where
@@ -83,25 +83,25 @@ pub record RejectsOffer (before : List SlotEntry) (r : Running) (name : List ℕ
 -- the answer to an offer of the name, and the journal afterwards
 pub record OfferAnswer (before : List SlotEntry) (stamp : Stamp) (name : List ℕ) (answer : Result (Unit {0}) Refusal) (after : List SlotEntry) : Type 0 where
   pub running : Running
-  pub runs : running_of before ≡ Some running
+  pub runs : Runs before running
   pub given : MatchResult answer (λ _. AcceptsOffer before stamp running name after) (λ e. RejectsOffer before running name e after)
 
--- the text gives a kernel, but the journal takes no entry
+-- the text gives the module of this name, but the journal takes no entry
 pub record IsUnrecordedLoad (journal : List SlotEntry) (main text : List ℕ) (e : Refusal) : Type 0 where
-  pub kernel : Kernel
-  pub read : IsKernelOf main text kernel
+  pub load : LoadEntry
+  pub read : IsLoadOf main text load
   pub refused : RefusesEntry journal e
 
--- why a load of the text's module of this name is refused: the text gives no kernel, or else by the journal
+-- why a load of the text's module of this name is refused: the text gives no such module, or else by the journal
 abbrev pub RefusesLoad : List SlotEntry → (main text : List ℕ) → Refusal → Type 0
 RefusesLoad journal main text e = IsLoadFault main text e ⊎ IsUnrecordedLoad journal main text e
 
--- a load is accepted: the text's module of this name has this kernel, and its entry is added
+-- a load is accepted: the text gives the module of this name, and its entry is added
 pub record AcceptsLoad (before : List SlotEntry) (stamp : Stamp) (main text : List ℕ) (after : List SlotEntry) : Type 0 where
-  pub kernel : Kernel
-  pub read : IsKernelOf main text kernel
+  pub load : LoadEntry
+  pub read : IsLoadOf main text load
   pub room : HasRoom before
-  pub added : after ≡ before ++ entry stamp (Load (record { main = main; text = text; kernel = kernel })) ∷ []
+  pub added : after ≡ before ++ entry stamp (Load load) ∷ []
 
 -- a load is refused, and the journal is given back as it was
 pub record RejectsLoad (before : List SlotEntry) (main text : List ℕ) (refusal : Refusal) (after : List SlotEntry) : Type 0 where
@@ -116,27 +116,27 @@ LoadAnswer before stamp main text answer =
     (λ refused. RejectsLoad before main text refused.0 refused.1)
 
 -- the n-th instant since the load
-pub record IsInstant (r : Running) (n : ℕ) (i : PastInstant) : Type 0 where
+pub record IsInstant (journal : List SlotEntry) (n : ℕ) (i : PastInstant) : Type 0 where
   pub counted : 0 < n
-  pub there : slice_get r.instants (n - 1) ≡ Some i
+  pub there : slice_get (instants_of journal) (n - 1) ≡ Some i
+
+-- there is no n-th instant since the load
+abbrev pub HasNoInstant : List SlotEntry → ℕ → Type 0
+HasNoInstant journal n = (n ≡ 0) ⊎ (length (instants_of journal) < n)
 
 -- what is present of an instant, within the mask
 abbrev pub within_mask : PastInstant → (mask : ℕ) → Shown
 within_mask i mask = record { mask = mask; present = bit_and (bit_or i.inputs i.outputs) mask }
 
 -- the n-th instant is shown within the mask
-pub record ShowsInstant (r : Running) (n mask : ℕ) (s : Shown) : Type 0 where
+pub record ShowsInstant (journal : List SlotEntry) (n mask : ℕ) (s : Shown) : Type 0 where
   pub instant : PastInstant
-  pub there : IsInstant r n instant
+  pub there : IsInstant journal n instant
   pub masked : s ≡ within_mask instant mask
 
--- there is no n-th instant
-pub record LacksInstant (r : Running) (n : ℕ) (e : Refusal) : Type 0 where
-  pub refused : e ≡ NoInstant
-  pub outside : (n ≡ 0) ⊎ (length r.instants < n)
-
--- the answer to a look at the n-th instant: NoInstant exactly where there is none
-pub record ShownAnswer (journal : List SlotEntry) (n mask : ℕ) (answer : Result Shown Refusal) : Type 0 where
-  pub running : Running
-  pub runs : running_of journal ≡ Some running
-  pub given : MatchResult answer (λ s. ShowsInstant running n mask s) (λ e. LacksInstant running n e)
+-- the answer to a look at the n-th instant since the load: NoInstant exactly where there is none
+abbrev pub ShownAnswer : (journal : List SlotEntry) → (n mask : ℕ) → Result Shown Refusal → Type 0
+ShownAnswer journal n mask answer =
+    MatchResult answer
+    (ShowsInstant journal n mask)
+    (λ refusal. (refusal ≡ NoInstant) × HasNoInstant journal n)

@@ -1,50 +1,47 @@
 -- The life of an instant: it is opened, settled and committed, or given up; and what each of these moves answers (this project's
 -- own form).
-use Rattle.std.specs.Prelude.{◌≡◌, List, [], ◌∷◌, ◌++◌, Some, Result, MatchResult}
+use Rattle.std.specs.Prelude.{◌≡◌, ℕ, List, [], ◌∷◌, ◌++◌, Result, MatchResult}
 use Rattle.est_kernel.specs.Term.{Term}
-use Rattle.est_kernel.specs.declared.state.Outcome.{Outcome}
 use Rattle.est_kernel.specs.declared.state.Stuck.{Stuck}
-use Rattle.est_meaning.specs.States.{IsState, state_term}
 use Rattle.reactor_core.specs.declared.entry.Stamp.{Stamp}
 use Rattle.reactor_core.specs.declared.entry.Action.TheVariants.{Step}
 use Rattle.reactor_core.specs.declared.entry.SlotEntry.{SlotEntry}
 use Rattle.reactor_core.specs.declared.refusal.Refusal.{Refusal}
 use Rattle.reactor_core.specs.Reacting.{ReactsWith, IsStuck}
-use Rattle.reactor_core.specs.Meaning.{entry, instant, Running, running_of, Leaves}
+use Rattle.reactor_core.specs.Meaning.{entry, instant, Running, Runs, Leaves}
 use Rattle.reactor_core.specs.Answers.{HasRoom, RefusesEntry}
 
--- the outcome is that of the next instant after these entries: the constructive reaction of the term that is left to the pending
--- inputs emits its outputs, and its state stands for the term that is left then
-pub record IsOutcome (journal : List SlotEntry) (o : Outcome) : Type 0 where
+-- the outcome of the next instant after these entries: the constructive reaction of the term that is left to the pending inputs
+-- emits these outputs and leaves this term
+pub record IsOutcome (journal : List SlotEntry) (outputs : ℕ) (next : Term) : Type 0 where
   pub running : Running
-  pub runs : running_of journal ≡ Some running
+  pub runs : Runs journal running
   pub term : Term
   pub leaves : Leaves journal term
-  pub reacts : ReactsWith running.kernel term running.pending o.outputs (state_term running.kernel.root o.next)
-  pub fits : IsState running.kernel.root o.next
+  pub reacts : ReactsWith running.interface term running.pending outputs next
 
 -- the next instant after these entries has no outcome: the term that is left has no constructive reaction to the pending inputs,
 -- and exactly these outputs stay undecided
-pub record HasNoOutcome (journal : List SlotEntry) (s : Stuck) : Type 0 where
+pub record HasNoOutcome (journal : List SlotEntry) (undecided : ℕ) : Type 0 where
   pub running : Running
-  pub runs : running_of journal ≡ Some running
+  pub runs : Runs journal running
   pub term : Term
   pub leaves : Leaves journal term
-  pub stuck : IsStuck running.kernel term running.pending s.undecided
+  pub stuck : IsStuck running.interface term running.pending undecided
 
--- what a contract sees of a settled instant: the journal of the reactor that it was opened from, and its outcome
+-- what a contract sees of a settled instant: the journal of the reactor that it was opened from, and the outputs of its outcome, whose
+-- term the two determine
 pub record SettledInstant : Type 0 where
   pub journal : List SlotEntry
-  pub outcome : Outcome
+  pub outputs : ℕ
 
--- the instant of the outcome is added: its entry keeps the inputs that were pending and the outcome's outputs, and what is left to
--- run is what the outcome's state stands for
-pub record AddsInstant (before : List SlotEntry) (o : Outcome) (stamp : Stamp) (after : List SlotEntry) : Type 0 where
-  pub running : Running
-  pub runs : running_of before ≡ Some running
+-- the instant of this outcome is added: its entry keeps the inputs that were pending and the outcome's outputs, and what is left to
+-- run is the outcome's term
+pub record AddsInstant (before : List SlotEntry) (outputs : ℕ) (next : Term) (stamp : Stamp) (after : List SlotEntry) : Type 0 where
+  pub outcome : IsOutcome before outputs next
   pub room : HasRoom before
-  pub appended : after ≡ before ++ entry stamp (Step (instant running.pending o.outputs)) ∷ []
-  pub leaves : Leaves after (state_term running.kernel.root o.next)
+  pub appended : after ≡ before ++ entry stamp (Step (instant outcome.running.pending outputs)) ∷ []
+  pub leaves : Leaves after next
 
 -- the answer to opening an instant: the reactor's, as it is. Nothing is refused, since no module has a relation yet
 abbrev pub OpenAnswer : (before : List SlotEntry) → Result (List SlotEntry) (Refusal × List SlotEntry) → Type 0
@@ -54,12 +51,12 @@ OpenAnswer before answer = MatchResult answer (λ opened. opened ≡ before) (λ
 abbrev pub SettleAnswer : (before : List SlotEntry) → Result SettledInstant (Stuck × List SlotEntry) → Type 0
 SettleAnswer before answer =
     MatchResult answer
-    (λ settled. (settled.journal ≡ before) × IsOutcome before settled.outcome)
-    (λ refused. HasNoOutcome before refused.0 × (refused.1 ≡ before))
+    (λ settled. (settled.journal ≡ before) × ((next : Term) × IsOutcome before settled.outputs next))
+    (λ refused. HasNoOutcome before refused.0.undecided × (refused.1 ≡ before))
 
 -- the answer to committing: the reactor with the instant, or why the journal takes no entry, and the reactor as it was
 abbrev pub CommitAnswer : SettledInstant → Stamp → Result (List SlotEntry) (Refusal × List SlotEntry) → Type 0
 CommitAnswer settled stamp answer =
     MatchResult answer
-    (λ after. AddsInstant settled.journal settled.outcome stamp after)
+    (λ after. (next : Term) × AddsInstant settled.journal settled.outputs next stamp after)
     (λ refused. RefusesEntry settled.journal refused.0 × (refused.1 ≡ settled.journal))

@@ -1,21 +1,26 @@
--- What a load reads: the kernel of a text, or the text's fault (this project's own form).
+-- What a load reads: the module of a text, or the text's fault (this project's own form).
 use Rattle.std.specs.Prelude.{◌≡◌, ℕ, List, Some, None}
 use Rattle.est_kernel.specs.Limits.{limit_passed}
 use Rattle.est_kernel.specs.StartCodes.{IsLoopSafe}
 use Rattle.est_kernel.specs.Term.{Term}
 use Rattle.est_kernel.specs.declared.interface.Declaration.{Declaration}
-use Rattle.est_kernel.specs.declared.kernel.Kernel.{Kernel}
 use Rattle.est_kernel.specs.declared.kernel.LoadFault.{LoadFault}
 use Rattle.est_kernel.specs.declared.kernel.LoadFault.TheVariants.{TooLarge, InstantLoop}
 use Rattle.reactor_core.specs.Faults.{refusal_of_text, refusal_of_kernel}
-use Rattle.reactor_core.specs.Reacting.{start_of}
+use Rattle.reactor_core.specs.Meaning.{ModuleOf}
 use Rattle.reactor_core.specs.Reading.{IsReading, IsReadFaultOf}
+use Rattle.reactor_core.specs.declared.entry.Load.{Load as LoadEntry}
 use Rattle.reactor_core.specs.declared.reader.fault.ReadFault.{ReadFault}
 use Rattle.reactor_core.specs.declared.refusal.Refusal.{Refusal}
 
--- the text is that of the main module, which declares the kernel's interface and whose body is the kernel's term
-abbrev pub IsKernelOf : (main text : List ℕ) → Kernel → Type 0
-IsKernelOf main text kernel = IsReading main text kernel.interface (start_of kernel)
+-- the load entry of the module of this name in this text: it keeps both, and its module is what the text gives under the name
+pub record IsLoadOf (main text : List ℕ) (l : LoadEntry) : Type 0 where
+  pub keeps_main : l.main ≡ main
+  pub keeps_text : l.text ≡ text
+  pub interface : List Declaration
+  pub term : Term
+  pub gives : IsReading main text interface term
+  pub is : ModuleOf l interface term
 
 -- why a term makes no kernel: the first limit that it passes, or else a loop whose body can end where it begins
 abbrev pub IsKernelFault : Term → LoadFault → Type 0

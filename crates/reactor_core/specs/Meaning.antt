@@ -1,17 +1,17 @@
 -- What a slot's journal means: whether a module runs, its pending inputs, its instants, and the term that is left of it
 -- (this project's own form).
-use Rattle.std.specs.Prelude.{◌≡◌, ℕ, ◌^◌, List, [], ◌∷◌, ◌++◌, Option, Some, None, bit_or, position}
+use Rattle.std.specs.Prelude.{◌≡◌, ℕ, ◌^◌, Bool, List, [], ◌∷◌, ◌++◌, Option, Some, None, is_some, bit_or, position}
 use Rattle.est_kernel.specs.Interfaces.{is_named}
 use Rattle.est_kernel.specs.Term.{Term}
+use Rattle.est_kernel.specs.View.{term_of}
 use Rattle.est_kernel.specs.declared.interface.Declaration.{Declaration}
-use Rattle.est_kernel.specs.declared.kernel.Kernel.{Kernel}
 use Rattle.reactor_core.specs.declared.entry.Stamp.{Stamp}
 use Rattle.reactor_core.specs.declared.entry.PastInstant.{PastInstant}
 use Rattle.reactor_core.specs.declared.entry.Load.{Load as LoadEntry}
 use Rattle.reactor_core.specs.declared.entry.Action.{Action}
 use Rattle.reactor_core.specs.declared.entry.Action.TheVariants.{Load, Offer, Step}
 use Rattle.reactor_core.specs.declared.entry.SlotEntry.{SlotEntry}
-use Rattle.reactor_core.specs.Reacting.{start_of, ReactsWith}
+use Rattle.reactor_core.specs.Reacting.{ReactsWith}
 
 -- the entry of an action, given with this stamp
 abbrev pub entry : Stamp → Action → SlotEntry
@@ -20,11 +20,44 @@ entry stamp action = record { stamp = stamp; action = action }
 abbrev pub instant : (inputs outputs : ℕ) → PastInstant
 instant inputs outputs = record { inputs = inputs; outputs = outputs }
 
--- a loaded module: its kernel, the inputs offered since the last step, and the instants since the load, the first one first
-pub record Running : Type 0 where
-  pub kernel : Kernel
-  pub pending : ℕ
-  pub instants : List PastInstant
+-- the value that the actions of the entries make of this one, the oldest first
+abbrev pub after_all : {A : Type 0} → (A → Action → A) → A → List SlotEntry → A
+after_all after value [] = value
+after_all after value (e ∷ later) = after_all after (after value e.action) later
+
+-- the load whose module runs after an action
+abbrev pub load_after : Option LoadEntry → Action → Option LoadEntry
+load_after before (Load l) = Some l
+load_after before (Offer name) = before
+load_after before (Step i) = before
+
+-- the instants after an action: a load begins anew, and a step adds its own
+abbrev pub instants_after : List PastInstant → Action → List PastInstant
+instants_after instants (Load l) = []
+instants_after instants (Offer name) = instants
+instants_after instants (Step i) = instants ++ i ∷ []
+
+-- the names that are offered after an action, the last one first: a load and a step take them all away
+abbrev pub offers_after : List (List ℕ) → Action → List (List ℕ)
+offers_after names (Load l) = []
+offers_after names (Offer name) = name ∷ names
+offers_after names (Step i) = []
+
+-- the load whose module runs after these entries; None where the slot is empty
+abbrev pub last_load : List SlotEntry → Option LoadEntry
+last_load journal = after_all load_after None journal
+
+-- whether a module runs after these entries
+abbrev pub is_loaded : List SlotEntry → Bool
+is_loaded journal = is_some (last_load journal)
+
+-- the instants since the load, the first one first
+abbrev pub instants_of : List SlotEntry → List PastInstant
+instants_of journal = after_all instants_after [] journal
+
+-- the names that were offered since the load or the last step, the last one first
+abbrev pub offers_of : List SlotEntry → List (List ℕ)
+offers_of journal = after_all offers_after [] journal
 
 -- the place in the interface of the signal of this name
 abbrev pub place_of : List Declaration → List ℕ → Option ℕ
@@ -35,29 +68,40 @@ abbrev pub with_place : ℕ → Option ℕ → ℕ
 with_place mask None = mask
 with_place mask (Some n) = bit_or mask (2 ^ n)
 
--- what runs after an action: a load begins anew, an offer makes its signal pending, a step adds its instant and clears
--- what was pending
-abbrev pub after : Option Running → Action → Option Running
-after running (Load l) = Some (record { kernel = l.kernel; pending = 0; instants = [] })
-after None (Offer name) = None
-after (Some r) (Offer name) = Some (record r { pending = with_place r.pending (place_of r.kernel.interface name) })
-after None (Step i) = None
-after (Some r) (Step i) = Some (record r { pending = 0; instants = r.instants ++ i ∷ [] })
+-- the mask of the signals of these names
+abbrev pub mask_of : List Declaration → List (List ℕ) → ℕ
+mask_of interface [] = 0
+mask_of interface (name ∷ names) = with_place (mask_of interface names) (place_of interface name)
 
-abbrev pub running_from : Option Running → List SlotEntry → Option Running
-running_from running [] = running
-running_from running (e ∷ later) = running_from (after running e.action) later
+-- the module of a load entry declares this interface and begins as this term: those of the kernel that the entry keeps
+pub record ModuleOf (l : LoadEntry) (interface : List Declaration) (term : Term) : Type 0 where
+  pub declares : interface ≡ l.kernel.interface
+  pub begins : term ≡ term_of l.kernel.root
 
--- what runs after these entries; None where the slot is empty
-abbrev pub running_of : List SlotEntry → Option Running
-running_of journal = running_from None journal
+-- a loaded module: its interface, the inputs offered since the last step, and the instants since the load, the first one first
+pub record Running : Type 0 where
+  pub interface : List Declaration
+  pub pending : ℕ
+  pub instants : List PastInstant
 
--- this term is left to run after these entries: a load leaves its kernel's whole term, an offer what was left, and a step
+-- this is what runs after these entries: the module of the last load, with what was offered and the instants since then. There is
+-- one such at most
+pub record Runs (journal : List SlotEntry) (r : Running) : Type 0 where
+  pub load : LoadEntry
+  pub last : last_load journal ≡ Some load
+  pub term : Term
+  pub is : ModuleOf load r.interface term
+  pub offered : r.pending ≡ mask_of r.interface (offers_of journal)
+  pub past : r.instants ≡ instants_of journal
+
+-- this term is left to run after these entries: a load leaves its module's whole term, an offer what was left, and a step
 -- what the constructive reaction to the pending inputs leaves, which also gives the step's inputs and outputs
 pub data Leaves : List SlotEntry → Term → Type 0 where
-  loaded : (before : List SlotEntry) → (stamp : Stamp) → (l : LoadEntry) → Leaves (before ++ entry stamp (Load l) ∷ []) (start_of l.kernel)
+  loaded : (before : List SlotEntry) → (stamp : Stamp) → (l : LoadEntry)
+      → (interface : List Declaration) → (term : Term) → ModuleOf l interface term
+      → Leaves (before ++ entry stamp (Load l) ∷ []) term
   offered : (before : List SlotEntry) → (term : Term) → Leaves before term
       → (stamp : Stamp) → (name : List ℕ) → Leaves (before ++ entry stamp (Offer name) ∷ []) term
-  stepped : (before : List SlotEntry) → (term : Term) → Leaves before term → (r : Running) → running_of before ≡ Some r
-      → (outputs : ℕ) → (next : Term) → ReactsWith r.kernel term r.pending outputs next
+  stepped : (before : List SlotEntry) → (term : Term) → Leaves before term → (r : Running) → Runs before r
+      → (outputs : ℕ) → (next : Term) → ReactsWith r.interface term r.pending outputs next
       → (stamp : Stamp) → Leaves (before ++ entry stamp (Step (instant r.pending outputs)) ∷ []) next

@@ -1,4 +1,4 @@
--- What the parts of a reactor have to do with its journal.
+-- What the parts of a reactor have to do with its journal: private to its invariant.
 use Rattle.std.specs.Prelude.{◌≡◌, ℕ, List, Some, slice_get}
 use Rattle.est_kernel.specs.declared.state.State.{State}
 use Rattle.est_meaning.specs.States.{IsState, state_term}
@@ -8,7 +8,8 @@ use Rattle.reactor_core.specs.declared.entry.PastInstant.{PastInstant}
 use Rattle.reactor_core.specs.declared.entry.Load.{Load as LoadEntry}
 use Rattle.reactor_core.specs.declared.entry.Action.TheVariants.{Load}
 use Rattle.reactor_core.specs.declared.entry.SlotEntry.{SlotEntry}
-use Rattle.reactor_core.specs.Meaning.{entry, running_of, Leaves}
+use Rattle.reactor_core.specs.Meaning.{entry, last_load, instants_of, offers_of, mask_of, Leaves}
+use Rattle.reactor_core.specs.Instants.{IsOutcome}
 
 -- the entry at this place is this load
 abbrev pub LoadsAt : List SlotEntry → ℕ → LoadEntry → Type 0
@@ -19,7 +20,16 @@ LoadsAt journal place l = (stamp : Stamp) × (slice_get journal place ≡ Some (
 pub record IsRunning (journal : List SlotEntry) (place : ℕ) (state : State) (pending : ℕ) (instants : List PastInstant) : Type 0 where
   pub load : LoadEntry
   pub there : LoadsAt journal place load
-  pub running : running_of journal ≡ Some (record { kernel = load.kernel; pending = pending; instants = instants })
+  pub last : last_load journal ≡ Some load
+  pub offered : pending ≡ mask_of load.kernel.interface (offers_of journal)
+  pub past : instants ≡ instants_of journal
   pub leaves : Leaves journal (state_term load.kernel.root state)
   pub fits : IsState load.kernel.root state
   pub inputs : AreInputs load.kernel (record { signals = pending })
+
+-- the next instant after these entries emits these outputs, and leaves the term that this state of the module stands for
+pub record IsNextState (journal : List SlotEntry) (outputs : ℕ) (state : State) : Type 0 where
+  pub load : LoadEntry
+  pub last : last_load journal ≡ Some load
+  pub fits : IsState load.kernel.root state
+  pub outcome : IsOutcome journal outputs (state_term load.kernel.root state)

@@ -1,15 +1,16 @@
 //! A running module with its journal.
-ghost use Rattle.std.specs.Prelude.{◌≡◌, ◌⊎◌, ◌<◌, ◌-◌, ◌^◌, ◌++◌, ◌∷◌, [], length, bit_or, Some, MatchResult, MatchOption, IfOk, IfErr, ℕ, true, false, slice_get};
+ghost use Rattle.std.specs.Prelude.{◌≡◌, ◌⊎◌, ◌<◌, ◌-◌, ◌^◌, ◌++◌, ◌∷◌, [], length, bit_or, Some, MatchResult, MatchOption, IfOk, IfErr, IsTrue, true, false, slice_get};
 ghost use Rattle.est_kernel.specs.Bits.{bits};
-ghost use Rattle.est_kernel.specs.declared.interface.Kind.TheVariants.{Input};
+ghost use Rattle.est_kernel.specs.Identifiers.{is_identifier};
 ghost use Rattle.est_kernel.specs.Term.{Term};
+ghost use Rattle.est_kernel.specs.declared.interface.Kind.TheVariants.{Input};
 ghost use Rattle.reactor_core.specs.declared.entry.Load.{Load as LoadEntry};
 ghost use Rattle.est_meaning.specs.States.{IsState};
 ghost use Rattle.est_rounds.specs.Contract.{AreInputs, IsReaction, HasNoReaction};
-ghost use Rattle.reactor_core.specs.Meaning.{Running, running_of, entry};
-ghost use Rattle.reactor_core.specs.Loading.{IsKernelOf, IsLoadFault};
-ghost use Rattle.reactor_core.specs.Standing.{LoadsAt, IsRunning};
-ghost use Rattle.reactor_core.specs.Instants.{IsOutcome, HasNoOutcome, AddsInstant, OpenAnswer};
+ghost use Rattle.reactor_core.specs.Meaning.{Running, Runs, last_load, instants_of, entry};
+ghost use Rattle.reactor_core.specs.Loading.{IsLoadOf, IsLoadFault};
+ghost use Rattle.reactor_core.specs.Standing.{LoadsAt, IsRunning, IsNextState};
+ghost use Rattle.reactor_core.specs.Instants.{HasNoOutcome, AddsInstant, OpenAnswer};
 ghost use Rattle.reactor_core.specs.Answers.{LoadAnswer, OfferAnswer, ShownAnswer, HasRoom, RefusesEntry, RefusesName, IsSignal};
 
 use crate::entry::{Action, Load, PastInstant, SlotEntry, Stamp};
@@ -160,12 +161,18 @@ fn append_step(
     Ok(())
 }
 
-/// The load of the module `main` of a text, with the kernel that is read from it.
-fn read_load(alloc: Global, main: Identifier, text: Text) -> Result<Load, Refusal>
-    ensures load { IfOk result (λ l. (l.main ≡ main) × (l.text ≡ text)) }
-    ensures kernel { IfOk result (λ l. IsKernelOf main text l.kernel) }
-    ensures fault { IfErr result (IsLoadFault main text) }
+/// The load of the module `main` of a text: it keeps copies of both, and the kernel that is read from the text.
+fn read_load(alloc: Global, main: &str, text: &str) -> Result<Load, Refusal>
+    requires { IsTrue (is_identifier main.now) }
+    ensures load { IfOk result (IsLoadOf main.now text.now) }
+    ensures fault { IfErr result (IsLoadFault main.now text.now) }
 {
+    let Some(main) = Identifier::from_text(main) else {
+        unreachable!();
+    };
+    let Ok(text) = Text::copied(alloc, text) else {
+        return Err(Refusal::Memory);
+    };
     let kernel = read_kernel(alloc, &main, text.as_str())?;
     Ok(Load { main, text, kernel })
 }
@@ -173,7 +180,7 @@ fn read_load(alloc: Global, main: Identifier, text: Text) -> Result<Load, Refusa
 impl Reactor {
     /// The interface of the module that runs.
     pub fn interface(&self) -> &Interface
-        ensures { (r : Running) × (running_of self.now ≡ Some r) × (result.now ≡ r.kernel.interface) }
+        ensures { (r : Running) × Runs self.now r × (result.now ≡ r.interface) }
     {
         kernel_at(&self.journal, self.loaded).interface()
     }
@@ -181,7 +188,7 @@ impl Reactor {
     /// The journal, whose last load runs.
     pub fn journal(&self) -> &Journal
         ensures same { result.now ≡ self.now }
-        ensures running { (r : Running) × (running_of self.now ≡ Some r) }
+        ensures running { (r : Running) × Runs self.now r }
     {
         &self.journal
     }
@@ -195,28 +202,30 @@ impl Reactor {
 
     /// How many instants there were since the load.
     pub fn instants(&self) -> u64
-        ensures { (r : Running) × (running_of self.now ≡ Some r) × (result ≡ length r.instants) }
+        ensures { result ≡ length (instants_of self.now) }
     {
         self.instants.len() as u64
     }
 
     /// The inputs that are offered and not yet taken by a step, as a mask over the interface in the order of declaration.
     pub fn pending(&self) -> u64
-        ensures { (r : Running) × (running_of self.now ≡ Some r) × (result ≡ r.pending) }
+        ensures { (r : Running) × Runs self.now r × (result ≡ r.pending) }
     {
         self.pending
     }
 
-    /// Loads the module `main` of a text: the reactor has not begun, and its journal has the load's entry. A refusal, by
-    /// the text, JournalFull or Memory, gives the journal back as it was.
+    /// Loads the module `main` of a text: the reactor has not begun, and its journal has the load's entry, with copies of
+    /// both. That the name is an identifier is the caller's condition: no module has another. A refusal, by the text,
+    /// JournalFull or Memory, gives the journal back as it was.
     pub fn load(
         alloc: Global,
         journal: Journal,
         stamp: Stamp,
-        main: Identifier,
-        text: Text,
+        main: &str,
+        text: &str,
     ) -> Result<Reactor, (Refusal, Journal)>
-        ensures { LoadAnswer journal stamp main text result }
+        requires { IsTrue (is_identifier main.now) }
+        ensures { LoadAnswer journal stamp main.now text.now result }
     {
         match read_load(alloc, main, text) {
             Ok(load) => Reactor::begin(alloc, journal, stamp, load),
@@ -279,8 +288,8 @@ impl Reactor {
 
     /// The reaction of what is left to run to the pending inputs, by this engine.
     fn reaction_by<E: Engine>(&self, engine: &mut E) -> Result<Outcome, Stuck>
-        requires { (r : Running) → running_of self.now ≡ Some r → E.is_for engine.old r.kernel }
-        ensures { MatchResult result (IsOutcome self.now) (HasNoOutcome self.now) }
+        requires { (l : LoadEntry) → last_load self.now ≡ Some l → E.is_for engine.old l.kernel }
+        ensures { MatchResult result (λ o. IsNextState self.now o.outputs o.next) (λ s. HasNoOutcome self.now s.undecided) }
     {
         reaction(
             engine,
@@ -293,9 +302,9 @@ impl Reactor {
 
     /// Adds the instant of this outcome, with its entry, or refuses it as JournalFull or Memory and stays as it is.
     fn advance(&mut self, stamp: Stamp, outcome: Outcome) -> Result<(), Refusal>
-        requires { IsOutcome self.old outcome }
+        requires { IsNextState self.old outcome.outputs outcome.next }
         ensures { MatchResult result
-            (λ _. AddsInstant self.old outcome stamp self.new)
+            (λ _. (next : Term) × AddsInstant self.old outcome.outputs next stamp self.new)
             (λ e. RefusesEntry self.old e × (self.new ≡ self.old)) }
     {
         let instant = PastInstant {

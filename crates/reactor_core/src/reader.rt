@@ -13,7 +13,7 @@ ghost use Rattle.est_kernel.specs.View.{term_of};
 ghost use Rattle.reactor_core.specs.Reading.{AreRead, IsReading, IsFaultOfTokens, IsReadFaultOf};
 ghost use Rattle.reactor_core.specs.declared.reader.token.Located.{Located as LocatedToken};
 ghost use Rattle.reactor_core.specs.Lexical.{IsLexicalFault};
-ghost use Rattle.reactor_core.specs.Loading.{IsKernelOf, IsLoadFault};
+ghost use Rattle.reactor_core.specs.Loading.{IsLoadFault};
 
 mod checks;
 mod cursor;
@@ -109,7 +109,7 @@ pub fn read_module(
 
 /// The kernel of the text of one module, whose name is that of the main module.
 pub fn read_kernel(alloc: Global, main: &Identifier, text: &str) -> Result<Kernel, Refusal>
-    ensures kernel { IfOk result (IsKernelOf main.now text.now) }
+    ensures kernel { IfOk result (λ k. IsReading main.now text.now k.interface (term_of k.root)) }
     ensures fault { IfErr result (IsLoadFault main.now text.now) }
 {
     let (interface, root) = read_module(alloc, main, text)?;

@@ -3,7 +3,6 @@ use crate::entry::Stamp;
 use crate::journal::Journal;
 use crate::reactor::{Reactor, Shown};
 use crate::refusal::{Place, Refusal};
-use crate::text::Text;
 use est_text::identifier::Identifier;
 use est_kernel::state::Stuck;
 use std::alloc::Global;
@@ -21,8 +20,7 @@ fn name(text: &str) -> Result<Identifier, &'static str> {
 
 /// What a load of module M of the text answers, on an empty journal.
 fn loaded(alloc: Global, text: &str) -> Result<Result<Reactor, Refusal>, Fail> {
-    let text = Text::copied(alloc, text)?;
-    match Reactor::load(alloc, Journal::new(alloc), STAMP, name("M")?, text) {
+    match Reactor::load(alloc, Journal::new(alloc), STAMP, "M", text) {
         Ok(reactor) => Ok(Ok(reactor)),
         Err((refusal, _journal)) => Ok(Err(refusal)),
     }

@@ -30,7 +30,7 @@ impl Model for Instant {
     ghost view = { λ i. i.reactor };
 }
 
-/// An instant whose reaction is known. A contract sees the journal of its reactor, and the reaction's outcome.
+/// An instant whose reaction is known. A contract sees the journal of its reactor and the reaction's outputs.
 pub struct Settled {
     reactor: Reactor,
     outcome: Outcome,
@@ -39,15 +39,16 @@ pub struct Settled {
 impl Model for Settled {
     ghost use Rattle.std.specs.Coded.{codes};
     ghost use Rattle.reactor_core.specs.contracts.entry.SlotEntry as entry;
-    ghost use Rattle.reactor_core.specs.Instants.{SettledInstant, IsOutcome};
+    ghost use Rattle.reactor_core.specs.Standing.{IsNextState};
+    ghost use Rattle.reactor_core.specs.Instants.{SettledInstant};
 
     ghost Value = { SettledInstant };
 
     ghost coded = { Prim.hlevel (codes, entry.the_row.coded) };
 
-    ghost view = { λ s. record { journal = s.reactor; outcome = s.outcome } };
+    ghost view = { λ s. record { journal = s.reactor; outputs = s.outcome.outputs } };
 
-    ghost invariant = { λ s. IsOutcome s.reactor s.outcome };
+    ghost invariant = { λ s. IsNextState s.reactor s.outcome.outputs s.outcome.next };
 }
 
 impl Instant {

@@ -1,4 +1,4 @@
-use Rattle.reactor_core.proofs.Outcomes.{not_both}
+use Rattle.reactor_core.proofs.OneMeaning.{not_both}
 use Rattle.reactor_core.proofs.laws.an_outcome_or_none.Goals as goal
 
 pub returns : goal.returns

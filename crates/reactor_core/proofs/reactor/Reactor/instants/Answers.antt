@@ -1,10 +1,8 @@
-use Rattle.std.proofs.Common.{ap, sym, ◌∙◌, arith}
-use Rattle.reactor_core.specs.Meaning.{running_of}
+use Rattle.std.proofs.Common.{◌≡◌, ap, length, arith}
+use Rattle.reactor_core.specs.Meaning.{instants_of}
 use Rattle.reactor_core.proofs.reactor.Reactor.instants.Goals as goal
 
 pub returns : goal.returns
-returns c = (
-  record { kernel = c.self.invariant.load.kernel; pending = c.self.inside.pending; instants = c.self.inside.instants.items },
-  ap running_of (sym c.self.view_is) ∙ c.self.invariant.running,
-  omega (arith, c.len.ensures, c.self.inside.instants.ok.0),
-)
+returns c =
+    let past : length c.self.inside.instants.items ≡ length (instants_of c.self.inside.journal) = ap length c.self.invariant.past in
+    rw (← c.self.view_is) (omega (arith, c.len.ensures, c.self.inside.instants.ok.0, past))

@@ -1,10 +1,10 @@
-use Rattle.std.proofs.Common.{ap, sym, ◌∙◌}
-use Rattle.reactor_core.specs.Meaning.{running_of}
+use Rattle.std.proofs.Common.{ap, ◌∙◌}
+use Rattle.reactor_core.proofs.Steps.{running, runs_here}
 use Rattle.reactor_core.proofs.reactor.Reactor.interface.Goals as goal
 
 pub returns : goal.returns
 returns c = (
-  record { kernel = c.self.invariant.load.kernel; pending = c.self.inside.pending; instants = c.self.inside.instants.items },
-  ap running_of (sym c.self.view_is) ∙ c.self.invariant.running,
+  running c.self.invariant.load c.self.inside.pending c.self.inside.instants.items,
+  rw (← c.self.view_is) (runs_here c.self.invariant),
   c.interface.ensures ∙ ap (λ k. k.interface) (c.kernel_at.ensures c.self.invariant.load c.self.invariant.there),
 )

@@ -1,6 +1,10 @@
-use Rattle.std.proofs.Common.{ap, sym, ◌∙◌, refl}
-use Rattle.reactor_core.specs.Meaning.{running_of}
+use Rattle.std.proofs.Common.{refl}
+use Rattle.reactor_core.proofs.Steps.{running, runs_here}
 use Rattle.reactor_core.proofs.reactor.Reactor.pending.Goals as goal
 
 pub returns : goal.returns
-returns c = (record { kernel = c.self.invariant.load.kernel; pending = c.self.inside.pending; instants = c.self.inside.instants.items }, ap running_of (sym c.self.view_is) ∙ c.self.invariant.running, refl)
+returns c = (
+  running c.self.invariant.load c.self.inside.pending c.self.inside.instants.items,
+  rw (← c.self.view_is) (runs_here c.self.invariant),
+  refl,
+)
