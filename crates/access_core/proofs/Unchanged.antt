@@ -1,7 +1,7 @@
 -- A refusal leaves desk and slots as they were.
 use Rattle.std.proofs.Common.{◌≡◌, ℕ, List, [], ◌∷◌, length, refl, sym, ◌∙◌, ap, inl, inr}
 use Rattle.std.specs.Prelude.{zero, suc, Option, Some, None, Result, Ok, Err, MatchResult, slice_get, slice_set}
-use Rattle.est_kernel.specs.declared.state.Outcome.{Outcome}
+use Rattle.est_kernel.specs.Term.{Term}
 use Rattle.rbac_policy.specs.declared.commands.Entry.{Entry}
 use Rattle.rbac_policy.specs.declared.commands.AdminCommand.{AdminCommand}
 use Rattle.rbac_policy.specs.declared.objects.Operation.TheVariants.{Load as ToLoad, Offer as ToOffer, Step as ToStep}
@@ -79,9 +79,9 @@ offered : (answer : Result (Unit {0}) ReactorRefusal) (stamp : ℕ) (before : Li
 offered (Ok done) stamp before refusal after h = absurd (cc)
 offered (Err given) stamp before refusal after h = h.stays
 
-stepped : (stamp : Stamp) (outcome : Outcome) (before : List SlotEntry) (refusal : Refusal) (after : List SlotEntry)
-    → Steps stamp outcome before (Refused refusal) after → after ≡ before
-stepped stamp outcome before refusal after h = let e = h.replied in absurd (cc)
+stepped : (stamp : Stamp) (outputs : ℕ) (next : Term) (before : List SlotEntry) (refusal : Refusal) (after : List SlotEntry)
+    → Steps stamp outputs next before (Refused refusal) after → after ≡ before
+stepped stamp outputs next before refusal after h = let e = h.replied in absurd (cc)
 
 looked : (entries : List Entry) (slot session n : ℕ) (before : List SlotEntry) (refusal : Refusal) (after : List SlotEntry)
     → Looks entries slot session n before (Refused refusal) after → after ≡ before
@@ -106,8 +106,8 @@ journal_stays entries slot session Step before refusal after =
     (after_rule (empty before) _ before refusal after
     (after_choice no_memory (no_reaction entries slot session before ▹ Commits (stamp_of entries session)) before refusal after
     (after_choice (no_reaction entries slot session before) (Commits (stamp_of entries session)) before refusal after
-    (λ h. after_rule (journal_full before) (Steps (stamp_of entries session) h.outcome) before refusal after
-    (stepped (stamp_of entries session) h.outcome before refusal after) h.next)))))
+    (λ h. after_rule (journal_full before) (Steps (stamp_of entries session) h.outputs h.next) before refusal after
+    (stepped (stamp_of entries session) h.outputs h.next before refusal after) h.answered)))))
 journal_stays entries slot session (Look n) before refusal after =
     after_rule (no_session entries session) _ before refusal after
     (after_rule (empty before) _ before refusal after

@@ -1,7 +1,7 @@
 -- How a slot holds its journal.
-use Rattle.std.specs.Prelude.{◌≡◌, List, Some, None}
+use Rattle.std.specs.Prelude.{◌≡◌, List, true, false}
 use Rattle.reactor_core.specs.declared.entry.SlotEntry.{SlotEntry}
-use Rattle.reactor_core.specs.Meaning.{Running, running_of}
+use Rattle.reactor_core.specs.Meaning.{is_loaded}
 use Rattle.access_core.specs.declared.slot.Content.{Content}
 use Rattle.access_core.specs.declared.slot.Content.TheVariants.{Empty, Loaded}
 
@@ -12,5 +12,5 @@ journal_of (Loaded reactor) = reactor
 
 -- a reactor is held exactly where the journal says that a module runs
 abbrev pub IsHeldRight : Content → Type 0
-IsHeldRight (Empty journal) = running_of journal ≡ None
-IsHeldRight (Loaded reactor) = (r : Running) × (running_of reactor ≡ Some r)
+IsHeldRight (Empty journal) = is_loaded journal ≡ false
+IsHeldRight (Loaded reactor) = is_loaded reactor ≡ true

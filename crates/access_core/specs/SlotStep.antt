@@ -1,8 +1,7 @@
 -- The slot step: what a command on a slot is answered, on a policy list and the slot's journal, and the journal afterwards
 -- (this project's own form).
-use Rattle.std.specs.Prelude.{◌≡◌, ◌⊎◌, ℕ, ◌<◌, Bool, List, Some, None, Result, MatchResult, length}
-use Rattle.est_kernel.specs.declared.state.Outcome.{Outcome}
-use Rattle.est_kernel.specs.declared.state.Stuck.{Stuck as Undecided}
+use Rattle.std.specs.Prelude.{◌≡◌, ℕ, Bool, true, false, List, Result, MatchResult, length}
+use Rattle.est_kernel.specs.Term.{Term}
 use Rattle.rbac_policy.specs.declared.commands.Entry.{Entry}
 use Rattle.rbac_policy.specs.declared.objects.Operation.{Operation}
 use Rattle.rbac_policy.specs.declared.objects.Operation.TheVariants.{Offer as ToOffer, Step as ToStep, Load as ToLoad}
@@ -13,8 +12,8 @@ use Rattle.reactor_core.specs.declared.entry.Stamp.{Stamp}
 use Rattle.reactor_core.specs.declared.entry.PastInstant.{PastInstant}
 use Rattle.reactor_core.specs.declared.entry.SlotEntry.{SlotEntry}
 use Rattle.reactor_core.specs.declared.refusal.Refusal.{Refusal as ReactorRefusal}
-use Rattle.reactor_core.specs.Meaning.{Running, running_of}
-use Rattle.reactor_core.specs.Answers.{LoadAnswer, OfferAnswer, IsFull, IsInstant}
+use Rattle.reactor_core.specs.Meaning.{is_loaded, instants_of, Running, Runs}
+use Rattle.reactor_core.specs.Answers.{LoadAnswer, OfferAnswer, IsFull, IsInstant, HasNoInstant}
 use Rattle.reactor_core.specs.Instants.{IsOutcome, HasNoOutcome, AddsInstant}
 use Rattle.access_core.specs.declared.command.SlotCommand.{SlotCommand}
 use Rattle.access_core.specs.declared.command.SlotCommand.TheVariants.{Load, Offer, Step, Look}
@@ -36,15 +35,15 @@ no_permission entries session operation object = Says (Permission operation obje
 
 -- a module runs in the slot
 abbrev pub occupied : List SlotEntry → Refusal → Type 0
-occupied journal = Says Occupied ((r : Running) × (running_of journal ≡ Some r))
+occupied journal = Says Occupied (is_loaded journal ≡ true)
 
 -- no module runs in the slot
 abbrev pub empty : List SlotEntry → Refusal → Type 0
-empty journal = Says Empty (running_of journal ≡ None)
+empty journal = Says Empty (is_loaded journal ≡ false)
 
 -- the module that runs had no instant of this number since its load
 abbrev pub no_instant : List SlotEntry → (n : ℕ) → Refusal → Type 0
-no_instant journal n = Says NoInstant ((r : Running) × (running_of journal ≡ Some r) × ((n ≡ 0) ⊎ (length r.instants < n)))
+no_instant journal n = Says NoInstant (HasNoInstant journal n)
 
 -- memory was refused
 abbrev pub no_memory : Refusal → Type 0
@@ -73,11 +72,11 @@ pub record Offers (stamp : Stamp) (signal : List ℕ) (before : List SlotEntry) 
 -- the next instant has no outcome: its pending inputs have no constructive reaction, and the refusal names those of the undecided
 -- outputs that the session may observe
 pub record NamesUndecided (entries : List Entry) (slot session : ℕ) (journal : List SlotEntry) (refusal : Refusal) : Type 0 where
-  pub undecided : Undecided
+  pub undecided : ℕ
   pub none : HasNoOutcome journal undecided
   pub sees : ℕ → Bool
-  pub observes : Sees entries session slot none.running.kernel.interface sees
-  pub named : refusal ≡ Stuck (names_of none.running.kernel.interface sees undecided.undecided)
+  pub observes : Sees entries session slot none.running.interface sees
+  pub named : refusal ≡ Stuck (names_of none.running.interface sees undecided)
 
 -- the next instant has no outcome
 abbrev pub no_reaction : List Entry → (slot session : ℕ) → List SlotEntry → Refusal → Type 0
@@ -88,27 +87,26 @@ abbrev pub journal_full : List SlotEntry → Refusal → Type 0
 journal_full journal = Says JournalFull (IsFull journal)
 
 -- the instant of the outcome is added with its entry, and the reply tells its number
-pub record Steps (stamp : Stamp) (outcome : Outcome) (before : List SlotEntry) (reply : Reply) (after : List SlotEntry) : Type 0 where
-  pub adds : AddsInstant before outcome stamp after
-  pub running : Running
-  pub runs : running_of after ≡ Some running
-  pub replied : reply ≡ Stepped (length running.instants) (length after) stamp.version
+pub record Steps (stamp : Stamp) (outputs : ℕ) (next : Term) (before : List SlotEntry) (reply : Reply) (after : List SlotEntry) : Type 0 where
+  pub adds : AddsInstant before outputs next stamp after
+  pub replied : reply ≡ Stepped (length (instants_of after)) (length after) stamp.version
 
 -- the next instant has an outcome, which is committed where the journal has room; this and no_reaction exclude each other
 pub record Commits (stamp : Stamp) (before : List SlotEntry) (reply : Reply) (after : List SlotEntry) : Type 0 where
-  pub outcome : Outcome
-  pub reacts : IsOutcome before outcome
-  pub next : (journal_full before ▸ Steps stamp outcome) before reply after
+  pub outputs : ℕ
+  pub next : Term
+  pub reacts : IsOutcome before outputs next
+  pub answered : (journal_full before ▸ Steps stamp outputs next) before reply after
 
 -- the n-th instant since the load is shown: each signal that the session may observe, and whether it was present
 pub record Looks (entries : List Entry) (slot session n : ℕ) (before : List SlotEntry) (reply : Reply) (after : List SlotEntry) : Type 0 where
   pub running : Running
-  pub runs : running_of before ≡ Some running
+  pub runs : Runs before running
   pub instant : PastInstant
-  pub there : IsInstant running n instant
+  pub there : IsInstant before n instant
   pub sees : ℕ → Bool
-  pub observes : Sees entries session slot running.kernel.interface sees
-  pub replied : reply ≡ Shown n (shown_of running.kernel.interface sees instant) (length entries)
+  pub observes : Sees entries session slot running.interface sees
+  pub replied : reply ≡ Shown n (shown_of running.interface sees instant) (length entries)
   pub stays : after ≡ before
 
 -- the reply to the command, which this session gives to this slot, on a policy list and a journal, and the journal afterwards

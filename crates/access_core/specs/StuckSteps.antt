@@ -1,12 +1,11 @@
 -- When a step is answered Stuck (this project's own form).
-use Rattle.std.specs.Prelude.{◌≡◌, ◌⊎◌, ℕ, List, Some}
-use Rattle.est_kernel.specs.declared.state.Stuck.{Stuck as Undecided}
+use Rattle.std.specs.Prelude.{◌≡◌, ◌⊎◌, ℕ, List, true}
 use Rattle.rbac_policy.specs.declared.commands.Entry.{Entry}
 use Rattle.rbac_policy.specs.declared.objects.Operation.TheVariants.{Step as ToStep}
 use Rattle.rbac_policy.specs.declared.objects.Object.TheVariants.{Slot}
 use Rattle.rbac_policy.specs.Facts.{IsLive, May}
 use Rattle.reactor_core.specs.declared.entry.SlotEntry.{SlotEntry}
-use Rattle.reactor_core.specs.Meaning.{Running, running_of}
+use Rattle.reactor_core.specs.Meaning.{is_loaded}
 use Rattle.reactor_core.specs.Instants.{HasNoOutcome}
 use Rattle.access_core.specs.declared.command.SlotCommand.{SlotCommand}
 use Rattle.access_core.specs.declared.command.SlotCommand.TheVariants.{Step}
@@ -20,12 +19,11 @@ pub record ReachesReactor (entries : List Entry) (slot session : ℕ) (command :
   pub steps : command ≡ Step
   pub lives : IsLive entries session
   pub may : May entries session ToStep (Slot slot)
-  pub running : Running
-  pub runs : running_of journal ≡ Some running
+  pub loaded : is_loaded journal ≡ true
 
 -- the reply is Stuck exactly where the pending inputs have no constructive reaction, but for want of memory: it is Stuck only where
 -- there is none, and names what no_reaction says; and where there is none it is Stuck, or memory was refused
 pub record IsStuckExactly (entries : List Entry) (slot session : ℕ) (journal : List SlotEntry) (reply : Reply) : Type 0 where
   pub only : (names : List (List ℕ)) → reply ≡ Refused (Stuck names) → no_reaction entries slot session journal (Stuck names)
-  pub whenever : (undecided : Undecided) → HasNoOutcome journal undecided
+  pub whenever : (undecided : ℕ) → HasNoOutcome journal undecided
       → ((names : List (List ℕ)) × (reply ≡ Refused (Stuck names))) ⊎ (reply ≡ Refused Memory)

@@ -1,10 +1,11 @@
 //! One slot, and the answer to a command on it.
-ghost use Rattle.std.specs.Prelude.{◌≡◌, ◌⊎◌, [], List, Some};
+ghost use Rattle.std.specs.Prelude.{◌≡◌, ◌⊎◌, [], List, true};
+ghost use Rattle.est_kernel.specs.Term.{Term};
 ghost use Rattle.rbac_policy.specs.declared.commands.Entry.{Entry};
 ghost use Rattle.rbac_policy.specs.StandsFor.{StandsFor};
 ghost use Rattle.access_core.specs.Rules.{◌▸◌, ◌▹◌};
 ghost use Rattle.access_core.specs.SlotStep.{SlotStep, no_memory, no_instant, no_reaction, stamp_of, Offers, Commits, Looks};
-ghost use Rattle.reactor_core.specs.Meaning.{Running, running_of};
+ghost use Rattle.reactor_core.specs.Meaning.{is_loaded};
 ghost use Rattle.reactor_core.specs.Instants.{IsOutcome, HasNoOutcome};
 ghost use Rattle.access_core.specs.Allowed.{IsAllowed, permission_of};
 ghost use Rattle.access_core.specs.StuckSteps.{ReachesReactor, IsStuckExactly};
@@ -107,7 +108,7 @@ fn undecided_refusal(
     reactor: &Reactor,
     stuck: Stuck,
 ) -> Refusal
-    requires { HasNoOutcome reactor.now stuck }
+    requires { HasNoOutcome reactor.now stuck.undecided }
     ensures { (entries : List Entry) → StandsFor policy.now entries
         → no_memory result ⊎ no_reaction entries slot session reactor.now result }
 {
@@ -122,7 +123,7 @@ fn undecided_refusal(
 
 /// Offers the signal to the reactor.
 fn offered(reactor: &mut Reactor, stamp: Stamp, signal: &Identifier) -> Reply
-    ensures running { (r : Running) × (running_of reactor.new ≡ Some r) }
+    ensures loaded { is_loaded reactor.new ≡ true }
     ensures step { Offers stamp signal.now reactor.old result reactor.new }
 {
     match reactor.offer(stamp, signal) {
@@ -136,8 +137,8 @@ fn offered(reactor: &mut Reactor, stamp: Stamp, signal: &Identifier) -> Reply
 
 /// Commits the instant: the reply to the step, and the reactor afterwards.
 fn committed(settled: Settled, stamp: Stamp) -> (Reply, Reactor)
-    requires { IsOutcome settled.journal settled.outcome }
-    ensures running { (r : Running) × (running_of result.1 ≡ Some r) }
+    requires { (next : Term) × IsOutcome settled.journal settled.outputs next }
+    ensures loaded { is_loaded result.1 ≡ true }
     ensures step { (no_memory ▹ Commits stamp) settled.journal result.0 result.1 }
 {
     match settled.commit(stamp) {
@@ -161,7 +162,7 @@ fn settled(
     session: SessionId,
     opened: Instant,
 ) -> (Reply, Reactor)
-    ensures running { (r : Running) × (running_of result.1 ≡ Some r) }
+    ensures loaded { is_loaded result.1 ≡ true }
     ensures step { (entries : List Entry) → StandsFor policy.now entries
         → (no_memory ▹ no_reaction entries slot session opened ▹ Commits (stamp_of entries session)) opened result.0 result.1 }
 {
@@ -182,7 +183,7 @@ fn stepped(
     session: SessionId,
     reactor: Reactor,
 ) -> (Reply, Reactor)
-    ensures running { (r : Running) × (running_of result.1 ≡ Some r) }
+    ensures loaded { is_loaded result.1 ≡ true }
     ensures step { (entries : List Entry) → StandsFor policy.now entries
         → (no_memory ▹ no_reaction entries slot session reactor ▹ Commits (stamp_of entries session)) reactor result.0 result.1 }
 {
@@ -230,7 +231,7 @@ impl Slot {
     {
         let empty = Content::Empty(Journal::new(self.alloc));
         match mem::replace(&mut self.content, empty) {
-            Content::Empty(journal) => match Reactor::load(self.alloc, journal, stamp, main, text) {
+            Content::Empty(journal) => match Reactor::load(self.alloc, journal, stamp, main.as_str(), text.as_str()) {
                 Ok(reactor) => {
                     let place = reactor.journal().len() as u64;
                     self.content = Content::Loaded(reactor);

@@ -1,5 +1,6 @@
 -- After a journal one module runs at most, and it leaves one term at most.
-use Rattle.std.proofs.Common.{◌≡◌, ℕ, Bool, List, [], ◌∷◌, ◌++◌, refl, ap, sym, ◌∙◌, subst}
+use Rattle.std.proofs.Common.{◌≡◌, ℕ, Bool, true, List, [], ◌∷◌, ◌++◌, refl, ap, sym, ◌∙◌, subst}
+use Rattle.std.specs.Prelude.{is_some}
 use Rattle.std.proofs.lemmas.Option.{same_Some}
 use Rattle.est_kernel.specs.Bits.{bits}
 use Rattle.est_kernel.specs.Term.{Term}
@@ -12,7 +13,7 @@ use Rattle.reactor_core.specs.declared.entry.Action.{Action}
 use Rattle.reactor_core.specs.declared.entry.Action.TheVariants.{Load, Offer, Step}
 use Rattle.reactor_core.specs.declared.entry.SlotEntry.{SlotEntry}
 use Rattle.reactor_core.specs.Reacting.{ReactsWith}
-use Rattle.reactor_core.specs.Meaning.{entry, instant, ModuleOf, Running, Runs, Leaves, loaded, offered, stepped, mask_of, offers_of}
+use Rattle.reactor_core.specs.Meaning.{entry, instant, ModuleOf, Running, Runs, Leaves, loaded, offered, stepped, is_loaded, mask_of, offers_of}
 use Rattle.reactor_core.specs.Instants.{IsOutcome, HasNoOutcome}
 
 -- a load entry is of one module at most
@@ -35,6 +36,10 @@ same_running journal r s one other =
     let offers : mask_of r.interface (offers_of journal) ≡ mask_of s.interface (offers_of journal) =
     ap (λ (i : List Declaration). mask_of i (offers_of journal)) interface in
     same_parts r s interface (one.offered ∙ offers ∙ sym other.offered) (one.past ∙ sym other.past)
+
+-- what runs is loaded
+pub is_loaded_where : (journal : List SlotEntry) (r : Running) → Runs journal r → is_loaded journal ≡ true
+is_loaded_where journal r runs = ap is_some runs.last
 
 -- two reactions of what runs emit the same signals and leave the same term
 same_reaction : (r s : Running) (t u next rest : Term) (a b : ℕ) → r ≡ s → t ≡ u

@@ -7,7 +7,7 @@ ghost use Rattle.est_kernel.specs.declared.interface.Kind.TheVariants.{Input};
 ghost use Rattle.reactor_core.specs.declared.entry.Load.{Load as LoadEntry};
 ghost use Rattle.est_meaning.specs.States.{IsState};
 ghost use Rattle.est_rounds.specs.Contract.{AreInputs, IsReaction, HasNoReaction};
-ghost use Rattle.reactor_core.specs.Meaning.{Running, Runs, last_load, instants_of, entry};
+ghost use Rattle.reactor_core.specs.Meaning.{Running, Runs, last_load, is_loaded, instants_of, entry};
 ghost use Rattle.reactor_core.specs.Loading.{IsLoadOf, IsLoadFault};
 ghost use Rattle.reactor_core.specs.Standing.{LoadsAt, IsRunning, IsNextState};
 ghost use Rattle.reactor_core.specs.Instants.{HasNoOutcome, AddsInstant, OpenAnswer};
@@ -188,7 +188,7 @@ impl Reactor {
     /// The journal, whose last load runs.
     pub fn journal(&self) -> &Journal
         ensures same { result.now ≡ self.now }
-        ensures running { (r : Running) × Runs self.now r }
+        ensures loaded { is_loaded self.now ≡ true }
     {
         &self.journal
     }

@@ -55,7 +55,7 @@ returns-in-Offer-clause-stuck c = λ entries stands reaches. let is = c.in-Offer
 pub returns-in-Step-clause-stuck : goal.returns-in-Step-clause-stuck
 returns-in-Step-clause-stuck c = λ entries stands reaches.
     let may = rw (c.number.ensures, c.in-Step.is) at c.in_default.ensures entries stands in
-    stuck_exactly _ _ _ _ _ _ _ reaches.lives reaches.may reaches.runs (permitted _ _ _ _ _ _ _ _ may (c.step.ensures.step entries stands))
+    stuck_exactly _ _ _ _ _ _ reaches.lives reaches.may reaches.loaded (permitted _ _ _ _ _ _ _ _ may (c.step.ensures.step entries stands))
 
 pub returns-in-Look-clause-stuck : goal.returns-in-Look-clause-stuck
 returns-in-Look-clause-stuck c = λ entries stands reaches. let is = c.in-Look.is in let steps = reaches.steps in absurd cc

@@ -7,21 +7,21 @@ returns-in-Ok-statuses c = λ entries stands.
     let answer = c.in-Ok.ensures in
     let interface = c.interface-interface.ensures in
     inr (record {
-      silent = not_no_instant c.args.reactor.now answer.running c.args.instant answer.given.instant answer.runs answer.given.there;
-      next = inr (looks_from entries c.args.slot c.args.session c.args.instant c.args.reactor.now answer.running interface.0 c.interface-interface.result.now
-          answer.given.instant c.observed-seen.result c.in-Ok.shown c.in-Ok-statuses.signals c.version.result
-          answer.runs interface.1 interface.2 answer.given.there answer.given.masked (c.observed-seen.ensures entries stands) c.in-Ok-statuses.ensures (c.version.ensures entries stands));
+      silent = not_no_instant c.args.reactor.now c.args.instant answer.instant answer.there;
+      next = inr (looks_from entries c.args.slot c.args.session c.args.instant c.args.reactor.now interface.0 c.interface-interface.result.now
+          answer.instant c.observed-seen.result c.in-Ok.shown c.in-Ok-statuses.signals c.version.result
+          interface.1 interface.2 answer.there answer.masked (c.observed-seen.ensures entries stands) c.in-Ok-statuses.ensures (c.version.ensures entries stands));
     })
 
 pub returns-in-Err-statuses : goal.returns-in-Err-statuses
 returns-in-Err-statuses c = λ entries stands.
     let answer = c.in-Ok.ensures in
     inr (record {
-      silent = not_no_instant c.args.reactor.now answer.running c.args.instant answer.given.instant answer.runs answer.given.there;
+      silent = not_no_instant c.args.reactor.now c.args.instant answer.instant answer.there;
       next = inl (record { refusal = _; given = refl; refuses = record { replied = refl; stays = refl } });
     })
 
 pub returns-in-Err : goal.returns-in-Err
 returns-in-Err c = λ entries stands.
     let answer = c.in-Err.ensures in
-    inl (record { refusal = _; given = (refl, (answer.running, answer.runs, answer.given.outside)); refuses = record { replied = refl; stays = refl } })
+    inl (record { refusal = _; given = (refl, answer.1); refuses = record { replied = refl; stays = refl } })

@@ -1,6 +1,8 @@
 use Rattle.std.proofs.Common.{◌∙◌, ap}
-use Rattle.reactor_core.specs.Meaning.{running_of}
+use Rattle.reactor_core.specs.Meaning.{is_loaded}
+use Rattle.reactor_core.proofs.OneMeaning.{is_loaded_where}
 use Rattle.access_core.proofs.slot.offered.Goals as goal
 
-pub returns-in-Err-clause-running : goal.returns-in-Err-clause-running
-returns-in-Err-clause-running c = let answer = c.in-Err.ensures in (answer.running, ap running_of answer.given.stays ∙ answer.runs)
+pub returns-in-Err-clause-loaded : goal.returns-in-Err-clause-loaded
+returns-in-Err-clause-loaded c = 
+    let answer = c.in-Err.ensures in ap is_loaded answer.given.stays ∙ is_loaded_where c.args.reactor.now answer.running answer.runs

@@ -1,5 +1,6 @@
 use Rattle.std.proofs.Common.{◌∙◌, ap, inl, inr, ⊎_elim}
-use Rattle.reactor_core.specs.Meaning.{running_of}
+use Rattle.reactor_core.specs.Meaning.{is_loaded}
+use Rattle.reactor_core.proofs.OneMeaning.{is_loaded_where}
 use Rattle.access_core.proofs.Stepping.{step_stuck}
 use Rattle.access_core.proofs.slot.settled.Goals as goal
 
@@ -11,8 +12,8 @@ returns-in-Ok-clause-step c = λ entries stands.
     let done = rw (c.in-Ok.ensures.0, c.stamp.ensures entries stands) at c.committed.ensures.step in
     ⊎_elim inl (λ commits. inr (inr commits)) done
 
-pub returns-in-Err-clause-running : goal.returns-in-Err-clause-running
-returns-in-Err-clause-running c = let none = c.in-Err.ensures.0 in (none.running, ap running_of c.in-Err.ensures.1 ∙ none.runs)
+pub returns-in-Err-clause-loaded : goal.returns-in-Err-clause-loaded
+returns-in-Err-clause-loaded c = let none = c.in-Err.ensures.0 in ap is_loaded c.in-Err.ensures.1 ∙ is_loaded_where _ none.running none.runs
 
 pub returns-in-Err-clause-step : goal.returns-in-Err-clause-step
 returns-in-Err-clause-step c = λ entries stands.

@@ -5,7 +5,7 @@ use Rattle.est_kernel.specs.declared.interface.Declaration.{Declaration}
 use Rattle.reactor_core.specs.Meaning.{Running}
 use Rattle.access_core.specs.declared.refusal.Refusal.TheVariants.{Stuck}
 use Rattle.access_core.specs.Shown.{Sees, name_at, places_of, names_of}
-use Rattle.access_core.proofs.Running.{same_running}
+use Rattle.reactor_core.proofs.OneMeaning.{same_running}
 use Rattle.access_core.proofs.slot.undecided_refusal.Goals as goal
 
 pub returns-in-Ok : goal.returns-in-Ok
@@ -13,9 +13,9 @@ returns-in-Ok c = λ entries stands.
     let interface = c.interface-interface.ensures in
     let none = c.requires in
     let one = same_running c.args.reactor.now interface.0 none.running interface.1 none.runs in
-    let same : c.interface-interface.result.now ≡ none.running.kernel.interface = interface.2 ∙ ap (λ (r : Running). r.kernel.interface) one in
+    let same : c.interface-interface.result.now ≡ none.running.interface = interface.2 ∙ ap (λ (r : Running). r.interface) one in
     inr (record {
-      undecided = c.args.stuck;
+      undecided = c.args.stuck.undecided;
       none = none;
       sees = bits c.observed-seen.result;
       observes = subst (λ (ds : List Declaration). Sees entries c.args.session c.args.slot ds (bits c.observed-seen.result)) same (c.observed-seen.ensures entries stands);
