@@ -1,5 +1,5 @@
 -- Whether a module runs in a slot is one fact of its journal, and so is what is shown of an instant.
-use Rattle.std.proofs.Common.{◌≡◌, ◌⊎◌, ℕ, ◌-◌, ◌<◌, Bool, true, false, ◌&&◌, ◌||◌, List, [], ◌∷◌, length, map, filter, Some, None, refl, ap, ◌∙◌, subst, inl, inr, arith, bit_and, bit_or}
+use Rattle.std.proofs.Common.{◌≡◌, ℕ, ◌-◌, Bool, true, false, ◌&&◌, ◌||◌, List, [], ◌∷◌, length, map, filter, refl, ap, ◌∙◌, subst, inl, inr, arith, bit_and, bit_or}
 use Rattle.std.proofs.lemmas.Option.{slice_get_within}
 use Rattle.est_kernel.specs.Bits.{bits}
 use Rattle.est_kernel.proofs.Masks.{bits_or, bits_and}

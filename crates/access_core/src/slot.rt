@@ -1,5 +1,6 @@
 //! One slot, and the answer to a command on it.
-ghost use Rattle.std.specs.Prelude.{◌≡◌, ◌⊎◌, [], List, true};
+ghost use Rattle.std.specs.Prelude.{◌≡◌, ◌⊎◌, [], List, IsTrue, true};
+ghost use Rattle.est_kernel.specs.Identifiers.{is_identifier};
 ghost use Rattle.est_kernel.specs.Term.{Term};
 ghost use Rattle.rbac_policy.specs.declared.commands.Entry.{Entry};
 ghost use Rattle.rbac_policy.specs.StandsFor.{StandsFor};
@@ -25,7 +26,6 @@ use reactor_core::entry::Stamp;
 use reactor_core::journal::Journal;
 use reactor_core::reactor::Reactor;
 use reactor_core::reactor::instant::{Instant, Settled};
-use reactor_core::text::Text;
 use std::alloc::Global;
 use std::marker::Model;
 use std::mem;
@@ -225,13 +225,14 @@ impl Slot {
         }
     }
 
-    fn load(&mut self, stamp: Stamp, main: Identifier, text: Text) -> Reply
+    fn load(&mut self, stamp: Stamp, main: &str, text: &str) -> Reply
+        requires { IsTrue (is_identifier main.now) }
         ensures number { self.new.number ≡ self.old.number }
-        ensures step { (occupied self.old.journal ▸ Loads stamp main text) self.old.journal result self.new.journal }
+        ensures step { (occupied self.old.journal ▸ Loads stamp main.now text.now) self.old.journal result self.new.journal }
     {
         let empty = Content::Empty(Journal::new(self.alloc));
         match mem::replace(&mut self.content, empty) {
-            Content::Empty(journal) => match Reactor::load(self.alloc, journal, stamp, main.as_str(), text.as_str()) {
+            Content::Empty(journal) => match Reactor::load(self.alloc, journal, stamp, main, text) {
                 Ok(reactor) => {
                     let place = reactor.journal().len() as u64;
                     self.content = Content::Loaded(reactor);
@@ -358,7 +359,9 @@ pub fn decide_slot(
         return Reply::Refused(refusal);
     }
     match command {
-        SlotCommand::Load { main, text } => slot.load(stamp(policy, session), main, text),
+        SlotCommand::Load { main, text } => {
+            slot.load(stamp(policy, session), main.as_str(), text.as_str())
+        }
         SlotCommand::Offer { signal } => slot.offer(stamp(policy, session), &signal),
         SlotCommand::Step => slot.step(policy, session),
         SlotCommand::Look { instant } => slot.look(policy, session, instant),

@@ -10,7 +10,7 @@ returns-in-Err-clause-step c = λ entries stands.
 pub returns-in-Load-clause-step : goal.returns-in-Load-clause-step
 returns-in-Load-clause-step c = λ entries stands.
     let may = rw (c.number.ensures, c.in-Load.is) at c.in_default.ensures entries stands in
-    let done = rw (c.stamp.ensures entries stands) at c.load.ensures.step in
+    let done = rw (c.stamp.ensures entries stands, c.as_str.ensures.same, c.as_str-in-Load.ensures) at c.load.ensures.step in
     rw c.in-Load.is (permitted _ _ _ _ _ _ _ _ may done)
 
 pub returns-in-Offer-clause-step : goal.returns-in-Offer-clause-step

@@ -4,5 +4,5 @@ use Rattle.reactor_core.proofs.OneMeaning.{is_loaded_where}
 use Rattle.access_core.proofs.slot.offered.Goals as goal
 
 pub returns-in-Err-clause-loaded : goal.returns-in-Err-clause-loaded
-returns-in-Err-clause-loaded c = 
+returns-in-Err-clause-loaded c =
     let answer = c.in-Err.ensures in ap is_loaded answer.given.stays ∙ is_loaded_where c.args.reactor.now answer.running answer.runs
