@@ -1,5 +1,5 @@
 //! Worked examples: loads, offers, steps and shown instants of small modules.
-use crate::entry::Stamp;
+use crate::entry::{Action, PastInstant, SlotEntry, Stamp};
 use crate::journal::Journal;
 use crate::reactor::{Reactor, Shown};
 use crate::refusal::{Place, Refusal};
@@ -119,7 +119,16 @@ fn a_stuck_step_keeps_what_is_pending(rt: HostRuntime) -> Result<(), Fail> {
     Ok(())
 }
 
-/// An offered input is in the next instant alone.
+/// The instant that an entry keeps, if it is a step's.
+fn instant_of(entry: &SlotEntry) -> Option<PastInstant> {
+    match &entry.action {
+        Action::Step(instant) => Some(*instant),
+        Action::Load(_) => None,
+        Action::Offer(_) => None,
+    }
+}
+
+/// An offered input is in the next instant alone, and in the entry of its step.
 #[test]
 fn an_offer_is_in_the_next_instant(rt: HostRuntime) -> Result<(), Fail> {
     let text = "module M: input I; output O; present I then emit O end; pause end module";
@@ -141,6 +150,19 @@ fn an_offer_is_in_the_next_instant(rt: HostRuntime) -> Result<(), Fail> {
             present: 0
         })
     );
+    let kept = match reactor.journal().entries() {
+        [_, _, first, second] => (instant_of(first), instant_of(second)),
+        _ => return Err(Fail::from("not four entries")),
+    };
+    let first = PastInstant {
+        inputs: 1,
+        outputs: 2,
+    };
+    let second = PastInstant {
+        inputs: 0,
+        outputs: 0,
+    };
+    assert_eq!(rt; kept, (Some(first), Some(second)));
     Ok(())
 }
 
@@ -250,4 +272,20 @@ fn faults_of_a_text(rt: HostRuntime) -> Result<(), Fail> {
         Some(Refusal::UnknownModule(name("M")?))
     );
     Ok(())
+}
+
+/// A refused load gives back the journal with what stood in it.
+#[test]
+fn a_refused_load_keeps_the_journal(rt: HostRuntime) -> Result<(), Fail> {
+    let reactor = loaded(rt.alloc(), "module M: nothing end module")?;
+    let journal = reactor.ok().ok_or("refused")?.into_journal();
+    let text = "module N: nothing end module";
+    match Reactor::load(rt.alloc(), journal, STAMP, "M", text) {
+        Ok(_reactor) => Err(Fail::from("not refused")),
+        Err((refusal, journal)) => {
+            assert_eq!(rt; refusal, Refusal::UnknownModule(name("M")?));
+            assert_eq!(rt; journal.len(), 1);
+            Ok(())
+        }
+    }
 }
