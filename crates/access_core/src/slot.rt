@@ -1,6 +1,6 @@
 //! One slot, and the answer to a command on it.
 ghost use Rattle.std.specs.Prelude.{◌≡◌, ◌⊎◌, [], List, IsTrue, true};
-ghost use Rattle.est_kernel.specs.Identifiers.{is_identifier};
+ghost use Rattle.est_text.specs.Identifiers.{is_identifier};
 ghost use Rattle.est_kernel.specs.Term.{Term};
 ghost use Rattle.rbac_policy.specs.declared.commands.Entry.{Entry};
 ghost use Rattle.rbac_policy.specs.StandsFor.{StandsFor};

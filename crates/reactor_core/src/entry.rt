@@ -1,7 +1,7 @@
 //! The entries of a slot's journal.
 use crate::text::Text;
-use est_text::identifier::Identifier;
 use est_kernel::kernel::Kernel;
+use est_text::identifier::Identifier;
 
 /// The policy version at which a command was judged, and the number of the session that gave it.
 #[derive(Clone, Copy, PartialEq, Eq, Debug)]

@@ -1,7 +1,7 @@
 //! A running module with its journal.
 ghost use Rattle.std.specs.Prelude.{◌≡◌, ◌⊎◌, ◌<◌, ◌-◌, ◌^◌, ◌++◌, ◌∷◌, [], length, bit_or, Some, MatchResult, MatchOption, IfOk, IfErr, IsTrue, true, false, slice_get};
 ghost use Rattle.est_kernel.specs.Bits.{bits};
-ghost use Rattle.est_kernel.specs.Identifiers.{is_identifier};
+ghost use Rattle.est_text.specs.Identifiers.{is_identifier};
 ghost use Rattle.est_kernel.specs.Term.{Term};
 ghost use Rattle.est_kernel.specs.declared.interface.Kind.TheVariants.{Input};
 ghost use Rattle.reactor_core.specs.declared.entry.Load.{Load as LoadEntry};
@@ -19,13 +19,13 @@ use crate::reactor::instant::Instant;
 use crate::reader::read_kernel;
 use crate::refusal::Refusal;
 use crate::text::Text;
-use est_text::identifier::Identifier;
 use est_kernel::interface::{Interface, Kind};
 use est_kernel::kernel::Kernel;
 use est_kernel::mask;
 use est_kernel::state::{Inputs, Outcome, State, Stuck};
 use est_kernel::statement::InterfaceSignal;
 use est_rounds::engine::Engine;
+use est_text::identifier::Identifier;
 use std::alloc::Global;
 use std::marker::Model;
 

@@ -38,10 +38,10 @@ use crate::reader::place::{front, place_after};
 use crate::reader::token::Located;
 use crate::reader::translation::{interface_of, statement_of};
 use crate::refusal::{Limit, Refusal};
-use est_text::identifier::Identifier;
 use est_kernel::interface::Interface;
 use est_kernel::kernel::Kernel;
 use est_kernel::statement::Statement;
+use est_text::identifier::Identifier;
 use std::alloc::Global;
 
 /// The fault of a text that has no tokens.

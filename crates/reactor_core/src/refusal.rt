@@ -1,8 +1,8 @@
 //! What a reactor refuses.
 use crate::reader::fault::ReadFault;
-use est_text::identifier::Identifier;
 use est_kernel::kernel::LoadFault;
 use est_kernel::limits::Limit as KernelLimit;
+use est_text::identifier::Identifier;
 
 /// A place in a text: line and column, both from 1; columns count bytes.
 #[derive(Clone, Copy, PartialEq, Eq, Debug)]

@@ -9,9 +9,9 @@ use crate::reader::names::{Mention, mentions_of};
 use crate::reader::size::sequence_size;
 use crate::reader::tree::Module;
 use crate::refusal::Limit;
-use est_text::identifier::Identifier;
 use est_kernel::interface::{Declaration, Kind, MOST_SIGNALS};
 use est_kernel::limits::MOST_STATEMENTS;
+use est_text::identifier::Identifier;
 use std::alloc::Global;
 
 /// Whether the name is that of the signal which is present in every instant.

@@ -11,9 +11,9 @@ ghost use Rattle.reactor_core.specs.Trees.{unit_view, branches_view, sequence_vi
 
 use crate::reader::checks::is_tick;
 use crate::reader::tree::{Branches, Sequence, Unit};
-use est_text::identifier::Identifier;
 use est_kernel::interface::{Declaration, Interface, MOST_SIGNALS};
 use est_kernel::statement::{InterfaceSignal, PauseIndex, Signal, Statement, Test};
+use est_text::identifier::Identifier;
 use std::alloc::{AllocError, Global};
 
 /// The interface of these declarations.

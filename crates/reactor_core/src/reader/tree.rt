@@ -1,6 +1,6 @@
 //! The tree of a module's text, with the names as they are written.
-use est_text::identifier::Identifier;
 use est_kernel::interface::Declaration;
+use est_text::identifier::Identifier;
 
 /// A unit.
 #[derive(Drop)]
