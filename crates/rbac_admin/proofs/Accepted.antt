@@ -1,51 +1,40 @@
 -- What an accepted command leaves in the list of entries.
-use Rattle.std.proofs.Common.{◌≡◌, ℕ, List, inl, inr, sym, refl, subst}
-use Rattle.std.specs.Prelude.{true, Option, Result, Ok}
+use Rattle.std.proofs.Common.{◌≡◌, ◌↔◌, ⊎_elim, ℕ, List, sym, refl, subst}
+use Rattle.std.specs.Prelude.{true, Option, Result, Ok, Err}
+use Rattle.refusal_rules.specs.Rules.{Rules, Answers, AllPass, FirstRefuses}
+use Rattle.refusal_rules.proofs.RuleLemmas.{all_passed, first_or_none, refused, accepted}
 use Rattle.std.proofs.lemmas.Bool.{false≢true}
 use Rattle.rbac_policy.specs.declared.commands.AdminCommand.{AdminCommand}
 use Rattle.rbac_policy.specs.declared.commands.AdminCommand.TheVariants.{AddUser, DeleteUser, AddRole, DeleteRole, AssignUser, DeassignUser, GrantPermission, RevokePermission, AddInheritance, DeleteInheritance, CreateDsdSet, DeleteDsdSet, CreateSession, DeleteSession, AddActiveRole, DropActiveRole}
 use Rattle.rbac_policy.specs.declared.commands.Entry.{Entry}
 use Rattle.rbac_admin.specs.declared.refusals.Refusal.{Refusal}
-use Rattle.rbac_admin.specs.Rules.{◌▸◌, Passes, Accepts}
 use Rattle.rbac_admin.specs.Conditions.{Administers}
-use Rattle.rbac_admin.specs.PolicyStep.{PolicyStep, entry_of, is_administrative}
+use Rattle.rbac_admin.specs.PolicyStep.{PolicyStep, policy_rules, entry_of, is_administrative}
 
--- an entry is answered only where the rule gives no refusal
-pub passed : {rule : Refusal → Type 0} {next : Result Entry Refusal → Type 0} (e : Entry) → (rule ▸ next) (Ok e) → Passes rule next (Ok e)
-passed e (inl r) = (let is = r.is in cc)
-passed e (inr p) = p
+-- where an entry is answered, each rule lets pass, and the entry is the command's
+answered_entry : (entries : List Entry) (session : Option ℕ) (command : AdminCommand) (e : Entry) → PolicyStep entries session command (Ok e)
+    → AllPass (policy_rules entries session command) × (e ≡ entry_of session command)
+answered_entry entries session command e h = let all = all_passed rules Refused Accepted (λ refusal is. cc) h in (all.0, let is = all.1 in cc) where
+  answer : Result Entry Refusal
+  answer = Ok e
 
--- the only entry that may be answered
-record Only (entry : Entry) (next : Result Entry Refusal → Type 0) : Type 0 where
-  is : (e : Entry) → next (Ok e) → e ≡ entry
+  rules : Rules Refusal
+  rules = policy_rules entries session command
 
-ruled : {entry : Entry} {rule : Refusal → Type 0} {next : Result Entry Refusal → Type 0} → Only entry next → Only entry (rule ▸ next)
-ruled rest = record { is = λ e h. rest.is e (passed e h).then }
+  Refused : Refusal → Type 0
+  Refused refusal = answer ≡ Err refusal
 
-accepts : {session : Option ℕ} {command : AdminCommand} → Only (record { session = session; command = command }) (Accepts session command)
-accepts = record { is = λ e h. cc }
+  Accepted : Type 0
+  Accepted = answer ≡ Ok (entry_of session command)
 
-only : (entries : List Entry) (session : Option ℕ) (command : AdminCommand) → Only (entry_of session command) (PolicyStep entries session command)
-only entries session (AddUser user) = ruled (ruled (ruled (ruled accepts)))
-only entries session (DeleteUser user) = ruled (ruled (ruled accepts))
-only entries session (AddRole role) = ruled (ruled (ruled (ruled accepts)))
-only entries session (DeleteRole role) = ruled (ruled (ruled (ruled accepts)))
-only entries session (AssignUser user role) = ruled (ruled (ruled (ruled (ruled accepts))))
-only entries session (DeassignUser user role) = ruled (ruled (ruled (ruled (ruled accepts))))
-only entries session (GrantPermission role operation object) = ruled (ruled (ruled (ruled (ruled accepts))))
-only entries session (RevokePermission role operation object) = ruled (ruled (ruled (ruled accepts)))
-only entries session (AddInheritance senior junior) = ruled (ruled (ruled (ruled (ruled (ruled (ruled accepts))))))
-only entries session (DeleteInheritance senior junior) = ruled (ruled (ruled (ruled (ruled accepts))))
-only entries session (CreateDsdSet set count roles) = ruled (ruled (ruled (ruled (ruled (ruled (ruled accepts))))))
-only entries session (DeleteDsdSet set) = ruled (ruled (ruled accepts))
-only entries session (CreateSession user roles) = ruled (ruled (ruled (ruled (ruled (ruled (ruled accepts))))))
-only entries session DeleteSession = ruled accepts
-only entries session (AddActiveRole role) = ruled (ruled (ruled (ruled (ruled accepts))))
-only entries session (DropActiveRole role) = ruled (ruled (ruled accepts))
+-- where an entry is answered, each rule lets pass
+pub passed : (entries : List Entry) (session : Option ℕ) (command : AdminCommand) (e : Entry) → PolicyStep entries session command (Ok e)
+    → AllPass (policy_rules entries session command)
+passed entries session command e h = (answered_entry entries session command e h).0
 
 -- the entry is the command, with the session that gave it unless it is a login
 pub accepted_entry : (entries : List Entry) (session : Option ℕ) (command : AdminCommand) (e : Entry) → PolicyStep entries session command (Ok e) → e ≡ entry_of session command
-accepted_entry entries session command = (only entries session command).is
+accepted_entry entries session command e h = (answered_entry entries session command e h).1
 
 -- what is asked of the entry alone is asked as it was of the command
 same_step : (entries : List Entry) (session : Option ℕ) (command : AdminCommand) (answer : Result Entry Refusal)
@@ -74,22 +63,52 @@ accepted_again entries session command e h =
     let Again : Entry → Type 0 = λ x. PolicyStep entries x.session x.command (Ok e) in
     subst Again (sym (accepted_entry entries session command e h)) (same_step entries session command (Ok e) h)
 
--- no administrative command is accepted from a session that may not administer
-pub not_accepted : (entries : List Entry) (session : Option ℕ) (command : AdminCommand) (e : Entry)
-    → is_administrative command ≡ true → (Administers entries session → ⊥) → PolicyStep entries session command (Ok e) → ⊥
-not_accepted entries session (AddUser user) e administrative none h = (passed e (passed e h).then).silent _ (refl, none)
-not_accepted entries session (DeleteUser user) e administrative none h = (passed e (passed e h).then).silent _ (refl, none)
-not_accepted entries session (AddRole role) e administrative none h = (passed e (passed e h).then).silent _ (refl, none)
-not_accepted entries session (DeleteRole role) e administrative none h = (passed e (passed e h).then).silent _ (refl, none)
-not_accepted entries session (AssignUser user role) e administrative none h = (passed e (passed e h).then).silent _ (refl, none)
-not_accepted entries session (DeassignUser user role) e administrative none h = (passed e (passed e h).then).silent _ (refl, none)
-not_accepted entries session (GrantPermission role operation object) e administrative none h = (passed e (passed e h).then).silent _ (refl, none)
-not_accepted entries session (RevokePermission role operation object) e administrative none h = (passed e (passed e h).then).silent _ (refl, none)
-not_accepted entries session (AddInheritance senior junior) e administrative none h = (passed e (passed e h).then).silent _ (refl, none)
-not_accepted entries session (DeleteInheritance senior junior) e administrative none h = (passed e (passed e h).then).silent _ (refl, none)
-not_accepted entries session (CreateDsdSet set count roles) e administrative none h = (passed e (passed e h).then).silent _ (refl, none)
-not_accepted entries session (DeleteDsdSet set) e administrative none h = (passed e (passed e h).then).silent _ (refl, none)
-not_accepted entries session (CreateSession user roles) e administrative none h = false≢true administrative
-not_accepted entries session DeleteSession e administrative none h = false≢true administrative
-not_accepted entries session (AddActiveRole role) e administrative none h = false≢true administrative
-not_accepted entries session (DropActiveRole role) e administrative none h = false≢true administrative
+-- an administrative command is accepted only from a session that may administer
+pub accepted_administers : (entries : List Entry) (session : Option ℕ) (command : AdminCommand) (e : Entry)
+    → is_administrative command ≡ true → PolicyStep entries session command (Ok e) → Administers entries session
+accepted_administers entries session (AddUser user) e administrative h = (passed entries session (AddUser user) e h).1.0
+accepted_administers entries session (DeleteUser user) e administrative h = (passed entries session (DeleteUser user) e h).1.0
+accepted_administers entries session (AddRole role) e administrative h = (passed entries session (AddRole role) e h).1.0
+accepted_administers entries session (DeleteRole role) e administrative h = (passed entries session (DeleteRole role) e h).1.0
+accepted_administers entries session (AssignUser user role) e administrative h = (passed entries session (AssignUser user role) e h).1.0
+accepted_administers entries session (DeassignUser user role) e administrative h = (passed entries session (DeassignUser user role) e h).1.0
+accepted_administers entries session (GrantPermission role operation object) e administrative h = (passed entries session (GrantPermission role operation object) e h).1.0
+accepted_administers entries session (RevokePermission role operation object) e administrative h = (passed entries session (RevokePermission role operation object) e h).1.0
+accepted_administers entries session (AddInheritance senior junior) e administrative h = (passed entries session (AddInheritance senior junior) e h).1.0
+accepted_administers entries session (DeleteInheritance senior junior) e administrative h = (passed entries session (DeleteInheritance senior junior) e h).1.0
+accepted_administers entries session (CreateDsdSet set count roles) e administrative h = (passed entries session (CreateDsdSet set count roles) e h).1.0
+accepted_administers entries session (DeleteDsdSet set) e administrative h = (passed entries session (DeleteDsdSet set) e h).1.0
+accepted_administers entries session (CreateSession user roles) e administrative h = absurd (false≢true administrative)
+accepted_administers entries session DeleteSession e administrative h = absurd (false≢true administrative)
+accepted_administers entries session (AddActiveRole role) e administrative h = absurd (false≢true administrative)
+accepted_administers entries session (DropActiveRole role) e administrative h = absurd (false≢true administrative)
+
+-- the answer is a refusal exactly where it is that of the first rule that refuses
+pub refused_first : (entries : List Entry) (session : Option ℕ) (command : AdminCommand) (refusal : Refusal)
+    → (PolicyStep entries session command (Err refusal) ↔ FirstRefuses (policy_rules entries session command) refusal)
+refused_first entries session command refusal = (to, λ first. refused all Refused Accepted refusal first refl) where
+  all : Rules Refusal
+  all = policy_rules entries session command
+
+  answer : Result Entry Refusal
+  answer = Err refusal
+
+  Refused : Refusal → Type 0
+  Refused given = answer ≡ Err given
+
+  Accepted : Type 0
+  Accepted = answer ≡ Ok (entry_of session command)
+
+  to : Answers all Refused Accepted → FirstRefuses all refusal
+  to h = ⊎_elim
+      (λ first. let is : first.0 ≡ refusal = (let same = first.2 in cc) in subst (λ given. FirstRefuses all given) is first.1)
+      (λ none. let is = none.1 in absurd cc)
+      (first_or_none all Refused Accepted h)
+
+-- and it is the command's entry exactly where all rules let pass
+pub accepted_all : (entries : List Entry) (session : Option ℕ) (command : AdminCommand)
+    → (PolicyStep entries session command (Ok (entry_of session command)) ↔ AllPass (policy_rules entries session command))
+accepted_all entries session command =
+    (passed entries session command (entry_of session command),
+    λ all. accepted (policy_rules entries session command) (λ refusal. Ok (entry_of session command) ≡ Err refusal)
+    (Ok (entry_of session command) ≡ Ok (entry_of session command)) all refl)

@@ -1,23 +1,17 @@
--- Steps through an ordered list of rules.
-use Rattle.std.proofs.Common.{◌≡◌, ℕ, ◌↔◌, List, inl, inr, refl, IsTrue, true, false, Bool, rules}
-use Rattle.std.specs.Prelude.{Option, Result, Err}
+-- Steps through the rules of a policy command.
+use Rattle.std.proofs.Common.{◌≡◌, ◌∙◌, ◌⊎◌, sym, subst, ℕ, ◌↔◌, List, IsTrue, true, false, Bool, rules}
+use Rattle.std.specs.Prelude.{Option}
+use Rattle.std.proofs.lemmas.Option.{same_Some}
+use Rattle.refusal_rules.specs.Rules.{Refuses, Passes}
+use Rattle.refusal_rules.proofs.RuleLemmas.{refuse, pass}
 use Rattle.rbac_policy.specs.declared.commands.Entry.{Entry}
 use Rattle.rbac_policy.specs.declared.objects.Operation.TheVariants.{Administer}
 use Rattle.rbac_policy.specs.declared.objects.Object.TheVariants.{Policy}
 use Rattle.rbac_policy.specs.Facts.{May}
 use Rattle.rbac_admin.specs.declared.refusals.Refusal.{Refusal}
 use Rattle.rbac_admin.specs.declared.refusals.Refusal.TheVariants.{Permission}
-use Rattle.rbac_admin.specs.Rules.{◌▸◌, Says}
 use Rattle.rbac_admin.specs.Conditions.{IsGivenBy}
 use Rattle.rbac_admin.specs.PolicyStep.{no_session, no_permission}
-
--- the rule refuses
-pub refuse : {rule : Refusal → Type 0} {next : Result Entry Refusal → Type 0} {r : Refusal} → rule r → (rule ▸ next) (Err r)
-refuse {r = r} given = inl (record { refusal = r; given = given; is = refl })
-
--- the rule gives no refusal, and what follows answers
-pub pass : {rule : Refusal → Type 0} {next : Result Entry Refusal → Type 0} {answer : Result Entry Refusal} → ((refusal : Refusal) → rule refusal → ⊥) → next answer → (rule ▸ next) answer
-pass silent then = inr (record { silent = silent; then = then })
 
 -- a test that is not passed
 pub not_so : {b : Bool} {P : Type 0} → (IsTrue b ↔ P) → b ≡ false → P → ⊥
@@ -29,10 +23,16 @@ is_so {b = true} test e = test.0 (search rules)
 is_so {b = false} test e = cc
 
 module _ (entries : List Entry) (session : Option ℕ) (n : ℕ) (by : IsGivenBy entries session n) where
-  pub pass_session : {next : Result Entry Refusal → Type 0} {answer : Result Entry Refusal} → next answer → (no_session entries session ▸ next) answer
-  pass_session then = pass (λ refusal given. given.1 (n, by)) then
+  pub pass_session : {Refused : Refusal → Type 0} {Next : Type 0} → Next
+      → Refuses (no_session entries session) Refused ⊎ Passes (no_session entries session) Next
+  pass_session then = pass (n, by) then
 
-  pub pass_permission : {next : Result Entry Refusal → Type 0} {answer : Result Entry Refusal}
-      → ((refusal : Refusal) → Says (Permission Administer Policy) (May entries n Administer Policy → ⊥) refusal → ⊥)
-      → next answer → (no_permission entries session ▸ next) answer
-  pass_permission silent then = pass (λ refusal given. silent refusal (given.0, λ may. given.1 (record { number = n; given = by.given; may = may }))) then
+  pub pass_permission : {Refused : Refusal → Type 0} {Next : Type 0} → May entries n Administer Policy → Next
+      → Refuses (no_permission entries session) Refused ⊎ Passes (no_permission entries session) Next
+  pass_permission may then = pass (record { number = n; given = by.given; may = may }) then
+
+  pub refuse_permission : {Refused : Refusal → Type 0} {Next : Type 0} (refusal : Refusal)
+      → (refusal ≡ Permission Administer Policy) × (May entries n Administer Policy → ⊥) → Refused refusal
+      → Refuses (no_permission entries session) Refused ⊎ Passes (no_permission entries session) Next
+  refuse_permission refusal given answered =
+      refuse refusal (given.0, λ a. given.1 (subst (λ k. May entries k Administer Policy) (same_Some a.number n (sym a.given ∙ by.given)) a.may)) answered

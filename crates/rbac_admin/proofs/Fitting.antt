@@ -18,8 +18,7 @@ use Rattle.rbac_policy.specs.StandsFor.{StandsFor}
 use Rattle.rbac_policy.specs.Change.{absorbed}
 use Rattle.rbac_policy.proofs.Asking.{role_test, user_test}
 use Rattle.rbac_policy.proofs.Absorbing.{stands_after}
-use Rattle.rbac_admin.specs.Rules.{FirstListed}
-use Rattle.rbac_admin.specs.Conditions.{HasSession}
+use Rattle.rbac_admin.specs.Conditions.{FirstListed}
 use Rattle.rbac_admin.specs.PolicyStep.{PolicyStep, entry_of, is_decided, is_followed}
 use Rattle.rbac_admin.proofs.Accepted.{passed, accepted_entry}
 use Rattle.rbac_admin.proofs.Listing.{NoneBefore, none_at_first, none_further, first_here}
@@ -38,17 +37,6 @@ role_unless p L st r not_not = by_test (is_some (place_of r p.roles)) (role_test
   by_test : (b : Bool) → (IsTrue b ↔ IsRole L r) → IsRole L r
   by_test true test = test.0 (search rules)
   by_test false test = absurd (not_not (λ h. absurd (search (rules, test.1 h))))
-
--- the test of a user decides it
-user_unless : (p : Policy) (L : List Entry) → StandsFor p L → (u : NameText) → ((IsUser L u → ⊥) → ⊥) → IsUser L u
-user_unless p L st u not_not = by_test (list_any (user_is u) p.users) (user_test p L st u (list_any (user_is u) p.users) refl) where
-  by_test : (b : Bool) → (IsTrue b ↔ IsUser L u) → IsUser L u
-  by_test true test = test.0 (search rules)
-  by_test false test = absurd (not_not (λ h. absurd (search (rules, test.1 h))))
-
-given_unless : (L : List Entry) (session : Option ℕ) → ((HasSession L session → ⊥) → ⊥) → (number : ℕ) × (session ≡ Some number)
-given_unless L (Some number) not_not = (number, refl)
-given_unless L None not_not = absurd (not_not (λ h. (let given = h.1.given in cc)))
 
 -- what is decided is followed
 decided_followed : (command : AdminCommand) → is_decided command ≡ true → is_followed command ≡ true
@@ -73,58 +61,32 @@ module _ (p : Policy) (L : List Entry) (st : StandsFor p L) where
   fits_command : (session : Option ℕ) (command : AdminCommand) (e : Entry) → is_followed command ≡ true → PolicyStep L session command (Ok e)
       → FitsCommand (entry_of session command).command (entry_of session command).session L
   fits_command session (GrantPermission role operation object) e decided h =
-      let a = passed e h in
-      let b = passed e a.then in
-      let c = passed e b.then in
-      let d = passed e c.then in
-      let f = passed e d.then in
-      record {
-        is_role = role_unless p L st role (λ no. c.silent _ (refl, no));
-        room = λ new full. f.silent _ (refl, record { new = new; full = full });
-      }
+      let all = passed L session (GrantPermission role operation object) e h in
+      record { is_role = all.1.1.0; room = λ new full. all.1.1.1.1.0 (record { new = new; full = full }) }
   fits_command session (CreateSession user roles) e decided h =
-      let a = passed e h in
-      let b = passed e a.then in
-      let c = passed e b.then in
-      let d = passed e c.then in
-      let f = passed e d.then in
-      let g = passed e f.then in
-      let i = passed e g.then in
-      let unknown = none_anywhere (λ before role. IsRole L role → ⊥) roles (λ name first. c.silent _ (name, refl, first)) in
+      let all = passed L session (CreateSession user roles) e h in
+      let unknown = none_anywhere (λ before role. IsRole L role → ⊥) roles all.1.1.0 in
       record {
         by_none = refl;
         are_roles = λ role listed. role_unless p L st role
             ((unknown (suc listed.0)).none listed.0 role (omega arith) (slice_get-get_or roles listed.0 role listed.1 ∙ ap Some listed.2));
-        room = λ full. i.silent _ (refl, full);
-        numbers = elim (cases_lt (logins L) LAST_SESSION) [ inl low ↦ low | inr high ↦ absurd (a.silent _ (refl, high)) ];
+        room = all.1.1.1.1.1.1.0;
+        numbers = elim (cases_lt (logins L) LAST_SESSION) [ inl low ↦ low | inr high ↦ absurd (all.0 high) ];
       }
   fits_command session DeleteSession e decided h =
-      let a = passed e h in
-      let n = given_unless L session (λ no. a.silent _ (refl, no)) in
-      record { number = n.0; given = n.1 }
+      let session_is = (passed L session DeleteSession e h).0 in
+      record { number = session_is.0; given = session_is.1.given }
   fits_command session (AddUser user) e decided h =
-      let a = passed e h in
-      let b = passed e a.then in
-      let c = passed e b.then in
-      let d = passed e c.then in
-      record { absent = λ is. c.silent _ (refl, is); room = λ full. d.silent _ (refl, full) }
+      let all = passed L session (AddUser user) e h in
+      record { absent = all.1.1.0; room = all.1.1.1.0 }
   fits_command session (DeleteUser user) e decided h = cc
   fits_command session (AddRole role) e decided h =
-      let a = passed e h in
-      let b = passed e a.then in
-      let c = passed e b.then in
-      let d = passed e c.then in
-      record { absent = λ is. c.silent _ (refl, is); room = λ full. d.silent _ (refl, full) }
+      let all = passed L session (AddRole role) e h in
+      record { absent = all.1.1.0; room = all.1.1.1.0 }
   fits_command session (DeleteRole role) e decided h = cc
   fits_command session (AssignUser user role) e decided h =
-      let a = passed e h in
-      let b = passed e a.then in
-      let c = passed e b.then in
-      let d = passed e c.then in
-      record {
-        is_user = user_unless p L st user (λ no. c.silent _ (refl, no));
-        is_role = role_unless p L st role (λ no. d.silent _ (refl, no));
-      }
+      let all = passed L session (AssignUser user role) e h in
+      record { is_user = all.1.1.0; is_role = all.1.1.1.0 }
   fits_command session (DeassignUser user role) e decided h = cc
   fits_command session (RevokePermission role operation object) e decided h = cc
   fits_command session (AddInheritance senior junior) e decided h = cc

@@ -1,13 +1,14 @@
 -- While no separation set is there, none can be violated.
-use Rattle.std.proofs.Common.{refl, ◌≡◌, ℕ, List, [], ◌∷◌, ◌++◌, length, inl, inr}
+use Rattle.std.proofs.Common.{refl, ◌≡◌, ℕ, List, [], ◌∷◌, ◌++◌, length, ◌⊎◌, inl, inr}
 use Rattle.rbac_policy.specs.declared.commands.AdminCommand.TheVariants.{CreateDsdSet, DeleteDsdSet, CreateSession}
 use Rattle.rbac_policy.specs.declared.commands.Entry.{Entry}
 use Rattle.rbac_policy.specs.Names.{NameText}
 use Rattle.rbac_policy.specs.Facts.{IsSet}
 use Rattle.rbac_policy.proofs.Steps.{in_force_push}
-use Rattle.std.specs.Prelude.{None, Result}
+use Rattle.std.specs.Prelude.{None}
+use Rattle.refusal_rules.specs.Rules.{Refuses, Passes}
+use Rattle.refusal_rules.proofs.RuleLemmas.{pass}
 use Rattle.rbac_admin.specs.declared.refusals.Refusal.{Refusal}
-use Rattle.rbac_admin.specs.Rules.{◌▸◌}
 use Rattle.rbac_admin.specs.Separation.{IsFirstViolated}
 use Rattle.rbac_admin.specs.PolicyStep.{violation}
 
@@ -25,7 +26,8 @@ module _ (entries : List Entry) (no_set : (place : ℕ) (set : NameText) (count 
   no_violation_after_login entry user listed is set session v = no_set_after_login entry user listed is v.place set v.count v.roles v.is_set
 
   -- a login can't violate a set
-  pub pass_violation : (user : NameText) (listed : List NameText) {next : Result Entry Refusal → Type 0} {answer : Result Entry Refusal}
-      → next answer → (violation entries None (CreateSession user listed) ▸ next) answer
+  pub pass_violation : (user : NameText) (listed : List NameText) {Refused : Refusal → Type 0} {Next : Type 0} → Next
+      → Refuses (violation entries None (CreateSession user listed)) Refused ⊎ Passes (violation entries None (CreateSession user listed)) Next
   pass_violation user listed then =
-      inr (record { silent = λ refusal v. no_violation_after_login (record { session = None; command = CreateSession user listed }) user listed refl v.0 v.1 v.3; then = then })
+      let entry : Entry = record { session = None; command = CreateSession user listed } in
+      pass (λ violated v. no_violation_after_login entry user listed refl violated.0 violated.1 v) then

@@ -4,24 +4,17 @@ use Rattle.std.specs.Prelude.{Option, Some, None, Result, Err, slice_get}
 use Rattle.std.proofs.lemmas.Bool.{cases_order}
 use Rattle.std.proofs.lemmas.Option.{same_Some, slice_get_within}
 use Rattle.std.proofs.lemmas.List.{length-take-le}
+use Rattle.refusal_rules.specs.Rules.{Naming, IsDefinite, AllDefinite}
+use Rattle.refusal_rules.proofs.RuleLemmas.{says, unless, naming, one_answer as same_answer}
 use Rattle.rbac_policy.specs.Names.{NameText}
 use Rattle.rbac_policy.specs.Facts.{IsSet, Violates}
 use Rattle.rbac_policy.specs.declared.commands.AdminCommand.{AdminCommand}
 use Rattle.rbac_policy.specs.declared.commands.AdminCommand.TheVariants.{AddUser, DeleteUser, AddRole, DeleteRole, AssignUser, DeassignUser, GrantPermission, RevokePermission, AddInheritance, DeleteInheritance, CreateDsdSet, DeleteDsdSet, CreateSession, DeleteSession, AddActiveRole, DropActiveRole}
 use Rattle.rbac_policy.specs.declared.commands.Entry.{Entry}
 use Rattle.rbac_admin.specs.declared.refusals.Refusal.{Refusal}
-use Rattle.rbac_admin.specs.declared.refusals.Refusal.TheVariants.{DsdViolated}
-use Rattle.rbac_admin.specs.Rules.{◌▸◌, Says, Naming, Accepts, FirstListed}
 use Rattle.rbac_admin.specs.Separation.{IsFirstViolated, IsFirstSetOf}
-use Rattle.rbac_admin.specs.PolicyStep.{PolicyStep, violation}
-
--- the rule gives one refusal at most
-record OneRefusal (rule : Refusal → Type 0) : Type 0 where
-  same : (a b : Refusal) → rule a → rule b → a ≡ b
-
--- one answer at most
-record OneAnswer (next : Result Entry Refusal → Type 0) : Type 0 where
-  same : (a b : Result Entry Refusal) → next a → next b → a ≡ b
+use Rattle.rbac_admin.specs.Conditions.{FirstListed}
+use Rattle.rbac_admin.specs.PolicyStep.{PolicyStep, policy_rules, entry_of, violation}
 
 -- one place at most, where none of those before a place with the property has it
 one_place : (a b : ℕ) → (a < b → ⊥) → (b < a → ⊥) → a ≡ b
@@ -30,28 +23,13 @@ one_place a b not_below not_above = elim (cases_order a b) [
   | inr other ↦ elim other [ inl low ↦ absurd (not_below low) | inr high ↦ absurd (not_above high) ]
 ]
 
-ruled : {rule : Refusal → Type 0} {next : Result Entry Refusal → Type 0} → OneRefusal rule → OneAnswer next → OneAnswer (rule ▸ next)
-ruled {rule = rule} {next = next} one rest = record { same = cases } where
-  cases : (a b : Result Entry Refusal) → (rule ▸ next) a → (rule ▸ next) b → a ≡ b
-  cases a b (inl x) (inl y) = x.is ∙ ap Err (one.same x.refusal y.refusal x.given y.given) ∙ sym y.is
-  cases a b (inl x) (inr y) = absurd (y.silent x.refusal x.given)
-  cases a b (inr x) (inl y) = absurd (x.silent y.refusal y.given)
-  cases a b (inr x) (inr y) = rest.same a b x.then y.then
-
-says : {refusal : Refusal} {Fact : Type 0} → OneRefusal (Says refusal Fact)
-says = record { same = λ a b x y. x.0 ∙ sym y.0 }
-
-accepts : {session : Option ℕ} {command : AdminCommand} → OneAnswer (Accepts session command)
-accepts = record { same = λ a b x y. x ∙ sym y }
-
 one_listed : (P : List NameText → NameText → Type 0) (names : List NameText) (a b : NameText) → FirstListed P names a → FirstListed P names b → a ≡ b
 one_listed P names a b x y =
     let at = one_place x.at y.at (λ low. y.first x.at a low x.there x.has) (λ low. x.first y.at b low y.there y.has) in
     same_Some a b (sym x.there ∙ ap (slice_get names) at ∙ y.there)
 
-listed : {refusal : NameText → Refusal} {P : List NameText → NameText → Type 0} {names : List NameText} → OneRefusal (Naming refusal (FirstListed P names))
-listed {refusal = refusal} {P = P} {names = names} =
-    record { same = λ a b x y. x.1 ∙ ap refusal (one_listed P names x.0 y.0 x.2 y.2) ∙ sym y.1 }
+listed : {refusal : NameText → Refusal} {P : List NameText → NameText → Type 0} {names : List NameText} → IsDefinite (Naming refusal (FirstListed P names))
+listed {P = P} {names = names} = naming (one_listed P names)
 
 module _ (entries : List Entry) where
   -- a separation set's place is that of its entry
@@ -94,36 +72,39 @@ module _ (entries : List Entry) where
       let Here : ℕ → Type 0 = λ p. IsSet entries p set x.count x.roles in
       (one_set y.place set x.count x.roles other y.count y.roles (subst Here place x.is_set) y.is_set).by_name
 
-violations : (entries : List Entry) (session : Option ℕ) (command : AdminCommand) → OneRefusal (violation entries session command)
-violations entries session command =
-    record {
-      same = λ a b x y.
-          let one = one_violated (entries ++ record { session = session; command = command } ∷ []) x.0 y.0 x.1 y.1 x.3 y.3 in
-          x.2 ∙ ap (λ set. DsdViolated set x.1) one.0 ∙ ap (DsdViolated y.0) one.1 ∙ sym y.2;
-    }
+violations : (entries : List Entry) (session : Option ℕ) (command : AdminCommand) → IsDefinite (violation entries session command)
+violations entries session command = naming same where
+  after : List Entry
+  after = entries ++ record { session = session; command = command } ∷ []
 
-members : {refusal : NameText → Refusal} (entries : List Entry) (role : NameText) → OneRefusal (Naming refusal (IsFirstSetOf entries role))
-members {refusal = refusal} entries role =
-    record { same = λ a b x y. x.1 ∙ ap refusal (one_set_of entries role x.0 y.0 x.2 y.2) ∙ sym y.1 }
+  same : (one other : NameText × ℕ) → IsFirstViolated after one.0 one.1 → IsFirstViolated after other.0 other.1 → one ≡ other
+  same one other x y =
+      let both = one_violated after one.0 other.0 one.1 other.1 x y in
+      ap (λ set. (set, one.1)) both.0 ∙ ap (λ session. (other.0, session)) both.1
 
-one : (entries : List Entry) (session : Option ℕ) (command : AdminCommand) → OneAnswer (PolicyStep entries session command)
-one entries session (AddUser user) = ruled says (ruled says (ruled says (ruled says accepts)))
-one entries session (DeleteUser user) = ruled says (ruled says (ruled says accepts))
-one entries session (AddRole role) = ruled says (ruled says (ruled says (ruled says accepts)))
-one entries session (DeleteRole role) = ruled says (ruled says (ruled says (ruled (members entries role) accepts)))
-one entries session (AssignUser user role) = ruled says (ruled says (ruled says (ruled says (ruled says accepts))))
-one entries session (DeassignUser user role) = ruled says (ruled says (ruled says (ruled says (ruled says accepts))))
-one entries session (GrantPermission role operation object) = ruled says (ruled says (ruled says (ruled says (ruled says accepts))))
-one entries session (RevokePermission role operation object) = ruled says (ruled says (ruled says (ruled says accepts)))
-one entries session (AddInheritance senior junior) = ruled says (ruled says (ruled says (ruled says (ruled says (ruled says (ruled (violations entries session (AddInheritance senior junior)) accepts))))))
-one entries session (DeleteInheritance senior junior) = ruled says (ruled says (ruled says (ruled says (ruled says accepts))))
-one entries session (CreateDsdSet set count roles) = ruled says (ruled says (ruled says (ruled listed (ruled says (ruled (violations entries session (CreateDsdSet set count roles)) (ruled says accepts))))))
-one entries session (DeleteDsdSet set) = ruled says (ruled says (ruled says accepts))
-one entries session (CreateSession user roles) = ruled says (ruled says (ruled listed (ruled listed (ruled listed (ruled (violations entries None (CreateSession user roles)) (ruled says accepts))))))
-one entries session DeleteSession = ruled says accepts
-one entries session (AddActiveRole role) = ruled says (ruled says (ruled says (ruled says (ruled (violations entries session (AddActiveRole role)) accepts))))
-one entries session (DropActiveRole role) = ruled says (ruled says (ruled says accepts))
+members : {refusal : NameText → Refusal} (entries : List Entry) (role : NameText) → IsDefinite (Naming refusal (IsFirstSetOf entries role))
+members entries role = naming (one_set_of entries role)
+
+-- the rules of each command are definite
+pub all_definite : (entries : List Entry) (session : Option ℕ) (command : AdminCommand) → AllDefinite (policy_rules entries session command)
+all_definite entries session (AddUser user) = (unless, (unless, (says, (says, record {}))))
+all_definite entries session (DeleteUser user) = (unless, (unless, (unless, record {})))
+all_definite entries session (AddRole role) = (unless, (unless, (says, (says, record {}))))
+all_definite entries session (DeleteRole role) = (unless, (unless, (unless, (members entries role, record {}))))
+all_definite entries session (AssignUser user role) = (unless, (unless, (unless, (unless, (says, record {})))))
+all_definite entries session (DeassignUser user role) = (unless, (unless, (unless, (unless, (unless, record {})))))
+all_definite entries session (GrantPermission role operation object) = (unless, (unless, (unless, (says, (says, record {})))))
+all_definite entries session (RevokePermission role operation object) = (unless, (unless, (unless, (unless, record {}))))
+all_definite entries session (AddInheritance senior junior) = (unless, (unless, (unless, (unless, (says, (says, (violations entries session (AddInheritance senior junior), record {})))))))
+all_definite entries session (DeleteInheritance senior junior) = (unless, (unless, (unless, (unless, (unless, record {})))))
+all_definite entries session (CreateDsdSet set count roles) = (unless, (unless, (says, (listed, (says, (violations entries session (CreateDsdSet set count roles), (says, record {})))))))
+all_definite entries session (DeleteDsdSet set) = (unless, (unless, (unless, record {})))
+all_definite entries session (CreateSession user roles) = (says, (unless, (listed, (listed, (listed, (violations entries None (CreateSession user roles), (says, record {})))))))
+all_definite entries session DeleteSession = (unless, record {})
+all_definite entries session (AddActiveRole role) = (unless, (unless, (unless, (says, (violations entries session (AddActiveRole role), record {})))))
+all_definite entries session (DropActiveRole role) = (unless, (unless, (unless, record {})))
 
 -- two answers to one command are one
 pub one_answer : (entries : List Entry) (session : Option ℕ) (command : AdminCommand) (a b : Result Entry Refusal) → PolicyStep entries session command a → PolicyStep entries session command b → a ≡ b
-one_answer entries session command = (one entries session command).same
+one_answer entries session command =
+    same_answer (policy_rules entries session command) (all_definite entries session command) (entry_of session command)

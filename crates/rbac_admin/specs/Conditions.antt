@@ -1,5 +1,5 @@
 -- The facts that decide a policy command, over the list of accepted entries (ANSI INCITS 359-2004, what its functions ask before they act).
-use Rattle.std.specs.Prelude.{◌≡◌, ◌≢◌, ℕ, ◌<◌, ◌⊎◌, List, Option, Some, length}
+use Rattle.std.specs.Prelude.{◌≡◌, ◌≢◌, ℕ, ◌<◌, ◌⊎◌, List, Option, Some, length, slice_get, take}
 use Rattle.std.specs.List.{AllPairs}
 use Rattle.rbac_policy.specs.declared.objects.Operation.{Operation}
 use Rattle.rbac_policy.specs.declared.objects.Operation.TheVariants.{Administer}
@@ -59,3 +59,10 @@ SetsFull entries = HasAtLeast SETS (IsSetName entries)
 -- no separation set has this number and these roles: a role stands twice, or the number is under 2 or over that of the roles
 abbrev pub IsNoShape : ℕ → List NameText → Type 0
 IsNoShape count roles = (AllPairs (λ one other. one ≢ other) roles → ⊥) ⊎ (count < 2) ⊎ (length roles < count)
+
+-- the first of the names that has the property, which may speak of those before it
+pub record FirstListed (P : List NameText → NameText → Type 0) (names : List NameText) (name : NameText) : Type 0 where
+  pub at : ℕ
+  pub there : slice_get names at ≡ Some name
+  pub has : P (take at names) name
+  pub first : (place : ℕ) (earlier : NameText) → place < at → slice_get names place ≡ Some earlier → P (take place names) earlier → ⊥

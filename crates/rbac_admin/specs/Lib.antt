@@ -1,4 +1,3 @@
-pub mod Rules
 pub mod Conditions
 pub mod Separation
 pub mod PolicyStep

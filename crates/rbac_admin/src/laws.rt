@@ -1,5 +1,6 @@
 //! Laws of the policy step, for callers that reason about lists of entries. Nothing here runs.
-ghost use Rattle.std.specs.Prelude.{◌≡◌, ℕ, ◌<◌, List, [], ◌∷◌, ◌++◌, length, Option, Result, Ok, IsTrue};
+ghost use Rattle.std.specs.Prelude.{◌≡◌, ◌↔◌, ℕ, ◌<◌, List, [], ◌∷◌, ◌++◌, length, Option, Result, Ok, Err, IsTrue};
+ghost use Rattle.refusal_rules.specs.Rules.{FirstRefuses, AllPass, PassBefore, RefusesAt};
 ghost use Rattle.rbac_policy.specs.declared.commands.AdminCommand.{AdminCommand};
 ghost use Rattle.rbac_policy.specs.declared.commands.Entry.{Entry};
 ghost use Rattle.rbac_policy.specs.declared.policy.Policy.{Policy};
@@ -8,7 +9,7 @@ ghost use Rattle.rbac_policy.specs.StandsFor.{StandsFor};
 ghost use Rattle.rbac_policy.specs.declared.sizes.TheConstants.{LAST_VERSION};
 ghost use Rattle.rbac_admin.specs.declared.refusals.Refusal.{Refusal};
 ghost use Rattle.rbac_admin.specs.Conditions.{Administers};
-ghost use Rattle.rbac_admin.specs.PolicyStep.{PolicyStep, entry_of, is_administrative, is_followed};
+ghost use Rattle.rbac_admin.specs.PolicyStep.{PolicyStep, policy_rules, entry_of, is_administrative, is_followed};
 
 /// The policy step gives one answer at most.
 pub fn one_answer()
@@ -28,11 +29,22 @@ pub fn accepted_again()
         → PolicyStep entries session command (Ok entry) → PolicyStep entries entry.session entry.command (Ok entry) }
 {}
 
-/// No administrative command is accepted from a session that may not administer the policy.
-pub fn not_accepted()
+/// An administrative command is accepted only from a session that may administer the policy.
+pub fn accepted_administers()
     ensures { (entries : List Entry) (session : Option ℕ) (command : AdminCommand) (entry : Entry)
-        → IsTrue (is_administrative command) → (Administers entries session → ⊥)
-        → PolicyStep entries session command (Ok entry) → ⊥ }
+        → IsTrue (is_administrative command) → PolicyStep entries session command (Ok entry) → Administers entries session }
+{}
+
+/// The answer is a refusal exactly where a rule of the command gives it and all before that one let pass, and those then give none;
+/// it is the command's entry exactly where all let pass.
+pub fn first_refusal()
+    ensures refused { (entries : List Entry) (session : Option ℕ) (command : AdminCommand) (refusal : Refusal)
+        → (PolicyStep entries session command (Err refusal) ↔ FirstRefuses (policy_rules entries session command) refusal) }
+    ensures accepted { (entries : List Entry) (session : Option ℕ) (command : AdminCommand)
+        → (PolicyStep entries session command (Ok (entry_of session command)) ↔ AllPass (policy_rules entries session command)) }
+    ensures silent { (entries : List Entry) (session : Option ℕ) (command : AdminCommand) (place earlier : ℕ) (refusal : Refusal)
+        → PassBefore (policy_rules entries session command) place → earlier < place
+        → RefusesAt (policy_rules entries session command) earlier refusal → ⊥ }
 {}
 
 /// A policy that stands for a list, and then takes in an accepted entry, stands for the longer list.

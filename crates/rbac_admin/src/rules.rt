@@ -6,8 +6,8 @@ ghost use Rattle.rbac_policy.specs.StandsFor.{StandsFor};
 ghost use Rattle.rbac_policy.specs.Names.{NameText};
 ghost use Rattle.rbac_policy.specs.Facts.{IsRole, IsAuthorized, IsGranted, May};
 ghost use Rattle.rbac_policy.specs.Fits.{NumbersExhausted, SessionsFull};
-ghost use Rattle.rbac_admin.specs.Rules.{FirstListed, Says, Tests};
-ghost use Rattle.rbac_admin.specs.Conditions.{IsGivenBy, HasNoRoomFor};
+ghost use Rattle.refusal_rules.specs.Rules.{Says, Unless, Tests};
+ghost use Rattle.rbac_admin.specs.Conditions.{IsGivenBy, HasNoRoomFor, FirstListed};
 ghost use Rattle.rbac_admin.specs.PolicyStep.{no_session, unknown_user, unknown_role, unknown_listed, unauthorized_listed, repeated_listed};
 
 use crate::refusals::Refusal;
@@ -19,7 +19,7 @@ use rbac_policy::policy::Policy;
 /// The session that gives the command, where one does and it lives.
 pub fn living(policy: &Policy, session: Option<SessionId>) -> Result<SessionId, Refusal>
     ensures { (entries : List Entry) → StandsFor policy.now entries
-        → MatchResult result (IsGivenBy entries session) (no_session entries session) }
+        → MatchResult result (IsGivenBy entries session) (no_session entries session).refuses }
 {
     let Some(number) = session else {
         return Err(Refusal::NoSession);
@@ -34,7 +34,7 @@ pub fn living(policy: &Policy, session: Option<SessionId>) -> Result<SessionId, 
 /// The session may change the policy.
 pub fn administers(policy: &Policy, session: SessionId) -> Result<(), Refusal>
     ensures { (entries : List Entry) → StandsFor policy.now entries
-        → Tests (Says (Refusal.Permission Operation.Administer Object.Policy) (May entries session Operation.Administer Object.Policy → ⊥)) result }
+        → Tests (Unless (May entries session Operation.Administer Object.Policy) (Refusal.Permission Operation.Administer Object.Policy)) result }
 {
     if policy.may(session, &Operation::Administer, &Object::Policy) {
         Ok(())

@@ -1,9 +1,18 @@
-use Rattle.std.proofs.Common.{sym, ap}
+use Rattle.std.proofs.Common.{refl, sym, ap}
 use Rattle.std.specs.Prelude.{Ok}
 use Rattle.std.proofs.lemmas.Result.{err_from_is_err_and}
 use Rattle.rbac_policy.specs.declared.commands.AdminCommand.TheVariants.{GrantPermission}
-use Rattle.rbac_admin.proofs.Answering.{refuse, pass, pass_session, pass_permission}
+use Rattle.refusal_rules.proofs.RuleLemmas.{refuse, pass}
+use Rattle.rbac_admin.proofs.Answering.{pass_session, pass_permission, refuse_permission}
 use Rattle.rbac_admin.proofs.decisions.decide_grant.Goals as goal
+
+pub returns-in_err-administers : goal.returns-in_err-administers
+returns-in_err-administers c =
+    let p = err_from_is_err_and c.from_residual-in_err-administers.result c.from_residual-in_err-administers.ensures.1 in
+    rw (p.1, p.2) (λ L st.
+    let by = c.in_ok-session.ensures L st in
+    pass_session L c.args.session c.in_ok-session.session by
+    (refuse_permission L c.args.session c.in_ok-session.session by _ (c.in_err-administers.ensures L st) refl))
 
 pub returns-in_err-known_role : goal.returns-in_err-known_role
 returns-in_err-known_role c =
@@ -12,7 +21,7 @@ returns-in_err-known_role c =
     let by = c.in_ok-session.ensures L st in
     pass_session L c.args.session c.in_ok-session.session by
     (pass_permission L c.args.session c.in_ok-session.session by (c.in_ok-administers.ensures L st)
-    (refuse (c.in_err-known_role.ensures L st))))
+    (refuse _ (c.in_err-known_role.ensures L st) refl)))
 
 pub returns-in_err-new_grant : goal.returns-in_err-new_grant
 returns-in_err-new_grant c =
@@ -22,7 +31,7 @@ returns-in_err-new_grant c =
     pass_session L c.args.session c.in_ok-session.session by
     (pass_permission L c.args.session c.in_ok-session.session by (c.in_ok-administers.ensures L st)
     (pass (c.in_ok-known_role.ensures L st)
-    (refuse (c.in_err-new_grant.ensures L st)))))
+    (refuse _ (c.in_err-new_grant.ensures L st) refl))))
 
 pub returns-in_err-room_for_grant : goal.returns-in_err-room_for_grant
 returns-in_err-room_for_grant c =
@@ -33,7 +42,7 @@ returns-in_err-room_for_grant c =
     (pass_permission L c.args.session c.in_ok-session.session by (c.in_ok-administers.ensures L st)
     (pass (c.in_ok-known_role.ensures L st)
     (pass (c.in_ok-new_grant.ensures L st)
-    (refuse (c.in_err-room_for_grant.ensures L st))))))
+    (refuse _ (c.in_err-room_for_grant.ensures L st) refl)))))
 
 pub returns : goal.returns
 returns c = λ L st.

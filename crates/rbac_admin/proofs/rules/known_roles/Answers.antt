@@ -1,4 +1,4 @@
 use Rattle.rbac_admin.proofs.rules.known_roles.Goals as goal
 
 pub returns-in-None : goal.returns-in-None
-returns-in-None c = λ L st refusal given. c.in-None.ensures L st given.0 given.2
+returns-in-None c = c.in-None.ensures
