@@ -12,7 +12,7 @@ use Rattle.access_core.specs.declared.reply.Reply.{Reply}
 use Rattle.access_core.specs.Rules.{◌▸◌}
 use Rattle.access_core.specs.SlotState.{SlotState}
 use Rattle.access_core.specs.SlotStep.{SlotStep}
-use Rattle.access_core.specs.Desk.{Desk, AreSlots, empty_slot, opening_desk, no_slot, InSlot, DeskStep}
+use Rattle.access_core.specs.Desk.{DeskState, AreSlots, empty_slot, opening_desk, no_slot, InSlot, DeskStep}
 use Rattle.access_core.proofs.Deciding.{living}
 
 -- the empty slots stand at their numbers
@@ -58,8 +58,8 @@ slots_with slots number new are below same = record {
 pub desk_step : (entries : List Entry) (slots : List SlotState) (number session : ℕ) (command : SlotCommand) (d new : SlotState) (reply : Reply)
     → AreSlots slots → number < 16 → IsLive entries session → new.number ≡ (get_or slots number d).number
     → SlotStep entries (get_or slots number d).number session command (get_or slots number d).journal reply new.journal
-    → let before : Desk = record { entries = entries; slots = slots } in
-    let after : Desk = record { entries = entries; slots = set slots number new } in
+    → let before : DeskState = record { entries = entries; slots = slots } in
+    let after : DeskState = record { entries = entries; slots = set slots number new } in
     DeskStep number session command before reply after
 desk_step entries slots number session command d new reply are below live same step =
     let sixteen : length slots ≡ 16 = are.sixteen in
@@ -76,6 +76,6 @@ desk_step entries slots number session command d new reply are below live same s
         there = slice_get-get_or slots number d (omega arith);
         journal = new.journal;
         step = journal_step;
-        stored = ap (λ s. let desk : Desk = record { entries = entries; slots = set slots number s } in desk) whole;
+        stored = ap (λ s. let desk : DeskState = record { entries = entries; slots = set slots number s } in desk) whole;
       };
     }))

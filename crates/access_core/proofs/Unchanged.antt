@@ -20,7 +20,7 @@ use Rattle.access_core.specs.Rules.{Refuses, ◌▸◌, ◌▹◌}
 use Rattle.access_core.specs.Conversions.{of_policy, of_reactor}
 use Rattle.access_core.specs.SlotState.{SlotState}
 use Rattle.access_core.specs.SlotStep.{SlotStep, Loads, Offers, Steps, Commits, Looks, no_reaction, journal_full, no_session, no_permission, occupied, empty, no_instant, no_memory, stamp_of}
-use Rattle.access_core.specs.Desk.{Desk, AdminStep, DeskStep, InSlot, Appends, list_full, no_slot, reply_of_change, change_of}
+use Rattle.access_core.specs.Desk.{DeskState, AdminStep, DeskStep, InSlot, Appends, list_full, no_slot, reply_of_change, change_of}
 
 -- a place that is set to what stands there
 same_place : (slots : List SlotState) (number : ℕ) (slot : SlotState) → slice_get slots number ≡ Some slot → slice_set slots number slot ≡ slots
@@ -44,10 +44,10 @@ after_choice : {S : Type 0} (Rule : Refusal → Type 0) (Next : S → Reply → 
 after_choice Rule Next before refusal after stays (inl applies) = applies.refuses.stays
 after_choice Rule Next before refusal after stays (inr next) = stays next
 
-appends_nothing : (entry : Entry) (before : Desk) (refusal : Refusal) (after : Desk) → Appends entry before (Refused refusal) after → after ≡ before
+appends_nothing : (entry : Entry) (before : DeskState) (refusal : Refusal) (after : DeskState) → Appends entry before (Refused refusal) after → after ≡ before
 appends_nothing entry before refusal after appends = absurd (not_accepted (change_of entry.command) before.entries refusal appends.replied)
 
-admin_replied : (answer : Result Entry PolicyRefusal) (before : Desk) (refusal : Refusal) (after : Desk)
+admin_replied : (answer : Result Entry PolicyRefusal) (before : DeskState) (refusal : Refusal) (after : DeskState)
     → MatchResult answer
     (λ entry. (list_full before.entries entry ▸ no_memory ▹ Appends entry) before (Refused refusal) after)
     (λ given. Refuses (of_policy given) before (Refused refusal) after)
@@ -58,7 +58,7 @@ admin_replied (Ok entry) before refusal after h =
 admin_replied (Err given) before refusal after h = h.stays
 
 -- a refused policy command leaves the desk
-pub admin_refused : (session : Option ℕ) (command : AdminCommand) (before : Desk) (refusal : Refusal) (after : Desk)
+pub admin_refused : (session : Option ℕ) (command : AdminCommand) (before : DeskState) (refusal : Refusal) (after : DeskState)
     → AdminStep session command before (Refused refusal) after → after ≡ before
 admin_refused session command before refusal after step = admin_replied step.answer before refusal after step.replied
 
@@ -115,7 +115,7 @@ journal_stays entries slot session (Look n) before refusal after =
     (after_choice no_memory (Looks entries slot session n) before refusal after
     (looked entries slot session n before refusal after))))
 
-in_slot_stays : (number session : ℕ) (command : SlotCommand) (before : Desk) (refusal : Refusal) (after : Desk)
+in_slot_stays : (number session : ℕ) (command : SlotCommand) (before : DeskState) (refusal : Refusal) (after : DeskState)
     → InSlot number session command before (Refused refusal) after → after ≡ before
 in_slot_stays number session command before refusal after h =
     let e : h.journal ≡ h.slot.journal = journal_stays before.entries number session command h.slot.journal refusal h.journal h.step in
@@ -123,7 +123,7 @@ in_slot_stays number session command before refusal after h =
     (ap (λ journal. slice_set before.slots number (record h.slot { journal = journal })) e ∙ same_place before.slots number h.slot h.there)
 
 -- a refused slot command leaves the desk
-pub slot_refused : (number session : ℕ) (command : SlotCommand) (before : Desk) (refusal : Refusal) (after : Desk)
+pub slot_refused : (number session : ℕ) (command : SlotCommand) (before : DeskState) (refusal : Refusal) (after : DeskState)
     → DeskStep number session command before (Refused refusal) after → after ≡ before
 slot_refused number session command before refusal after =
     after_rule (no_session before.entries session) _ before refusal after

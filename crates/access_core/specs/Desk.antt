@@ -24,7 +24,7 @@ use Rattle.access_core.specs.SlotState.{SlotState}
 use Rattle.access_core.specs.SlotStep.{SlotStep, no_session, no_memory}
 
 -- the accepted policy entries, the oldest first, and the slots by number
-pub record Desk : Type 0 where
+pub record DeskState : Type 0 where
   pub entries : List Entry
   pub slots : List SlotState
 
@@ -33,7 +33,7 @@ abbrev pub empty_slot : ℕ → SlotState
 empty_slot number = record { number = number; journal = [] }
 
 -- the opening entries, and sixteen empty slots
-abbrev pub opening_desk : Desk
+abbrev pub opening_desk : DeskState
 opening_desk = record { entries = opening_entries; slots = map empty_slot (range_with_len 0 SLOTS) }
 
 -- there are sixteen slots, and each stands at its number
@@ -80,12 +80,12 @@ abbrev pub accepted_reply : List Entry → AdminCommand → Reply
 accepted_reply entries command = reply_of_change (change_of command) entries
 
 -- the entry is appended to the policy list, and nothing else is changed
-pub record Appends (entry : Entry) (before : Desk) (reply : Reply) (after : Desk) : Type 0 where
+pub record Appends (entry : Entry) (before : DeskState) (reply : Reply) (after : DeskState) : Type 0 where
   pub replied : reply ≡ accepted_reply before.entries entry.command
   pub appended : after ≡ record before { entries = before.entries ++ entry ∷ [] }
 
 -- the reply to a policy command, which this session gives, and the desk afterwards: the policy step's, or a refusal for want of room
-pub record AdminStep (session : Option ℕ) (command : AdminCommand) (before : Desk) (reply : Reply) (after : Desk) : Type 0 where
+pub record AdminStep (session : Option ℕ) (command : AdminCommand) (before : DeskState) (reply : Reply) (after : DeskState) : Type 0 where
   pub answer : Result Entry PolicyRefusal
   pub given : PolicyStep before.entries session command answer
   pub replied : MatchResult answer
@@ -97,7 +97,7 @@ abbrev pub no_slot : ℕ → Refusal → Type 0
 no_slot number = Says NoSlot (SLOTS ≤ number)
 
 -- the slot of this number answers by the slot step, and nothing but its journal is changed
-pub record InSlot (number session : ℕ) (command : SlotCommand) (before : Desk) (reply : Reply) (after : Desk) : Type 0 where
+pub record InSlot (number session : ℕ) (command : SlotCommand) (before : DeskState) (reply : Reply) (after : DeskState) : Type 0 where
   pub slot : SlotState
   pub there : slice_get before.slots number ≡ Some slot
   pub journal : List SlotEntry
@@ -105,6 +105,6 @@ pub record InSlot (number session : ℕ) (command : SlotCommand) (before : Desk)
   pub stored : after ≡ record before { slots = slice_set before.slots number (record slot { journal = journal }) }
 
 -- the reply to a command on the slot of this number, which this session gives, and the desk afterwards
-abbrev pub DeskStep : (number session : ℕ) → SlotCommand → (before : Desk) → Reply → (after : Desk) → Type 0
+abbrev pub DeskStep : (number session : ℕ) → SlotCommand → (before : DeskState) → Reply → (after : DeskState) → Type 0
 DeskStep number session command before =
     (no_session before.entries session ▸ no_slot number ▸ InSlot number session command) before

@@ -8,7 +8,7 @@ ghost use Rattle.rbac_admin.specs.PolicyStep.{is_decided};
 ghost use Rattle.access_core.specs.Rules.{◌▸◌, ◌▹◌};
 ghost use Rattle.access_core.specs.SlotStep.{no_memory};
 ghost use Rattle.access_core.specs.Needs.{Needs, IsAccepted};
-ghost use Rattle.access_core.specs.Desk.{Desk, opening_desk, empty_slot, change_of, accepted_reply, most_entries, list_full, Appends, AdminStep, DeskStep};
+ghost use Rattle.access_core.specs.Desk.{DeskState, opening_desk, empty_slot, change_of, accepted_reply, most_entries, list_full, Appends, AdminStep, DeskStep};
 
 use crate::command::SlotCommand;
 use crate::refusal::Refusal;
@@ -39,10 +39,10 @@ pub struct Single {
 
 impl Model for Single {
     ghost use Rattle.std.specs.Coded.{codes};
-    ghost use Rattle.access_core.specs.Desk.{Desk};
+    ghost use Rattle.access_core.specs.Desk.{DeskState};
     ghost use Rattle.reactor_core.specs.contracts.entry.SlotEntry as entry;
 
-    ghost Value = { Desk };
+    ghost Value = { DeskState };
 
     ghost coded = { Prim.hlevel (codes, entry.the_row.coded) };
 

@@ -6,14 +6,14 @@ use Rattle.access_core.specs.declared.command.SlotCommand.TheVariants as slot
 use Rattle.access_core.specs.declared.refusal.Refusal.{Refusal}
 use Rattle.access_core.specs.declared.reply.Reply.{Reply}
 use Rattle.access_core.specs.declared.reply.Reply.TheVariants.{Refused, Login as LoggedIn, Changed, Load as Loaded, Offer as Offered, Step as Stepped, Look as Shown, Check}
-use Rattle.access_core.specs.Desk.{Desk}
+use Rattle.access_core.specs.Desk.{DeskState}
 use Rattle.access_core.specs.Needs.{IsAccepted}
 use Rattle.access_core.proofs.Unchanged.{admin_refused, slot_refused}
 use Rattle.wire_lines.specs.declared.request.Request.{Request}
 use Rattle.wire_lines.specs.declared.request.Request.TheVariants.{Login, Logout, Grant, Load, Offer, Step, Look}
 use Rattle.client_loop.specs.Connection.{Asks, with_login, LineStep, TellsNothing}
 
-asked_stays : (request : Request) (login : Option ℕ) (before : Desk) (refusal : Refusal) (after : Desk)
+asked_stays : (request : Request) (login : Option ℕ) (before : DeskState) (refusal : Refusal) (after : DeskState)
     → Asks request login before (Refused refusal) after → after ≡ before
 asked_stays (Login roles user) None before refusal after h = admin_refused None (CreateSession user roles) before refusal after h
 asked_stays (Login roles user) (Some session) before refusal after h = h.stays
@@ -30,7 +30,7 @@ asked_stays (Step number) (Some session) before refusal after h = slot_refused n
 asked_stays (Look instant number) None before refusal after h = h.stays
 asked_stays (Look instant number) (Some session) before refusal after h = slot_refused number session (slot.Look instant) before refusal after h
 
-refused_stays : (line : List ℕ) (before : Desk) (login : Option ℕ) (refusal : Refusal) (after : Desk) (later : Option ℕ)
+refused_stays : (line : List ℕ) (before : DeskState) (login : Option ℕ) (refusal : Refusal) (after : DeskState) (later : Option ℕ)
     → LineStep line (with_login before login) (Refused refusal) (with_login after later) → after ≡ before
 refused_stays line before login refusal after later (inl h) = ap (λ c. c.desk) h.stays
 refused_stays line before login refusal after later (inr h) = asked_stays h.request login before refusal after h.asked
@@ -47,7 +47,7 @@ accepted_or_not (Shown instant signals version) = inl tt
 accepted_or_not (Check allowed) = inl tt
 
 -- a line whose reply isn't accepted leaves the desk
-line_stays : (line : List ℕ) (before : Desk) (login : Option ℕ) (given : Reply) (after : Desk) (later : Option ℕ)
+line_stays : (line : List ℕ) (before : DeskState) (login : Option ℕ) (given : Reply) (after : DeskState) (later : Option ℕ)
     → LineStep line (with_login before login) given (with_login after later) → (IsAccepted given → ⊥) → after ≡ before
 line_stays line before login (Refused refusal) after later h refused = refused_stays line before login refusal after later h
 line_stays line before login (LoggedIn session version) after later h refused = absurd (refused tt)
@@ -59,7 +59,7 @@ line_stays line before login (Shown instant signals version) after later h refus
 line_stays line before login (Check allowed) after later h refused = absurd (refused tt)
 
 -- a line of whose reply no text was made: the login is the one that an accepted command leaves, and else the one that was held
-pub nothing_told : (line : List ℕ) (before : Desk) (login : Option ℕ) (given : Reply) (after : Desk) (later kept : Option ℕ)
+pub nothing_told : (line : List ℕ) (before : DeskState) (login : Option ℕ) (given : Reply) (after : DeskState) (later kept : Option ℕ)
     → LineStep line (with_login before login) given (with_login after later)
     → (IsAccepted given → kept ≡ later) → ((IsAccepted given → ⊥) → kept ≡ login)
     → TellsNothing line (with_login before login) (with_login after kept)

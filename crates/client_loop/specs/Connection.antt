@@ -7,7 +7,7 @@ use Rattle.access_core.specs.declared.refusal.Refusal.TheVariants.{TooLong, NoSe
 use Rattle.access_core.specs.declared.reply.Reply.{Reply}
 use Rattle.access_core.specs.declared.reply.Reply.TheVariants as reply
 use Rattle.access_core.specs.Rules.{Refuses}
-use Rattle.access_core.specs.Desk.{Desk, AdminStep, DeskStep}
+use Rattle.access_core.specs.Desk.{DeskState, AdminStep, DeskStep}
 use Rattle.access_core.specs.Needs.{IsAccepted}
 use Rattle.wire_lines.specs.declared.lines.TheConstants.{LINE_BYTES}
 use Rattle.wire_lines.specs.declared.request.Request.{Request}
@@ -16,17 +16,17 @@ use Rattle.wire_lines.specs.Requests.{IsReadAs, IsRequest}
 use Rattle.wire_lines.specs.Replies.{line_of}
 
 -- a login is refused while one is held
-abbrev pub Unheld : (login : Option ℕ) → (Desk → Reply → Desk → Type 0) → (before : Desk) → Reply → (after : Desk) → Type 0
+abbrev pub Unheld : (login : Option ℕ) → (DeskState → Reply → DeskState → Type 0) → (before : DeskState) → Reply → (after : DeskState) → Type 0
 Unheld None asked = asked
 Unheld (Some session) asked = Refuses AlreadyLoggedIn
 
 -- any other request is given by the login's session, and refused where none is held
-abbrev pub Held : (login : Option ℕ) → (ℕ → Desk → Reply → Desk → Type 0) → (before : Desk) → Reply → (after : Desk) → Type 0
+abbrev pub Held : (login : Option ℕ) → (ℕ → DeskState → Reply → DeskState → Type 0) → (before : DeskState) → Reply → (after : DeskState) → Type 0
 Held None asked = Refuses NoSession
 Held (Some session) asked = asked session
 
 -- what the desk answers to a request on a connection with this login, and the desk afterwards
-abbrev pub Asks : Request → (login : Option ℕ) → (before : Desk) → Reply → (after : Desk) → Type 0
+abbrev pub Asks : Request → (login : Option ℕ) → (before : DeskState) → Reply → (after : DeskState) → Type 0
 Asks (Login roles user) login = Unheld login (AdminStep None (CreateSession user roles))
 Asks Logout login = Held login (λ session. AdminStep (Some session) DeleteSession)
 Asks (Grant object operation role) login = Held login (λ session. AdminStep (Some session) (GrantPermission role operation object))
@@ -54,11 +54,11 @@ login_after _ given before = before
 
 -- a desk, and the login that a connection to it holds: none, or the number of a session
 pub record DeskAndLogin : Type 0 where
-  pub desk : Desk
+  pub desk : DeskState
   pub login : Option ℕ
 
 -- the desk with this login
-abbrev pub with_login : Desk → Option ℕ → DeskAndLogin
+abbrev pub with_login : DeskState → Option ℕ → DeskAndLogin
 with_login desk login = record { desk = desk; login = login }
 
 -- the line asks for a request, which is answered
@@ -102,7 +102,7 @@ abbrev pub TellsNothing : List ℕ → (before after : DeskAndLogin) → Type 0
 TellsNothing line before after = (after ≡ before) ⊎ Accepts line before after
 
 -- the end of a connection with this login: where one is held, its logout is asked
-pub data HangsUp : (login : Option ℕ) → (before after : Desk) → (given : Option Reply) → Type 0 where
-  none_held : (desk : Desk) → HangsUp None desk desk None
-  logs_out : (session : ℕ) → (before after : Desk) → (given : Reply) → AdminStep (Some session) DeleteSession before given after
+pub data HangsUp : (login : Option ℕ) → (before after : DeskState) → (given : Option Reply) → Type 0 where
+  none_held : (desk : DeskState) → HangsUp None desk desk None
+  logs_out : (session : ℕ) → (before after : DeskState) → (given : Reply) → AdminStep (Some session) DeleteSession before given after
       → HangsUp (Some session) before after (Some given)
