@@ -9,9 +9,9 @@ ghost use Rattle.rbac_policy.specs.StandsFor.{StandsFor};
 ghost use Rattle.access_core.specs.Shown.{Sees, places_of, name_at, present_at};
 
 use crate::reply::{ShownSignal, ShownSignals, SignalNames};
-use est_text::identifier::Identifier;
 use est_kernel::interface::Interface;
 use est_kernel::mask;
+use est_text::identifier::Identifier;
 use rbac_policy::commands::SessionId;
 use rbac_policy::objects::{Object, Operation, SlotNumber};
 use rbac_policy::policy::Policy;

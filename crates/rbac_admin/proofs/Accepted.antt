@@ -108,7 +108,8 @@ refused_first entries session command refusal = (to, λ first. refused all Refus
 -- and it is the command's entry exactly where all rules let pass
 pub accepted_all : (entries : List Entry) (session : Option ℕ) (command : AdminCommand)
     → (PolicyStep entries session command (Ok (entry_of session command)) ↔ AllPass (policy_rules entries session command))
-accepted_all entries session command =
-    (passed entries session command (entry_of session command),
-    λ all. accepted (policy_rules entries session command) (λ refusal. Ok (entry_of session command) ≡ Err refusal)
-    (Ok (entry_of session command) ≡ Ok (entry_of session command)) all refl)
+accepted_all entries session command = (
+  passed entries session command (entry_of session command),
+  λ all. accepted (policy_rules entries session command) (λ refusal. Ok (entry_of session command) ≡ Err refusal)
+      (Ok (entry_of session command) ≡ Ok (entry_of session command)) all refl,
+)
