@@ -18,9 +18,6 @@ sys.dont_write_bytecode = True
 import reading_list  # noqa: E402
 import wrong_bodies  # noqa: E402
 
-# Crates whose wrong bodies don't say yet why they are wrong. A name goes from here as the sentences come.
-WITHOUT_SENTENCES = {"rbac_policy", "rbac_admin", "reactor_core", "access_core"}
-
 
 def differing_tables():
     """A line for each table of docs/PROOFS.md that its script would write otherwise."""
@@ -34,8 +31,7 @@ def differing_tables():
 
 def missing_sentences():
     """A line for each wrong body that doesn't say why it is wrong."""
-    lacking = [edit for edit in wrong_bodies.without_why() if edit.parts[1] not in WITHOUT_SENTENCES]
-    return [f"{edit} lacks its one line why:" for edit in lacking]
+    return [f"{edit} lacks its one line why:" for edit in wrong_bodies.without_why()]
 
 
 def missing_functions():
