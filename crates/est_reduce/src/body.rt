@@ -1,0 +1,77 @@
+//! Flat bodies: the statements of Pure Esterel with each name bound, with no `run` and no group.
+//!
+//! Signals, local signals and traps are numbers, and no name is left. The numbers are wider than those of the kernel, since
+//! any module has such a body, also one that declares more signals than an interface of a kernel may, and one that lies past
+//! a limit of the kernel: which limit that is, is said when the body is reduced.
+//!
+//! A body is a tree, so what goes over it, its drop included, recurses as deep as it is. That depth is its maker's: linking
+//! counts the statements of the linked module before it makes a body of them, and a body of at most 2,048 statements is at
+//! most as deep. A level of such a recursion takes some 1.8 KB of stack, so 2,048 levels stay under 4 MB.
+
+/// A signal that is bound.
+#[derive(Clone, Copy, PartialEq, Eq, Debug)]
+pub enum BoundSignal {
+    /// A signal of the module's interface, by its place in the declaration, from 0.
+    Outer(u32),
+    /// A local signal, by how many local signals lie round its binder.
+    Inner(u32),
+}
+
+/// What a statement asks.
+#[derive(Clone, Copy, PartialEq, Eq, Debug)]
+pub enum BoundTest {
+    /// `tick`, which is present in every instant.
+    Tick,
+    /// Whether this signal is present.
+    Of(BoundSignal),
+}
+
+/// What a statement waits for, or is watched by.
+#[derive(Clone, Copy, PartialEq, Eq, Debug)]
+pub struct Wait {
+    /// Whether `immediate` is written: the test is asked in the first instant too.
+    pub immediate: bool,
+    /// What is asked.
+    pub test: BoundTest,
+}
+
+/// The body of a module: a statement of Pure Esterel whose names are bound.
+#[derive(Drop)]
+pub enum Body {
+    /// `nothing`; also a branch of `present` that is left out.
+    Nothing,
+    /// `pause`
+    Pause,
+    /// `halt`
+    Halt,
+    /// `emit S`
+    Emit(BoundSignal),
+    /// `sustain S`
+    Sustain(BoundSignal),
+    /// `exit T`, by how many traps of the text lie between the two.
+    Exit(u32),
+    /// `await S`, `await immediate S`
+    Await(Wait),
+    /// `present S then p else q end`
+    Present(BoundTest, Box<Body>, Box<Body>),
+    /// `suspend p when S`
+    Suspend(Wait, Box<Body>),
+    /// `abort p when S`
+    Abort(Wait, Box<Body>),
+    /// `weak abort p when S`
+    WeakAbort(Wait, Box<Body>),
+    /// `loop p end`
+    Loop(Box<Body>),
+    /// `loop p each S`
+    LoopEach(BoundTest, Box<Body>),
+    /// `every S do p end`
+    Every(Wait, Box<Body>),
+    /// `trap T in p end`
+    Trap(Box<Body>),
+    /// `signal A, B in p end`, by how many signals are declared: each lies inside the one before it.
+    Signal(u32, Box<Body>),
+    /// `p ; q`
+    Seq(Box<Body>, Box<Body>),
+    /// `p || q`
+    Par(Box<Body>, Box<Body>),
+}
