@@ -1,0 +1,78 @@
+-- Emissions of inputs (this project's own form).
+use Rattle.std.specs.Prelude.{◌≡◌, ℕ, List, [], Bool, true, false, not, ◌||◌, ◌&&◌, Option, Some, None, option_map, if◌then◌else◌, codes}
+use Rattle.std.specs.List.{list_any, find}
+use Rattle.std.specs.Str.{bytes_eq}
+use Rattle.est_syntax.specs.Tree.{RenamingTree}
+use Rattle.est_link.specs.Occurrences.{Binder, Act, emits, tests, exits, binds, runs, Occurrence, occurrences, first_of}
+use Rattle.est_link.specs.Modules.{Program, program_named}
+use Rattle.est_link.specs.Visible.{is_local, unknown_at}
+use Rattle.est_link.specs.declared.head.Declared.{Declared}
+use Rattle.est_link.specs.declared.head.Kind.{Kind}
+use Rattle.est_link.specs.declared.head.Kind.TheVariants.{Input, Output}
+use Rattle.est_link.specs.declared.emission.Emission.{Emission}
+
+-- an input
+abbrev pub is_input_kind : Kind → Bool
+is_input_kind Input = true
+is_input_kind Output = false
+
+-- the caller's name in a renaming, or the name itself where there is none
+abbrev pub callers_name : Option RenamingTree → List ℕ → List ℕ
+callers_name None s = s
+callers_name (Some r) s = r.outer
+
+-- the same by the renamings of a run: a name that is not renamed keeps its own (The Esterel v5 Language Primer, `run`)
+abbrev pub renamed : List RenamingTree → List ℕ → List ℕ
+renamed rs s = callers_name (find (λ (r : RenamingTree). bytes_eq r.inner s) rs) s
+
+-- a run binds to a name of the caller an interface name that the module that is run emits
+abbrev pub emits_in_run : (List ℕ → List ℕ → Bool) → List ℕ → List RenamingTree → Option Program → Bool
+emits_in_run emitted s rs None = false
+emits_in_run emitted s rs (Some q) = list_any (λ (d : Declared). emitted q.name d.name && bytes_eq (renamed rs d.name) s) q.interface
+
+-- an act emits the name: a statement does, or a run binds to it what the module that is run emits
+abbrev pub emits_by : List Program → (List ℕ → List ℕ → Bool) → List ℕ → Act → Bool
+emits_by ps emitted s (emits n) = bytes_eq n s
+emits_by ps emitted s (runs m rs) = emits_in_run emitted s rs (program_named ps m)
+emits_by ps emitted s _ = false
+
+-- what a module emits of the signals that its callers see: what an act of its body emits where no local signal hides it
+abbrev pub IsEmitted : List Program → (List ℕ → List ℕ → Bool) → Program → Type 0
+IsEmitted ps emitted p = (s : List ℕ) → emitted p.name s ≡ list_any (λ (o : Occurrence). not (is_local o.round s) && emits_by ps emitted s o.act) (occurrences [] p.body)
+
+-- the name means an input or `tick` in p
+unfoldable pub is_refused : Program → List Binder → List ℕ → Bool
+is_refused p bs s = not (is_local bs s) && (list_any (λ (d : Declared). bytes_eq d.name s && is_input_kind d.kind) p.interface || bytes_eq s (codes "tick"))
+
+-- the interface name is emitted by the module that is run, and bound to an input or to `tick`
+unfoldable pub is_refused_in_run : (List ℕ → List ℕ → Bool) → Program → List Binder → List RenamingTree → List ℕ → List ℕ → Bool
+is_refused_in_run emitted p bs rs m s = emitted m s && is_refused p bs (renamed rs s)
+
+-- the caller's name for the first interface name of the module that is run for which that holds
+abbrev pub refused_in_run : (List ℕ → List ℕ → Bool) → Program → List Binder → List RenamingTree → List ℕ → Option Program → Option (List ℕ)
+refused_in_run emitted p bs rs m None = None
+refused_in_run emitted p bs rs m (Some q) = option_map (λ (d : Declared). renamed rs d.name) (find (λ (d : Declared). is_refused_in_run emitted p bs rs m d.name) q.interface)
+
+-- the emission that an act is refused for
+abbrev pub refused_act : List Program → (List ℕ → List ℕ → Bool) → Program → List Binder → Act → Option (List ℕ)
+refused_act ps emitted p bs (emits s) = if is_refused p bs s then Some s else None
+refused_act ps emitted p bs (tests s) = None
+refused_act ps emitted p bs (exits t) = None
+refused_act ps emitted p bs (binds ns) = None
+refused_act ps emitted p bs (runs m rs) = refused_in_run emitted p bs rs m (program_named ps m)
+
+-- the same of an occurrence
+abbrev pub refused_at : List Program → (List ℕ → List ℕ → Bool) → Program → Occurrence → Option (List ℕ)
+refused_at ps emitted p o = refused_act ps emitted p o.round o.act
+
+-- the first in a library
+abbrev pub first_refused : List Program → (List ℕ → List ℕ → Bool) → Option (List ℕ)
+first_refused ps emitted = first_of (λ (p : Program). first_of (refused_at ps emitted p) (occurrences [] p.body)) ps
+
+-- the first name in a library that isn't visible
+abbrev pub first_unknown : List Program → Option (List ℕ)
+first_unknown ps = first_of (λ (p : Program). first_of (unknown_at ps p) (occurrences [] p.body)) ps
+
+-- what a table says
+abbrev pub emitted_of : List Emission → List ℕ → List ℕ → Bool
+emitted_of es m s = list_any (λ (e : Emission). bytes_eq e.module_name m && bytes_eq e.signal s) es

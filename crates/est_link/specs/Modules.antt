@@ -1,0 +1,56 @@
+-- The modules of a library, without what only spells them (this project's own form).
+use Rattle.std.specs.Prelude.{ℕ, List, [], ◌∷◌, ◌++◌, map, Bool, Option}
+use Rattle.std.specs.List.{list_any, find}
+use Rattle.std.specs.Str.{bytes_eq}
+use Rattle.est_syntax.specs.Tree.{NamesTree, RelationTree, DeclarationTree, input, output, relations, ModuleTree, LibraryTree}
+use Rattle.est_syntax.specs.Views.{declaration_view, statement_view}
+use Rattle.est_link.specs.Derived.{Derived, statement_derived}
+use Rattle.est_link.specs.declared.head.Head.{Head}
+use Rattle.est_link.specs.declared.head.Declared.{Declared}
+use Rattle.est_link.specs.declared.head.Kind.{Kind}
+use Rattle.est_link.specs.declared.head.Kind.TheVariants.{Input, Output}
+
+-- a module: its name; its interface signals and its relations, each in the order of the text; its body
+pub record Program : Type 0 where
+  pub name : List ℕ
+  pub interface : List Declared
+  pub relations : List RelationTree
+  pub body : Derived
+
+-- the names of one declaration, all of one kind
+abbrev pub with_kind : Kind → NamesTree → List Declared
+with_kind k ns = map (λ n. record { name = n; kind = k }) (ns.first ∷ ns.later)
+
+-- the interface signals of declarations (The Esterel v5 Language Primer, interface declarations)
+abbrev pub interface_of : List DeclarationTree → List Declared
+interface_of [] = []
+interface_of (input ns ∷ ds) = with_kind Input ns ++ interface_of ds
+interface_of (output ns ∷ ds) = with_kind Output ns ++ interface_of ds
+interface_of (relations r rs ∷ ds) = interface_of ds
+
+-- the relations of declarations, each part between commas by itself
+abbrev pub relations_of : List DeclarationTree → List RelationTree
+relations_of [] = []
+relations_of (input ns ∷ ds) = relations_of ds
+relations_of (output ns ∷ ds) = relations_of ds
+relations_of (relations r rs ∷ ds) = r ∷ rs ++ relations_of ds
+
+-- a module of a tree
+abbrev pub module_program : ModuleTree → Program
+module_program m = record { name = m.name; interface = interface_of m.declarations; relations = relations_of m.declarations; body = statement_derived m.body }
+
+-- the modules of a library, in the order of the text
+abbrev pub programs_of : LibraryTree → List Program
+programs_of l = map module_program (l.first ∷ l.later)
+
+-- the module that a head of the code is
+abbrev pub program_of : Head → Program
+program_of h = record { name = h.name; interface = h.interface.items; relations = relations_of (map declaration_view h.declarations.now); body = statement_derived (statement_view h.body.now) }
+
+-- the first module of a name, if one has it
+abbrev pub program_named : List Program → List ℕ → Option Program
+program_named ps m = find (λ (p : Program). bytes_eq p.name m) ps
+
+-- whether the interface has a signal of this name
+abbrev pub is_declared : List Declared → List ℕ → Bool
+is_declared ds s = list_any (λ (d : Declared). bytes_eq d.name s) ds

@@ -1,0 +1,58 @@
+//! Modules with their interfaces at hand.
+ghost use Rattle.std.specs.Prelude.{◌≡◌, map, option_map, Bool};
+ghost use Rattle.std.specs.List.{find};
+ghost use Rattle.std.specs.Str.{bytes_eq};
+ghost use Rattle.est_link.specs.Modules.{is_declared};
+
+use est_syntax::tree::{Declaration, Statement};
+use est_text::identifier::Identifier;
+
+/// Whether a signal comes from outside or goes there.
+#[derive(Clone, Copy, PartialEq, Eq, Debug)]
+pub enum Kind {
+    /// `input`
+    Input,
+    /// `output`
+    Output,
+}
+
+/// A signal of an interface.
+#[derive(Clone, Copy)]
+pub struct Declared {
+    /// Its name.
+    pub name: Identifier,
+    /// Whether it is an input or an output.
+    pub kind: Kind,
+}
+
+/// A module, with its interface in declaration order.
+#[derive(Drop)]
+pub struct Head<'a> {
+    /// Its name.
+    pub name: Identifier,
+    /// Its interface.
+    pub interface: Vec<Declared>,
+    /// Its declarations, as they are written.
+    pub declarations: &'a [Declaration],
+    /// Its body.
+    pub body: &'a Statement,
+}
+
+impl Head<'_> {
+    /// Whether the interface has this signal.
+    pub fn declares(&self, signal: &Identifier) -> bool
+        ensures { result ≡ is_declared self.now.interface.items signal.now }
+    {
+        self.interface
+            .iter()
+            .any(|declared| declared.name.is(signal))
+    }
+}
+
+/// The first module of a name.
+#[tactic(auto, using(crate::proofs::Lists::find_map))]
+pub fn head_named<'a, 'b>(heads: &'b [Head<'a>], name: &Identifier) -> Option<&'b Head<'a>>
+    ensures { option_map (λ h. h.now) result ≡ find (λ h. bytes_eq h.name name.now) heads.now }
+{
+    heads.iter().find(|head| head.name.is(name))
+}

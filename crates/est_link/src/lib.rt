@@ -1,0 +1,13 @@
+//! Linking: the checks of a library of modules that is to be loaded.
+//!
+//! A check is asked of each place of a body in the order of the text, and answers the first that has its fault. The
+//! definitions in `specs/` say what stands where (`Occurrences`), what a module is without what only spells it
+//! (`Modules`, `Derived`) and what a name means at a place (`Visible`); one walk serves all checks.
+#![tactic(auto)]
+
+pub mod check;
+pub mod emission;
+pub mod head;
+pub mod scope;
+pub mod unknown;
+pub mod walk;
