@@ -1,6 +1,7 @@
 //! A policy with its list, and sixteen slots, in one hand.
-ghost use Rattle.std.specs.Prelude.{◌≡◌, ◌↔◌, ◌<◌, ◌≤◌, ◌++◌, ◌∷◌, [], List, IsTrue, IfOk, MatchOption, length};
+ghost use Rattle.std.specs.Prelude.{◌≡◌, ◌↔◌, ◌<◌, ◌≤◌, ◌++◌, ◌∷◌, [], List, IsTrue, IfOk, MatchOption, MatchResult, length};
 ghost use Rattle.rbac_policy.specs.declared.commands.Entry.{Entry};
+ghost use Rattle.rbac_policy.specs.Change.{absorbed};
 ghost use Rattle.rbac_policy.specs.Facts.{May};
 ghost use Rattle.rbac_policy.specs.Fits.{Fits};
 ghost use Rattle.rbac_policy.specs.StandsFor.{StandsFor};
@@ -16,8 +17,8 @@ use crate::reply::{Change, Reply};
 use crate::slot::{Slot, decide_slot};
 use rbac_admin::decisions::decide;
 use rbac_policy::commands::{AdminCommand, Entry, SessionId};
+use rbac_policy::journal::PolicyJournal;
 use rbac_policy::objects::{Object, Operation, SLOTS, SlotNumber};
-use rbac_policy::opening::opening_entries;
 use rbac_policy::policy::Policy;
 use rbac_policy::sizes::LAST_VERSION;
 use std::alloc::{AllocError, Global};
@@ -33,7 +34,7 @@ pub const ENDING_ENTRIES: usize = 64;
 #[derive(Drop)]
 pub struct Single {
     policy: Policy,
-    entries: Vec<Entry>,
+    entries: PolicyJournal,
     slots: [Slot; SLOTS as usize],
 }
 
@@ -49,9 +50,9 @@ impl Model for Single {
     ghost use Rattle.rbac_policy.specs.StandsFor.{StandsFor};
     ghost use Rattle.access_core.specs.Desk.{AreSlots};
 
-    ghost view = { λ s. record { entries = s.entries.items; slots = s.slots } };
+    ghost view = { λ s. record { entries = s.entries; slots = s.slots } };
 
-    ghost invariant = { λ s. StandsFor s.policy s.entries.items × AreSlots s.slots };
+    ghost invariant = { λ s. StandsFor s.policy s.entries × AreSlots s.slots };
 }
 
 /// The change that the command makes of the policy; a login makes none.
@@ -84,16 +85,45 @@ fn most_entries(command: &AdminCommand) -> usize
 {
     match command {
         AdminCommand::DeleteSession => POLICY_ENTRIES + ENDING_ENTRIES,
-        _ => POLICY_ENTRIES,
+        AdminCommand::AddUser { .. }
+        | AdminCommand::DeleteUser { .. }
+        | AdminCommand::AddRole { .. }
+        | AdminCommand::DeleteRole { .. }
+        | AdminCommand::AssignUser { .. }
+        | AdminCommand::DeassignUser { .. }
+        | AdminCommand::GrantPermission { .. }
+        | AdminCommand::RevokePermission { .. }
+        | AdminCommand::AddInheritance { .. }
+        | AdminCommand::DeleteInheritance { .. }
+        | AdminCommand::CreateDsdSet { .. }
+        | AdminCommand::DeleteDsdSet { .. }
+        | AdminCommand::CreateSession { .. }
+        | AdminCommand::AddActiveRole { .. }
+        | AdminCommand::DropActiveRole { .. } => POLICY_ENTRIES,
     }
 }
 
-/// The reply to the accepted entry that this policy took in last.
-fn accepted(policy: &Policy, entry: &Entry) -> Reply
-    ensures { (before : List Entry) → StandsFor policy.now (before ++ entry.now ∷ []) → result ≡ accepted_reply before entry.now.command }
+/// Adds the entry to the list and takes it into the policy; where memory is refused, both stay.
+fn take_in(policy: &mut Policy, entries: &mut PolicyJournal, entry: Entry) -> Result<(), AllocError>
+    ensures { MatchResult result
+        (λ _. (entries.new ≡ entries.old ++ entry ∷ []) × (policy.new ≡ absorbed policy.old entry))
+        (λ _. (entries.new ≡ entries.old) × (policy.new ≡ policy.old)) }
+{
+    let place = entries.len();
+    entries.push(entry)?;
+    if let Some(entry) = entries.get(place) {
+        policy.absorb(entry);
+    }
+    Ok(())
+}
+
+/// The reply to the accepted entry, of this change or a login, that the policy took in last.
+fn accepted(policy: &Policy, change: Option<Change>) -> Reply
+    ensures { (before : List Entry) (entry : Entry) → StandsFor policy.now (before ++ entry ∷ []) → change ≡ change_of entry.command
+        → result ≡ accepted_reply before entry.command }
 {
     let version = policy.version();
-    match change_of(&entry.command) {
+    match change {
         Some(change) => Reply::Changed { change, version },
         None => Reply::Login {
             session: SessionId::new(policy.logins()),
@@ -154,12 +184,7 @@ impl Single {
     pub fn new(alloc: Global) -> Result<Single, AllocError>
         ensures { IfOk result (λ desk. desk ≡ opening_desk) }
     {
-        let mut entries = Vec::new(alloc);
-        let [user, role, assignment, permission] = opening_entries();
-        entries.push(user)?;
-        entries.push(role)?;
-        entries.push(assignment)?;
-        entries.push(permission)?;
+        let entries = PolicyJournal::opening(alloc)?;
         Ok(Single {
             policy: Policy::opening(),
             entries,
@@ -171,7 +196,7 @@ impl Single {
     pub fn entries(&self) -> &[Entry]
         ensures { result.now ≡ self.now.entries }
     {
-        self.entries.as_slice()
+        self.entries.entries()
     }
 
     /// The slots, by number.
@@ -189,12 +214,11 @@ impl Single {
         if self.entries.len() >= most_entries(&entry.command) {
             return Reply::Refused(Refusal::JournalFull);
         }
-        if self.entries.reserve(1).is_err() {
-            return Reply::Refused(Refusal::Memory);
+        let change = change_of(&entry.command);
+        match take_in(&mut self.policy, &mut self.entries, entry) {
+            Ok(()) => accepted(&self.policy, change),
+            Err(_) => Reply::Refused(Refusal::Memory),
         }
-        self.policy.absorb(&entry);
-        self.entries.push_reserved(entry);
-        accepted(&self.policy, &entry)
     }
 
     /// Answers a policy command, which this session gives. An accepted command adds its one entry to the policy list.
@@ -204,7 +228,7 @@ impl Single {
         requires { IsTrue (is_decided command) }
         ensures { AdminStep session command self.old result self.new }
     {
-        match decide(&self.policy, session, &command) {
+        match decide(&self.policy, session, command) {
             Ok(entry) => self.append(entry),
             Err(refusal) => Reply::Refused(refusal.into()),
         }

@@ -23,8 +23,7 @@ const UNDECIDED: &str = "module M: output O; present O then emit O else emit O e
 /// A desk on which root is logged in, with session 1.
 fn opened(alloc: Global) -> Result<Single, Fail> {
     let mut desk = Single::new(alloc)?;
-    let mut roles = RoleNames::new();
-    roles.push(Name::root());
+    let roles = RoleNames::from_vec(vec![in alloc; Name::root()]?)?;
     let command = AdminCommand::CreateSession {
         user: Name::root(),
         roles,

@@ -17,24 +17,24 @@ use rbac_policy::policy::Policy;
 fn decide_grant(
     policy: &Policy,
     session: Option<SessionId>,
-    role: &Name,
-    operation: &Operation,
-    object: &Object,
+    role: Name,
+    operation: Operation,
+    object: Object,
 ) -> Result<Entry, Refusal>
     ensures { (entries : List Entry) → StandsFor policy.now entries
-        → PolicyStep entries session (AdminCommand.GrantPermission role.now operation.now object.now) result }
+        → PolicyStep entries session (AdminCommand.GrantPermission role operation object) result }
 {
     let session = living(policy, session)?;
     administers(policy, session)?;
-    known_role(policy, role)?;
-    new_grant(policy, role, operation, object)?;
-    room_for_grant(policy, operation, object)?;
+    known_role(policy, &role)?;
+    new_grant(policy, &role, &operation, &object)?;
+    room_for_grant(policy, &operation, &object)?;
     Ok(Entry {
         session: Some(session),
         command: AdminCommand::GrantPermission {
-            role: *role,
-            operation: *operation,
-            object: *object,
+            role,
+            operation,
+            object,
         },
     })
 }
@@ -49,22 +49,19 @@ fn decide_logout(policy: &Policy, session: Option<SessionId>) -> Result<Entry, R
     })
 }
 
-fn decide_login(policy: &Policy, user: &Name, roles: &RoleNames) -> Result<Entry, Refusal>
+fn decide_login(policy: &Policy, user: Name, roles: RoleNames) -> Result<Entry, Refusal>
     ensures { (entries : List Entry) (session : Option ℕ) → StandsFor policy.now entries
-        → PolicyStep entries session (AdminCommand.CreateSession user.now roles.now) result }
+        → PolicyStep entries session (AdminCommand.CreateSession user roles) result }
 {
     number_left(policy)?;
-    known_user(policy, user)?;
-    known_roles(policy, roles)?;
-    authorized_roles(policy, user, roles)?;
-    single_roles(roles)?;
+    known_user(policy, &user)?;
+    known_roles(policy, &roles)?;
+    authorized_roles(policy, &user, &roles)?;
+    single_roles(&roles)?;
     room_for_session(policy)?;
     Ok(Entry {
         session: None,
-        command: AdminCommand::CreateSession {
-            user: *user,
-            roles: *roles,
-        },
+        command: AdminCommand::CreateSession { user, roles },
     })
 }
 
@@ -93,10 +90,10 @@ pub fn is_decided(command: &AdminCommand) -> bool
 pub fn decide(
     policy: &Policy,
     session: Option<SessionId>,
-    command: &AdminCommand,
+    command: AdminCommand,
 ) -> Result<Entry, Refusal>
-    requires { IsTrue (is_decided command.now) }
-    ensures { (entries : List Entry) → StandsFor policy.now entries → PolicyStep entries session command.now result }
+    requires { IsTrue (is_decided command) }
+    ensures { (entries : List Entry) → StandsFor policy.now entries → PolicyStep entries session command result }
 {
     match command {
         AdminCommand::GrantPermission {
@@ -106,6 +103,18 @@ pub fn decide(
         } => decide_grant(policy, session, role, operation, object),
         AdminCommand::CreateSession { user, roles } => decide_login(policy, user, roles),
         AdminCommand::DeleteSession => decide_logout(policy, session),
-        _ => unreachable!(),
+        AdminCommand::AddUser { .. }
+        | AdminCommand::DeleteUser { .. }
+        | AdminCommand::AddRole { .. }
+        | AdminCommand::DeleteRole { .. }
+        | AdminCommand::AssignUser { .. }
+        | AdminCommand::DeassignUser { .. }
+        | AdminCommand::RevokePermission { .. }
+        | AdminCommand::AddInheritance { .. }
+        | AdminCommand::DeleteInheritance { .. }
+        | AdminCommand::CreateDsdSet { .. }
+        | AdminCommand::DeleteDsdSet { .. }
+        | AdminCommand::AddActiveRole { .. }
+        | AdminCommand::DropActiveRole { .. } => unreachable!(),
     }
 }

@@ -157,7 +157,7 @@ fn is_listed_before(roles: &RoleNames, place: usize, role: &Name) -> bool
 {
     for earlier in 0..place {
         if let Some(name) = roles.get(earlier) {
-            if name.is(role) {
+            if name == *role {
                 return true;
             }
         }

@@ -1,6 +1,5 @@
 //! The answers to policy commands, on policies that a server could come to.
-ghost use Rattle.std.specs.Prelude.{◌<◌, IsTrue};
-ghost use Rattle.rbac_admin.specs.PolicyStep.{is_decided};
+ghost use Rattle.std.specs.Prelude.{◌<◌};
 
 use crate::decisions::{decide, is_decided};
 use crate::refusals::Refusal;
@@ -9,34 +8,30 @@ use rbac_policy::commands::{AdminCommand, Entry, SessionId, Table};
 use rbac_policy::names::{LISTED_ROLES, Name, RoleNames};
 use rbac_policy::objects::{Object, Operation, SlotNumber};
 use rbac_policy::policy::Policy;
+use std::alloc::Global;
 use std::process::Abort;
 
 fn name(rt: &impl Abort, text: &str) -> Name {
     Name::from_text(text).expect(rt, "a name")
 }
 
-fn names(rt: &impl Abort, texts: &[&str]) -> RoleNames {
-    let mut roles = RoleNames::new();
+fn names(rt: &impl Abort, alloc: Global, texts: &[&str]) -> RoleNames {
+    let mut roles = Vec::new(alloc);
     for text in texts {
-        if roles.len() < LISTED_ROLES {
-            roles.push(name(rt, text));
-        }
+        roles.push(name(rt, text)).expect(rt, "room");
     }
-    roles
+    assert!(rt; roles.len() <= LISTED_ROLES);
+    RoleNames::from_vec(roles).expect(rt, "room")
 }
 
-fn login(rt: &impl Abort, user: &str, roles: &[&str]) -> AdminCommand
-    ensures { IsTrue (is_decided result) }
-{
+fn login(rt: &impl Abort, alloc: Global, user: &str, roles: &[&str]) -> AdminCommand {
     AdminCommand::CreateSession {
         user: name(rt, user),
-        roles: names(rt, roles),
+        roles: names(rt, alloc, roles),
     }
 }
 
-fn grant(rt: &impl Abort, role: &str) -> AdminCommand
-    ensures { IsTrue (is_decided result) }
-{
+fn grant(rt: &impl Abort, role: &str) -> AdminCommand {
     AdminCommand::GrantPermission {
         role: name(rt, role),
         operation: Operation::Audit,
@@ -44,17 +39,26 @@ fn grant(rt: &impl Abort, role: &str) -> AdminCommand
     }
 }
 
-/// The answer; the policy takes in an accepted entry.
+/// The refusal of the command, if it is refused; else the policy takes in the entry, which is the command with its session, or with
+/// none for a login.
 fn give(
+    rt: &impl Abort,
     policy: &mut Policy,
     session: Option<SessionId>,
     command: &AdminCommand,
-) -> Result<Entry, Refusal>
-    requires { IsTrue (is_decided command.now) }
-{
-    let entry = decide(policy, session, command)?;
-    policy.absorb(&entry);
-    Ok(entry)
+) -> Option<Refusal> {
+    let given = command.clone().expect(rt, "room");
+    assert!(rt; is_decided(&given));
+    match decide(policy, session, given) {
+        Ok(entry) => {
+            let is_login = matches!(command, AdminCommand::CreateSession { .. });
+            assert!(rt; entry.command == *command);
+            assert!(rt; entry.session == if is_login { None } else { session });
+            policy.absorb(&entry);
+            None
+        }
+        Err(refusal) => Some(refusal),
+    }
 }
 
 #[test]
@@ -71,34 +75,27 @@ fn logins(rt: HostRuntime) {
     let root = name(&rt, "root");
     let cases = [
         (
-            login(&rt, "nobody", &["root"]),
+            login(&rt, rt.alloc(), "nobody", &["root"]),
             Refusal::UnknownUser { user: nobody },
         ),
         (
-            login(&rt, "root", &["driver", "nobody"]),
+            login(&rt, rt.alloc(), "root", &["driver", "nobody"]),
             Refusal::UnknownRole { role: nobody },
         ),
         (
-            login(&rt, "root", &["root", "root", "driver"]),
+            login(&rt, rt.alloc(), "root", &["root", "root", "driver"]),
             Refusal::NotAuthorized { role: driver },
         ),
         (
-            login(&rt, "root", &["root", "root"]),
+            login(&rt, rt.alloc(), "root", &["root", "root"]),
             Refusal::AlreadyActive { role: root },
         ),
     ];
     for (command, want) in cases {
-        assert!(rt; is_decided(&command));
-        assert_eq!(rt; give(&mut policy, None, &command), Err(want));
+        assert_eq!(rt; give(&rt, &mut policy, None, &command), Some(want));
     }
-    let command = login(&rt, "root", &["root"]);
-    assert_eq!(rt;
-        give(&mut policy, Some(SessionId::new(9)), &command),
-        Ok(Entry {
-            session: None,
-            command
-        })
-    );
+    let command = login(&rt, rt.alloc(), "root", &["root"]);
+    assert!(rt; give(&rt, &mut policy, Some(SessionId::new(9)), &command).is_none());
 }
 
 #[test]
@@ -106,65 +103,70 @@ fn grants(rt: HostRuntime) {
     let mut policy = Policy::opening();
     let command = grant(&rt, "root");
     let first = SessionId::new(1);
-    let entry = Entry {
-        session: Some(first),
-        command: grant(&rt, "root"),
-    };
-    assert_eq!(rt; give(&mut policy, None, &command), Err(Refusal::NoSession));
-    let administer = login(&rt, "root", &["root"]);
-    assert!(rt; give(&mut policy, None, &administer).is_ok());
-    let idle = login(&rt, "root", &[]);
-    assert!(rt; give(&mut policy, None, &idle).is_ok());
+    assert_eq!(rt;
+        give(&rt, &mut policy, None, &command),
+        Some(Refusal::NoSession)
+    );
+    let administer = login(&rt, rt.alloc(), "root", &["root"]);
+    assert!(rt; give(&rt, &mut policy, None, &administer).is_none());
+    let idle = login(&rt, rt.alloc(), "root", &[]);
+    assert!(rt; give(&rt, &mut policy, None, &idle).is_none());
 
     let second = SessionId::new(2);
     let denied = Refusal::Permission {
         operation: Operation::Administer,
         object: Object::Policy,
     };
-    assert_eq!(rt; give(&mut policy, Some(second), &command), Err(denied));
-    assert_eq!(rt; give(&mut policy, Some(first), &command), Ok(entry));
     assert_eq!(rt;
-        give(&mut policy, Some(first), &command),
-        Err(Refusal::AlreadyGranted)
+        give(&rt, &mut policy, Some(second), &command),
+        Some(denied)
+    );
+    assert!(rt; give(&rt, &mut policy, Some(first), &command).is_none());
+    assert_eq!(rt;
+        give(&rt, &mut policy, Some(first), &command),
+        Some(Refusal::AlreadyGranted)
     );
     let unknown = grant(&rt, "driver");
     let role = name(&rt, "driver");
     assert_eq!(rt;
-        give(&mut policy, Some(first), &unknown),
-        Err(Refusal::UnknownRole { role })
+        give(&rt, &mut policy, Some(first), &unknown),
+        Some(Refusal::UnknownRole { role })
     );
 
     let logout = AdminCommand::DeleteSession;
-    assert_eq!(rt; give(&mut policy, None, &logout), Err(Refusal::NoSession));
-    assert!(rt; give(&mut policy, Some(first), &logout).is_ok());
     assert_eq!(rt;
-        give(&mut policy, Some(first), &logout),
-        Err(Refusal::NoSession)
+        give(&rt, &mut policy, None, &logout),
+        Some(Refusal::NoSession)
+    );
+    assert!(rt; give(&rt, &mut policy, Some(first), &logout).is_none());
+    assert_eq!(rt;
+        give(&rt, &mut policy, Some(first), &logout),
+        Some(Refusal::NoSession)
     );
 }
 
 #[test]
 fn limits(rt: HostRuntime) {
     let mut policy = Policy::opening();
-    let command = login(&rt, "root", &["root"]);
+    let command = login(&rt, rt.alloc(), "root", &["root"]);
     let logout = AdminCommand::DeleteSession;
     for _ in 0..64 {
-        assert!(rt; give(&mut policy, None, &command).is_ok());
+        assert!(rt; give(&rt, &mut policy, None, &command).is_none());
     }
     let full = Refusal::Full {
         table: Table::Sessions,
     };
-    assert_eq!(rt; give(&mut policy, None, &command), Err(full));
+    assert_eq!(rt; give(&rt, &mut policy, None, &command), Some(full));
     for number in 1..=64u16 {
-        assert!(rt; give(&mut policy, Some(SessionId::new(number)), &logout).is_ok());
+        assert!(rt; give(&rt, &mut policy, Some(SessionId::new(number)), &logout).is_none());
     }
     for number in 65..=65535u16 {
-        assert!(rt; give(&mut policy, None, &command).is_ok());
-        assert!(rt; give(&mut policy, Some(SessionId::new(number)), &logout).is_ok());
+        assert!(rt; give(&rt, &mut policy, None, &command).is_none());
+        assert!(rt; give(&rt, &mut policy, Some(SessionId::new(number)), &logout).is_none());
     }
     assert_eq!(rt;
-        give(&mut policy, None, &command),
-        Err(Refusal::SessionsExhausted)
+        give(&rt, &mut policy, None, &command),
+        Some(Refusal::SessionsExhausted)
     );
 }
 
@@ -191,7 +193,6 @@ fn object(rt: &impl Abort, index: usize) -> Object {
 /// A grant of one of 288 pairs to the role.
 fn grant_pair(rt: &impl Abort, role: &str, index: usize) -> AdminCommand
     requires { index < 288 }
-    ensures { IsTrue (is_decided result) }
 {
     AdminCommand::GrantPermission {
         role: name(rt, role),
@@ -210,19 +211,22 @@ fn full_of_permissions(rt: HostRuntime) {
         },
     });
     let first = SessionId::new(1);
-    let login = login(&rt, "root", &["root"]);
-    assert!(rt; give(&mut policy, None, &login).is_ok());
+    let login = login(&rt, rt.alloc(), "root", &["root"]);
+    assert!(rt; give(&rt, &mut policy, None, &login).is_none());
 
     // The opening policy grants one pair.
     for index in 0..255 {
         let command = grant_pair(&rt, "root", index);
-        assert!(rt; give(&mut policy, Some(first), &command).is_ok(), "{index}");
+        assert!(rt;
+            give(&rt, &mut policy, Some(first), &command).is_none(),
+            "{index}"
+        );
     }
     let full = Refusal::Full {
         table: Table::Permissions,
     };
     let another = grant_pair(&rt, "root", 255);
-    assert_eq!(rt; give(&mut policy, Some(first), &another), Err(full));
+    assert_eq!(rt; give(&rt, &mut policy, Some(first), &another), Some(full));
     let granted = grant_pair(&rt, "driver", 0);
-    assert!(rt; give(&mut policy, Some(first), &granted).is_ok());
+    assert!(rt; give(&rt, &mut policy, Some(first), &granted).is_none());
 }

@@ -164,7 +164,3 @@ fits_permission = record {
     room = λ _. few {A = Operation × Object} 255 (λ pair. IsPairGranted (adds_user ∷ adds_role ∷ assigns ∷ []) pair.0 pair.1) (λ pair h. none_granted h.0 pair.0 pair.1 h.1);
   };
 }
-
--- one step of the opening
-pub next : (p q : tables.Policy) (L : List Entry) (e f : Entry) → e ≡ f → ((entries : List Entry) → StandsFor p entries → Fits entries e → StandsFor q (entries ++ e ∷ [])) → StandsFor p L → Fits L f → StandsFor q (L ++ f ∷ [])
-next p q L e f same law st fits = subst (λ x. StandsFor q (L ++ x ∷ [])) same (law L st (subst (Fits L) (sym same) fits))

@@ -1,6 +1,5 @@
 pub mod Ascii
 pub mod Filled
-pub mod Packed
 pub mod ObjectTexts
 pub mod Walking
 pub mod Steps
@@ -22,4 +21,6 @@ pub mod Asking
 pub mod Adding
 pub mod Absorbing
 pub mod Beginning
+pub mod Growing
+pub mod Deciding
 pub mod Reading

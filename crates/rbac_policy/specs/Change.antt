@@ -1,12 +1,12 @@
 -- What an entry makes of the policy's tables, as it is computed (this project's own form).
-use Rattle.std.specs.Prelude.{ℕ, ◌+◌, ◌%◌, List, Option, Some, None, map}
+use Rattle.std.specs.Prelude.{ℕ, ◌+◌, ◌%◌, List, Option, Some, None, map, fold, replicate}
 use Rattle.rbac_policy.specs.declared.objects.Operation.{Operation}
 use Rattle.rbac_policy.specs.declared.objects.Object.{Object}
 use Rattle.rbac_policy.specs.declared.commands.AdminCommand.{AdminCommand}
 use Rattle.rbac_policy.specs.declared.commands.AdminCommand.TheVariants.{AddUser, AssignUser, AddRole, GrantPermission, CreateSession, DeleteSession}
 use Rattle.rbac_policy.specs.declared.commands.Entry.{Entry}
 use Rattle.rbac_policy.specs.declared.policy.Policy.{Policy}
-use Rattle.rbac_policy.specs.declared.sizes.TheConstants.{LAST_SESSION, LAST_VERSION}
+use Rattle.rbac_policy.specs.declared.sizes.TheConstants.{USERS, ROLES, GRANTS, SESSIONS, SETS, LAST_SESSION, LAST_VERSION}
 use Rattle.rbac_policy.specs.Names.{NameText}
 use Rattle.rbac_policy.specs.Tables.{place_of, grants_given, put_free, mask_of, session_without, session_kept, user_given}
 
@@ -60,3 +60,20 @@ swept p = record p { version = (p.version + 1) % (LAST_VERSION + 1); sessions = 
 -- the policy after the entry
 unfoldable pub absorbed : Policy → Entry → Policy
 absorbed p entry = swept (changed p entry)
+
+-- the policy of no entry
+abbrev pub empty_policy : Policy
+empty_policy = record {
+  version = 0;
+  logins = 0;
+  users = replicate USERS None;
+  roles = replicate ROLES None;
+  juniors = replicate ROLES 0;
+  grants = replicate GRANTS None;
+  sessions = replicate SESSIONS None;
+  sets = replicate SETS None;
+}
+
+-- the policy after these entries, taken in one by one from the policy of no entry
+unfoldable pub policy_of : List Entry → Policy
+policy_of entries = fold absorbed empty_policy entries

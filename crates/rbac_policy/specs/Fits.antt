@@ -1,6 +1,6 @@
 -- What an entry asks of the entries before it, so that a policy that stands for them can take it in (this project's own form). Each accepted
 -- entry of these six commands fits; the tables of a policy don't follow the other commands yet.
-use Rattle.std.specs.Prelude.{◌≡◌, ℕ, ◌<◌, ◌≤◌, List, Option, Some, None, Contains, length}
+use Rattle.std.specs.Prelude.{◌≡◌, ℕ, ◌<◌, ◌≤◌, List, Option, Some, None, Contains, length, slice_get, take}
 use Rattle.rbac_policy.specs.declared.objects.Operation.{Operation}
 use Rattle.rbac_policy.specs.declared.objects.Object.{Object}
 use Rattle.rbac_policy.specs.declared.commands.AdminCommand.{AdminCommand}
@@ -78,3 +78,7 @@ FitsCommand _ session entries = ⊥
 pub record Fits (entries : List Entry) (entry : Entry) : Type 0 where
   pub few : length entries < LAST_VERSION
   pub command : FitsCommand entry.command entry.session entries
+
+-- each entry fits those before it
+pub record AllFit (entries : List Entry) : Type 0 where
+  pub each : (at : ℕ) (entry : Entry) → slice_get entries at ≡ Some entry → Fits (take at entries) entry

@@ -10,3 +10,4 @@ pub mod Fits
 pub mod Tables
 pub mod Change
 pub mod StandsFor
+pub mod Decided

@@ -1,8 +1,9 @@
 //! Policy commands, and the entries that accepted ones leave in the policy's list.
-ghost use Rattle.std.specs.Prelude.{◌≡◌, ◌==◌};
+ghost use Rattle.std.specs.Prelude.{◌≡◌};
 
 use crate::names::{Name, RoleNames};
 use crate::objects::{Object, Operation};
+use std::alloc::AllocError;
 use std::marker::Model;
 
 /// The number of a session. The first is 1, and none is used again. A contract sees the number.
@@ -35,18 +36,11 @@ impl SessionId {
     {
         self.number
     }
-
-    /// Whether the two are one.
-    pub fn is(&self, other: &SessionId) -> bool
-        ensures { result ≡ (self.now == other.now) }
-    {
-        self.number == other.number
-    }
 }
 
 /// What a policy command asks for. The sixteen are those of ANSI INCITS 359-2004 that change users, roles, assignments, permissions, the
 /// order of roles, sets of dynamic separation of duty, and sessions.
-#[derive(Clone, Copy, PartialEq, Eq, Debug)]
+#[derive(Clone, PartialEq, Eq, Debug, Drop)]
 pub enum AdminCommand {
     /// Makes the name one of a user.
     AddUser {
@@ -123,14 +117,28 @@ pub enum AdminCommand {
     },
 }
 
-/// An accepted command, with the session that gave it. A CreateSession has none.
-#[derive(Clone, Copy, PartialEq, Eq, Debug)]
+/// An accepted command, with the session that gave it. A CreateSession has none. It is small, and its clone takes no memory.
+#[derive(PartialEq, Eq, Debug, Drop)]
 pub struct Entry {
     /// The session that gave the command.
     pub session: Option<SessionId>,
     /// The command.
     pub command: AdminCommand,
 }
+
+impl Clone for Entry {
+    ghost is_clone = { λ one other. other ≡ one };
+
+    fn clone(&self) -> Result<Entry, AllocError> {
+        let command = self.command.clone()?;
+        Ok(Entry {
+            session: self.session,
+            command,
+        })
+    }
+}
+
+const _: () = prove!(size_of::<Entry>() < 128);
 
 /// The tables of the policy, by the limit of which a command may be refused.
 #[derive(Clone, Copy, PartialEq, Eq, Debug)]

@@ -6,6 +6,8 @@
 
 mod closure;
 pub mod commands;
+pub mod journal;
+pub mod laws;
 pub mod names;
 pub mod objects;
 pub mod opening;

@@ -1,10 +1,14 @@
 //! Names of users, roles and separation sets, and lists of role names, in fixed space.
-ghost use Rattle.std.specs.Prelude.{◌≡◌, ◌<◌, ◌≤◌, ◌↔◌, ◌++◌, ◌∷◌, [], codes, length, slice_get, IsTrue, Some, None, if◌then◌else◌};
+ghost use Rattle.std.specs.Prelude.{◌≡◌, ◌≤◌, codes, length, slice_get, IsTrue, IfOk, Some, None, if◌then◌else◌};
+ghost use Rattle.std.specs.Cmp.{partial_equiv_from_equiv};
+ghost use Rattle.std.specs.Cmp.Lexicographic.{pointwise, lists_equiv, nat_list_eq_equiv};
 ghost use Rattle.std.specs.List.{list_all};
 ghost use Rattle.std.specs.Str.{bytes_eq};
 ghost use Rattle.rbac_policy.specs.Names.{is_name, is_name_byte};
 
+use std::alloc::{AllocError, Global};
 use std::marker::Model;
+use std::sync::ArcSlice;
 
 /// The most bytes that a name may have.
 pub const NAME_BYTES: usize = 24;
@@ -13,7 +17,7 @@ pub const NAME_BYTES: usize = 24;
 pub const LISTED_ROLES: usize = 32;
 
 /// A name of a user, a role or a separation set: letters, digits, `_` and `-`, at least one and at most `NAME_BYTES`. A contract sees the list of its bytes.
-#[derive(Clone, Copy, PartialEq, Eq, Debug)]
+#[derive(Clone, Copy, Debug)]
 pub struct Name {
     bytes: [u8; NAME_BYTES],
     count: u8,
@@ -97,45 +101,49 @@ impl Name {
         let text = &self.bytes[..self.count as usize];
         std::str::from_utf8(text).unwrap()
     }
+}
 
-    /// Whether the two are one.
-    pub fn is(&self, other: &Name) -> bool
-        ensures { result ≡ bytes_eq self.now other.now }
-    {
+impl PartialEq for Name {
+    ghost eq = { bytes_eq };
+
+    ghost laws = { partial_equiv_from_equiv nat_list_eq_equiv };
+
+    fn eq(&self, other: &Name) -> bool {
         self.as_bytes() == other.as_bytes()
     }
 }
 
-/// The roles that a command lists, at most `LISTED_ROLES`, in the order of the command. A contract sees the list of their names.
-#[derive(Clone, Copy, PartialEq, Eq, Debug)]
+impl Eq for Name {
+    ghost laws = { nat_list_eq_equiv };
+}
+
+/// The roles that a command lists, at most `LISTED_ROLES`, in the order of the command. A clone shares the list and takes no memory. A
+/// contract sees the list of their names.
+#[derive(Debug, Drop)]
 pub struct RoleNames {
-    names: [Option<Name>; LISTED_ROLES],
-    count: u8,
+    names: ArcSlice<Name, Global>,
 }
 
 impl Model for RoleNames {
-    ghost use Rattle.std.specs.Prelude.{List, ℕ, ◌-◌, ◌++◌, length, map, replicate, Some, None};
-    ghost use Rattle.rbac_policy.specs.Names.{present, IsPacked};
+    ghost use Rattle.std.specs.Prelude.{List, ℕ, ◌≤◌, length};
+    ghost use Rattle.std.specs.Arc.{arc_slice_items};
     ghost use Rattle.rbac_policy.specs.declared.names.TheConstants.{LISTED_ROLES};
 
     ghost Value = { List (List ℕ) };
 
-    ghost view = { λ r. present r.names };
+    ghost view = { λ r. arc_slice_items r.names };
 
-    ghost invariant = { λ r. IsPacked LISTED_ROLES r.names r.count };
-
-    ghost inverse = { λ s. record { names = map Some s ++ replicate (LISTED_ROLES - length s) None; count = length s } };
+    ghost invariant = { λ r. length (arc_slice_items r.names) ≤ LISTED_ROLES };
 }
 
 impl RoleNames {
-    /// No roles.
-    pub fn new() -> Self
-        ensures { result ≡ [] }
+    /// The list of these roles.
+    pub fn from_vec(names: Vec<Name>) -> Result<RoleNames, AllocError>
+        requires { length names.items ≤ LISTED_ROLES }
+        ensures { IfOk result (λ roles. roles ≡ names.items) }
     {
-        RoleNames {
-            names: [None; LISTED_ROLES],
-            count: 0,
-        }
+        let names = ArcSlice::from_vec(names)?;
+        Ok(RoleNames { names })
     }
 
     /// How many there are, at most `LISTED_ROLES`.
@@ -143,40 +151,44 @@ impl RoleNames {
         ensures same { result ≡ length self.now }
         ensures short { result ≤ LISTED_ROLES }
     {
-        self.count as usize
-    }
-
-    /// Whether there are none.
-    pub fn is_empty(&self) -> bool
-        ensures { IsTrue result ↔ (self.now ≡ []) }
-    {
-        self.count == 0
-    }
-
-    /// Whether there is no place for another.
-    pub fn is_full(&self) -> bool
-        ensures { IsTrue result ↔ (length self.now ≡ LISTED_ROLES) }
-    {
-        self.count as usize == LISTED_ROLES
+        self.names.len()
     }
 
     /// The role at this place, counted from 0.
     pub fn get(&self, place: usize) -> Option<Name>
         ensures { result ≡ slice_get self.now place }
     {
-        if place < LISTED_ROLES {
-            self.names[place]
-        } else {
-            None
-        }
+        self.as_slice().get(place).copied()
     }
 
-    /// Adds the role at the end. There must be room for it.
-    pub fn push(&mut self, role: Name)
-        requires { length self.old < LISTED_ROLES }
-        ensures { self.new ≡ self.old ++ role ∷ [] }
+    /// The roles, at most `LISTED_ROLES`.
+    pub fn as_slice(&self) -> &[Name]
+        ensures same { result.now ≡ self.now }
+        ensures short { length self.now ≤ LISTED_ROLES }
     {
-        self.names[self.count as usize] = Some(role);
-        self.count += 1;
+        self.names.as_slice()
     }
+}
+
+impl Clone for RoleNames {
+    ghost is_clone = { λ one other. other ≡ one };
+
+    fn clone(&self) -> Result<RoleNames, AllocError> {
+        let names = self.names.clone()?;
+        Ok(RoleNames { names })
+    }
+}
+
+impl PartialEq for RoleNames {
+    ghost eq = { pointwise bytes_eq };
+
+    ghost laws = { partial_equiv_from_equiv (lists_equiv nat_list_eq_equiv) };
+
+    fn eq(&self, other: &RoleNames) -> bool {
+        self.as_slice() == other.as_slice()
+    }
+}
+
+impl Eq for RoleNames {
+    ghost laws = { lists_equiv nat_list_eq_equiv };
 }

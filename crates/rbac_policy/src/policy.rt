@@ -7,7 +7,7 @@ ghost use Rattle.rbac_policy.specs.Fits.{Fits};
 ghost use Rattle.rbac_policy.specs.Order.{Meets, below};
 ghost use Rattle.rbac_policy.specs.Opening.{opening_entries};
 ghost use Rattle.rbac_policy.specs.StandsFor.{StandsFor};
-ghost use Rattle.rbac_policy.specs.Change.{absorbed, assigned, changed, granted, logged_in, logged_out};
+ghost use Rattle.rbac_policy.specs.Change.{absorbed, assigned, changed, granted, logged_in, logged_out, policy_of};
 
 use crate::closure::{below, meets};
 use crate::commands::{AdminCommand, Entry, SessionId};
@@ -22,7 +22,7 @@ use crate::tables::{
 };
 
 /// What a list of accepted entries says, in tables of fixed size. It takes no memory.
-#[derive(Clone, Copy)]
+#[derive(Drop)]
 pub struct Policy {
     pub(crate) version: u64,
     pub(crate) logins: u16,
@@ -35,9 +35,10 @@ pub struct Policy {
 }
 
 impl Policy {
-    // The policy that has taken in no entry.
-    fn empty() -> Policy
-        ensures { StandsFor result [] }
+    /// The policy that has taken in no entry.
+    pub fn empty() -> Policy
+        ensures exact { result ≡ policy_of [] }
+        ensures stands { StandsFor result [] }
     {
         Policy {
             version: 0,
@@ -53,14 +54,14 @@ impl Policy {
 
     /// The policy that a server opens with: the user `root`, who may administer it.
     pub fn opening() -> Policy
-        ensures { StandsFor result opening_entries }
+        ensures exact { result ≡ policy_of opening_entries }
+        ensures stands { StandsFor result opening_entries }
     {
-        let [user, role, assignment, permission] = opening_entries();
+        let entries = opening_entries();
         let mut policy = Policy::empty();
-        policy.absorb(&user);
-        policy.absorb(&role);
-        policy.absorb(&assignment);
-        policy.absorb(&permission);
+        for entry in &entries {
+            policy.absorb(entry);
+        }
         policy
     }
 
@@ -121,7 +122,16 @@ impl Policy {
             } => self.grant(role, operation, object),
             AdminCommand::CreateSession { user, roles } => self.log_in(user, roles),
             AdminCommand::DeleteSession => self.log_out(entry.session),
-            _ => {}
+            AdminCommand::DeleteUser { .. }
+            | AdminCommand::DeleteRole { .. }
+            | AdminCommand::DeassignUser { .. }
+            | AdminCommand::RevokePermission { .. }
+            | AdminCommand::AddInheritance { .. }
+            | AdminCommand::DeleteInheritance { .. }
+            | AdminCommand::CreateDsdSet { .. }
+            | AdminCommand::DeleteDsdSet { .. }
+            | AdminCommand::AddActiveRole { .. }
+            | AdminCommand::DropActiveRole { .. } => {}
         }
     }
 
@@ -185,41 +195,73 @@ impl Policy {
 #[cfg(test)]
 mod tests {
     use super::*;
+    use std::alloc::{AllocError, Global};
+    use std::process::Abort;
+    use std::test::Fail;
 
     fn entry(session: Option<SessionId>, command: AdminCommand) -> Entry {
         Entry { session, command }
     }
 
+    /// A login of root in the role of this name.
+    fn login(alloc: Global, role: Name) -> Result<Entry, AllocError> {
+        let roles = RoleNames::from_vec(vec![in alloc; role]?)?;
+        let user = Name::root();
+        Ok(entry(None, AdminCommand::CreateSession { user, roles }))
+    }
+
+    fn object(rt: &impl Abort, text: &str) -> Object {
+        Object::from_text(text).expect(rt, "an object")
+    }
+
     #[test]
-    fn opening_story(rt: HostRuntime) {
+    fn opening_story(rt: HostRuntime) -> Result<(), Fail> {
         let root = Name::root();
-        let mut roles = RoleNames::new();
-        assert!(rt; roles.is_empty());
-        roles.push(root);
         let session = SessionId::new(1);
         let mut policy = Policy::opening();
         assert_eq!(rt; policy.version(), 4);
         assert!(rt; !policy.may(session, &Operation::Administer, &Object::Policy));
 
-        policy.absorb(&entry(None, AdminCommand::CreateSession { user: root, roles }));
+        policy.absorb(&login(rt.alloc(), root)?);
         assert!(rt; policy.may(session, &Operation::Administer, &Object::Policy));
         assert!(rt; !policy.may(session, &Operation::Audit, &Object::Policy));
         assert!(rt; !policy.may(SessionId::new(2), &Operation::Administer, &Object::Policy));
 
-        let object = Object::from_text("0").unwrap_or(Object::Policy);
+        let slot = object(&rt, "0");
         let grant = AdminCommand::GrantPermission {
             role: root,
             operation: Operation::Load,
-            object,
+            object: slot,
         };
-        assert!(rt; !policy.may(session, &Operation::Load, &object));
+        assert!(rt; !policy.may(session, &Operation::Load, &slot));
         policy.absorb(&entry(Some(session), grant));
-        assert!(rt; policy.may(session, &Operation::Load, &object));
-        assert!(rt; !policy.may(session, &Operation::Step, &object));
+        assert!(rt; policy.may(session, &Operation::Load, &slot));
+        assert!(rt; !policy.may(session, &Operation::Load, &object(&rt, "1")));
+        assert!(rt; !policy.may(session, &Operation::Step, &slot));
 
         policy.absorb(&entry(Some(session), AdminCommand::DeleteSession));
         assert!(rt; !policy.may(session, &Operation::Administer, &Object::Policy));
         assert_eq!(rt; policy.version(), 7);
         assert_eq!(rt; policy.logins(), 1);
+        Ok(())
+    }
+
+    #[test]
+    fn roles_of_sessions(rt: HostRuntime) -> Result<(), Fail> {
+        let driver = Name::from_text("driver").expect(&rt, "a name");
+        let mut policy = Policy::opening();
+        policy.absorb(&entry(None, AdminCommand::AddRole { role: driver }));
+
+        // Root is not authorized for the role, so the session ends with its entry.
+        policy.absorb(&login(rt.alloc(), driver)?);
+        assert!(rt; !policy.lives(SessionId::new(1)));
+
+        // What the user might make active counts for nothing.
+        let user = Name::root();
+        let roles = RoleNames::from_vec(Vec::new(rt.alloc()))?;
+        policy.absorb(&entry(None, AdminCommand::CreateSession { user, roles }));
+        assert!(rt; policy.lives(SessionId::new(2)));
+        assert!(rt; !policy.may(SessionId::new(2), &Operation::Administer, &Object::Policy));
+        Ok(())
     }
 }

@@ -31,7 +31,7 @@ fn user_is(slot: &Option<User>, name: &Name) -> bool
     ensures { result ≡ user_is name.now slot.now }
 {
     match slot {
-        Some(user) => user.name.is(name),
+        Some(user) => user.name == *name,
         None => false,
     }
 }
@@ -40,7 +40,7 @@ fn role_is(slot: &Option<Name>, name: &Name) -> bool
     ensures { result ≡ role_is name.now slot.now }
 {
     match slot {
-        Some(role) => role.is(name),
+        Some(role) => role == name,
         None => false,
     }
 }
@@ -73,7 +73,7 @@ fn user_given(slot: &Option<User>, name: &Name, place: u32) -> Option<User>
     ensures { result ≡ user_given name.now place slot.now }
 {
     match slot {
-        Some(user) if user.name.is(name) => Some(User {
+        Some(user) if user.name == *name => Some(User {
             name: user.name,
             roles: with_bit(user.roles, place),
         }),
@@ -97,7 +97,7 @@ pub fn roles_of(users: &[Option<User>; USERS], name: &Name) -> u32
 {
     for slot in users {
         if let Some(user) = slot {
-            if user.name.is(name) {
+            if user.name == *name {
                 return user.roles;
             }
         }
@@ -236,7 +236,7 @@ fn session_without(slot: &Option<Session>, number: SessionId) -> Option<Session>
     ensures { result ≡ session_without number slot.now }
 {
     match slot {
-        Some(session) if session.number.is(&number) => None,
+        Some(session) if session.number == number => None,
         _ => *slot,
     }
 }
@@ -256,7 +256,7 @@ pub fn session_of(sessions: &[Option<Session>; SESSIONS], number: SessionId) -> 
 {
     for slot in sessions {
         if let Some(session) = slot {
-            if session.number.is(&number) {
+            if session.number == number {
                 return Some(*session);
             }
         }
@@ -279,10 +279,8 @@ pub fn mask_of(roles: &[Option<Name>; ROLES], listed: &RoleNames) -> u32
     ensures { result ≡ mask_of roles.now listed.now }
 {
     let mut mask = 0;
-    for at in 0..listed.len() {
-        if let Some(name) = listed.get(at) {
-            mask = with_place(mask, place_of(roles, &name));
-        }
+    for name in listed.as_slice() {
+        mask = with_place(mask, place_of(roles, name));
     }
     mask
 }

@@ -1,5 +1,5 @@
 //! From a line to its request.
-ghost use Rattle.std.specs.Prelude.{◌≡◌, ◌≤◌, length, map, option_map, IfOk, List, ℕ};
+ghost use Rattle.std.specs.Prelude.{◌≡◌, ◌≤◌, length, map, option_map, IfOk, IfSome, List, ℕ};
 ghost use Rattle.serde_json.specs.Data.{object};
 ghost use Rattle.serde_json.specs.View.{view};
 ghost use Rattle.wire_lines.specs.Requests.{IsReadAs, IsRequest, Fits, members_of};
@@ -90,35 +90,43 @@ fn number_at(value: &Value, key: &str) -> Option<u64>
 
 /// The names that values are, in their order.
 #[tactic(auto, unfolding(crate::specs::Inner::Reading::names_from))]
-fn names_from(values: &[Value]) -> Option<RoleNames>
-    requires { length values.now ≤ LISTED_ROLES }
-    ensures { result ≡ names_from (map view values.now) }
+fn names_from(alloc: Global, values: &[Value]) -> Result<Option<Vec<Name>>, AllocError>
+    ensures names { IfOk result (λ names. option_map (λ v. v.items) names ≡ names_from (map view values.now)) }
+    ensures count { IfOk result (λ names. IfSome names (λ v. length v.items ≡ length values.now)) }
 {
-    let mut roles = RoleNames::new();
+    let mut names = Vec::new(alloc);
     for value in values {
-        roles.push(value.as_str().and_then(Name::from_text)?);
+        let Some(name) = value.as_str().and_then(Name::from_text) else {
+            return Ok(None);
+        };
+        names.push(name)?;
     }
-    Some(roles)
+    Ok(Some(names))
 }
 
 /// As many names as a command may list.
 #[tactic(auto, unfolding(crate::specs::Inner::Reading::roles_from))]
-fn roles_from(values: &[Value]) -> Option<RoleNames>
-    ensures { result ≡ roles_from (map view values.now) }
+fn roles_from(alloc: Global, values: &[Value]) -> Result<Option<RoleNames>, AllocError>
+    ensures { IfOk result (λ roles. roles ≡ roles_from (map view values.now)) }
 {
-    if values.len() <= LISTED_ROLES {
-        names_from(values)
-    } else {
-        None
+    if values.len() > LISTED_ROLES {
+        return Ok(None);
+    }
+    match names_from(alloc, values)? {
+        Some(names) => Ok(Some(RoleNames::from_vec(names)?)),
+        None => Ok(None),
     }
 }
 
 /// The roles that a field lists.
 #[tactic(auto, unfolding(crate::specs::Inner::Reading::roles_at), using(crate::proofs::KeyLemmas::list_back))]
-fn roles_at(value: &Value, key: &str) -> Option<RoleNames>
-    ensures { result ≡ roles_at key.now (view value.now) }
+fn roles_at(alloc: Global, value: &Value, key: &str) -> Result<Option<RoleNames>, AllocError>
+    ensures { IfOk result (λ roles. roles ≡ roles_at key.now (view value.now)) }
 {
-    roles_from(value.get(key)?.as_array()?)
+    match value.get(key).and_then(|found| found.as_array()) {
+        Some(values) => roles_from(alloc, values),
+        None => Ok(None),
+    }
 }
 
 /// The command of a word.
@@ -139,15 +147,19 @@ fn command_of(word: &str) -> Option<Command>
 }
 
 #[tactic(auto, unfolding(crate::specs::Inner::Reading::login_of))]
-fn login_of(value: &Value) -> Option<Request>
-    ensures { result ≡ login_of (view value.now) }
+fn login_of(alloc: Global, value: &Value) -> Result<Option<Request>, AllocError>
+    ensures { IfOk result (λ request. request ≡ login_of (view value.now)) }
 {
     if !has_keys(value, &["cmd", "roles", "user"]) {
-        return None;
+        return Ok(None);
     }
-    let roles = roles_at(value, "roles")?;
-    let user = name_at(value, "user")?;
-    Some(Request::Login { roles, user })
+    let Some(roles) = roles_at(alloc, value, "roles")? else {
+        return Ok(None);
+    };
+    let Some(user) = name_at(value, "user") else {
+        return Ok(None);
+    };
+    Ok(Some(Request::Login { roles, user }))
 }
 
 #[tactic(auto, unfolding(crate::specs::Inner::Reading::logout_of))]
@@ -242,7 +254,7 @@ fn request_of(alloc: Global, value: &Value) -> Result<Option<Request>, AllocErro
         return Ok(None);
     };
     match command {
-        Command::Login => Ok(login_of(value)),
+        Command::Login => login_of(alloc, value),
         Command::Logout => Ok(logout_of(value)),
         Command::Grant => Ok(grant_of(value)),
         Command::Load => load_of(alloc, value),

@@ -52,4 +52,4 @@ returns c = λ L st.
     (pass (c.in_ok-known_role.ensures L st)
     (pass (c.in_ok-new_grant.ensures L st)
     (pass (c.in_ok-room_for_grant.ensures L st)
-    (ap (λ s. Ok (record { session = s; command = GrantPermission c.args.role.now c.args.operation.now c.args.object.now })) (sym by.given))))))
+    (ap (λ s. Ok (record { session = s; command = GrantPermission c.args.role c.args.operation c.args.object })) (sym by.given))))))

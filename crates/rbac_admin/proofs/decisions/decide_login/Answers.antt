@@ -30,7 +30,7 @@ returns-in_err-room_for_session c =
     (pass (c.in_ok-known_roles.ensures L st)
     (pass (c.in_ok-authorized_roles.ensures L st)
     (pass c.in_ok-single_roles.ensures
-    (pass_violation L st.sets.none c.args.user.now c.args.roles.now
+    (pass_violation L st.sets.none c.args.user c.args.roles
     (refuse _ (c.in_err-room_for_session.ensures L st) refl))))))))
 
 pub returns : goal.returns
@@ -40,6 +40,6 @@ returns c = λ L s st.
     (pass (c.in_ok-known_roles.ensures L st)
     (pass (c.in_ok-authorized_roles.ensures L st)
     (pass c.in_ok-single_roles.ensures
-    (pass_violation L st.sets.none c.args.user.now c.args.roles.now
+    (pass_violation L st.sets.none c.args.user c.args.roles
     (pass (c.in_ok-room_for_session.ensures L st)
     refl)))))))

@@ -5,4 +5,4 @@ use Rattle.wire_lines.proofs.reading.names_from.Given as goal
 
 abbrev pub invariant-loop-value : goal.invariant-loop-value
 invariant-loop-value l =
-    record { names : with_front l.roles (names_from (map view (drop l.value-index l.values))) ≡ names_from (map view l.values); count : length l.roles ≡ l.value-index }
+    record { names : with_front l.names.items (names_from (map view (drop l.value-index l.values))) ≡ names_from (map view l.values); count : length l.names.items ≡ l.value-index }

@@ -5,6 +5,6 @@ use Rattle.access_core.proofs.single.Single.new.Goals as goal
 
 pub invariant_of-result : goal.invariant_of-result
 invariant_of-result c = (
-  rw (c.in_ok-push-4.ensures.items, c.in_ok-push-3.ensures.items, c.in_ok-push-2.ensures.items, c.in_ok-push.ensures.items, c.new-entries.ensures.items, c.opening_entries.ensures) c.opening.ensures,
+  rw c.in_ok-entries.ensures c.opening-2.ensures.stands,
   subst AreSlots (sym c.empty_slots.ensures) opening_slots,
 )

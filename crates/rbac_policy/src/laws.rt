@@ -1,0 +1,32 @@
+//! Laws of the policy, for callers that reason about lists of entries. Each function does nothing: its contract is the law.
+ghost use Rattle.std.specs.Prelude.{ℕ, ◌≤◌, List, length, take};
+ghost use Rattle.rbac_policy.specs.declared.commands.Entry.{Entry};
+ghost use Rattle.rbac_policy.specs.declared.objects.Object.{Object};
+ghost use Rattle.rbac_policy.specs.declared.objects.Operation.{Operation};
+ghost use Rattle.rbac_policy.specs.declared.policy.Policy.{Policy};
+ghost use Rattle.rbac_policy.specs.Change.{policy_of};
+ghost use Rattle.rbac_policy.specs.Decided.{Decided};
+ghost use Rattle.rbac_policy.specs.Facts.{IsLive, May};
+ghost use Rattle.rbac_policy.specs.Fits.{AllFit};
+ghost use Rattle.rbac_policy.specs.StandsFor.{StandsFor};
+
+/// Over a list for which some policy stands, each session lives or doesn't, and may do an operation on an object or may not.
+pub fn facts_are_decided()
+    ensures lives { (policy : Policy) (entries : List Entry) → StandsFor policy entries
+        → (session : ℕ) → Decided (IsLive entries session) }
+    ensures may { (policy : Policy) (entries : List Entry) → StandsFor policy entries
+        → (session : ℕ) (operation : Operation) (object : Object) → Decided (May entries session operation object) }
+{}
+
+/// Where each entry fits those before it, a policy stands for the list, and for each front of it: the one that took in its entries.
+pub fn policies_stand()
+    ensures whole { (entries : List Entry) → AllFit entries → StandsFor (policy_of entries) entries }
+    ensures front { (entries : List Entry) → AllFit entries → (n : ℕ) → StandsFor (policy_of (take n entries)) (take n entries) }
+{}
+
+/// The same is decided over each front of a list each of whose entries fits those before it.
+pub fn fronts_are_decided()
+    ensures lives { (entries : List Entry) → AllFit entries → (n session : ℕ) → Decided (IsLive (take n entries) session) }
+    ensures may { (entries : List Entry) → AllFit entries → (n session : ℕ) (operation : Operation) (object : Object)
+        → Decided (May (take n entries) session operation object) }
+{}
