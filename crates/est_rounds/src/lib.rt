@@ -13,5 +13,3 @@ pub mod rounds;
 mod signal_set;
 mod start;
 mod step;
-#[cfg(test)]
-mod tests;

@@ -8,9 +8,6 @@ ghost use Rattle.est_syntax.specs.Drawing.{ends_line, line_of, begins_character,
 use est_text::place::Place;
 use std::alloc::{AllocError, Global};
 
-#[cfg(test)]
-mod tests;
-
 /// The line of a number, from 1, without the LF that ends it; empty where the text has fewer lines.
 fn line_of(text: &str, number: u64) -> &str
     ensures { result.now ≡ line_of number text.now }

@@ -17,7 +17,5 @@ mod modules;
 mod names;
 pub mod parse;
 mod parser;
-#[cfg(test)]
-mod tests;
 pub mod tree;
 mod units;

@@ -13,7 +13,5 @@ pub mod lex;
 pub mod piece;
 pub mod place;
 mod scan;
-#[cfg(test)]
-mod tests;
 pub mod token;
 pub mod tokens;

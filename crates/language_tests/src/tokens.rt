@@ -1,10 +1,10 @@
 //! Texts, their tokens and their faults.
-use crate::identifier::Identifier;
-use crate::keyword::Keyword;
-use crate::lex::{LexFault, lex};
-use crate::place::Place;
-use crate::token::{Symbol, Token};
-use crate::tokens::Tokens;
+use est_text::identifier::Identifier;
+use est_text::keyword::Keyword;
+use est_text::lex::{LexFault, lex};
+use est_text::place::Place;
+use est_text::token::{Symbol, Token};
+use est_text::tokens::Tokens;
 use std::alloc::Global;
 use std::process::Abort;
 use std::test::Fail;

@@ -4,8 +4,8 @@ mod nesting;
 mod prefixes;
 mod trees;
 
-use crate::parse::{ParseFault, parse};
-use crate::tree::Library;
+use est_syntax::parse::{ParseFault, parse};
+use est_syntax::tree::Library;
 use est_text::lex::{LexFault, lex};
 use std::alloc::Global;
 use std::test::Fail;

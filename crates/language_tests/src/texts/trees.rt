@@ -1,7 +1,7 @@
 //! Texts and their trees.
 use super::Answer::Accepted;
 use super::{expect_answer, library_of, module_of};
-use crate::tree::{Branches, Statement, Unit, WeakEnd};
+use est_syntax::tree::{Branches, Statement, Unit, WeakEnd};
 use std::alloc::Global;
 use std::test::Fail;
 

@@ -1,6 +1,6 @@
 //! Texts with a place of each, and how it is drawn.
-use crate::draw::draw;
-use crate::parse::{ParseFault, parse};
+use est_syntax::draw::draw;
+use est_syntax::parse::{ParseFault, parse};
 use est_text::lex::{LexFault, lex};
 use est_text::place::Place;
 use std::alloc::Global;

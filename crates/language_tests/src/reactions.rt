@@ -2,13 +2,13 @@
 
 ghost use Rattle.est_rounds.specs.Contract.{AreInputs};
 
-use crate::engine::Engine;
-use crate::rounds::Rounds;
 use est_kernel::closed::is_closed;
 use est_kernel::interface::{Declaration, Interface, Kind, MOST_SIGNALS};
 use est_kernel::kernel::{Kernel, LoadFault};
 use est_kernel::state::{Inputs, State};
 use est_kernel::statement::{InterfaceSignal, LocalSignal, Signal, Statement, Test};
+use est_rounds::engine::Engine;
+use est_rounds::rounds::Rounds;
 use est_text::identifier::Identifier;
 use std::alloc::{AllocError, Global};
 use std::process::Abort;

@@ -3,7 +3,7 @@ use Rattle.std.proofs.lemmas.Bool.{both_ways}
 use Rattle.est_kernel.specs.Interfaces.{inputs_of}
 use Rattle.est_kernel.specs.Bits.{bits}
 use Rattle.est_kernel.proofs.Masks.{bits_zero}
-use Rattle.est_rounds.proofs.tests.offered.Goals as goal
+use Rattle.language_tests.proofs.reactions.offered.Goals as goal
 
 pub returns-then-present : goal.returns-then-present
 returns-then-present c n h = sym (ap (λ f. f n) (c.inputs.ensures ∙ ap inputs_of c.interface.ensures)) ∙ h

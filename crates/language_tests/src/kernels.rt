@@ -1,10 +1,10 @@
 //! Interfaces and kernels at the edges of their limits.
 
-use crate::closed::is_closed;
-use crate::interface::{Declaration, Interface, Kind};
-use crate::kernel::{Kernel, LoadFault};
-use crate::limits::Limit;
-use crate::statement::{InterfaceSignal, LocalSignal, Signal, Statement};
+use est_kernel::closed::is_closed;
+use est_kernel::interface::{Declaration, Interface, Kind};
+use est_kernel::kernel::{Kernel, LoadFault};
+use est_kernel::limits::Limit;
+use est_kernel::statement::{InterfaceSignal, LocalSignal, Signal, Statement};
 use est_text::identifier::Identifier;
 use std::alloc::{AllocError, Global};
 use std::process::Abort;

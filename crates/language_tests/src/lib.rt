@@ -1,0 +1,16 @@
+//! The worked examples of the language: texts, their tokens, their trees and their faults, kernels at their limits, and reactions, through
+//! public calls alone.
+//!
+//! This crate has no function but tests, and stands above the crates that it calls, so that each of those is proved once.
+#![tactic(auto)]
+
+#[cfg(test)]
+mod drawings;
+#[cfg(test)]
+mod kernels;
+#[cfg(test)]
+mod reactions;
+#[cfg(test)]
+mod texts;
+#[cfg(test)]
+mod tokens;
