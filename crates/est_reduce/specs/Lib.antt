@@ -1,3 +1,4 @@
 pub mod Bodies
 pub mod Bound
+pub mod Facts
 pub mod Views

@@ -1,0 +1,38 @@
+-- Relations between inputs, and which sets of inputs keep them (Berry, The Esterel v5 Language Primer, input relations).
+use Rattle.std.specs.Prelude.{◌≡◌, ℕ, Bool, true, ◌&&◌, ◌||◌, not, nat_eq, List}
+use Rattle.std.specs.List.{list_all}
+use Rattle.est_kernel.specs.Interfaces.{inputs_of}
+use Rattle.est_kernel.specs.declared.interface.Declaration.{Declaration}
+use Rattle.est_relations.specs.declared.relations.Relation.{Relation}
+use Rattle.est_relations.specs.declared.relations.Relation.TheVariants.{Exclusion, Implication}
+
+-- whether at most one of the members is present: any two that are present are one, as is a signal that is written twice
+unfoldable pub has_one_at_most : (present : ℕ → Bool) → List ℕ → Bool
+has_one_at_most present members = list_all (λ a. list_all (λ b. not (present a && present b) || nat_eq a b) members) members
+
+-- whether the second signal is present where the first is
+unfoldable pub has_implied : (present : ℕ → Bool) → (condition implied : ℕ) → Bool
+has_implied present condition implied = not (present condition) || present implied
+
+-- whether the relation holds, where it is an exclusion
+abbrev pub keeps_exclusion : (present : ℕ → Bool) → Relation → Bool
+keeps_exclusion present (Exclusion members) = has_one_at_most present members
+keeps_exclusion present (Implication condition implied) = true
+
+-- whether the relation holds of the inputs that are present
+abbrev pub keeps : (present : ℕ → Bool) → Relation → Bool
+keeps present (Exclusion members) = has_one_at_most present members
+keeps present (Implication condition implied) = has_implied present condition.index implied.index
+
+-- lawful inputs: each relation holds of them
+abbrev pub AreLawful : List Relation → (present : ℕ → Bool) → Type 0
+AreLawful relations present = list_all (keeps present) relations ≡ true
+
+-- whether each signal of the relation is an input
+abbrev pub is_over_inputs : List Declaration → Relation → Bool
+is_over_inputs interface (Exclusion members) = list_all (inputs_of interface) members
+is_over_inputs interface (Implication condition implied) = inputs_of interface condition.index && inputs_of interface implied.index
+
+-- each signal of each relation is an input
+abbrev pub AreOverInputs : List Declaration → List Relation → Type 0
+AreOverInputs interface relations = list_all (is_over_inputs interface) relations ≡ true

@@ -1,0 +1,8 @@
+//! Relations between the inputs of a module, and the inputs that are offered and not yet taken by an instant.
+//!
+//! It promises that the pending inputs keep each exclusion at all times, that an offer is refused exactly by the first cause of
+//! the written order, and that an instant may take them exactly where they keep each implication too. What is pending takes no
+//! memory.
+#![tactic(auto)]
+
+pub mod relations;

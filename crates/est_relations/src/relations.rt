@@ -1,0 +1,109 @@
+//! The relations of a module, in the order of its text.
+
+ghost use Rattle.std.specs.Prelude.{◌≡◌, ◌++◌, ◌∷◌, [], ◌≤◌, ◌<◌, length, map, IfOk, OnErr, IsTrue, ◌↔◌};
+ghost use Rattle.std.specs.List.{find, list_any};
+
+use est_kernel::statement::InterfaceSignal;
+use std::alloc::{AllocError, Global};
+use std::marker::Model;
+
+/// The most relations of a module.
+pub const MOST_RELATIONS: usize = 32;
+
+/// The members of an exclusion, in the order in which they are written; a signal may be written twice. A contract sees the list
+/// of their places in the interface.
+#[derive(Drop)]
+pub struct Members {
+    signals: Vec<InterfaceSignal>,
+}
+
+impl Model for Members {
+    ghost use Rattle.std.specs.Prelude.{List, ℕ, map};
+
+    ghost Value = { List ℕ };
+
+    ghost view = { λ m. map (λ s. s.index) m.signals.items };
+}
+
+impl Members {
+    /// No member. It takes no memory.
+    pub fn new(alloc: Global) -> Members
+        ensures { result ≡ [] }
+    {
+        Members {
+            signals: Vec::new(alloc),
+        }
+    }
+
+    /// Adds a member at the end.
+    pub fn push(&mut self, member: InterfaceSignal) -> Result<(), AllocError>
+        ensures ok { IfOk result (λ _. self.new ≡ self.old ++ member.index ∷ []) }
+        ensures err { OnErr result (self.new ≡ self.old) }
+    {
+        self.signals.push(member)?;
+        Ok(())
+    }
+}
+
+/// A relation between inputs.
+#[derive(Drop)]
+pub enum Relation {
+    /// `A # B # C`: at most one of them is present.
+    Exclusion(Members),
+    /// `A => B`: the second is present where the first is.
+    Implication(InterfaceSignal, InterfaceSignal),
+}
+
+/// At most `MOST_RELATIONS` relations. A contract sees the list of them; the first has the number 1.
+#[derive(Drop)]
+pub struct Relations {
+    relations: Vec<Relation>,
+}
+
+impl Model for Relations {
+    ghost use Rattle.std.specs.Prelude.{List, ◌≤◌, length};
+    ghost use Rattle.est_relations.specs.declared.relations.Relation.{Relation};
+    ghost use Rattle.est_relations.specs.declared.relations.TheConstants.{MOST_RELATIONS};
+
+    ghost Value = { List Relation };
+
+    ghost view = { λ r. r.relations.items };
+
+    ghost invariant = { λ r. length r.relations.items ≤ MOST_RELATIONS };
+}
+
+impl Relations {
+    /// No relation. It takes no memory.
+    pub fn new(alloc: Global) -> Relations
+        ensures { result ≡ [] }
+    {
+        Relations {
+            relations: Vec::new(alloc),
+        }
+    }
+
+    /// Whether there is no room for another relation.
+    pub fn is_full(&self) -> bool
+        ensures { IsTrue result ↔ (length self.now ≡ MOST_RELATIONS) }
+    {
+        self.relations.len() == MOST_RELATIONS
+    }
+
+    /// Adds a relation at the end.
+    pub fn push(&mut self, relation: Relation) -> Result<(), AllocError>
+        requires room { length self.old < MOST_RELATIONS }
+        ensures ok { IfOk result (λ _. self.new ≡ self.old ++ relation ∷ []) }
+        ensures err { OnErr result (self.new ≡ self.old) }
+    {
+        self.relations.push(relation)?;
+        Ok(())
+    }
+
+    /// The relations, in order.
+    pub fn as_slice(&self) -> &[Relation]
+        ensures all { result.now ≡ self.now }
+        ensures bound { length self.now ≤ MOST_RELATIONS }
+    {
+        &self.relations
+    }
+}
