@@ -9,7 +9,8 @@ use Rattle.rbac_policy.specs.declared.objects.Operation.{Operation}
 use Rattle.rbac_policy.specs.declared.objects.Object.{Object}
 use Rattle.rbac_policy.specs.Objects.{same_operation, same_object}
 use Rattle.rbac_policy.specs.declared.sizes.TheConstants.{ROLES}
-use Rattle.rbac_policy.specs.Order.{Has, IsBelowSome, Meets, below}
+use Rattle.rbac_closure.specs.Sets.{Has, Meets}
+use Rattle.rbac_policy.specs.Order.{IsBelowSome, below}
 use Rattle.rbac_policy.specs.declared.commands.Entry.{Entry}
 use Rattle.rbac_policy.specs.declared.rows.Session.{Session}
 use Rattle.rbac_policy.specs.declared.rows.Grant.{Grant}

@@ -1,5 +1,5 @@
 -- Empty tables stand for no entries, and each opening entry fits those before it.
-use Rattle.std.proofs.Common.{◌≡◌, ℕ, zero, suc, List, [], ◌∷◌, ◌++◌, length, inl, inr, arith, refl, sym, ◌∙◌, subst}
+use Rattle.std.proofs.Common.{◌≡◌, ℕ, zero, suc, List, [], ◌∷◌, length, inl, inr, arith, refl, ◌∙◌}
 use Rattle.std.specs.List.{All}
 use Rattle.std.specs.Prelude.{slice_index, replicate, Option, None}
 use Rattle.std.proofs.lemmas.Option.{slice_get_within}

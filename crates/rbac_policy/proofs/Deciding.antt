@@ -1,26 +1,21 @@
 -- A policy that stands for a list decides what may be done there.
-use Rattle.std.proofs.Common.{◌≡◌, ◌⊎◌, ◌↔◌, ℕ, ◌<◌, ◌≤◌, ◌^◌, Bool, true, false, IsTrue, List, length, take, refl, sym, ◌∙◌, inl, inr, subst, arith, rules}
-use Rattle.std.specs.Prelude.{Option, Some, None, ◌==◌, is_some}
+use Rattle.std.proofs.Common.{◌≡◌, ◌↔◌, ℕ, Bool, true, false, IsTrue, List, refl, inl, inr, rules}
+use Rattle.std.specs.Prelude.{Option, Some, None, is_some}
 use Rattle.std.specs.Int.Bits.{bit_and}
 use Rattle.std.proofs.lemmas.Bool.{cases_eq}
-use Rattle.std.proofs.lemmas.Nat.{and_le_l}
-use Rattle.std.proofs.lemmas.Option.{slice_get_within, same_Some}
 use Rattle.rbac_policy.specs.declared.commands.Entry.{Entry}
 use Rattle.rbac_policy.specs.declared.objects.Operation.{Operation}
 use Rattle.rbac_policy.specs.declared.objects.Object.{Object}
 use Rattle.rbac_policy.specs.declared.policy.Policy.{Policy}
 use Rattle.rbac_policy.specs.declared.rows.Grant.{Grant}
 use Rattle.rbac_policy.specs.declared.rows.Session.{Session}
-use Rattle.rbac_policy.specs.declared.sizes.TheConstants.{ROLES}
 use Rattle.rbac_policy.specs.Decided.{Decided}
 use Rattle.rbac_policy.specs.Facts.{IsLive, May}
 use Rattle.rbac_policy.specs.Order.{below}
 use Rattle.rbac_policy.specs.StandsFor.{StandsFor}
-use Rattle.rbac_policy.specs.Tables.{At, session_of, grant_of}
-use Rattle.rbac_policy.proofs.Asking.{first_cases, may_no_session, may_no_grant, may_found, session_test}
-use Rattle.rbac_policy.proofs.Masks.{low_bits}
-use Rattle.rbac_policy.proofs.Order.{chain_up}
-use Rattle.rbac_policy.proofs.Walking.{below_sound, common_bit, no_common_bit}
+use Rattle.rbac_policy.specs.Tables.{session_of, grant_of}
+use Rattle.rbac_policy.proofs.Asking.{may_no_session, may_no_grant, may_found, session_test}
+use Rattle.rbac_closure.proofs.SetLemmas.{common_place, no_common_place}
 
 module _ (p : Policy) (L : List Entry) (st : StandsFor p L) where
   pub live_decided : (n : ℕ) → Decided (IsLive L n)
@@ -28,21 +23,6 @@ module _ (p : Policy) (L : List Entry) (st : StandsFor p L) where
     by_test : (b : Bool) → (IsTrue b ↔ IsLive L n) → Decided (IsLive L n)
     by_test true test = inl (test.0 (search rules))
     by_test false test = inr (λ h. absurd (search (rules, test.1 h)))
-
-  -- the rows of the roles that are active in a session have no bits over the table
-  low_rows : (n : ℕ) (x : Session) → session_of n p.sessions ≡ Some x → below p.juniors x.active < 2 ^ ROLES
-  low_rows n x is = elim (first_cases (λ (z : Session). z.number == n) p.sessions) [
-    | inl f ↦
-        let same : f.value ≡ x = same_Some f.value x (sym f.is ∙ is) in
-        at_slot f.at (subst (At p.sessions f.at) same f.there)
-    | inr a ↦ (let e = a.is in cc)
-  ] where
-    at_slot : (at : ℕ) → At p.sessions at x → below p.juniors x.active < 2 ^ ROLES
-    at_slot at there = low_bits (below p.juniors x.active) (λ q bit.
-        let b = below_sound p.juniors x.active q bit in
-        let named = st.sessions.named at x there b.top b.within in
-        let up = chain_up p.roles p.juniors L st.roles b.chain named.0 named.1 in
-        omega (arith, slice_get_within p.roles q (Some up.0) up.1, st.roles.places))
 
   pub may_decided : (n : ℕ) (op : Operation) (object : Object) → Decided (May L n op object)
   may_decided n op object = by_session (session_of n p.sessions) refl where
@@ -52,8 +32,8 @@ module _ (p : Policy) (L : List Entry) (st : StandsFor p L) where
         let found = may_found p L st n op object x g sx sg in
         let rows : ℕ = below p.juniors x.active in
         elim (cases_eq (bit_and rows g.roles) 0) [
-          | inl empty ↦ inr (λ may. no_common_bit rows g.roles (found.1 may) empty)
-          | inr some ↦ inl (found.0 (common_bit rows g.roles (omega (arith, and_le_l rows g.roles, low_rows n x sx)) some))
+          | inl empty ↦ inr (λ may. no_common_place rows g.roles (found.1 may) empty)
+          | inr some ↦ inl (found.0 (common_place rows g.roles some))
         ]
 
     by_session : (o : Option Session) → session_of n p.sessions ≡ o → Decided (May L n op object)

@@ -3,7 +3,8 @@ use Rattle.std.proofs.Common.{◌≡◌, ℕ, ◌≤◌, ◌<◌, ◌^◌, ◌�
 use Rattle.std.specs.Prelude.{Option, Some}
 use Rattle.std.proofs.lemmas.Option.{slice_get_within}
 use Rattle.rbac_policy.specs.declared.sizes.TheConstants.{ROLES, SESSIONS}
-use Rattle.rbac_policy.specs.Order.{Has, IsBelowSome, below}
+use Rattle.rbac_closure.specs.Sets.{Has}
+use Rattle.rbac_policy.specs.Order.{IsBelowSome, below}
 use Rattle.rbac_policy.specs.declared.commands.Entry.{Entry}
 use Rattle.rbac_policy.specs.declared.rows.User.{User}
 use Rattle.rbac_policy.specs.declared.rows.Session.{Session}

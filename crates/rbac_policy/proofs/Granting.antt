@@ -5,10 +5,9 @@ use Rattle.std.specs.List.{list_any}
 use Rattle.std.proofs.lemmas.Bool.{false≢true}
 use Rattle.std.proofs.lemmas.Option.{same_Some}
 use Rattle.std.proofs.lemmas.List.{length-map, length-set}
-use Rattle.std.proofs.lemmas.Nat.Bits.{bit_at_set_same}
-use Rattle.std.specs.Int.{w32}
+use Rattle.rbac_closure.proofs.SetLemmas.{with_same}
 use Rattle.rbac_policy.specs.declared.sizes.TheConstants.{ROLES}
-use Rattle.rbac_policy.specs.Order.{Has}
+use Rattle.rbac_closure.specs.Sets.{Has}
 use Rattle.rbac_policy.specs.declared.objects.Operation.{Operation}
 use Rattle.rbac_policy.specs.declared.objects.Object.{Object}
 use Rattle.rbac_policy.specs.Objects.{same_operation, same_object}
@@ -101,7 +100,7 @@ module _ (roles : List (Option NameText)) (unique : (p q : ℕ) (r : NameText) �
               (sums {A = Pair r x.operation x.object} (λ p. p.0, λ same. (same, sym eq.0, sym eq.1)) (gs.granted at x there r))
               (flip (in_with_bit roles unique p0 r0 role_there low x.roles r)));
           named = named_with_bit roles unique p0 r0 role_there low x.roles (gs.named at x there);
-          used = (p0, bit_at_set_same w32 x.roles p0 low);
+          used = (p0, with_same x.roles p0);
         })
     by_test false e =
         let is : x ≡ y = same_Some x y (sym (ap (λ b. cond b (Some (record { operation = x.operation; object = x.object; roles = with_bit x.roles p0 })) (Some x)) e) ∙ gives) in
@@ -176,7 +175,7 @@ module _ (roles : List (Option NameText)) (unique : (p q : ℕ) (r : NameText) �
           | inr old ↦ gs.named at y old
         ];
         used = λ at y there. elim (written grants i at new y fr.within there) [
-          | inl q ↦ subst (λ (z : Grant). (place : ℕ) × Has z.roles place) q.1 (p0, bit_at_set_same w32 0 p0 low)
+          | inl q ↦ subst (λ (z : Grant). (place : ℕ) × Has z.roles place) q.1 (p0, with_same 0 p0)
           | inr old ↦ gs.used at y old
         ];
         unique = λ p q y z a b same_op same_ob. elim (written grants i p new y fr.within a) [

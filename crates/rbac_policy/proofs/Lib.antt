@@ -8,6 +8,7 @@ pub mod Order
 pub mod Slots
 pub mod Equality
 pub mod Masks
+pub mod Places
 pub mod Sweep
 pub mod Ended
 pub mod Untouched

@@ -5,7 +5,7 @@ use Rattle.std.proofs.lemmas.Bool.{cases_lt}
 use Rattle.std.proofs.lemmas.Nat.{and_le_r}
 use Rattle.std.proofs.lemmas.Nat.Bits.{bit_at_and, bit_at_or, bit_at-lt, bit_at_ones, same_from_bits}
 use Rattle.rbac_policy.specs.declared.sizes.TheConstants.{ROLES}
-use Rattle.rbac_policy.specs.Order.{Has}
+use Rattle.rbac_closure.specs.Sets.{Has}
 use Rattle.rbac_policy.proofs.Walking.{bit_cases, or_right}
 
 -- b is as wide with a as without

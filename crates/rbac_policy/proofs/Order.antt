@@ -6,7 +6,9 @@ use Rattle.std.specs.Prelude.{Some, None, Option}
 use Rattle.std.specs.Str.{bytes_eq}
 use Rattle.std.proofs.lemmas.Slice.Eq.{bytes_eq-Decides}
 use Rattle.std.proofs.lemmas.Option.{slice_get_within, same_Some}
-use Rattle.rbac_policy.specs.Order.{Has, Chain, stay, step, IsBelowSome, IsRowEdge}
+use Rattle.rbac_closure.specs.Sets.{Has}
+use Rattle.rbac_closure.specs.Edges.{Chain, stay, step}
+use Rattle.rbac_policy.specs.Order.{IsBelowSome, IsRowEdge}
 use Rattle.rbac_policy.specs.declared.commands.Entry.{Entry}
 use Rattle.rbac_policy.specs.declared.rows.User.{User}
 use Rattle.rbac_policy.specs.Facts.{IsAssigned, IsEdge, IsAuthorized}

@@ -1,9 +1,7 @@
 -- What the tests of the readers say of the list of entries.
 use Rattle.std.proofs.Common.{inl, inr, ◌≡◌, ℕ, ◌<◌, ◌^◌, ◌↔◌, List, length, sym, ◌∙◌, ap, refl, subst, true, false, Bool, IsTrue}
-use Rattle.std.specs.Prelude.{Option, Some, None, is_some, is_none, position, not, ◌==◌, ◌&&◌}
-use Rattle.std.specs.Int.{bit_at}
+use Rattle.std.specs.Prelude.{Option, Some, None, is_some, is_none, position, not, ◌&&◌}
 use Rattle.std.proofs.lemmas.Bool.{false≢true}
-use Rattle.std.proofs.lemmas.Bool.Decides.{Decides-eqb}
 use Rattle.rbac_policy.specs.declared.sizes.TheConstants.{ROLES}
 use Rattle.rbac_policy.specs.declared.objects.Operation.{Operation}
 use Rattle.rbac_policy.specs.declared.objects.Object.{Object}
@@ -12,7 +10,8 @@ use Rattle.rbac_policy.specs.declared.rows.Grant.{Grant}
 use Rattle.rbac_policy.specs.declared.policy.Policy.{Policy}
 use Rattle.rbac_policy.specs.Names.{NameText}
 use Rattle.rbac_policy.specs.Objects.{same_operation, same_object}
-use Rattle.rbac_policy.specs.Order.{Has, below}
+use Rattle.rbac_closure.specs.Sets.{Has}
+use Rattle.rbac_policy.specs.Order.{below}
 use Rattle.rbac_policy.specs.Facts.{IsGranted, IsPairGranted, IsAuthorized}
 use Rattle.rbac_policy.specs.Counting.{HasAtLeast}
 use Rattle.rbac_policy.specs.Tables.{roles_of, place_of, grant_of}
@@ -23,18 +22,11 @@ use Rattle.rbac_policy.proofs.Order.{authorized_below, below_authorized}
 use Rattle.rbac_policy.proofs.Asking.{reflects, first_cases, role_at, granted_slot, not_granted_pair}
 use Rattle.rbac_policy.proofs.Room.{Keeps, full_without_room, not_full_with_room}
 
--- a mask's bit as a test
-bit_test : (b : Bool) (mask place : ℕ) → b ≡ (bit_at mask place == 1) → IsTrue b ↔ Has mask place
-bit_test b mask place is = reflects b (Has mask place)
-    (λ t. (Decides-eqb (bit_at mask place) 1).0 (sym is ∙ t))
-    (λ f h. false≢true (sym f ∙ is ∙ (Decides-eqb (bit_at mask place) 1).1 h))
-
 module _ (p : Policy) (L : List Entry) (st : StandsFor p L) where
   pub authorized_test : (u r : NameText) (place all : ℕ) (b : Bool) → place_of r p.roles ≡ Some place → all ≡ below p.juniors (roles_of u p.users) → all < 2 ^ ROLES
-      → b ≡ (bit_at all place == 1) → IsTrue b ↔ IsAuthorized L u r
-  authorized_test u r place all b found walked fits is =
-      let there = role_at p L st r place found in
-      let test = bit_test b all place is in (
+      → IsTrue b ↔ Has all place → IsTrue b ↔ IsAuthorized L u r
+  authorized_test u r place all b found walked fits test =
+      let there = role_at p L st r place found in (
         λ t. below_authorized p.roles p.juniors p.users L st.roles st.users u r place there
             (below_sound p.juniors (roles_of u p.users) place (subst (λ m. Has m place) walked (test.0 t))),
         λ a.
@@ -46,11 +38,10 @@ module _ (p : Policy) (L : List Entry) (st : StandsFor p L) where
       )
 
   pub granted_test : (r : NameText) (op : Operation) (ob : Object) (g : Grant) (place : ℕ) (b : Bool) → grant_of op ob p.grants ≡ Some g → place_of r p.roles ≡ Some place
-      → b ≡ (bit_at g.roles place == 1) → IsTrue b ↔ IsGranted L r op ob
-  granted_test r op ob g place b row found is =
+      → IsTrue b ↔ Has g.roles place → IsTrue b ↔ IsGranted L r op ob
+  granted_test r op ob g place b row found test =
       let there = role_at p L st r place found in
-      let slot = granted_slot p L st r op ob g row in
-      let test = bit_test b g.roles place is in (
+      let slot = granted_slot p L st r op ob g row in (
         λ t. slot.1 (record { place = place; there = there; bit = test.0 t }),
         λ h. let m = slot.0 h in test.1 (subst (Has g.roles) (st.roles.unique m.place place r m.there there) m.bit),
       )

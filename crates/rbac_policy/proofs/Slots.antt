@@ -1,11 +1,11 @@
 -- Slots after a map or a write, free slots, and masks with one more place.
 use Rattle.std.proofs.Common.{◌≡◌, ℕ, zero, suc, ◌<◌, ◌⊎◌, ◌↔◌, List, [], ◌∷◌, length, map, set, inl, inr, arith, sym, ◌∙◌, ap, refl, subst, true}
 use Rattle.std.specs.Prelude.{slice_get, Option, Some, None, option_map, position, is_none}
-use Rattle.std.specs.Int.{w32}
 use Rattle.std.proofs.lemmas.Bool.{cases_eq, false≢true}
-use Rattle.std.proofs.lemmas.Nat.Bits.{bit_at_set_same, bit_at_set_other, bit_at-zero}
+use Rattle.std.proofs.lemmas.Nat.Bits.{bit_at-zero}
 use Rattle.std.proofs.lemmas.Option.{slice_get-map, same_Some, slice_get-get_or}
 use Rattle.std.proofs.lemmas.List.Quantifiers.{position-Some}
+use Rattle.rbac_closure.proofs.SetLemmas.{with_same, with_other}
 use Rattle.rbac_policy.specs.declared.sizes.TheConstants.{ROLES}
 use Rattle.rbac_policy.specs.Names.{NameText}
 use Rattle.rbac_policy.specs.Tables.{At, with_bit}
@@ -66,13 +66,13 @@ module _ (roles : List (Option NameText)) (unique : (p q : ℕ) (r : NameText) �
   in_with_bit m r = (
     λ i. elim (cases_eq i.place p0) [
       | inl e ↦ inl (one_role roles p0 r0 r there (subst (λ k. At roles k r) e i.there))
-      | inr ne ↦ inr (record { place = i.place; there = i.there; bit = sym (bit_at_set_other w32 m p0 low i.place ne) ∙ i.bit })
+      | inr ne ↦ inr (record { place = i.place; there = i.there; bit = sym (with_other m p0 i.place ne) ∙ i.bit })
     ],
     λ h. elim h [
-      | inl e ↦ record { place = p0; there = subst (At roles p0) e there; bit = bit_at_set_same w32 m p0 low }
+      | inl e ↦ record { place = p0; there = subst (At roles p0) e there; bit = with_same m p0 }
       | inr i ↦ elim (cases_eq i.place p0) [
-        | inl e ↦ record { place = p0; there = subst (λ k. At roles k r) e i.there; bit = bit_at_set_same w32 m p0 low }
-        | inr ne ↦ record { place = i.place; there = i.there; bit = bit_at_set_other w32 m p0 low i.place ne ∙ i.bit }
+        | inl e ↦ record { place = p0; there = subst (λ k. At roles k r) e i.there; bit = with_same m p0 }
+        | inr ne ↦ record { place = i.place; there = i.there; bit = with_other m p0 i.place ne ∙ i.bit }
       ]
     ],
   )
@@ -80,7 +80,7 @@ module _ (roles : List (Option NameText)) (unique : (p q : ℕ) (r : NameText) �
   pub named_with_bit : (m : ℕ) → IsNamed roles m → IsNamed roles (with_bit m p0)
   named_with_bit m n = λ p bit. elim (cases_eq p p0) [
     | inl e ↦ (r0, subst (λ k. At roles k r0) (sym e) there)
-    | inr ne ↦ n p (sym (bit_at_set_other w32 m p0 low p ne) ∙ bit)
+    | inr ne ↦ n p (sym (with_other m p0 p ne) ∙ bit)
   ]
 
 pub none_in_zero : (roles : List (Option NameText)) (r : NameText) → InMask roles 0 r → ⊥

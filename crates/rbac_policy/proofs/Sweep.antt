@@ -8,7 +8,8 @@ use Rattle.std.proofs.lemmas.List.{length-map}
 use Rattle.rbac_policy.specs.declared.sizes.TheConstants.{ROLES}
 use Rattle.rbac_policy.specs.declared.rows.User.{User}
 use Rattle.rbac_policy.specs.declared.rows.Session.{Session}
-use Rattle.rbac_policy.specs.Order.{Has, IsBelowSome, below}
+use Rattle.rbac_closure.specs.Sets.{Has}
+use Rattle.rbac_policy.specs.Order.{IsBelowSome, below}
 use Rattle.rbac_policy.specs.Tables.{At, roles_of, has_only_authorized, session_kept}
 use Rattle.rbac_policy.proofs.Walking.{below_sound, below_all}
 use Rattle.rbac_policy.proofs.Masks.{inside_from_test, test_from_inside}

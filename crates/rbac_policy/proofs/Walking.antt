@@ -1,14 +1,16 @@
 -- Masks of places, bit by bit, and how a mask is widened until nothing is left to add.
 use Rattle.std.proofs.Common.{◌≡◌, ℕ, zero, suc, ◌<◌, ◌≤◌, ◌⊎◌, List, inl, inr, arith, ap, sym, ◌∙◌, subst, refl, cond, ◌^◌}
-use Rattle.std.specs.Int.{bit_at, trailing_zeros, w32}
-use Rattle.std.specs.Int.Bits.{bit_or, bit_and}
+use Rattle.std.specs.Int.{bit_at}
+use Rattle.std.specs.Int.Bits.{bit_or}
 use Rattle.std.specs.Prelude.{slice_index, ◌==◌}
 use Rattle.std.proofs.lemmas.Bool.{cases_lt, cases_eq}
 use Rattle.std.proofs.lemmas.Bool.Decides.{Decides-eqb}
 use Rattle.std.proofs.lemmas.Nat.{le_or_l}
-use Rattle.std.proofs.lemmas.Nat.Bits.{bit_at_or, bit_at_and, bit_at-lt, bit_at-zero, bit_at-trailing_zeros}
+use Rattle.std.proofs.lemmas.Nat.Bits.{bit_at_or, bit_at-lt}
 use Rattle.rbac_policy.specs.declared.sizes.TheConstants.{ROLES}
-use Rattle.rbac_policy.specs.Order.{Has, Meets, IsRowEdge, IsBelowSome, Chain, stay, step, with_rows, widened, widened_often, below}
+use Rattle.rbac_closure.specs.Sets.{Has}
+use Rattle.rbac_closure.specs.Edges.{Chain, stay, step}
+use Rattle.rbac_policy.specs.Order.{IsRowEdge, IsBelowSome, with_rows, widened, widened_often, below}
 
 pub or_left : (a b p : ℕ) → Has a p → Has (bit_or a b) p
 or_left a b p h = omega (arith, bit_at_or a b p, bit_at-lt a p, bit_at-lt b p)
@@ -21,18 +23,6 @@ bit_cases n p = elim (cases_lt (bit_at n p) 1) [ inl x ↦ inr (omega arith) | i
 
 pub or_cases : (a b p : ℕ) → Has (bit_or a b) p → Has a p ⊎ Has b p
 or_cases a b p h = elim (bit_cases a p) [ inl x ↦ inl x | inr x ↦ inr (omega (arith, bit_at_or a b p, bit_at-lt a p, bit_at-lt b p)) ]
-
--- a number that is not 0 has a bit
-pub common_bit : (a b : ℕ) → bit_and a b < 2 ^ ROLES → (bit_and a b ≡ 0 → ⊥) → Meets a b
-common_bit a b fits differs =
-    let n = bit_and a b in
-    let positive : 0 < n = elim (cases_lt 0 n) [ inl l ↦ l | inr z ↦ absurd (differs (omega arith)) ] in
-    let t = bit_at-trailing_zeros w32 n positive fits in
-    let p = trailing_zeros w32 n in
-    (p, omega (arith, t.1, bit_at_and a b p, bit_at-lt a p, bit_at-lt b p), omega (arith, t.1, bit_at_and a b p, bit_at-lt a p, bit_at-lt b p))
-
-pub no_common_bit : (a b : ℕ) → Meets a b → bit_and a b ≡ 0 → ⊥
-no_common_bit a b m e = omega (arith, m.1, m.2, bit_at_and a b m.0, ap (λ n. bit_at n m.0) e, bit_at-zero m.0)
 
 -- what holds of a chain's first place, and is kept along edges, holds of its last
 pub along : (juniors : List ℕ) {a b : ℕ} (mask : ℕ) → ((s j : ℕ) → Has mask s → IsRowEdge juniors s j → Has mask j) → Chain (IsRowEdge juniors) a b → Has mask a → Has mask b

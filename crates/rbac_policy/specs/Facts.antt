@@ -8,7 +8,7 @@ use Rattle.rbac_policy.specs.declared.commands.AdminCommand.TheVariants.{AddUser
 use Rattle.rbac_policy.specs.declared.commands.Entry.{Entry}
 use Rattle.rbac_policy.specs.Names.{NameText}
 use Rattle.rbac_policy.specs.Entries.{InForce, logins}
-use Rattle.rbac_policy.specs.Order.{Chain}
+use Rattle.rbac_closure.specs.Edges.{Chain}
 use Rattle.rbac_policy.specs.Counting.{HasAtLeast}
 
 -- the user was added, and not deleted since (USERS)

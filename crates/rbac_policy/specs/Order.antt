@@ -1,18 +1,11 @@
 -- The order that inheritance edges make (RH of ANSI INCITS 359-2004, general role hierarchies), also on roles that are named by their places in
 -- a table, in masks with a bit for each place (this project's own form).
-use Rattle.std.specs.Prelude.{◌≡◌, ℕ, zero, suc, ◌<◌, ◌^◌, ◌==◌, List, slice_index, if◌then◌else◌}
+use Rattle.std.specs.Prelude.{ℕ, zero, suc, ◌<◌, ◌^◌, ◌==◌, List, slice_index, if◌then◌else◌}
 use Rattle.std.specs.Int.{bit_at}
 use Rattle.std.specs.Int.RustNames.{bit_or}
+use Rattle.rbac_closure.specs.Sets.{Has}
+use Rattle.rbac_closure.specs.Edges.{Chain}
 use Rattle.rbac_policy.specs.declared.sizes.TheConstants.{ROLES}
-
--- a chain of edges, possibly empty, leads from the first to the second
-pub data Chain {A : Type 0} (Edge : A → A → Type 0) : A → A → Type 0 where
-  stay : {a : A} → Chain Edge a a
-  step : {a b c : A} → Edge a b → Chain Edge b c → Chain Edge a c
-
--- a mask has the place
-abbrev pub Has : ℕ → ℕ → Type 0
-Has mask place = bit_at mask place ≡ 1
 
 -- the row of the senior has the junior
 abbrev pub IsRowEdge : List ℕ → ℕ → ℕ → Type 0
@@ -23,10 +16,6 @@ pub record IsBelowSome (juniors : List ℕ) (mask place : ℕ) : Type 0 where
   pub top : ℕ
   pub within : Has mask top
   pub chain : Chain (IsRowEdge juniors) top place
-
--- a place is in both masks
-abbrev pub Meets : ℕ → ℕ → Type 0
-Meets a b = (place : ℕ) × Has a place × Has b place
 
 -- the mask, and the juniors of those of its places that are under `many`
 abbrev pub with_rows : ℕ → List ℕ → ℕ → ℕ

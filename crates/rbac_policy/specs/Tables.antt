@@ -1,5 +1,5 @@
 -- What each step on a table leaves, as it is computed (this project's own form).
-use Rattle.std.specs.Prelude.{◌≡◌, ℕ, ◌*◌, ◌^◌, ◌%◌, Bool, false, List, [], ◌∷◌, Option, Some, None, if◌then◌else◌, position, slice_set, slice_get, is_none, map, fold, ◌==◌, ◌&&◌}
+use Rattle.std.specs.Prelude.{◌≡◌, ℕ, ◌^◌, Bool, false, List, [], ◌∷◌, Option, Some, None, if◌then◌else◌, position, slice_set, slice_get, is_none, map, fold, ◌==◌, ◌&&◌}
 use Rattle.std.specs.Int.RustNames.{bit_or}
 use Rattle.std.specs.Str.{bytes_eq}
 use Rattle.std.specs.List.{list_any}
@@ -8,7 +8,6 @@ use Rattle.rbac_policy.specs.declared.objects.Object.{Object}
 use Rattle.rbac_policy.specs.declared.rows.User.{User}
 use Rattle.rbac_policy.specs.declared.rows.Grant.{Grant}
 use Rattle.rbac_policy.specs.declared.rows.Session.{Session}
-use Rattle.rbac_policy.specs.declared.sizes.TheConstants.{ROLES}
 use Rattle.rbac_policy.specs.Names.{NameText}
 use Rattle.rbac_policy.specs.Objects.{same_operation, same_object}
 use Rattle.rbac_policy.specs.Order.{below}
@@ -33,7 +32,7 @@ place_of name roles = position (role_is name) roles
 
 -- the mask with the bit of this place
 abbrev pub with_bit : ℕ → ℕ → ℕ
-with_bit mask place = bit_or mask (1 * 2 ^ place % 2 ^ ROLES)
+with_bit mask place = bit_or mask (2 ^ place)
 
 -- the value in the place, if there is one
 abbrev pub put_at : {X : Type 0} → X → List (Option X) → Option ℕ → List (Option X)

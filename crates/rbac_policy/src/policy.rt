@@ -4,12 +4,13 @@ ghost use Rattle.rbac_policy.specs.declared.commands.Entry.{Entry};
 ghost use Rattle.rbac_policy.specs.Entries.{logins};
 ghost use Rattle.rbac_policy.specs.Facts.{May};
 ghost use Rattle.rbac_policy.specs.Fits.{Fits};
-ghost use Rattle.rbac_policy.specs.Order.{Meets, below};
+ghost use Rattle.rbac_closure.specs.Sets.{Meets};
+ghost use Rattle.rbac_policy.specs.Order.{below};
 ghost use Rattle.rbac_policy.specs.Opening.{opening_entries};
 ghost use Rattle.rbac_policy.specs.StandsFor.{StandsFor};
 ghost use Rattle.rbac_policy.specs.Change.{absorbed, assigned, changed, granted, logged_in, logged_out, policy_of};
 
-use crate::closure::{below, meets};
+use crate::closure::below;
 use crate::commands::{AdminCommand, Entry, SessionId};
 use crate::names::{Name, RoleNames};
 use crate::objects::{Object, Operation};
@@ -20,6 +21,8 @@ use crate::tables::{
     end_session, end_unauthorized, give_grant, give_role, grant_of, mask_of, place_of, put,
     session_of,
 };
+use rbac_closure::rows::Rows;
+use rbac_closure::sets::RoleSet;
 
 /// What a list of accepted entries says, in tables of fixed size. It takes no memory.
 #[derive(Drop)]
@@ -28,7 +31,7 @@ pub struct Policy {
     pub(crate) logins: u16,
     pub(crate) users: [Option<User>; USERS],
     pub(crate) roles: [Option<Name>; ROLES],
-    pub(crate) juniors: [u32; ROLES],
+    pub(crate) juniors: Rows,
     pub(crate) grants: [Option<Grant>; GRANTS],
     pub(crate) sessions: [Option<Session>; SESSIONS],
     pub(crate) sets: [Option<DsdSet>; SETS],
@@ -45,7 +48,7 @@ impl Policy {
             logins: 0,
             users: [None; USERS],
             roles: [None; ROLES],
-            juniors: [0; ROLES],
+            juniors: Rows::new(),
             grants: [None; GRANTS],
             sessions: [None; SESSIONS],
             sets: [None; SETS],
@@ -69,7 +72,7 @@ impl Policy {
         ensures { self.new ≡ assigned user.now role.now self.old }
     {
         if let Some(place) = place_of(&self.roles, role) {
-            give_role(&mut self.users, user, place as u32);
+            give_role(&mut self.users, user, place);
         }
     }
 
@@ -77,7 +80,7 @@ impl Policy {
         ensures { self.new ≡ granted role.now operation.now object.now self.old }
     {
         if let Some(place) = place_of(&self.roles, role) {
-            give_grant(&mut self.grants, operation, object, place as u32);
+            give_grant(&mut self.grants, operation, object, place);
         }
     }
 
@@ -110,7 +113,7 @@ impl Policy {
                 &mut self.users,
                 User {
                     name: *user,
-                    roles: 0,
+                    roles: RoleSet::empty(),
                 },
             ),
             AdminCommand::AddRole { role } => put(&mut self.roles, *role),
@@ -160,7 +163,7 @@ impl Policy {
     fn reaches(&self, session: &Session, grant: &Grant) -> bool
         ensures { IsTrue result ↔ Meets (below self.now.juniors session.now.active) grant.now.roles }
     {
-        meets(below(&self.juniors, session.active), grant.roles)
+        below(&self.juniors, session.active).meets(grant.roles)
     }
 
     /// Whether the session may do the operation on the object.

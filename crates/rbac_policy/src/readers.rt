@@ -5,7 +5,7 @@ ghost use Rattle.rbac_policy.specs.Facts.{IsUser, IsRole, IsGranted, IsPairGrant
 ghost use Rattle.rbac_policy.specs.Fits.{NumbersExhausted, SessionsFull, PermissionsFull};
 ghost use Rattle.rbac_policy.specs.StandsFor.{StandsFor};
 
-use crate::closure::{below, has};
+use crate::closure::below;
 use crate::commands::SessionId;
 use crate::names::Name;
 use crate::objects::{Object, Operation};
@@ -42,7 +42,7 @@ impl Policy {
     {
         match grant_of(&self.grants, operation, object) {
             Some(grant) => match place_of(&self.roles, role) {
-                Some(place) => has(grant.roles, place as u32),
+                Some(place) => grant.roles.has(place),
                 None => false,
             },
             None => false,
@@ -63,10 +63,7 @@ impl Policy {
             → (IsTrue result ↔ IsAuthorized entries user.now role.now) }
     {
         match place_of(&self.roles, role) {
-            Some(place) => has(
-                below(&self.juniors, roles_of(&self.users, user)),
-                place as u32,
-            ),
+            Some(place) => below(&self.juniors, roles_of(&self.users, user)).has(place),
             None => false,
         }
     }

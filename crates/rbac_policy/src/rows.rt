@@ -1,7 +1,8 @@
-//! The rows of the policy's tables. A mask has a bit for each place of the table of roles.
+//! The rows of the policy's tables. A set of roles names them by their places in the table of roles.
 use crate::commands::SessionId;
 use crate::names::Name;
 use crate::objects::{Object, Operation};
+use rbac_closure::sets::RoleSet;
 
 /// A user, with the roles that are assigned to it.
 #[derive(Clone, Copy, PartialEq, Eq, Debug)]
@@ -9,7 +10,7 @@ pub struct User {
     /// Its name.
     pub name: Name,
     /// The roles that are assigned to it.
-    pub roles: u32,
+    pub roles: RoleSet,
 }
 
 /// A pair of an operation and an object, with the roles that are granted it.
@@ -20,7 +21,7 @@ pub struct Grant {
     /// On what.
     pub object: Object,
     /// The roles that may.
-    pub roles: u32,
+    pub roles: RoleSet,
 }
 
 /// A live session, with the roles that are active in it.
@@ -31,7 +32,7 @@ pub struct Session {
     /// Its user.
     pub user: Name,
     /// The roles that are active in it.
-    pub active: u32,
+    pub active: RoleSet,
 }
 
 /// A separation set: its name, its number, its roles, and the place of its entry in the list, which orders the sets.
@@ -42,7 +43,7 @@ pub struct DsdSet {
     /// How many of its roles no session may hold.
     pub count: u64,
     /// Its roles.
-    pub roles: u32,
+    pub roles: RoleSet,
     /// The place of the entry that made it.
     pub place: u64,
 }

@@ -3,8 +3,8 @@
 /// Places in the table of users.
 pub const USERS: usize = 64;
 
-/// Places in the table of roles, and bits of a mask of roles.
-pub const ROLES: usize = 32;
+/// Places in the table of roles.
+pub const ROLES: usize = rbac_closure::sets::ROLES;
 
 /// Places in the table of granted pairs of an operation and an object.
 pub const GRANTS: usize = 256;

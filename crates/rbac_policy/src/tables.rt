@@ -2,7 +2,7 @@
 ghost use Rattle.std.specs.Prelude.{◌≡◌, ◌<◌, ◌==◌, ◌&&◌, IfSome, map, position, is_none};
 ghost use Rattle.std.specs.List.{list_any};
 ghost use Rattle.std.specs.Option.{ForSome};
-ghost use Rattle.rbac_policy.specs.Tables.{first_of, grant_given, grant_is, grant_of, grants_given, has_only_authorized, mask_of, place_of, put_free, role_is, roles_of, session_of, session_kept, session_without, user_given, user_is, with_bit, with_place};
+ghost use Rattle.rbac_policy.specs.Tables.{first_of, grant_given, grant_is, grant_of, grants_given, has_only_authorized, mask_of, place_of, put_free, role_is, roles_of, session_of, session_kept, session_without, user_given, user_is, with_place};
 
 use crate::closure::below;
 use crate::commands::SessionId;
@@ -10,6 +10,8 @@ use crate::names::{Name, RoleNames};
 use crate::objects::{Object, Operation};
 use crate::rows::{Grant, Session, User};
 use crate::sizes::{GRANTS, ROLES, SESSIONS, USERS};
+use rbac_closure::rows::Rows;
+use rbac_closure::sets::RoleSet;
 
 /// The first free place of a table.
 pub fn free<X, const N: usize>(slots: &[Option<X>; N]) -> Option<usize>
@@ -60,29 +62,21 @@ pub fn place_of(roles: &[Option<Name>; ROLES], name: &Name) -> Option<usize>
     roles.iter().position(|slot| role_is(slot, name))
 }
 
-/// The mask with the bit of this place.
-pub fn with_bit(mask: u32, place: u32) -> u32
-    requires { place < ROLES }
-    ensures { result ≡ with_bit mask place }
-{
-    mask | 1 << place
-}
-
-fn user_given(slot: &Option<User>, name: &Name, place: u32) -> Option<User>
+fn user_given(slot: &Option<User>, name: &Name, place: usize) -> Option<User>
     requires { place < ROLES }
     ensures { result ≡ user_given name.now place slot.now }
 {
     match slot {
         Some(user) if user.name == *name => Some(User {
             name: user.name,
-            roles: with_bit(user.roles, place),
+            roles: user.roles.with(place),
         }),
         _ => *slot,
     }
 }
 
 /// Assigns the role at this place to the user.
-pub fn give_role(users: &mut [Option<User>; USERS], name: &Name, place: u32)
+pub fn give_role(users: &mut [Option<User>; USERS], name: &Name, place: usize)
     requires { place < ROLES }
     ensures { users.new ≡ map (user_given name.now place) users.old }
 {
@@ -92,7 +86,7 @@ pub fn give_role(users: &mut [Option<User>; USERS], name: &Name, place: u32)
 }
 
 /// The mask of the roles that are assigned to the user.
-pub fn roles_of(users: &[Option<User>; USERS], name: &Name) -> u32
+pub fn roles_of(users: &[Option<User>; USERS], name: &Name) -> RoleSet
     ensures { result ≡ roles_of name.now users.now }
 {
     for slot in users {
@@ -102,7 +96,7 @@ pub fn roles_of(users: &[Option<User>; USERS], name: &Name) -> u32
             }
         }
     }
-    0
+    RoleSet::empty()
 }
 
 fn grant_is(slot: &Option<Grant>, operation: &Operation, object: &Object) -> bool
@@ -125,7 +119,7 @@ fn grant_given(
     slot: &Option<Grant>,
     operation: &Operation,
     object: &Object,
-    place: u32,
+    place: usize,
 ) -> Option<Grant>
     requires { place < ROLES }
     ensures { result ≡ grant_given operation.now object.now place slot.now }
@@ -134,7 +128,7 @@ fn grant_given(
         Some(grant) if grant.operation.is(operation) && grant.object.is(object) => Some(Grant {
             operation: grant.operation,
             object: grant.object,
-            roles: with_bit(grant.roles, place),
+            roles: grant.roles.with(place),
         }),
         _ => *slot,
     }
@@ -144,7 +138,7 @@ fn widen_grants(
     grants: &mut [Option<Grant>; GRANTS],
     operation: &Operation,
     object: &Object,
-    place: u32,
+    place: usize,
 )
     requires { place < ROLES }
     ensures { grants.new ≡ map (grant_given operation.now object.now place) grants.old }
@@ -159,7 +153,7 @@ pub fn give_grant(
     grants: &mut [Option<Grant>; GRANTS],
     operation: &Operation,
     object: &Object,
-    place: u32,
+    place: usize,
 )
     requires { place < ROLES }
     ensures { grants.new ≡ grants_given operation.now object.now place grants.old }
@@ -170,7 +164,7 @@ pub fn give_grant(
         let row = Grant {
             operation: *operation,
             object: *object,
-            roles: with_bit(0, place),
+            roles: RoleSet::empty().with(place),
         };
         put(grants, row);
     }
@@ -195,21 +189,17 @@ pub fn grant_of(
 }
 
 /// Whether each role that is active in the session is assigned to its user, or lies below one that is.
-fn has_only_authorized(
-    session: &Session,
-    users: &[Option<User>; USERS],
-    juniors: &[u32; ROLES],
-) -> bool
+fn has_only_authorized(session: &Session, users: &[Option<User>; USERS], juniors: &Rows) -> bool
     ensures { result ≡ has_only_authorized users.now juniors.now session.now }
 {
     let authorized = below(juniors, roles_of(users, &session.user));
-    authorized | session.active == authorized
+    authorized.union(session.active) == authorized
 }
 
 fn session_kept(
     slot: &Option<Session>,
     users: &[Option<User>; USERS],
-    juniors: &[u32; ROLES],
+    juniors: &Rows,
 ) -> Option<Session>
     ensures { result ≡ session_kept users.now juniors.now slot.now }
 {
@@ -223,7 +213,7 @@ fn session_kept(
 pub fn end_unauthorized(
     sessions: &mut [Option<Session>; SESSIONS],
     users: &[Option<User>; USERS],
-    juniors: &[u32; ROLES],
+    juniors: &Rows,
 )
     ensures { sessions.new ≡ map (session_kept users.now juniors.now) sessions.old }
 {
@@ -264,21 +254,21 @@ pub fn session_of(sessions: &[Option<Session>; SESSIONS], number: SessionId) -> 
     None
 }
 
-fn with_place(mask: u32, place: Option<usize>) -> u32
+fn with_place(mask: RoleSet, place: Option<usize>) -> RoleSet
     requires { ForSome place (λ p. p < ROLES) }
     ensures { result ≡ with_place mask place }
 {
     match place {
-        Some(place) => with_bit(mask, place as u32),
+        Some(place) => mask.with(place),
         None => mask,
     }
 }
 
 /// The mask of the listed roles.
-pub fn mask_of(roles: &[Option<Name>; ROLES], listed: &RoleNames) -> u32
+pub fn mask_of(roles: &[Option<Name>; ROLES], listed: &RoleNames) -> RoleSet
     ensures { result ≡ mask_of roles.now listed.now }
 {
-    let mut mask = 0;
+    let mut mask = RoleSet::empty();
     for name in listed.as_slice() {
         mask = with_place(mask, place_of(roles, name));
     }
