@@ -1,14 +1,15 @@
 -- What an entry makes of the policy's tables, as it is computed (this project's own form).
-use Rattle.std.specs.Prelude.{ℕ, ◌+◌, ◌%◌, List, Option, Some, None, map, fold, replicate}
+use Rattle.std.specs.Prelude.{ℕ, ◌+◌, ◌%◌, List, Option, Some, None, map, fold, replicate, slice_set}
 use Rattle.rbac_policy.specs.declared.objects.Operation.{Operation}
 use Rattle.rbac_policy.specs.declared.objects.Object.{Object}
 use Rattle.rbac_policy.specs.declared.commands.AdminCommand.{AdminCommand}
-use Rattle.rbac_policy.specs.declared.commands.AdminCommand.TheVariants.{AddUser, AssignUser, AddRole, GrantPermission, CreateSession, DeleteSession}
+use Rattle.rbac_policy.specs.declared.commands.AdminCommand.TheVariants.{AddUser, DeleteUser, AddRole, DeleteRole, AssignUser, DeassignUser, GrantPermission, RevokePermission, AddInheritance, DeleteInheritance, CreateDsdSet, DeleteDsdSet, CreateSession, DeleteSession, AddActiveRole, DropActiveRole}
 use Rattle.rbac_policy.specs.declared.commands.Entry.{Entry}
 use Rattle.rbac_policy.specs.declared.policy.Policy.{Policy}
 use Rattle.rbac_policy.specs.declared.sizes.TheConstants.{USERS, ROLES, GRANTS, SESSIONS, SETS, LAST_SESSION, LAST_VERSION}
 use Rattle.rbac_policy.specs.Names.{NameText}
-use Rattle.rbac_policy.specs.Tables.{place_of, grants_given, put_free, mask_of, session_without, session_kept, user_given}
+use Rattle.rbac_policy.specs.Tables.{place_of, grants_given, put_free, mask_of, session_without, session_kept, user_given, user_relieved, user_cleared, user_without, grant_revoked, grant_cleared, session_of_other, session_given, session_relieved, set_without}
+use Rattle.rbac_closure.specs.Edges.{edge_added, edge_removed, role_cleared}
 
 -- the pair is granted to the role at this place, if there is one
 abbrev pub granted_at : Option ℕ → Operation → Object → Policy → Policy
@@ -39,6 +40,86 @@ assigned_at (Some place) user p = record p { users = map (user_given user place)
 abbrev pub assigned : NameText → NameText → Policy → Policy
 assigned user role p = assigned_at (place_of role p.roles) user p
 
+-- the role at this place is taken from the user, if there is one
+abbrev pub deassigned_at : Option ℕ → NameText → Policy → Policy
+deassigned_at None user p = p
+deassigned_at (Some place) user p = record p { users = map (user_relieved user place) p.users }
+
+-- the role of this name is taken from the user, if there is one
+abbrev pub deassigned : NameText → NameText → Policy → Policy
+deassigned user role p = deassigned_at (place_of role p.roles) user p
+
+-- the pair is taken from the role at this place, if there is one
+abbrev pub revoked_at : Option ℕ → Operation → Object → Policy → Policy
+revoked_at None operation object p = p
+revoked_at (Some place) operation object p = record p { grants = map (grant_revoked operation object place) p.grants }
+
+-- the pair is taken from the role of this name, if there is one
+abbrev pub revoked : NameText → Operation → Object → Policy → Policy
+revoked role operation object p = revoked_at (place_of role p.roles) operation object p
+
+-- the user goes, and its sessions end
+abbrev pub user_deleted : NameText → Policy → Policy
+user_deleted user p = record p { users = map (user_without user) p.users; sessions = map (session_of_other user) p.sessions }
+
+-- the role at this place goes, with its assignments, permissions and edges, if there is one; the sweep ends the sessions in which it is active
+abbrev pub role_deleted_at : Option ℕ → Policy → Policy
+role_deleted_at None p = p
+role_deleted_at (Some place) p = record p {
+  roles = slice_set p.roles place None;
+  users = map (user_cleared place) p.users;
+  grants = map (grant_cleared place) p.grants;
+  juniors = role_cleared place p.juniors;
+}
+
+-- the role of this name goes
+abbrev pub role_deleted : NameText → Policy → Policy
+role_deleted role p = role_deleted_at (place_of role p.roles) p
+
+-- an edge leads from the senior's place to the junior's, if both are there
+abbrev pub inherited_at : Option ℕ → Option ℕ → Policy → Policy
+inherited_at (Some senior) (Some junior) p = record p { juniors = edge_added senior junior p.juniors }
+inherited_at _ _ p = p
+
+-- an edge leads from the senior to the junior
+abbrev pub inherited : NameText → NameText → Policy → Policy
+inherited senior junior p = inherited_at (place_of senior p.roles) (place_of junior p.roles) p
+
+-- no edge leads from the senior's place to the junior's, if both are there
+abbrev pub disinherited_at : Option ℕ → Option ℕ → Policy → Policy
+disinherited_at (Some senior) (Some junior) p = record p { juniors = edge_removed senior junior p.juniors }
+disinherited_at _ _ p = p
+
+-- no edge leads from the senior to the junior
+abbrev pub disinherited : NameText → NameText → Policy → Policy
+disinherited senior junior p = disinherited_at (place_of senior p.roles) (place_of junior p.roles) p
+
+-- a separation set of this name, number and roles, made by the entry at this place
+abbrev pub set_created : NameText → ℕ → List NameText → Policy → Policy
+set_created set count roles p = record p { sets = put_free (record { name = set; count = count; roles = mask_of p.roles roles; place = p.version }) p.sets }
+
+-- the separation set of this name goes
+abbrev pub set_deleted : NameText → Policy → Policy
+set_deleted set p = record p { sets = map (set_without set) p.sets }
+
+-- the role at this place is active in the session, if both are there
+abbrev pub taken_up_at : Option ℕ → Option ℕ → Policy → Policy
+taken_up_at (Some number) (Some place) p = record p { sessions = map (session_given number place) p.sessions }
+taken_up_at _ _ p = p
+
+-- the role is active in the session that gives the command
+abbrev pub taken_up : Option ℕ → NameText → Policy → Policy
+taken_up session role p = taken_up_at session (place_of role p.roles) p
+
+-- the role at this place is active in the session no more, if both are there
+abbrev pub laid_down_at : Option ℕ → Option ℕ → Policy → Policy
+laid_down_at (Some number) (Some place) p = record p { sessions = map (session_relieved number place) p.sessions }
+laid_down_at _ _ p = p
+
+-- the role is active in the session that gives the command no more
+abbrev pub laid_down : Option ℕ → NameText → Policy → Policy
+laid_down session role p = laid_down_at session (place_of role p.roles) p
+
 -- the change of the command, given by this session
 abbrev pub changed_by : AdminCommand → Option ℕ → Policy → Policy
 changed_by (AddUser name) session p = record p { users = put_free (record { name = name; roles = 0 }) p.users }
@@ -47,7 +128,16 @@ changed_by (AssignUser user role) session p = assigned user role p
 changed_by (GrantPermission role operation object) session p = granted role operation object p
 changed_by (CreateSession user roles) session p = logged_in user roles p
 changed_by DeleteSession session p = logged_out session p
-changed_by _ session p = p
+changed_by (DeleteUser user) session p = user_deleted user p
+changed_by (DeleteRole role) session p = role_deleted role p
+changed_by (DeassignUser user role) session p = deassigned user role p
+changed_by (RevokePermission role operation object) session p = revoked role operation object p
+changed_by (AddInheritance senior junior) session p = inherited senior junior p
+changed_by (DeleteInheritance senior junior) session p = disinherited senior junior p
+changed_by (CreateDsdSet set count roles) session p = set_created set count roles p
+changed_by (DeleteDsdSet set) session p = set_deleted set p
+changed_by (AddActiveRole role) session p = taken_up session role p
+changed_by (DropActiveRole role) session p = laid_down session role p
 
 -- the change of the entry
 abbrev pub changed : Policy → Entry → Policy

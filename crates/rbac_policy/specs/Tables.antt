@@ -8,6 +8,8 @@ use Rattle.rbac_policy.specs.declared.objects.Object.{Object}
 use Rattle.rbac_policy.specs.declared.rows.User.{User}
 use Rattle.rbac_policy.specs.declared.rows.Grant.{Grant}
 use Rattle.rbac_policy.specs.declared.rows.Session.{Session}
+use Rattle.rbac_policy.specs.declared.rows.DsdSet.{DsdSet}
+use Rattle.rbac_closure.specs.Sets.{without_place}
 use Rattle.rbac_policy.specs.Names.{NameText}
 use Rattle.rbac_policy.specs.Objects.{same_operation, same_object}
 use Rattle.rbac_policy.specs.Order.{below}
@@ -48,6 +50,21 @@ abbrev pub user_given : NameText → ℕ → Option User → Option User
 user_given name place None = None
 user_given name place (Some user) = if bytes_eq user.name name then Some (record { name = user.name; roles = with_bit user.roles place }) else Some user
 
+-- the user of this name has the role at this place no more
+abbrev pub user_relieved : NameText → ℕ → Option User → Option User
+user_relieved name place None = None
+user_relieved name place (Some user) = if bytes_eq user.name name then Some (record { name = user.name; roles = without_place user.roles place }) else Some user
+
+-- the user has the role at this place no more
+abbrev pub user_cleared : ℕ → Option User → Option User
+user_cleared place None = None
+user_cleared place (Some user) = Some (record { name = user.name; roles = without_place user.roles place })
+
+-- the user, if it has another name
+abbrev pub user_without : NameText → Option User → Option User
+user_without name None = None
+user_without name (Some user) = if bytes_eq user.name name then None else Some user
+
 -- the mask of the first slot with this user
 abbrev pub roles_of : NameText → List (Option User) → ℕ
 roles_of name [] = 0
@@ -74,6 +91,21 @@ grants_given operation object place grants =
     then map (grant_given operation object place) grants
     else put_free (record { operation = operation; object = object; roles = with_bit 0 place }) grants
 
+-- the row with these roles, if there are any
+abbrev pub grant_with : Grant → ℕ → Option Grant
+grant_with grant roles = if roles == 0 then None else Some (record { operation = grant.operation; object = grant.object; roles = roles })
+
+-- the row of this pair has the role at this place no more, and is there no more where that was its last
+abbrev pub grant_revoked : Operation → Object → ℕ → Option Grant → Option Grant
+grant_revoked operation object place None = None
+grant_revoked operation object place (Some grant) =
+    if same_operation grant.operation operation && same_object grant.object object then grant_with grant (without_place grant.roles place) else Some grant
+
+-- the row has the role at this place no more, and is there no more where that was its last
+abbrev pub grant_cleared : ℕ → Option Grant → Option Grant
+grant_cleared place None = None
+grant_cleared place (Some grant) = grant_with grant (without_place grant.roles place)
+
 -- each active role is one that is assigned to the user, or below one
 abbrev pub has_only_authorized : List (Option User) → List ℕ → Session → Bool
 has_only_authorized users juniors session =
@@ -88,6 +120,28 @@ session_kept users juniors (Some session) = if has_only_authorized users juniors
 abbrev pub session_without : ℕ → Option Session → Option Session
 session_without number None = None
 session_without number (Some session) = if session.number == number then None else Some session
+
+-- the session, if it is of another user
+abbrev pub session_of_other : NameText → Option Session → Option Session
+session_of_other user None = None
+session_of_other user (Some session) = if bytes_eq session.user user then None else Some session
+
+-- the role at this place is active in the session of this number, too
+abbrev pub session_given : ℕ → ℕ → Option Session → Option Session
+session_given number place None = None
+session_given number place (Some session) =
+    if session.number == number then Some (record { number = session.number; user = session.user; active = with_bit session.active place }) else Some session
+
+-- the role at this place is active in the session of this number no more
+abbrev pub session_relieved : ℕ → ℕ → Option Session → Option Session
+session_relieved number place None = None
+session_relieved number place (Some session) =
+    if session.number == number then Some (record { number = session.number; user = session.user; active = without_place session.active place }) else Some session
+
+-- the separation set, if it has another name
+abbrev pub set_without : NameText → Option DsdSet → Option DsdSet
+set_without name None = None
+set_without name (Some set) = if bytes_eq set.name name then None else Some set
 
 -- the mask with the place, if there is one
 abbrev pub with_place : ℕ → Option ℕ → ℕ

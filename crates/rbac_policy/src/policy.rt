@@ -8,7 +8,7 @@ ghost use Rattle.rbac_closure.specs.Sets.{Meets};
 ghost use Rattle.rbac_policy.specs.Order.{below};
 ghost use Rattle.rbac_policy.specs.Opening.{opening_entries};
 ghost use Rattle.rbac_policy.specs.StandsFor.{StandsFor};
-ghost use Rattle.rbac_policy.specs.Change.{absorbed, assigned, changed, granted, logged_in, logged_out, policy_of};
+ghost use Rattle.rbac_policy.specs.Change.{absorbed, assigned, changed, deassigned, disinherited, granted, inherited, laid_down, logged_in, logged_out, policy_of, revoked, role_deleted, set_created, taken_up, user_deleted};
 
 use crate::closure::below;
 use crate::commands::{AdminCommand, Entry, SessionId};
@@ -18,8 +18,9 @@ use crate::opening::opening_entries;
 use crate::rows::{DsdSet, Grant, Session, User};
 use crate::sizes::{GRANTS, ROLES, SESSIONS, SETS, USERS};
 use crate::tables::{
-    end_session, end_unauthorized, give_grant, give_role, grant_of, mask_of, place_of, put,
-    session_of,
+    activate, deactivate, end_session, end_sessions_of, end_unauthorized, give_grant, give_role,
+    grant_of, mask_of, place_of, put, remove_set, remove_user, session_of, take_all_grants,
+    take_grant, take_role, take_role_from_all,
 };
 use rbac_closure::rows::Rows;
 use rbac_closure::sets::RoleSet;
@@ -84,6 +85,87 @@ impl Policy {
         }
     }
 
+    fn deassign(&mut self, user: &Name, role: &Name)
+        ensures { self.new ≡ deassigned user.now role.now self.old }
+    {
+        if let Some(place) = place_of(&self.roles, role) {
+            take_role(&mut self.users, user, place);
+        }
+    }
+
+    fn revoke(&mut self, role: &Name, operation: &Operation, object: &Object)
+        ensures { self.new ≡ revoked role.now operation.now object.now self.old }
+    {
+        if let Some(place) = place_of(&self.roles, role) {
+            take_grant(&mut self.grants, operation, object, place);
+        }
+    }
+
+    fn delete_user(&mut self, user: &Name)
+        ensures { self.new ≡ user_deleted user.now self.old }
+    {
+        remove_user(&mut self.users, user);
+        end_sessions_of(&mut self.sessions, user);
+    }
+
+    // The sessions in which the role is active are left to the sweep, which has to see it in them.
+    fn delete_role(&mut self, role: &Name)
+        ensures { self.new ≡ role_deleted role.now self.old }
+    {
+        if let Some(place) = place_of(&self.roles, role) {
+            self.roles[place] = None;
+            take_role_from_all(&mut self.users, place);
+            take_all_grants(&mut self.grants, place);
+            self.juniors.clear_role(place);
+        }
+    }
+
+    fn inherit(&mut self, senior: &Name, junior: &Name)
+        ensures { self.new ≡ inherited senior.now junior.now self.old }
+    {
+        let places = (place_of(&self.roles, senior), place_of(&self.roles, junior));
+        if let (Some(senior), Some(junior)) = places {
+            self.juniors.add_edge(senior, junior);
+        }
+    }
+
+    fn disinherit(&mut self, senior: &Name, junior: &Name)
+        ensures { self.new ≡ disinherited senior.now junior.now self.old }
+    {
+        let places = (place_of(&self.roles, senior), place_of(&self.roles, junior));
+        if let (Some(senior), Some(junior)) = places {
+            self.juniors.remove_edge(senior, junior);
+        }
+    }
+
+    fn create_set(&mut self, name: &Name, count: u64, roles: &RoleNames)
+        ensures { self.new ≡ set_created name.now count roles.now self.old }
+    {
+        let set = DsdSet {
+            name: *name,
+            count,
+            roles: mask_of(&self.roles, roles),
+            place: self.version,
+        };
+        put(&mut self.sets, set);
+    }
+
+    fn take_up(&mut self, session: Option<SessionId>, role: &Name)
+        ensures { self.new ≡ taken_up session role.now self.old }
+    {
+        if let (Some(number), Some(place)) = (session, place_of(&self.roles, role)) {
+            activate(&mut self.sessions, number, place);
+        }
+    }
+
+    fn lay_down(&mut self, session: Option<SessionId>, role: &Name)
+        ensures { self.new ≡ laid_down session role.now self.old }
+    {
+        if let (Some(number), Some(place)) = (session, place_of(&self.roles, role)) {
+            deactivate(&mut self.sessions, number, place);
+        }
+    }
+
     fn log_in(&mut self, user: &Name, roles: &RoleNames)
         ensures { self.new ≡ logged_in user.now roles.now self.old }
     {
@@ -125,16 +207,20 @@ impl Policy {
             } => self.grant(role, operation, object),
             AdminCommand::CreateSession { user, roles } => self.log_in(user, roles),
             AdminCommand::DeleteSession => self.log_out(entry.session),
-            AdminCommand::DeleteUser { .. }
-            | AdminCommand::DeleteRole { .. }
-            | AdminCommand::DeassignUser { .. }
-            | AdminCommand::RevokePermission { .. }
-            | AdminCommand::AddInheritance { .. }
-            | AdminCommand::DeleteInheritance { .. }
-            | AdminCommand::CreateDsdSet { .. }
-            | AdminCommand::DeleteDsdSet { .. }
-            | AdminCommand::AddActiveRole { .. }
-            | AdminCommand::DropActiveRole { .. } => {}
+            AdminCommand::DeleteUser { user } => self.delete_user(user),
+            AdminCommand::DeleteRole { role } => self.delete_role(role),
+            AdminCommand::DeassignUser { user, role } => self.deassign(user, role),
+            AdminCommand::RevokePermission {
+                role,
+                operation,
+                object,
+            } => self.revoke(role, operation, object),
+            AdminCommand::AddInheritance { senior, junior } => self.inherit(senior, junior),
+            AdminCommand::DeleteInheritance { senior, junior } => self.disinherit(senior, junior),
+            AdminCommand::CreateDsdSet { set, count, roles } => self.create_set(set, *count, roles),
+            AdminCommand::DeleteDsdSet { set } => remove_set(&mut self.sets, set),
+            AdminCommand::AddActiveRole { role } => self.take_up(entry.session, role),
+            AdminCommand::DropActiveRole { role } => self.lay_down(entry.session, role),
         }
     }
 
@@ -149,8 +235,7 @@ impl Policy {
 
     /// Takes the entry in, whether it was accepted or not: what it leaves depends on the tables and the entry alone.
     ///
-    /// The tables follow AddUser, AddRole, AssignUser, GrantPermission, CreateSession and DeleteSession so far; of another command only
-    /// the version counts.
+    /// `stands` speaks of AddUser, AddRole, AssignUser, GrantPermission, CreateSession and DeleteSession so far.
     pub fn absorb(&mut self, entry: &Entry)
         ensures exact { self.new ≡ absorbed self.old entry.now }
         ensures stands { (entries : List Entry) → StandsFor self.old entries → Fits entries entry.now

@@ -2,14 +2,14 @@
 ghost use Rattle.std.specs.Prelude.{◌≡◌, ◌<◌, ◌==◌, ◌&&◌, IfSome, map, position, is_none};
 ghost use Rattle.std.specs.List.{list_any};
 ghost use Rattle.std.specs.Option.{ForSome};
-ghost use Rattle.rbac_policy.specs.Tables.{first_of, grant_given, grant_is, grant_of, grants_given, has_only_authorized, mask_of, place_of, put_free, role_is, roles_of, session_of, session_kept, session_without, user_given, user_is, with_place};
+ghost use Rattle.rbac_policy.specs.Tables.{first_of, grant_given, grant_is, grant_of, grants_given, has_only_authorized, mask_of, place_of, put_free, role_is, roles_of, session_of, session_kept, session_without, user_given, user_is, with_place, grant_cleared, grant_revoked, grant_with, session_given, session_of_other, session_relieved, set_without, user_cleared, user_relieved, user_without};
 
 use crate::closure::below;
 use crate::commands::SessionId;
 use crate::names::{Name, RoleNames};
 use crate::objects::{Object, Operation};
-use crate::rows::{Grant, Session, User};
-use crate::sizes::{GRANTS, ROLES, SESSIONS, USERS};
+use crate::rows::{DsdSet, Grant, Session, User};
+use crate::sizes::{GRANTS, ROLES, SESSIONS, SETS, USERS};
 use rbac_closure::rows::Rows;
 use rbac_closure::sets::RoleSet;
 
@@ -82,6 +82,70 @@ pub fn give_role(users: &mut [Option<User>; USERS], name: &Name, place: usize)
 {
     for at in 0..USERS {
         users[at] = user_given(&users[at], name, place);
+    }
+}
+
+fn user_relieved(slot: &Option<User>, name: &Name, place: usize) -> Option<User>
+    requires { place < ROLES }
+    ensures { result ≡ user_relieved name.now place slot.now }
+{
+    match slot {
+        Some(user) if user.name == *name => Some(User {
+            name: user.name,
+            roles: user.roles.without(place),
+        }),
+        _ => *slot,
+    }
+}
+
+/// Takes the role at this place from the user.
+pub fn take_role(users: &mut [Option<User>; USERS], name: &Name, place: usize)
+    requires { place < ROLES }
+    ensures { users.new ≡ map (user_relieved name.now place) users.old }
+{
+    for at in 0..USERS {
+        users[at] = user_relieved(&users[at], name, place);
+    }
+}
+
+fn user_cleared(slot: &Option<User>, place: usize) -> Option<User>
+    requires { place < ROLES }
+    ensures { result ≡ user_cleared place slot.now }
+{
+    match slot {
+        Some(user) => Some(User {
+            name: user.name,
+            roles: user.roles.without(place),
+        }),
+        None => None,
+    }
+}
+
+/// Takes the role at this place from each user.
+pub fn take_role_from_all(users: &mut [Option<User>; USERS], place: usize)
+    requires { place < ROLES }
+    ensures { users.new ≡ map (user_cleared place) users.old }
+{
+    for at in 0..USERS {
+        users[at] = user_cleared(&users[at], place);
+    }
+}
+
+fn user_without(slot: &Option<User>, name: &Name) -> Option<User>
+    ensures { result ≡ user_without name.now slot.now }
+{
+    match slot {
+        Some(user) if user.name == *name => None,
+        _ => *slot,
+    }
+}
+
+/// Removes the user, with its roles.
+pub fn remove_user(users: &mut [Option<User>; USERS], name: &Name)
+    ensures { users.new ≡ map (user_without name.now) users.old }
+{
+    for at in 0..USERS {
+        users[at] = user_without(&users[at], name);
     }
 }
 
@@ -170,6 +234,72 @@ pub fn give_grant(
     }
 }
 
+// The row of the pair with these roles, if there are any.
+fn grant_with(grant: &Grant, roles: RoleSet) -> Option<Grant>
+    ensures { result ≡ grant_with grant.now roles }
+{
+    if roles == RoleSet::empty() {
+        return None;
+    }
+    Some(Grant {
+        operation: grant.operation,
+        object: grant.object,
+        roles,
+    })
+}
+
+fn grant_revoked(
+    slot: &Option<Grant>,
+    operation: &Operation,
+    object: &Object,
+    place: usize,
+) -> Option<Grant>
+    requires { place < ROLES }
+    ensures { result ≡ grant_revoked operation.now object.now place slot.now }
+{
+    match slot {
+        Some(grant) if grant.operation.is(operation) && grant.object.is(object) => {
+            grant_with(grant, grant.roles.without(place))
+        }
+        _ => *slot,
+    }
+}
+
+/// Takes the pair from the role at this place. A pair that no role has left frees its place.
+pub fn take_grant(
+    grants: &mut [Option<Grant>; GRANTS],
+    operation: &Operation,
+    object: &Object,
+    place: usize,
+)
+    requires { place < ROLES }
+    ensures { grants.new ≡ map (grant_revoked operation.now object.now place) grants.old }
+{
+    for at in 0..GRANTS {
+        grants[at] = grant_revoked(&grants[at], operation, object, place);
+    }
+}
+
+fn grant_cleared(slot: &Option<Grant>, place: usize) -> Option<Grant>
+    requires { place < ROLES }
+    ensures { result ≡ grant_cleared place slot.now }
+{
+    match slot {
+        Some(grant) => grant_with(grant, grant.roles.without(place)),
+        None => None,
+    }
+}
+
+/// Takes each pair from the role at this place. A pair that no role has left frees its place.
+pub fn take_all_grants(grants: &mut [Option<Grant>; GRANTS], place: usize)
+    requires { place < ROLES }
+    ensures { grants.new ≡ map (grant_cleared place) grants.old }
+{
+    for at in 0..GRANTS {
+        grants[at] = grant_cleared(&grants[at], place);
+    }
+}
+
 /// The row of the pair.
 pub fn grant_of(
     grants: &[Option<Grant>; GRANTS],
@@ -237,6 +367,90 @@ pub fn end_session(sessions: &mut [Option<Session>; SESSIONS], number: SessionId
 {
     for at in 0..SESSIONS {
         sessions[at] = session_without(&sessions[at], number);
+    }
+}
+
+fn session_of_other(slot: &Option<Session>, user: &Name) -> Option<Session>
+    ensures { result ≡ session_of_other user.now slot.now }
+{
+    match slot {
+        Some(session) if session.user == *user => None,
+        _ => *slot,
+    }
+}
+
+/// Ends the sessions of the user.
+pub fn end_sessions_of(sessions: &mut [Option<Session>; SESSIONS], user: &Name)
+    ensures { sessions.new ≡ map (session_of_other user.now) sessions.old }
+{
+    for at in 0..SESSIONS {
+        sessions[at] = session_of_other(&sessions[at], user);
+    }
+}
+
+fn session_given(slot: &Option<Session>, number: SessionId, place: usize) -> Option<Session>
+    requires { place < ROLES }
+    ensures { result ≡ session_given number place slot.now }
+{
+    match slot {
+        Some(session) if session.number == number => Some(Session {
+            number: session.number,
+            user: session.user,
+            active: session.active.with(place),
+        }),
+        _ => *slot,
+    }
+}
+
+/// Makes the role at this place active in the session of this number.
+pub fn activate(sessions: &mut [Option<Session>; SESSIONS], number: SessionId, place: usize)
+    requires { place < ROLES }
+    ensures { sessions.new ≡ map (session_given number place) sessions.old }
+{
+    for at in 0..SESSIONS {
+        sessions[at] = session_given(&sessions[at], number, place);
+    }
+}
+
+fn session_relieved(slot: &Option<Session>, number: SessionId, place: usize) -> Option<Session>
+    requires { place < ROLES }
+    ensures { result ≡ session_relieved number place slot.now }
+{
+    match slot {
+        Some(session) if session.number == number => Some(Session {
+            number: session.number,
+            user: session.user,
+            active: session.active.without(place),
+        }),
+        _ => *slot,
+    }
+}
+
+/// Makes the role at this place inactive in the session of this number.
+pub fn deactivate(sessions: &mut [Option<Session>; SESSIONS], number: SessionId, place: usize)
+    requires { place < ROLES }
+    ensures { sessions.new ≡ map (session_relieved number place) sessions.old }
+{
+    for at in 0..SESSIONS {
+        sessions[at] = session_relieved(&sessions[at], number, place);
+    }
+}
+
+fn set_without(slot: &Option<DsdSet>, name: &Name) -> Option<DsdSet>
+    ensures { result ≡ set_without name.now slot.now }
+{
+    match slot {
+        Some(set) if set.name == *name => None,
+        _ => *slot,
+    }
+}
+
+/// Removes the separation set.
+pub fn remove_set(sets: &mut [Option<DsdSet>; SETS], name: &Name)
+    ensures { sets.new ≡ map (set_without name.now) sets.old }
+{
+    for at in 0..SETS {
+        sets[at] = set_without(&sets[at], name);
     }
 }
 
