@@ -5,8 +5,11 @@
 //! (`Modules`, `Derived`) and what a name means at a place (`Visible`); one walk serves all checks.
 #![tactic(auto)]
 
+mod bindings;
+mod bound;
 pub mod check;
 pub mod emission;
+mod flatten;
 pub mod head;
 pub mod scope;
 pub mod unknown;

@@ -1,0 +1,129 @@
+-- Linking: a `run` is replaced by the body of the module that it runs, with its interface names bound as the renamings and
+-- the names visible there say; each name becomes the number of its binder. (Berry, The Esterel v5 Language Primer, the
+-- statement `run`; the numbers of binders are this project's own form)
+use Rattle.std.specs.Prelude.{◌≡◌, ℕ, ◌+◌, List, [], ◌∷◌, length, map, get_or, Option, Some, None, if◌then◌else◌}
+use Rattle.std.specs.List.{position}
+use Rattle.std.specs.Str.{bytes_eq}
+use Rattle.est_syntax.specs.Tree.{RenamingTree}
+use Rattle.est_kernel.specs.Term.{Name, outer, inner, Query, tick, of}
+use Rattle.est_link.specs.Derived as derived
+use Rattle.est_link.specs.Derived.{Derived}
+use Rattle.est_link.specs.Occurrences.{Binder, signals, a_trap}
+use Rattle.est_link.specs.Modules.{Program, program_named}
+use Rattle.est_link.specs.Emissions.{renamed}
+use Rattle.est_link.specs.declared.head.Declared.{Declared}
+use Rattle.est_reduce.specs.Bodies.{Body, nothing, pause, halt, emit, sustain, exit, await, present, suspend, abort, weak_abort, repeat, repeat_each, every, trap, signal, seq, par}
+
+-- ---- what names mean at a place
+
+-- how many local signals lie round a place
+abbrev pub locals_round : List Binder → ℕ
+locals_round [] = 0
+locals_round (signals ns ∷ bs) = locals_round bs + length (ns.first ∷ ns.later)
+locals_round (a_trap t ∷ bs) = locals_round bs
+
+-- the interface signal at a place of the interface; a name that has none means `tick`
+abbrev pub of_interface : Option ℕ → Query
+of_interface None = tick
+of_interface (Some i) = of (outer i)
+
+-- the local signal at a place of a list round which l others lie; a name that has none means what it does further out
+abbrev pub of_list : Option ℕ → ℕ → Query → Query
+of_list None l further = further
+of_list (Some i) l further = of (inner (l + i))
+
+-- the signal that a name means in the module p inside binders: the innermost local one, else that of the interface
+abbrev pub signal_at : Program → List Binder → List ℕ → Query
+signal_at p [] s = of_interface (position (λ (d : Declared). bytes_eq d.name s) p.interface)
+signal_at p (signals ns ∷ bs) s =
+    of_list (position (λ n. bytes_eq n s) (ns.first ∷ ns.later)) (locals_round bs) (signal_at p bs s)
+signal_at p (a_trap t ∷ bs) s = signal_at p bs s
+
+-- how many traps lie between an exit and the innermost trap of its name
+abbrev pub trap_at : List Binder → List ℕ → ℕ
+trap_at [] t = 0
+trap_at (signals ns ∷ bs) t = trap_at bs t
+trap_at (a_trap u ∷ bs) t = if bytes_eq u t then 0 else trap_at bs t + 1
+
+-- ---- a module's body, with its interface names bound
+
+-- the signal that an emission means; `tick` is never emitted
+abbrev pub emitted : Query → Name
+emitted tick = outer 0
+emitted (of n) = n
+
+-- what a signal becomes where the interface signals stand for those of a list, inside l local signals
+abbrev pub bound_name : List Query → ℕ → Name → Query
+bound_name qs l (outer i) = get_or qs i tick
+bound_name qs l (inner k) = of (inner (l + k))
+
+-- what is asked, so bound
+abbrev pub bound_query : List Query → ℕ → Query → Query
+bound_query qs l tick = tick
+bound_query qs l (of n) = bound_name qs l n
+
+-- a statement, so bound
+abbrev pub bound : List Query → ℕ → Body → Body
+bound qs l nothing = nothing
+bound qs l pause = pause
+bound qs l halt = halt
+bound qs l (emit n) = emit (emitted (bound_name qs l n))
+bound qs l (sustain n) = sustain (emitted (bound_name qs l n))
+bound qs l (exit k) = exit k
+bound qs l (await now s) = await now (bound_query qs l s)
+bound qs l (present s p q) = present (bound_query qs l s) (bound qs l p) (bound qs l q)
+bound qs l (suspend now s p) = suspend now (bound_query qs l s) (bound qs l p)
+bound qs l (abort now s p) = abort now (bound_query qs l s) (bound qs l p)
+bound qs l (weak_abort now s p) = weak_abort now (bound_query qs l s) (bound qs l p)
+bound qs l (repeat p) = repeat (bound qs l p)
+bound qs l (repeat_each s p) = repeat_each (bound_query qs l s) (bound qs l p)
+bound qs l (every now s p) = every now (bound_query qs l s) (bound qs l p)
+bound qs l (trap p) = trap (bound qs l p)
+bound qs l (signal n p) = signal n (bound qs l p)
+bound qs l (seq p q) = seq (bound qs l p) (bound qs l q)
+bound qs l (par p q) = par (bound qs l p) (bound qs l q)
+
+-- what the signals of an interface stand for where their module is run in p, inside binders
+abbrev pub interface_bound : Program → List Binder → List RenamingTree → List Declared → List Query
+interface_bound p bs rs ds = map (λ (d : Declared). signal_at p bs (renamed rs d.name)) ds
+
+-- the interface of the module that is run, if there is one
+abbrev pub interface_run : Option Program → List Declared
+interface_run None = []
+interface_run (Some q) = q.interface
+
+-- the flat statement of a statement of the module p, where each module m has the flat body (bodies m)
+abbrev pub linked : List Program → (List ℕ → Body) → Program → List Binder → Derived → Body
+linked ps bodies p bs derived.missing = nothing
+linked ps bodies p bs derived.nothing = nothing
+linked ps bodies p bs derived.pause = pause
+linked ps bodies p bs derived.halt = halt
+linked ps bodies p bs (derived.emit s) = emit (emitted (signal_at p bs s))
+linked ps bodies p bs (derived.sustain s) = sustain (emitted (signal_at p bs s))
+linked ps bodies p bs (derived.exit t) = exit (trap_at bs t)
+linked ps bodies p bs (derived.await d) = await d.immediate (signal_at p bs d.signal)
+linked ps bodies p bs (derived.present s q r) =
+    present (signal_at p bs s) (linked ps bodies p bs q) (linked ps bodies p bs r)
+linked ps bodies p bs (derived.suspend q d) =
+    suspend d.immediate (signal_at p bs d.signal) (linked ps bodies p bs q)
+linked ps bodies p bs (derived.abort q d) =
+    abort d.immediate (signal_at p bs d.signal) (linked ps bodies p bs q)
+linked ps bodies p bs (derived.weak_abort q d) =
+    weak_abort d.immediate (signal_at p bs d.signal) (linked ps bodies p bs q)
+linked ps bodies p bs (derived.repeat q) = repeat (linked ps bodies p bs q)
+linked ps bodies p bs (derived.repeat_each q s) =
+    repeat_each (signal_at p bs s) (linked ps bodies p bs q)
+linked ps bodies p bs (derived.every d q) =
+    every d.immediate (signal_at p bs d.signal) (linked ps bodies p bs q)
+linked ps bodies p bs (derived.trap t q) = trap (linked ps bodies p (a_trap t ∷ bs) q)
+linked ps bodies p bs (derived.signal ns q) =
+    signal (length (ns.first ∷ ns.later)) (linked ps bodies p (signals ns ∷ bs) q)
+linked ps bodies p bs (derived.run m rs) =
+    bound (interface_bound p bs rs (interface_run (program_named ps m))) (locals_round bs) (bodies m)
+linked ps bodies p bs (derived.seq q r) = seq (linked ps bodies p bs q) (linked ps bodies p bs r)
+linked ps bodies p bs (derived.par q r) = par (linked ps bodies p bs q) (linked ps bodies p bs r)
+
+-- the module m has the flat body that its text and the flat bodies of the modules that it runs give
+abbrev pub IsLinking : List Program → (List ℕ → Body) → List ℕ → Type 0
+IsLinking ps bodies m =
+    (p : Program) → program_named ps m ≡ Some p → bodies m ≡ linked ps bodies p [] p.body

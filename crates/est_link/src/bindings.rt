@@ -1,0 +1,177 @@
+//! What names mean at a place in a module: the number of a binder, or a place in the interface.
+ghost use Rattle.std.specs.Prelude.{◌≡◌, ◌+◌, ◌∷◌, IfOk, map, length, option_map, get_or};
+ghost use Rattle.std.specs.List.{find, position};
+ghost use Rattle.std.specs.Str.{bytes_eq};
+ghost use Rattle.est_syntax.specs.Views.{renaming_view};
+ghost use Rattle.est_kernel.specs.Term.{tick};
+ghost use Rattle.est_link.specs.Scopes.{binders_of};
+ghost use Rattle.est_link.specs.Modules.{program_of};
+ghost use Rattle.est_reduce.specs.Views.{bound_query as query_view};
+ghost use Rattle.est_link.specs.Linking.{locals_round, signal_at, trap_at, of_interface};
+ghost use Rattle.est_link.specs.Emissions.{renamed};
+ghost use Rattle.est_link.specs.Inner.Binds.{binding_of};
+
+use crate::head::{Declared, Head};
+use crate::scope::Scope;
+use est_reduce::body::{BoundSignal, BoundTest};
+use est_syntax::tree::{Names, Renaming};
+use est_text::identifier::Identifier;
+use std::alloc::AllocError;
+
+/// A `run`: the place where it stands, its renamings, and the interface of the module that is run.
+#[derive(Clone, Copy)]
+pub struct Binding<'a> {
+    /// The module in whose body the `run` stands.
+    pub home: &'a Head<'a>,
+    /// The binders round it.
+    pub scope: &'a Scope<'a>,
+    /// Its renamings.
+    pub renamings: &'a [Renaming],
+    /// The interface of the module that is run.
+    pub interface: &'a [Declared],
+}
+
+/// A number in 32 bits. Lists of 2^32 names would have to be in memory for a larger one, which is answered as its want.
+fn small(number: usize) -> Result<u32, AllocError>
+    ensures { IfOk result (λ n. n ≡ number) }
+{
+    match u32::try_from(number) {
+        Ok(small) => Ok(small),
+        Err(_) => Err(AllocError),
+    }
+}
+
+/// A sum in 32 bits, answered as `small` answers.
+pub fn sum(first: u32, second: u32) -> Result<u32, AllocError>
+    ensures { IfOk result (λ n. n ≡ first + second) }
+{
+    match first.checked_add(second) {
+        Some(sum) => Ok(sum),
+        None => Err(AllocError),
+    }
+}
+
+/// How many names there are.
+pub fn count(names: &Names) -> Result<u32, AllocError>
+    ensures { IfOk result (λ n. n ≡ length (names.now.first ∷ names.now.later.items)) }
+{
+    sum(small(names.later.len())?, 1)
+}
+
+/// The place of a name in a list.
+fn place_among(names: &[Identifier], name: &Identifier) -> Option<usize>
+    ensures { result ≡ position (λ n. bytes_eq n name.now) names.now }
+{
+    names.iter().position(|other| other.is(name))
+}
+
+/// The place of a name among those of a `signal`.
+#[tactic(auto, using(crate::proofs::Places::position_cons))]
+fn place_of(names: &Names, name: &Identifier) -> Result<Option<u32>, AllocError>
+    ensures { IfOk result (λ p. p ≡ position (λ n. bytes_eq n name.now) (names.now.first ∷ names.now.later.items)) }
+{
+    if names.first.is(name) {
+        return Ok(Some(0));
+    }
+    match place_among(&names.later, name) {
+        Some(place) => Ok(Some(sum(small(place)?, 1)?)),
+        None => Ok(None),
+    }
+}
+
+/// The place of a name in an interface.
+fn place_declared(interface: &[Declared], name: &Identifier) -> Option<usize>
+    ensures { result ≡ position (λ d. bytes_eq d.name name.now) interface.now }
+{
+    interface.iter().position(|declared| declared.name.is(name))
+}
+
+/// The interface signal of a name.
+fn interface_signal(interface: &[Declared], name: &Identifier) -> Result<BoundTest, AllocError>
+    ensures { IfOk result (λ t. query_view t ≡ of_interface (position (λ d. bytes_eq d.name name.now) interface.now)) }
+{
+    match place_declared(interface, name) {
+        Some(place) => Ok(BoundTest::Of(BoundSignal::Outer(small(place)?))),
+        None => Ok(BoundTest::Tick),
+    }
+}
+
+/// How many local signals lie round a place.
+pub fn locals_round(scope: &Scope<'_>) -> Result<u32, AllocError>
+    ensures { IfOk result (λ n. n ≡ locals_round (binders_of scope.now)) }
+{
+    match scope {
+        Scope::Module => Ok(0),
+        Scope::Signals(names, outer) => sum(locals_round(outer)?, count(names)?),
+        Scope::Trap(_, outer) => locals_round(outer),
+    }
+}
+
+/// The signal that a name means.
+pub fn signal_at(
+    home: &Head<'_>,
+    scope: &Scope<'_>,
+    name: &Identifier,
+) -> Result<BoundTest, AllocError>
+    ensures { IfOk result (λ t. query_view t ≡ signal_at (program_of home.now) (binders_of scope.now) name.now) }
+{
+    match scope {
+        Scope::Module => interface_signal(&home.interface, name),
+        Scope::Signals(names, outer) => match place_of(names, name)? {
+            Some(place) => {
+                let level = sum(locals_round(outer)?, place)?;
+                Ok(BoundTest::Of(BoundSignal::Inner(level)))
+            }
+            None => signal_at(home, outer, name),
+        },
+        Scope::Trap(_, outer) => signal_at(home, outer, name),
+    }
+}
+
+/// How many traps lie between an exit and its trap.
+pub fn trap_at(scope: &Scope<'_>, name: &Identifier) -> Result<u32, AllocError>
+    ensures { IfOk result (λ k. k ≡ trap_at (binders_of scope.now) name.now) }
+{
+    match scope {
+        Scope::Module => Ok(0),
+        Scope::Signals(_, outer) => trap_at(outer, name),
+        Scope::Trap(trap, outer) => {
+            if trap.is(name) {
+                Ok(0)
+            } else {
+                sum(trap_at(outer, name)?, 1)
+            }
+        }
+    }
+}
+
+/// The first renaming of a signal of the module that is run.
+fn renaming_of<'a>(renamings: &'a [Renaming], name: &Identifier) -> Option<&'a Renaming>
+    ensures { option_map (λ r. r.now) result ≡ find (λ r. bytes_eq r.inner name.now) renamings.now }
+{
+    renamings.iter().find(|renaming| renaming.inner.is(name))
+}
+
+/// The caller's name for a signal of the module that is run.
+#[tactic(auto, using(crate::proofs::Runs::renamed_is))]
+fn callers_name(renamings: &[Renaming], name: Identifier) -> Identifier
+    ensures { result ≡ renamed (map renaming_view renamings.now) name }
+{
+    match renaming_of(renamings, &name) {
+        Some(renaming) => renaming.outer,
+        None => name,
+    }
+}
+
+/// The signal that an interface signal of the module that is run stands for. Only names that are met are looked up.
+pub fn interface_bound(binding: &Binding<'_>, index: u32) -> Result<BoundTest, AllocError>
+    ensures { IfOk result (λ t. query_view t ≡ get_or (binding_of binding.now) index tick) }
+{
+    match binding.interface.get(index as usize) {
+        Some(declared) => {
+            let name = callers_name(binding.renamings, declared.name);
+            signal_at(binding.home, binding.scope, &name)
+        }
+        None => Ok(BoundTest::Tick),
+    }
+}
