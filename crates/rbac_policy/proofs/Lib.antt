@@ -25,3 +25,4 @@ pub mod Beginning
 pub mod Growing
 pub mod Deciding
 pub mod Reading
+mod EndingLemmas

@@ -132,6 +132,15 @@ not_full_with_room key slots P n k many i room h =
     let few = pigeons (Stored key) (one_key key) h.values (without slots i) h.distinct (λ p a there. elsewhere key slots i fr.empty a (k.stands a (subst P (get_or_from_slice_get h.values p a a there) (h.have p a (slice_get_within h.values p a there))))) in
     absurd (omega (arith, few, h.enough, length-without slots i None fr.empty, many))
 
+-- no more values have the property than there are slots
+pub few : {X A : Type 0} (key : X → A) (slots : List (Option X)) (P : A → Type 0) (n k : ℕ) → Keeps key slots P → length slots ≡ n → HasAtLeast k P → k ≤ n
+few {A = A} key slots P n k keeps many h =
+    let low = pigeons (Stored key) (one_key key) h.values slots h.distinct
+    (λ p a there. held a (keeps.stands a (subst P (get_or_from_slice_get h.values p a a there) (h.have p a (slice_get_within h.values p a there))))) in
+    omega (arith, low, h.enough, many) where
+      held : (a : A) → Holds (λ x. key x ≡ a) slots → Kept (Stored key) slots a
+      held a h = record { at = h.at; value = Some h.value; there = h.there; by = record { value = h.value; is = refl; named = h.fact } }
+
 -- where the property hasn't been reached so often, there is room
 pub room : {X A : Type 0} (key : X → A) (slots : List (Option X)) (P : A → Type 0) (n : ℕ) → Keeps key slots P → length slots ≡ n → (HasAtLeast n P → ⊥) → (i : ℕ) × (position is_none slots ≡ Some i)
 room key slots P n k many few = by_position (position is_none slots) refl where

@@ -11,3 +11,4 @@ pub mod Tables
 pub mod Change
 pub mod StandsFor
 pub mod Decided
+pub mod Leaving

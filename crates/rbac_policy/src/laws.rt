@@ -1,5 +1,6 @@
 //! Laws of the policy, for callers that reason about lists of entries. Each function does nothing: its contract is the law.
-ghost use Rattle.std.specs.Prelude.{ℕ, ◌≤◌, List, length, take};
+ghost use Rattle.std.specs.Prelude.{ℕ, ◌≡◌, ◌+◌, ◌<◌, ◌≤◌, ◌++◌, ◌∷◌, [], List, Some, length, take};
+ghost use Rattle.rbac_policy.specs.declared.commands.AdminCommand.TheVariants.{DeleteSession};
 ghost use Rattle.rbac_policy.specs.declared.commands.Entry.{Entry};
 ghost use Rattle.rbac_policy.specs.declared.objects.Object.{Object};
 ghost use Rattle.rbac_policy.specs.declared.objects.Operation.{Operation};
@@ -7,7 +8,9 @@ ghost use Rattle.rbac_policy.specs.declared.policy.Policy.{Policy};
 ghost use Rattle.rbac_policy.specs.Change.{policy_of};
 ghost use Rattle.rbac_policy.specs.Decided.{Decided};
 ghost use Rattle.rbac_policy.specs.Facts.{IsLive, May};
+ghost use Rattle.rbac_policy.specs.declared.sizes.TheConstants.{SESSIONS};
 ghost use Rattle.rbac_policy.specs.Fits.{AllFit};
+ghost use Rattle.rbac_policy.specs.Leaving.{LeavesRoom};
 ghost use Rattle.rbac_policy.specs.StandsFor.{StandsFor};
 
 /// Over a list for which some policy stands, each session lives or doesn't, and may do an operation on an object or may not.
@@ -29,4 +32,16 @@ pub fn fronts_are_decided()
     ensures lives { (entries : List Entry) → AllFit entries → (n session : ℕ) → Decided (IsLive (take n entries) session) }
     ensures may { (entries : List Entry) → AllFit entries → (n session : ℕ) (operation : Operation) (object : Object)
         → Decided (May (take n entries) session operation object) }
+{}
+
+/// Each living session has room for its logout: wherever there is room for as many entries as sessions may live, all of them have, and a
+/// logout leaves as much to the others.
+pub fn logouts_have_room()
+    ensures room { (policy : Policy) (entries : List Entry) → StandsFor policy entries
+        → (most : ℕ) → length entries + SESSIONS ≤ most → LeavesRoom most entries }
+    ensures left { (entries : List Entry) (entry : Entry) (session most : ℕ) → LeavesRoom most entries
+        → entry.command ≡ DeleteSession → entry.session ≡ Some session → IsLive entries session
+        → LeavesRoom most (entries ++ entry ∷ []) }
+    ensures taken { (entries : List Entry) (session most : ℕ) → LeavesRoom most entries → IsLive entries session
+        → length entries < most }
 {}
