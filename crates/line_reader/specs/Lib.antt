@@ -1,0 +1,6 @@
+pub mod Lines
+pub mod Meters
+pub mod Readers
+pub mod Waiting
+pub mod Writing
+pub mod Inner

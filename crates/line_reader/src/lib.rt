@@ -1,0 +1,13 @@
+//! The two sides of a connection's bytes: the lines that any reader gives, and the replies that wait to be written.
+//!
+//! `lines` cuts what a reader gives into lines, in a fixed buffer, whatever the sizes of the reads. `replies` gathers replies in a fixed buffer
+//! and writes them in order, whatever parts the writer takes. `meter` wraps a reader or a writer: it notes that the device failed, and lets a
+//! bounded number of reads through. After the first call that makes the buffers nothing here takes memory.
+#![tactic(auto)]
+
+pub mod exchange;
+pub mod lines;
+pub mod meter;
+pub mod replies;
+#[cfg(test)]
+mod tests;

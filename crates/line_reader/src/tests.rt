@@ -1,0 +1,246 @@
+//! Readers that cut anywhere or fail, and writers that take little or nothing.
+use crate::exchange::next_line;
+use crate::lines::{LINE_BYTES, Line, LineFault, LineReader};
+use crate::meter::{MeteredReader, MeteredWriter, READS};
+use crate::replies::{Replies, WriteFault};
+use std::alloc::{AllocError, Global};
+use std::io;
+use std::io::{ErrorKind, Read, Write};
+use std::test::Fail;
+
+/// Gives one part of its bytes and then the other, and fails at a call where one is named.
+#[derive(Drop)]
+struct TwoParts<'a> {
+    first: &'a [u8],
+    second: &'a [u8],
+    calls_that_work: usize,
+}
+
+impl Read for TwoParts<'_> {
+    fn read(&mut self, buf: &mut [u8]) -> io::Result<usize> {
+        if self.calls_that_work == 0 {
+            return Err(io::Error::from(ErrorKind::Other));
+        }
+        self.calls_that_work -= 1;
+        if self.first.is_empty() {
+            self.first = self.second;
+            self.second = &[];
+        }
+        let count = self.first.len().min(buf.len());
+        let (front, rest) = self.first.split_at(count);
+        buf[..count].copy_from_slice(front);
+        self.first = rest;
+        Ok(count)
+    }
+}
+
+/// Gives `x` and LF by turns, a byte at once, without end.
+#[derive(Drop)]
+struct ByBytes {
+    is_end: bool,
+}
+
+impl Read for ByBytes {
+    fn read(&mut self, buf: &mut [u8]) -> io::Result<usize> {
+        if buf.is_empty() {
+            return Ok(0);
+        }
+        buf[0] = if self.is_end { b'\n' } else { b'x' };
+        self.is_end = !self.is_end;
+        Ok(1)
+    }
+}
+
+/// Takes at most `step` bytes at once, and `room` in all.
+#[derive(Drop)]
+struct Sink {
+    written: Vec<u8>,
+    step: usize,
+    room: usize,
+}
+
+impl Write for Sink {
+    fn write(&mut self, buf: &[u8]) -> io::Result<usize> {
+        let count = buf.len().min(self.step).min(self.room);
+        match self.written.extend_from_slice(&buf[..count]) {
+            Ok(()) => {
+                self.room -= count;
+                Ok(count)
+            }
+            Err(_) => Err(io::Error::from(ErrorKind::OutOfMemory)),
+        }
+    }
+
+    fn flush(&mut self) -> io::Result<()> {
+        Ok(())
+    }
+}
+
+/// More calls or bytes than any test needs.
+const AMPLE: usize = 1_000_000;
+
+/// The lines of two parts, each with a `|` behind it, and how they ended.
+fn told(
+    alloc: Global,
+    first: &[u8],
+    second: &[u8],
+    calls_that_work: usize,
+) -> Result<(Vec<u8>, Result<Line, LineFault>), AllocError> {
+    let mut reader = MeteredReader::new(TwoParts {
+        first,
+        second,
+        calls_that_work,
+    });
+    let mut lines = LineReader::new(alloc)?;
+    let mut text = Vec::new(alloc);
+    for _ in 0..AMPLE {
+        let next = lines.next_line(&mut reader);
+        if next != Ok(Line::Whole) {
+            return Ok((text, next));
+        }
+        text.extend_from_slice(lines.line())?;
+        text.push(b'|')?;
+    }
+    Ok((text, Ok(Line::Whole)))
+}
+
+#[test]
+fn lines_are_cut_at_their_ends(rt: HostRuntime) -> Result<(), Fail> {
+    for (bytes, lines) in [
+        ("", ""),
+        ("a\nbc\n", "a|bc|"),
+        ("a\nrest", "a|rest|"),
+        ("\n\r\n\nz", "|\r||z|"),
+    ] {
+        for cut in 0..=bytes.len() {
+            let (first, second) = bytes.as_bytes().split_at(cut);
+            let (text, end) = told(rt.alloc(), first, second, AMPLE)?;
+            assert!(rt; text.as_slice() == lines.as_bytes(), "{bytes:?} {cut}");
+            assert!(rt; end == Ok(Line::End), "{bytes:?} {cut}");
+        }
+    }
+    Ok(())
+}
+
+#[test]
+fn a_reader_fails_at_a_call(rt: HostRuntime) -> Result<(), Fail> {
+    for (calls_that_work, lines) in [(0usize, ""), (1, "a|"), (2, "a|bc|")] {
+        let (text, end) = told(rt.alloc(), b"a\nb", b"c\nd", calls_that_work)?;
+        assert!(rt; text.as_slice() == lines.as_bytes(), "{calls_that_work}");
+        assert!(rt; end == Err(LineFault::Read), "{calls_that_work}");
+    }
+    Ok(())
+}
+
+#[test]
+fn long_lines(rt: HostRuntime) -> Result<(), Fail> {
+    let alloc = rt.alloc();
+    for (count, rest, more) in [
+        (LINE_BYTES, "\nnext", Some("|next|")),
+        (LINE_BYTES, "", Some("|")),
+        (LINE_BYTES + 1, "\nnext", None),
+        (LINE_BYTES + 1, "", None),
+    ] {
+        let mut line = vec![in alloc; b'x'; count]?;
+        let (text, end) = told(alloc, line.as_slice(), rest.as_bytes(), AMPLE)?;
+        match more {
+            Some(more) => {
+                line.extend_from_slice(more.as_bytes())?;
+                assert!(rt; text.as_slice() == line.as_slice());
+                assert!(rt; end == Ok(Line::End));
+            }
+            None => {
+                assert!(rt; text.is_empty());
+                assert!(rt; end == Err(LineFault::TooLong));
+            }
+        }
+    }
+    Ok(())
+}
+
+#[test]
+fn a_line_lies_across_the_end_of_the_buffer(rt: HostRuntime) -> Result<(), Fail> {
+    let alloc = rt.alloc();
+    let mut bytes = Vec::new(alloc);
+    let mut lines = Vec::new(alloc);
+    for letter in [b'a', b'b', b'c', b'd', b'e'] {
+        let line = vec![in alloc; letter; 50_000]?;
+        bytes.extend_from_slice(line.as_slice())?;
+        bytes.push(b'\n')?;
+        lines.extend_from_slice(line.as_slice())?;
+        lines.push(b'|')?;
+    }
+    let (text, end) = told(alloc, bytes.as_slice(), &[], AMPLE)?;
+    assert!(rt; text.as_slice() == lines.as_slice());
+    assert!(rt; end == Ok(Line::End));
+    Ok(())
+}
+
+#[test]
+fn a_million_reads(rt: HostRuntime) -> Result<(), Fail> {
+    let mut reader = MeteredReader::new(ByBytes { is_end: false });
+    let mut lines = LineReader::new(rt.alloc())?;
+    for _ in 0..READS / 2 {
+        assert!(rt; lines.next_line(&mut reader) == Ok(Line::Whole));
+    }
+    assert!(rt; lines.next_line(&mut reader) == Err(LineFault::Read));
+    assert!(rt; lines.next_line(&mut reader) == Err(LineFault::Read));
+    assert!(rt; reader.reads_left() == 0);
+    assert!(rt; !reader.has_failed());
+    Ok(())
+}
+
+#[test]
+fn replies_are_written_in_order(rt: HostRuntime) -> Result<(), Fail> {
+    let alloc = rt.alloc();
+    for (step, room, written, fails) in [
+        (1usize, AMPLE, "one two three ", false),
+        (5, AMPLE, "one two three ", false),
+        (5, 6, "one tw", true),
+        (5, 0, "", true),
+    ] {
+        let mut replies = Replies::new(alloc)?;
+        let mut writer = MeteredWriter::new(Sink {
+            written: Vec::new(alloc),
+            step,
+            room,
+        });
+        for text in ["one ", "two ", "three "] {
+            assert!(rt; replies.add(&mut writer, text.as_bytes()) == Ok(()));
+        }
+        let end = replies.write_out(&mut writer);
+        assert!(rt; end == if fails { Err(WriteFault) } else { Ok(()) });
+        assert!(rt; writer.has_failed() == fails);
+        let sink = writer.into_device();
+        assert!(rt; sink.written.as_slice() == written.as_bytes());
+    }
+    Ok(())
+}
+
+#[test]
+fn replies_are_written_before_a_read(rt: HostRuntime) -> Result<(), Fail> {
+    let alloc = rt.alloc();
+    for (bytes, room, written, next) in [
+        ("x\ny\n", AMPLE, "", Ok(Ok(Line::Whole))),
+        ("x\ny", AMPLE, "reply", Ok(Ok(Line::Whole))),
+        ("x\n", AMPLE, "reply", Ok(Ok(Line::End))),
+        ("x\n", 3, "rep", Err(WriteFault)),
+    ] {
+        let mut reader = MeteredReader::new(bytes.as_bytes());
+        let mut writer = MeteredWriter::new(Sink {
+            written: Vec::new(alloc),
+            step: 2,
+            room,
+        });
+        let mut lines = LineReader::new(alloc)?;
+        let mut replies = Replies::new(alloc)?;
+        let first = next_line(&mut lines, &mut replies, &mut reader, &mut writer);
+        assert!(rt; first == Ok(Ok(Line::Whole)));
+        assert!(rt; replies.add(&mut writer, b"reply") == Ok(()));
+        let second = next_line(&mut lines, &mut replies, &mut reader, &mut writer);
+        assert!(rt; second == next, "{bytes:?}");
+        let sink = writer.into_device();
+        assert!(rt; sink.written.as_slice() == written.as_bytes(), "{bytes:?}");
+    }
+    Ok(())
+}
