@@ -14,5 +14,3 @@ pub mod reply;
 mod shown;
 pub mod single;
 pub mod slot;
-#[cfg(test)]
-mod tests;

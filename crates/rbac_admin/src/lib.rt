@@ -7,5 +7,3 @@ pub mod decisions;
 pub mod laws;
 pub mod refusals;
 mod rules;
-#[cfg(test)]
-mod tests;

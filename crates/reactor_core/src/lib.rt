@@ -13,6 +13,4 @@ pub mod laws;
 pub mod reactor;
 mod reader;
 pub mod refusal;
-#[cfg(test)]
-mod tests;
 pub mod text;

@@ -116,6 +116,3 @@ pub fn read_kernel(alloc: Global, main: &Identifier, text: &str) -> Result<Kerne
     let kernel = Kernel::build(interface, root)?;
     Ok(kernel)
 }
-
-#[cfg(test)]
-mod tests;

@@ -1,10 +1,10 @@
 //! Worked examples: loads, offers, steps and shown instants of small modules.
-use crate::entry::{Action, PastInstant, SlotEntry, Stamp};
-use crate::journal::Journal;
-use crate::reactor::{Reactor, Shown};
-use crate::refusal::{Place, Refusal};
 use est_kernel::state::Stuck;
 use est_text::identifier::Identifier;
+use reactor_core::entry::{Action, PastInstant, SlotEntry, Stamp};
+use reactor_core::journal::Journal;
+use reactor_core::reactor::{Reactor, Shown};
+use reactor_core::refusal::{Place, Refusal};
 use std::alloc::Global;
 use std::process::Abort;
 use std::test::Fail;
@@ -14,12 +14,12 @@ const STAMP: Stamp = Stamp {
     session: 1,
 };
 
-fn name(text: &str) -> Result<Identifier, &'static str> {
+pub fn name(text: &str) -> Result<Identifier, &'static str> {
     Identifier::from_text(text).ok_or("no identifier")
 }
 
 /// What a load of module M of the text answers, on an empty journal.
-fn loaded(alloc: Global, text: &str) -> Result<Result<Reactor, Refusal>, Fail> {
+pub fn loaded(alloc: Global, text: &str) -> Result<Result<Reactor, Refusal>, Fail> {
     match Reactor::load(alloc, Journal::new(alloc), STAMP, "M", text) {
         Ok(reactor) => Ok(Ok(reactor)),
         Err((refusal, _journal)) => Ok(Err(refusal)),

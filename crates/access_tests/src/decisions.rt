@@ -1,9 +1,9 @@
 //! The answers to policy commands, on policies that a server could come to.
 ghost use Rattle.std.specs.Prelude.{◌<◌};
 
-use crate::decisions::{decide, is_decided};
-use crate::refusals::Refusal;
 use est_text::identifier::Identifier;
+use rbac_admin::decisions::{decide, is_decided};
+use rbac_admin::refusals::Refusal;
 use rbac_policy::commands::{AdminCommand, Entry, SessionId, Table};
 use rbac_policy::names::{LISTED_ROLES, Name, RoleNames};
 use rbac_policy::objects::{Object, Operation, SlotNumber};

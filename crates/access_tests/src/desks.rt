@@ -1,8 +1,8 @@
 //! Worked examples on a whole desk: root logs in, grants, loads, steps and looks.
-use crate::command::SlotCommand;
-use crate::refusal::Refusal;
-use crate::reply::{Change, Reply, ShownSignals, SignalNames};
-use crate::single::Single;
+use access_core::command::SlotCommand;
+use access_core::refusal::Refusal;
+use access_core::reply::{Change, Reply, ShownSignals, SignalNames};
+use access_core::single::Single;
 use est_text::identifier::Identifier;
 use rbac_policy::commands::{AdminCommand, SessionId};
 use rbac_policy::names::{Name, RoleNames};
