@@ -1,0 +1,3 @@
+pub mod OrderLemmas
+pub mod SearchLemmas
+pub mod SolutionLemmas

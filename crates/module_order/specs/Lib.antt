@@ -1,0 +1,4 @@
+pub mod Runs
+pub mod Orders
+pub mod Solutions
+pub mod Inner
