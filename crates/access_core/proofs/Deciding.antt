@@ -1,62 +1,63 @@
--- The two rules that stand first for a command on a slot.
-use Rattle.std.proofs.Common.{◌⊎◌, ℕ, List, refl, inl, inr}
+-- The rules of who may give a command to a slot, and those of what it asks of the slot.
+use Rattle.std.proofs.Common.{ℕ, List, refl, subst}
+use Rattle.refusal_rules.specs.Rules.{Rules, AllPass, FirstRefuses}
+use Rattle.refusal_rules.proofs.RuleLemmas.{append, split, accepted, refused, all_passed}
 use Rattle.rbac_policy.specs.declared.commands.Entry.{Entry}
-use Rattle.rbac_policy.specs.declared.objects.Operation.{Operation}
-use Rattle.rbac_policy.specs.declared.objects.Object.{Object}
-use Rattle.rbac_policy.specs.Facts.{IsLive, May}
 use Rattle.reactor_core.specs.declared.entry.SlotEntry.{SlotEntry}
 use Rattle.access_core.specs.declared.command.SlotCommand.{SlotCommand}
 use Rattle.access_core.specs.declared.command.SlotCommand.TheVariants.{Load, Offer, Step, Look}
 use Rattle.access_core.specs.declared.refusal.Refusal.{Refusal}
 use Rattle.access_core.specs.declared.reply.Reply.{Reply}
 use Rattle.access_core.specs.declared.reply.Reply.TheVariants.{Refused}
-use Rattle.access_core.specs.Rules.{◌▸◌, Applies}
-use Rattle.access_core.specs.SlotStep.{no_session, no_permission, SlotStep}
-use Rattle.access_core.specs.Allowed.{permission_of, Has, Lacks}
-use Rattle.access_core.specs.Needs.{Needs}
+use Rattle.access_core.specs.Answering.{IsRefused, ByRules}
+use Rattle.access_core.specs.SlotStep.{access_rules, journal_rules, Does, SlotStep}
+use Rattle.access_core.specs.Needs.{permission_of, Needs, IsAccepted}
 
--- the rule gives this refusal
-pub refused_by : {S : Type 0} (Rule : Refusal → Type 0) (before : S) (refusal : Refusal) → Rule refusal → Applies Rule before (Refused refusal) before
-refused_by Rule before refusal given = record { refusal = refusal; given = given; refuses = record { replied = refl; stays = refl } }
+-- a refusal that leaves the state as it is
+pub refusing : {S : Type 0} {refusal : Refusal} {state : S} → IsRefused refusal state (Refused refusal) state
+refusing = record { replied = refl; stays = refl }
 
--- a session that lives passes the first rule
-pub living : {S : Type 0} (entries : List Entry) (session : ℕ) (Next : S → Reply → S → Type 0) (before : S) (reply : Reply) (after : S)
-    → IsLive entries session → Next before reply after → (no_session entries session ▸ Next) before reply after
-living entries session Next before reply after live next = inr (record { silent = λ refusal given. given.1 live; next = next })
+-- a reply that is accepted is no refusal
+pub not_refused : {S : Type 0} {before : S} {reply : Reply} {after : S} → IsAccepted reply → (refusal : Refusal) → IsRefused refusal before reply after → ⊥
+not_refused is refusal h = subst IsAccepted h.replied is
 
--- one that has the permission passes the second
-pub permitted : {S : Type 0} (entries : List Entry) (session : ℕ) (operation : Operation) (object : Object)
-    (Next : S → Reply → S → Type 0) (before : S) (reply : Reply) (after : S)
-    → IsLive entries session × May entries session operation object → Next before reply after
-    → (no_session entries session ▸ no_permission entries session operation object ▸ Next) before reply after
-permitted entries session operation object Next before reply after may next =
-    living entries session (no_permission entries session operation object ▸ Next) before reply after may.0
-    (inr (record { silent = λ refusal given. given.1 may.1; next = next }))
+module _ (entries : List Entry) (slot session : ℕ) (command : SlotCommand) where
+  abbrev who : Rules Refusal
+  who = access_rules entries session (permission_of slot command)
 
--- one that doesn't pass is answered by the first rule of the two
-pub denied : {S : Type 0} (entries : List Entry) (session : ℕ) (operation : Operation) (object : Object)
-    (Next : S → Reply → S → Type 0) (before : S) (refusal : Refusal)
-    → no_session entries session refusal ⊎ (IsLive entries session × no_permission entries session operation object refusal)
-    → (no_session entries session ▸ no_permission entries session operation object ▸ Next) before (Refused refusal) before
-denied entries session operation object Next before refusal (inl given) = inl (refused_by (no_session entries session) before refusal given)
-denied entries session operation object Next before refusal (inr given) =
-    living entries session (no_permission entries session operation object ▸ Next) before (Refused refusal) before given.0
-    (inl (refused_by (no_permission entries session operation object) before refusal given.1))
+  -- a session that may give the command is answered by what the command asks of the slot
+  pub allowed_step : (before : List SlotEntry) (reply : Reply) (after : List SlotEntry) → AllPass (access_rules entries session (permission_of slot command))
+      → ByRules (journal_rules entries slot session command before) (Does entries slot session command) before reply after
+      → SlotStep entries slot session command before reply after
+  allowed_step before reply after may h =
+      append who (journal_rules entries slot session command before) (λ refusal. IsRefused refusal before reply after)
+      (Does entries slot session command before reply after)
+      (accepted who (λ refusal. IsRefused refusal before reply after)
+      (ByRules (journal_rules entries slot session command before) (Does entries slot session command) before reply after) may h)
 
--- a command that one of the two rules refuses
-pub not_allowed : (entries : List Entry) (slot session : ℕ) (command : SlotCommand) (journal : List SlotEntry) (refusal : Refusal)
-    → no_session entries session refusal ⊎ (IsLive entries session × Lacks entries session (permission_of slot command) refusal)
-    → SlotStep entries slot session command journal (Refused refusal) journal
-not_allowed entries slot session (Load main text) journal refusal why = denied _ _ _ _ _ _ _ why
-not_allowed entries slot session (Offer signal) journal refusal why = denied _ _ _ _ _ _ _ why
-not_allowed entries slot session Step journal refusal why = denied _ _ _ _ _ _ _ why
-not_allowed entries slot session (Look n) journal refusal (inl given) = inl (refused_by (no_session entries session) journal refusal given)
-not_allowed entries slot session (Look n) journal refusal (inr given) = absurd given.1
+  -- one that may not is refused by the first of the two rules that doesn't let pass
+  pub denied_step : (before : List SlotEntry) (refusal : Refusal) → FirstRefuses (access_rules entries session (permission_of slot command)) refusal
+      → SlotStep entries slot session command before (Refused refusal) before
+  denied_step before refusal first =
+      append who (journal_rules entries slot session command before) (λ given. IsRefused given before (Refused refusal) before)
+      (Does entries slot session command before (Refused refusal) before)
+      (refused who (λ given. IsRefused given before (Refused refusal) before)
+      (ByRules (journal_rules entries slot session command before) (Does entries slot session command) before (Refused refusal) before)
+      refusal first refusing)
 
--- one that neither refuses has what it needs
+  -- where the command is accepted, the rules of who may give it let pass
+  pub accepted_access : (before : List SlotEntry) (reply : Reply) (after : List SlotEntry) → IsAccepted reply
+      → SlotStep entries slot session command before reply after → AllPass (access_rules entries session (permission_of slot command))
+  accepted_access before reply after is h =
+      (all_passed who (λ refusal. IsRefused refusal before reply after)
+      (ByRules (journal_rules entries slot session command before) (Does entries slot session command) before reply after) (not_refused is)
+      (split who (journal_rules entries slot session command before) (λ refusal. IsRefused refusal before reply after)
+      (Does entries slot session command before reply after) h)).0
+
+-- a session for which they let pass has what the command needs
 pub has_needed : (entries : List Entry) (slot session : ℕ) (command : SlotCommand)
-    → IsLive entries session × Has entries session (permission_of slot command) → Needs entries slot session command
-has_needed entries slot session (Load main text) given = given.1
-has_needed entries slot session (Offer signal) given = given.1
-has_needed entries slot session Step given = given.1
-has_needed entries slot session (Look n) given = given.0
+    → AllPass (access_rules entries session (permission_of slot command)) → Needs entries slot session command
+has_needed entries slot session (Load main text) may = may.1.0
+has_needed entries slot session (Offer signal) may = may.1.0
+has_needed entries slot session Step may = may.1.0
+has_needed entries slot session (Look n) may = may.0

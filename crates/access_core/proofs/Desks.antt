@@ -1,19 +1,18 @@
 -- The sixteen slots of a desk.
-use Rattle.std.proofs.Common.{◌≡◌, ◌∙◌, ℕ, ◌<◌, List, length, map, get_or, set, refl, sym, ap, subst, inr, arith, ⊎_elim, get_or-set_same, get_or-set_other}
+use Rattle.std.proofs.Common.{◌≡◌, ◌∙◌, ℕ, ◌<◌, List, length, map, get_or, set, refl, sym, ap, subst, arith, ⊎_elim, get_or-set_same, get_or-set_other}
 use Rattle.std.specs.List.{range_with_len}
 use Rattle.std.proofs.Math.ListN.{length-set}
 use Rattle.std.proofs.lemmas.Bool.{cases_eq}
 use Rattle.std.proofs.lemmas.List.FromFn.{get_or-map-range_with_len}
 use Rattle.std.proofs.lemmas.Option.{get_or_from_slice_get, slice_get_within, slice_get-get_or}
+use Rattle.refusal_rules.proofs.RuleLemmas.{pass}
 use Rattle.rbac_policy.specs.declared.commands.Entry.{Entry}
 use Rattle.rbac_policy.specs.Facts.{IsLive}
 use Rattle.access_core.specs.declared.command.SlotCommand.{SlotCommand}
 use Rattle.access_core.specs.declared.reply.Reply.{Reply}
-use Rattle.access_core.specs.Rules.{◌▸◌}
 use Rattle.access_core.specs.SlotState.{SlotState}
 use Rattle.access_core.specs.SlotStep.{SlotStep}
-use Rattle.access_core.specs.Desk.{DeskState, AreSlots, empty_slot, opening_desk, no_slot, InSlot, DeskStep}
-use Rattle.access_core.proofs.Deciding.{living}
+use Rattle.access_core.specs.Desk.{DeskState, AreSlots, empty_slot, opening_desk, DeskStep}
 
 -- the empty slots stand at their numbers
 pub opening_slots : AreSlots opening_desk.slots
@@ -68,14 +67,10 @@ desk_step entries slots number session command d new reply are below live same s
     subst (λ n. SlotStep entries n session command (get_or slots number d).journal reply new.journal) here step in
     let whole : new ≡ record (get_or slots number d) { journal = new.journal } =
     ap (λ n. let s : SlotState = record { number = n; journal = new.journal } in s) same in
-    living entries session (no_slot number ▸ InSlot number session command) _ reply _ live
-    (inr (record {
-      silent = λ refusal given. let past = given.1 in omega arith;
-      next = record {
-        slot = get_or slots number d;
-        there = slice_get-get_or slots number d (omega arith);
-        journal = new.journal;
-        step = journal_step;
-        stored = ap (λ s. let desk : DeskState = record { entries = entries; slots = set slots number s } in desk) whole;
-      };
+    pass live (pass below (record {
+      slot = get_or slots number d;
+      there = slice_get-get_or slots number d (omega arith);
+      journal = new.journal;
+      step = journal_step;
+      stored = ap (λ s. let desk : DeskState = record { entries = entries; slots = set slots number s } in desk) whole;
     }))

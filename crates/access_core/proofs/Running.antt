@@ -10,19 +10,14 @@ use Rattle.reactor_core.specs.declared.entry.SlotEntry.{SlotEntry}
 use Rattle.reactor_core.specs.declared.reactor.Shown.{Shown}
 use Rattle.reactor_core.specs.Meaning.{is_loaded, instants_of, Running, Runs}
 use Rattle.reactor_core.specs.Answers.{IsInstant, HasNoInstant, within_mask as masked}
-use Rattle.access_core.specs.declared.refusal.Refusal.{Refusal}
 use Rattle.access_core.specs.declared.reply.Reply.TheVariants.{Look}
 use Rattle.access_core.specs.declared.reply.ShownSignal.{ShownSignal}
 use Rattle.access_core.specs.Shown.{Sees, places_of, present_at, name_at, shown_of}
-use Rattle.access_core.specs.SlotStep.{occupied, empty, no_instant, Looks}
+use Rattle.access_core.specs.SlotStep.{no_instant, Looks}
 
--- where a module runs, the slot isn't empty
-pub not_empty : (journal : List SlotEntry) → is_loaded journal ≡ true → (refusal : Refusal) → empty journal refusal → ⊥
-not_empty journal runs refusal given = let none = given.1 in cc
-
--- where none runs, it isn't occupied
-pub not_occupied : (journal : List SlotEntry) → is_loaded journal ≡ false → (refusal : Refusal) → occupied journal refusal → ⊥
-not_occupied journal none refusal given = let some = given.1 in cc
+-- where none runs, the slot isn't loaded
+pub not_loaded : (journal : List SlotEntry) → is_loaded journal ≡ false → is_loaded journal ≡ true → ⊥
+not_loaded journal none runs = cc
 
 instant_within : (journal : List SlotEntry) (n : ℕ) (i : PastInstant) → IsInstant journal n i → HasNoInstant journal n → ⊥
 instant_within journal n i there (inl zero) = let some = there.counted in omega arith
@@ -32,8 +27,8 @@ instant_within journal n i there (inr past) =
 
 -- where there is an instant of this number, it isn't refused
 pub not_no_instant : (journal : List SlotEntry) (n : ℕ) (i : PastInstant) → IsInstant journal n i
-    → (refusal : Refusal) → no_instant journal n refusal → ⊥
-not_no_instant journal n i there refusal given = instant_within journal n i there given.1
+    → (no_instant journal n).passes
+not_no_instant journal n i there = instant_within journal n i there
 
 -- what two functions make of the places that a test keeps is the same, where they agree on those
 same_kept : {X : Type 0} (f g : ℕ → X) (p : ℕ → Bool) → ((place : ℕ) → p place ≡ true → f place ≡ g place)

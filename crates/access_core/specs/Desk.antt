@@ -1,6 +1,7 @@
 -- The desk: one policy list and sixteen slots, and what each command is answered there (this project's own form).
-use Rattle.std.specs.Prelude.{◌≡◌, ℕ, ◌+◌, ◌≤◌, List, [], ◌∷◌, ◌++◌, Option, Some, None, Result, MatchResult, length, map, slice_get, slice_set}
+use Rattle.std.specs.Prelude.{◌≡◌, ℕ, ◌+◌, ◌<◌, List, [], ◌∷◌, ◌++◌, Option, Some, None, Result, MatchResult, length, map, slice_get, slice_set}
 use Rattle.std.specs.List.{range_with_len}
+use Rattle.refusal_rules.specs.Rules.{Rule, Unless, accept, ◌▸◌}
 use Rattle.rbac_policy.specs.declared.commands.AdminCommand.{AdminCommand}
 use Rattle.rbac_policy.specs.declared.commands.AdminCommand.TheVariants.{AddUser, DeleteUser, AddRole, DeleteRole, AssignUser, DeassignUser, GrantPermission, RevokePermission, AddInheritance, DeleteInheritance, CreateDsdSet, DeleteDsdSet, CreateSession, DeleteSession, AddActiveRole, DropActiveRole}
 use Rattle.rbac_policy.specs.declared.commands.Entry.{Entry}
@@ -18,10 +19,10 @@ use Rattle.access_core.specs.declared.reply.Change.TheVariants as change
 use Rattle.access_core.specs.declared.reply.Reply.{Reply}
 use Rattle.access_core.specs.declared.reply.Reply.TheVariants.{Login, Changed}
 use Rattle.access_core.specs.declared.single.TheConstants.{POLICY_ENTRIES, ENDING_ENTRIES}
-use Rattle.access_core.specs.Rules.{◌▸◌, ◌▹◌, Says, Refuses}
+use Rattle.access_core.specs.Answering.{IsRefused, ByRules, no_memory}
 use Rattle.access_core.specs.Conversions.{of_policy}
 use Rattle.access_core.specs.SlotState.{SlotState}
-use Rattle.access_core.specs.SlotStep.{SlotStep, no_session, no_memory}
+use Rattle.access_core.specs.SlotStep.{SlotStep, no_session}
 
 -- the accepted policy entries, the oldest first, and the slots by number
 pub record DeskState : Type 0 where
@@ -46,9 +47,9 @@ abbrev pub most_entries : AdminCommand → ℕ
 most_entries DeleteSession = POLICY_ENTRIES + ENDING_ENTRIES
 most_entries _ = POLICY_ENTRIES
 
--- the policy list has no place for the entry
-abbrev pub list_full : List Entry → Entry → Refusal → Type 0
-list_full entries entry = Says JournalFull (most_entries entry.command ≤ length entries)
+-- refuses where the policy list has no place for the entry
+abbrev pub list_full : List Entry → Entry → Rule Refusal
+list_full entries entry = Unless (length entries < most_entries entry.command) JournalFull
 
 -- which change of the policy the command is; a login is none of them
 abbrev pub change_of : AdminCommand → Option Change
@@ -89,12 +90,12 @@ pub record AdminStep (session : Option ℕ) (command : AdminCommand) (before : D
   pub answer : Result Entry PolicyRefusal
   pub given : PolicyStep before.entries session command answer
   pub replied : MatchResult answer
-      (λ entry. (list_full before.entries entry ▸ no_memory ▹ Appends entry) before reply after)
-      (λ refusal. Refuses (of_policy refusal) before reply after)
+      (λ entry. ByRules (list_full before.entries entry ▸ no_memory ▸ accept) (Appends entry) before reply after)
+      (λ refusal. IsRefused (of_policy refusal) before reply after)
 
--- there is no slot of this number
-abbrev pub no_slot : ℕ → Refusal → Type 0
-no_slot number = Says NoSlot (SLOTS ≤ number)
+-- refuses where there is no slot of this number
+abbrev pub no_slot : ℕ → Rule Refusal
+no_slot number = Unless (number < SLOTS) NoSlot
 
 -- the slot of this number answers by the slot step, and nothing but its journal is changed
 pub record InSlot (number session : ℕ) (command : SlotCommand) (before : DeskState) (reply : Reply) (after : DeskState) : Type 0 where
@@ -107,4 +108,4 @@ pub record InSlot (number session : ℕ) (command : SlotCommand) (before : DeskS
 -- the reply to a command on the slot of this number, which this session gives, and the desk afterwards
 abbrev pub DeskStep : (number session : ℕ) → SlotCommand → (before : DeskState) → Reply → (after : DeskState) → Type 0
 DeskStep number session command before =
-    (no_session before.entries session ▸ no_slot number ▸ InSlot number session command) before
+    ByRules (no_session before.entries session ▸ no_slot number ▸ accept) (InSlot number session command) before

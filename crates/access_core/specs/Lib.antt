@@ -1,12 +1,11 @@
 pub mod Refusals
 pub mod Replies
-pub mod Rules
+pub mod Answering
 pub mod Conversions
 pub mod Shown
 pub mod SlotState
 pub mod Holding
+pub mod Needs
 pub mod SlotStep
 pub mod StuckSteps
-pub mod Allowed
 pub mod Desk
-pub mod Needs

@@ -1,7 +1,9 @@
 -- What a command on a slot needs of the session that gives it.
-use Rattle.std.specs.Prelude.{ℕ, List}
+use Rattle.std.specs.Prelude.{ℕ, List, Option, Some, None}
 use Rattle.rbac_policy.specs.declared.commands.Entry.{Entry}
 use Rattle.rbac_policy.specs.declared.objects.Operation.TheVariants.{Offer as ToOffer, Step as ToStep, Load as ToLoad}
+use Rattle.rbac_policy.specs.declared.objects.Operation.{Operation}
+use Rattle.rbac_policy.specs.declared.objects.Object.{Object}
 use Rattle.rbac_policy.specs.declared.objects.Object.TheVariants.{Slot, Signal}
 use Rattle.rbac_policy.specs.Facts.{IsLive, May}
 use Rattle.access_core.specs.declared.command.SlotCommand.{SlotCommand}
@@ -10,7 +12,15 @@ use Rattle.access_core.specs.declared.reply.Reply.{Reply}
 use Rattle.access_core.specs.declared.reply.Reply.TheVariants.{Refused, Login, Changed, Check}
 use Rattle.access_core.specs.declared.reply.Reply.TheVariants.{Load as Loaded, Offer as Offered, Step as Stepped, Look as Shown}
 
--- a load and a step need the operation on the slot, an offer needs it on the signal, and a look that the session lives
+-- the permission that a command on the slot needs: a load and a step need the operation on the slot, an offer needs it on the signal,
+-- and a look needs none (this project's own form)
+abbrev pub permission_of : (slot : ℕ) → SlotCommand → Option (Operation × Object)
+permission_of slot (Load main text) = Some (ToLoad, Slot slot)
+permission_of slot (Offer signal) = Some (ToOffer, Signal slot signal)
+permission_of slot Step = Some (ToStep, Slot slot)
+permission_of slot (Look n) = None
+
+-- what a command on a slot needs: its permission, or, where it needs none, that the session lives
 abbrev pub Needs : List Entry → (slot session : ℕ) → SlotCommand → Type 0
 Needs entries slot session (Load main text) = May entries session ToLoad (Slot slot)
 Needs entries slot session (Offer signal) = May entries session ToOffer (Signal slot signal)

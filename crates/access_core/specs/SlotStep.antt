@@ -1,53 +1,49 @@
 -- The slot step: what a command on a slot is answered, on a policy list and the slot's journal, and the journal afterwards
 -- (this project's own form).
-use Rattle.std.specs.Prelude.{◌≡◌, ℕ, Bool, true, false, List, Result, MatchResult, length}
+use Rattle.std.specs.Prelude.{◌≡◌, ℕ, Bool, true, List, Option, Some, None, Result, MatchResult, length}
+use Rattle.refusal_rules.specs.Rules.{Rule, Rules, Says, Unless, accept, ◌▸◌, ◌▸▸◌}
 use Rattle.est_kernel.specs.Term.{Term}
 use Rattle.rbac_policy.specs.declared.commands.Entry.{Entry}
 use Rattle.rbac_policy.specs.declared.objects.Operation.{Operation}
-use Rattle.rbac_policy.specs.declared.objects.Operation.TheVariants.{Offer as ToOffer, Step as ToStep, Load as ToLoad}
 use Rattle.rbac_policy.specs.declared.objects.Object.{Object}
-use Rattle.rbac_policy.specs.declared.objects.Object.TheVariants.{Slot, Signal}
 use Rattle.rbac_policy.specs.Facts.{IsLive, May}
 use Rattle.reactor_core.specs.declared.entry.Stamp.{Stamp}
 use Rattle.reactor_core.specs.declared.entry.PastInstant.{PastInstant}
 use Rattle.reactor_core.specs.declared.entry.SlotEntry.{SlotEntry}
 use Rattle.reactor_core.specs.declared.refusal.Refusal.{Refusal as ReactorRefusal}
 use Rattle.reactor_core.specs.Meaning.{is_loaded, instants_of, Running, Runs}
-use Rattle.reactor_core.specs.Answers.{LoadAnswer, OfferAnswer, IsFull, IsInstant, HasNoInstant}
+use Rattle.reactor_core.specs.Answers.{LoadAnswer, OfferAnswer, HasRoom, IsInstant, HasNoInstant}
 use Rattle.reactor_core.specs.Instants.{IsOutcome, HasNoOutcome, AddsInstant}
 use Rattle.access_core.specs.declared.command.SlotCommand.{SlotCommand}
 use Rattle.access_core.specs.declared.command.SlotCommand.TheVariants.{Load, Offer, Step, Look}
 use Rattle.access_core.specs.declared.refusal.Refusal.{Refusal}
-use Rattle.access_core.specs.declared.refusal.Refusal.TheVariants.{NoSession, Permission, Stuck, Occupied, Empty, NoInstant, JournalFull, Memory}
+use Rattle.access_core.specs.declared.refusal.Refusal.TheVariants.{NoSession, Permission, Stuck, Occupied, Empty, NoInstant, JournalFull}
 use Rattle.access_core.specs.declared.reply.Reply.{Reply}
 use Rattle.access_core.specs.declared.reply.Reply.TheVariants.{Load as Loaded, Offer as Offered, Step as Stepped, Look as Shown}
-use Rattle.access_core.specs.Rules.{◌▸◌, ◌▹◌, Says, Refuses}
+use Rattle.access_core.specs.Answering.{IsRefused, ByRules, no_memory}
+use Rattle.access_core.specs.Needs.{permission_of}
 use Rattle.access_core.specs.Conversions.{of_reactor}
 use Rattle.access_core.specs.Shown.{Sees, shown_of, names_of}
 
--- the session doesn't live
-abbrev pub no_session : List Entry → (session : ℕ) → Refusal → Type 0
-no_session entries session = Says NoSession (IsLive entries session → ⊥)
+-- refuses a session that doesn't live
+abbrev pub no_session : List Entry → (session : ℕ) → Rule Refusal
+no_session entries session = Unless (IsLive entries session) NoSession
 
--- the session may not do the operation on the object
-abbrev pub no_permission : List Entry → (session : ℕ) → Operation → Object → Refusal → Type 0
-no_permission entries session operation object = Says (Permission operation object) (May entries session operation object → ⊥)
+-- refuses a session that may not do the operation on the object
+abbrev pub no_permission : List Entry → (session : ℕ) → Operation → Object → Rule Refusal
+no_permission entries session operation object = Unless (May entries session operation object) (Permission operation object)
 
--- a module runs in the slot
-abbrev pub occupied : List SlotEntry → Refusal → Type 0
+-- refuses where a module runs in the slot
+abbrev pub occupied : List SlotEntry → Rule Refusal
 occupied journal = Says Occupied (is_loaded journal ≡ true)
 
--- no module runs in the slot
-abbrev pub empty : List SlotEntry → Refusal → Type 0
-empty journal = Says Empty (is_loaded journal ≡ false)
+-- refuses where no module runs in the slot
+abbrev pub empty : List SlotEntry → Rule Refusal
+empty journal = Unless (is_loaded journal ≡ true) Empty
 
--- the module that runs had no instant of this number since its load
-abbrev pub no_instant : List SlotEntry → (n : ℕ) → Refusal → Type 0
+-- refuses where the module that runs had no instant of this number since its load
+abbrev pub no_instant : List SlotEntry → (n : ℕ) → Rule Refusal
 no_instant journal n = Says NoInstant (HasNoInstant journal n)
-
--- memory was refused
-abbrev pub no_memory : Refusal → Type 0
-no_memory refusal = refusal ≡ Memory
 
 -- what an entry bears: the version at which its command was judged, and the session that gave it
 abbrev pub stamp_of : List Entry → (session : ℕ) → Stamp
@@ -59,7 +55,7 @@ pub record Loads (stamp : Stamp) (main text : List ℕ) (before : List SlotEntry
   pub given : LoadAnswer before stamp main text answer
   pub replied : MatchResult answer
       (λ journal. (after ≡ journal) × (reply ≡ Loaded (length after) stamp.version))
-      (λ refused. Refuses (of_reactor refused.0) before reply after)
+      (λ refused. IsRefused (of_reactor refused.0) before reply after)
 
 -- the reactor's answer to an offer: its entry is appended, or it is refused by the signal, the journal's limit or for memory
 pub record Offers (stamp : Stamp) (signal : List ℕ) (before : List SlotEntry) (reply : Reply) (after : List SlotEntry) : Type 0 where
@@ -67,7 +63,7 @@ pub record Offers (stamp : Stamp) (signal : List ℕ) (before : List SlotEntry) 
   pub given : OfferAnswer before stamp signal answer after
   pub replied : MatchResult answer
       (λ _. reply ≡ Offered (length after) stamp.version)
-      (λ refusal. Refuses (of_reactor refusal) before reply after)
+      (λ refusal. IsRefused (of_reactor refusal) before reply after)
 
 -- the next instant has no outcome: its pending inputs have no constructive reaction, and the refusal names those of the undecided
 -- outputs that the session may observe
@@ -78,25 +74,23 @@ pub record NamesUndecided (entries : List Entry) (slot session : ℕ) (journal :
   pub observes : Sees entries session slot none.running.interface sees
   pub named : refusal ≡ Stuck (names_of none.running.interface sees undecided)
 
--- the next instant has no outcome
-abbrev pub no_reaction : List Entry → (slot session : ℕ) → List SlotEntry → Refusal → Type 0
-no_reaction = NamesUndecided
+-- refuses where the next instant has no outcome; and hands on the outcome where it has one
+abbrev pub no_reaction : List Entry → (slot session : ℕ) → List SlotEntry → Rule Refusal
+no_reaction entries slot session journal = record {
+  refuses = NamesUndecided entries slot session journal;
+  passes = (outputs : ℕ) × (next : Term) × IsOutcome journal outputs next;
+}
 
--- the journal has as many entries as it may have
-abbrev pub journal_full : List SlotEntry → Refusal → Type 0
-journal_full journal = Says JournalFull (IsFull journal)
+-- refuses where the journal has as many entries as it may have
+abbrev pub journal_full : List SlotEntry → Rule Refusal
+journal_full journal = Unless (HasRoom journal) JournalFull
 
 -- the instant of the outcome is added with its entry, and the reply tells its number
-pub record Steps (stamp : Stamp) (outputs : ℕ) (next : Term) (before : List SlotEntry) (reply : Reply) (after : List SlotEntry) : Type 0 where
-  pub adds : AddsInstant before outputs next stamp after
-  pub replied : reply ≡ Stepped (length (instants_of after)) (length after) stamp.version
-
--- the next instant has an outcome, which is committed where the journal has room; this and no_reaction exclude each other
-pub record Commits (stamp : Stamp) (before : List SlotEntry) (reply : Reply) (after : List SlotEntry) : Type 0 where
+pub record Steps (stamp : Stamp) (before : List SlotEntry) (reply : Reply) (after : List SlotEntry) : Type 0 where
   pub outputs : ℕ
   pub next : Term
-  pub reacts : IsOutcome before outputs next
-  pub answered : (journal_full before ▸ Steps stamp outputs next) before reply after
+  pub adds : AddsInstant before outputs next stamp after
+  pub replied : reply ≡ Stepped (length (instants_of after)) (length after) stamp.version
 
 -- the n-th instant since the load is shown: each signal that the session may observe, and whether it was present
 pub record Looks (entries : List Entry) (slot session n : ℕ) (before : List SlotEntry) (reply : Reply) (after : List SlotEntry) : Type 0 where
@@ -109,16 +103,36 @@ pub record Looks (entries : List Entry) (slot session n : ℕ) (before : List Sl
   pub replied : reply ≡ Shown n (shown_of running.interface sees instant) (length entries)
   pub stays : after ≡ before
 
+-- the rules of who may give a command: the session lives, and has the permission that is needed, if any
+abbrev pub access_rules : List Entry → (session : ℕ) → (needed : Option (Operation × Object)) → Rules Refusal
+access_rules entries session None = no_session entries session ▸ accept
+access_rules entries session (Some permission) =
+    no_session entries session ▸ no_permission entries session permission.0 permission.1 ▸ accept
+
+-- the rules of a step where a module runs
+abbrev pub step_rules : List Entry → (slot session : ℕ) → List SlotEntry → Rules Refusal
+step_rules entries slot session journal = no_memory ▸ no_reaction entries slot session journal ▸ journal_full journal ▸ accept
+
+-- the rules of what the command asks of the slot
+abbrev pub journal_rules : List Entry → (slot session : ℕ) → SlotCommand → List SlotEntry → Rules Refusal
+journal_rules entries slot session (Load main text) journal = occupied journal ▸ accept
+journal_rules entries slot session (Offer signal) journal = empty journal ▸ accept
+journal_rules entries slot session Step journal = empty journal ▸ step_rules entries slot session journal
+journal_rules entries slot session (Look n) journal = empty journal ▸ no_instant journal n ▸ no_memory ▸ accept
+
+-- the rules of refusal of the command, in their order
+abbrev pub slot_rules : List Entry → (slot session : ℕ) → SlotCommand → List SlotEntry → Rules Refusal
+slot_rules entries slot session command journal =
+    access_rules entries session (permission_of slot command) ▸▸ journal_rules entries slot session command journal
+
+-- what a command does that no rule refuses: the reply, and the journal afterwards
+abbrev pub Does : List Entry → (slot session : ℕ) → SlotCommand → (before : List SlotEntry) → Reply → (after : List SlotEntry) → Type 0
+Does entries slot session (Load main text) = Loads (stamp_of entries session) main text
+Does entries slot session (Offer signal) = Offers (stamp_of entries session) signal
+Does entries slot session Step = Steps (stamp_of entries session)
+Does entries slot session (Look n) = Looks entries slot session n
+
 -- the reply to the command, which this session gives to this slot, on a policy list and a journal, and the journal afterwards
 abbrev pub SlotStep : List Entry → (slot session : ℕ) → SlotCommand → (before : List SlotEntry) → Reply → (after : List SlotEntry) → Type 0
-SlotStep entries slot session (Load main text) before =
-    (no_session entries session ▸ no_permission entries session ToLoad (Slot slot) ▸ occupied before
-    ▸ Loads (stamp_of entries session) main text) before
-SlotStep entries slot session (Offer signal) before =
-    (no_session entries session ▸ no_permission entries session ToOffer (Signal slot signal) ▸ empty before
-    ▸ Offers (stamp_of entries session) signal) before
-SlotStep entries slot session Step before =
-    (no_session entries session ▸ no_permission entries session ToStep (Slot slot) ▸ empty before
-    ▸ no_memory ▹ no_reaction entries slot session before ▹ Commits (stamp_of entries session)) before
-SlotStep entries slot session (Look n) before =
-    (no_session entries session ▸ empty before ▸ no_instant before n ▸ no_memory ▹ Looks entries slot session n) before
+SlotStep entries slot session command before =
+    ByRules (slot_rules entries slot session command before) (Does entries slot session command) before

@@ -12,7 +12,7 @@ use Rattle.access_core.specs.declared.command.SlotCommand.TheVariants.{Step}
 use Rattle.access_core.specs.declared.refusal.Refusal.TheVariants.{Stuck, Memory}
 use Rattle.access_core.specs.declared.reply.Reply.{Reply}
 use Rattle.access_core.specs.declared.reply.Reply.TheVariants.{Refused}
-use Rattle.access_core.specs.SlotStep.{no_reaction}
+use Rattle.access_core.specs.SlotStep.{NamesUndecided}
 
 -- the command is a step which reaches the reactor: the session lives and may step the slot, and a module runs there
 pub record ReachesReactor (entries : List Entry) (slot session : ℕ) (command : SlotCommand) (journal : List SlotEntry) : Type 0 where
@@ -22,8 +22,8 @@ pub record ReachesReactor (entries : List Entry) (slot session : ℕ) (command :
   pub loaded : is_loaded journal ≡ true
 
 -- the reply is Stuck exactly where the pending inputs have no constructive reaction, but for want of memory: it is Stuck only where
--- there is none, and names what no_reaction says; and where there is none it is Stuck, or memory was refused
+-- there is none, and names what NamesUndecided says; and where there is none it is Stuck, or memory was refused
 pub record IsStuckExactly (entries : List Entry) (slot session : ℕ) (journal : List SlotEntry) (reply : Reply) : Type 0 where
-  pub only : (names : List (List ℕ)) → reply ≡ Refused (Stuck names) → no_reaction entries slot session journal (Stuck names)
+  pub only : (names : List (List ℕ)) → reply ≡ Refused (Stuck names) → NamesUndecided entries slot session journal (Stuck names)
   pub whenever : (undecided : ℕ) → HasNoOutcome journal undecided
       → ((names : List (List ℕ)) × (reply ≡ Refused (Stuck names))) ⊎ (reply ≡ Refused Memory)

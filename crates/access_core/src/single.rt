@@ -6,9 +6,8 @@ ghost use Rattle.rbac_policy.specs.Facts.{May};
 ghost use Rattle.rbac_policy.specs.Fits.{Fits};
 ghost use Rattle.rbac_policy.specs.StandsFor.{StandsFor};
 ghost use Rattle.rbac_admin.specs.PolicyStep.{is_decided};
-ghost use Rattle.access_core.specs.Rules.{◌▸◌, ◌▹◌};
-ghost use Rattle.access_core.specs.SlotStep.{no_memory};
-ghost use Rattle.access_core.specs.Needs.{Needs, IsAccepted};
+ghost use Rattle.refusal_rules.specs.Rules.{accept, ◌▸◌};
+ghost use Rattle.access_core.specs.Answering.{ByRules, no_memory};
 ghost use Rattle.access_core.specs.Desk.{DeskState, opening_desk, empty_slot, change_of, accepted_reply, most_entries, list_full, Appends, AdminStep, DeskStep};
 
 use crate::command::SlotCommand;
@@ -209,7 +208,7 @@ impl Single {
     // Adds an entry to the list and takes it into the policy, or refuses it as JournalFull or Memory.
     fn append(&mut self, entry: Entry) -> Reply
         requires { length self.old.entries < LAST_VERSION → Fits self.old.entries entry }
-        ensures { (list_full self.old.entries entry ▸ no_memory ▹ Appends entry) self.old result self.new }
+        ensures { ByRules (list_full self.old.entries entry ▸ no_memory ▸ accept) (Appends entry) self.old result self.new }
     {
         if self.entries.len() >= most_entries(&entry.command) {
             return Reply::Refused(Refusal::JournalFull);
@@ -236,8 +235,7 @@ impl Single {
 
     /// Answers a command on the slot of this number, which this session gives, at the whole policy list.
     pub fn slot(&mut self, session: SessionId, number: u64, command: SlotCommand) -> Reply
-        ensures step { DeskStep number session command self.old result self.new }
-        ensures allowed { IsAccepted result → Needs self.old.entries number session command }
+        ensures { DeskStep number session command self.old result self.new }
     {
         if !self.policy.lives(session) {
             return Reply::Refused(Refusal::NoSession);

@@ -4,13 +4,12 @@ ghost use Rattle.est_text.specs.Identifiers.{is_identifier};
 ghost use Rattle.est_kernel.specs.Term.{Term};
 ghost use Rattle.rbac_policy.specs.declared.commands.Entry.{Entry};
 ghost use Rattle.rbac_policy.specs.StandsFor.{StandsFor};
-ghost use Rattle.access_core.specs.Rules.{◌▸◌, ◌▹◌};
-ghost use Rattle.access_core.specs.SlotStep.{SlotStep, no_memory, no_instant, no_reaction, stamp_of, Offers, Commits, Looks};
+ghost use Rattle.refusal_rules.specs.Rules.{accept, ◌▸◌, TestsAll};
+ghost use Rattle.access_core.specs.Answering.{ByRules, no_memory};
+ghost use Rattle.access_core.specs.SlotStep.{SlotStep, access_rules, no_instant, NamesUndecided, step_rules, journal_full, stamp_of, Offers, Steps, Looks};
 ghost use Rattle.reactor_core.specs.Meaning.{is_loaded};
 ghost use Rattle.reactor_core.specs.Instants.{IsOutcome, HasNoOutcome};
-ghost use Rattle.access_core.specs.Allowed.{IsAllowed, permission_of};
-ghost use Rattle.access_core.specs.StuckSteps.{ReachesReactor, IsStuckExactly};
-ghost use Rattle.access_core.specs.Needs.{Needs, IsAccepted};
+ghost use Rattle.access_core.specs.Needs.{permission_of};
 
 use crate::command::SlotCommand;
 use crate::conversions::of_reactor;
@@ -82,7 +81,8 @@ fn looked(
     instant: u64,
 ) -> Reply
     ensures { (entries : List Entry) → StandsFor policy.now entries
-        → (no_instant reactor.now instant ▸ no_memory ▹ Looks entries slot session instant) reactor.now result reactor.now }
+        → ByRules (no_instant reactor.now instant ▸ no_memory ▸ accept) (Looks entries slot session instant)
+        reactor.now result reactor.now }
 {
     let interface = reactor.interface();
     let seen = observed(policy, slot, session, interface);
@@ -110,7 +110,7 @@ fn undecided_refusal(
 ) -> Refusal
     requires { HasNoOutcome reactor.now stuck.undecided }
     ensures { (entries : List Entry) → StandsFor policy.now entries
-        → no_memory result ⊎ no_reaction entries slot session reactor.now result }
+        → no_memory.refuses result ⊎ NamesUndecided entries slot session reactor.now result }
 {
     let interface = reactor.interface();
     let seen = observed(policy, slot, session, interface);
@@ -139,7 +139,7 @@ fn offered(reactor: &mut Reactor, stamp: Stamp, signal: &Identifier) -> Reply
 fn committed(settled: Settled, stamp: Stamp) -> (Reply, Reactor)
     requires { (next : Term) × IsOutcome settled.journal settled.outputs next }
     ensures loaded { is_loaded result.1 ≡ true }
-    ensures step { (no_memory ▹ Commits stamp) settled.journal result.0 result.1 }
+    ensures step { ByRules (no_memory ▸ journal_full settled.journal ▸ accept) (Steps stamp) settled.journal result.0 result.1 }
 {
     match settled.commit(stamp) {
         Ok(reactor) => {
@@ -164,7 +164,7 @@ fn settled(
 ) -> (Reply, Reactor)
     ensures loaded { is_loaded result.1 ≡ true }
     ensures step { (entries : List Entry) → StandsFor policy.now entries
-        → (no_memory ▹ no_reaction entries slot session opened ▹ Commits (stamp_of entries session)) opened result.0 result.1 }
+        → ByRules (step_rules entries slot session opened) (Steps (stamp_of entries session)) opened result.0 result.1 }
 {
     match opened.settle() {
         Ok(settled) => committed(settled, stamp(policy, session)),
@@ -185,7 +185,7 @@ fn stepped(
 ) -> (Reply, Reactor)
     ensures loaded { is_loaded result.1 ≡ true }
     ensures step { (entries : List Entry) → StandsFor policy.now entries
-        → (no_memory ▹ no_reaction entries slot session reactor ▹ Commits (stamp_of entries session)) reactor result.0 result.1 }
+        → ByRules (step_rules entries slot session reactor) (Steps (stamp_of entries session)) reactor result.0 result.1 }
 {
     match reactor.open() {
         Ok(opened) => settled(alloc, policy, slot, session, opened),
@@ -228,7 +228,8 @@ impl Slot {
     fn load(&mut self, stamp: Stamp, main: &str, text: &str) -> Reply
         requires { IsTrue (is_identifier main.now) }
         ensures number { self.new.number ≡ self.old.number }
-        ensures step { (occupied self.old.journal ▸ Loads stamp main.now text.now) self.old.journal result self.new.journal }
+        ensures step { ByRules (occupied self.old.journal ▸ accept) (Loads stamp main.now text.now)
+            self.old.journal result self.new.journal }
     {
         let empty = Content::Empty(Journal::new(self.alloc));
         match mem::replace(&mut self.content, empty) {
@@ -255,7 +256,8 @@ impl Slot {
 
     fn offer(&mut self, stamp: Stamp, signal: &Identifier) -> Reply
         ensures number { self.new.number ≡ self.old.number }
-        ensures step { (empty self.old.journal ▸ Offers stamp signal.now) self.old.journal result self.new.journal }
+        ensures step { ByRules (empty self.old.journal ▸ accept) (Offers stamp signal.now)
+            self.old.journal result self.new.journal }
     {
         if let Content::Loaded(reactor) = &mut self.content {
             return offered(reactor, stamp, signal);
@@ -266,8 +268,8 @@ impl Slot {
     fn step(&mut self, policy: &Policy, session: SessionId) -> Reply
         ensures number { self.new.number ≡ self.old.number }
         ensures step { (entries : List Entry) → StandsFor policy.now entries
-            → (empty self.old.journal ▸ no_memory ▹ no_reaction entries self.old.number session self.old.journal ▹ Commits (stamp_of entries session))
-            self.old.journal result self.new.journal }
+            → ByRules (empty self.old.journal ▸ step_rules entries self.old.number session self.old.journal)
+            (Steps (stamp_of entries session)) self.old.journal result self.new.journal }
     {
         let empty = Content::Empty(Journal::new(self.alloc));
         match mem::replace(&mut self.content, empty) {
@@ -285,8 +287,8 @@ impl Slot {
 
     fn look(&self, policy: &Policy, session: SessionId, instant: u64) -> Reply
         ensures { (entries : List Entry) → StandsFor policy.now entries
-            → (empty self.now.journal ▸ no_instant self.now.journal instant ▸ no_memory ▹ Looks entries self.now.number session instant)
-            self.now.journal result self.now.journal }
+            → ByRules (empty self.now.journal ▸ no_instant self.now.journal instant ▸ no_memory ▸ accept)
+            (Looks entries self.now.number session instant) self.now.journal result self.now.journal }
     {
         match &self.content {
             Content::Empty(_) => Reply::Refused(Refusal::Empty),
@@ -321,7 +323,8 @@ fn allowed(
     slot: SlotNumber,
     command: &SlotCommand,
 ) -> Result<(), Refusal>
-    ensures { (entries : List Entry) → StandsFor policy.now entries → IsAllowed entries slot session command.now result }
+    ensures { (entries : List Entry) → StandsFor policy.now entries
+        → TestsAll (access_rules entries session (permission_of slot command.now)) result }
 {
     if !policy.lives(session) {
         return Err(Refusal::NoSession);
@@ -349,11 +352,6 @@ pub fn decide_slot(
     ensures number { slot.new.number ≡ slot.old.number }
     ensures step { (entries : List Entry) → StandsFor policy.now entries
         → SlotStep entries slot.old.number session command slot.old.journal result slot.new.journal }
-    ensures stuck { (entries : List Entry) → StandsFor policy.now entries
-        → ReachesReactor entries slot.old.number session command slot.old.journal
-        → IsStuckExactly entries slot.old.number session slot.old.journal result }
-    ensures allowed { (entries : List Entry) → StandsFor policy.now entries → IsAccepted result
-        → Needs entries slot.old.number session command }
 {
     if let Err(refusal) = allowed(policy, session, slot.number(), &command) {
         return Reply::Refused(refusal);

@@ -29,7 +29,10 @@ fn opened(alloc: Global) -> Result<Single, Fail> {
         roles,
     };
     match desk.admin(None, command) {
-        Reply::Login { version: 5, .. } => Ok(desk),
+        Reply::Login {
+            session,
+            version: 5,
+        } if session.number() == 1 => Ok(desk),
         _ => Err(Fail::from("no login")),
     }
 }
@@ -67,6 +70,14 @@ fn offer(signal: &str) -> Result<SlotCommand, Fail> {
     Ok(SlotCommand::Offer {
         signal: Identifier::from_text(signal).ok_or("no identifier")?,
     })
+}
+
+/// Whether the reply is that the session lacks the permission for this operation.
+fn lacks(reply: &Reply, wanted: Operation) -> bool {
+    match reply {
+        Reply::Refused(Refusal::Permission { operation, .. }) => *operation == wanted,
+        _ => false,
+    }
 }
 
 /// Whether these signals are shown, with these statuses.
@@ -156,6 +167,22 @@ fn the_opening_script(rt: HostRuntime) -> Result<(), Fail> {
 }
 
 #[test]
+fn a_command_without_its_permission(rt: HostRuntime) -> Result<(), Fail> {
+    let mut desk = opened(rt.alloc())?;
+    let root = SessionId::new(1);
+    let reply = desk.slot(root, 0, load(rt.alloc(), IDLE)?);
+    assert!(rt; lacks(&reply, Operation::Load));
+    grant(&mut desk, root, Operation::Load, "0")?;
+    let reply = desk.slot(root, 0, load(rt.alloc(), IDLE)?);
+    assert!(rt; matches!(reply, Reply::Load { place: 1, .. }));
+    let reply = desk.slot(root, 0, SlotCommand::Step);
+    assert!(rt; lacks(&reply, Operation::Step));
+    let reply = desk.slot(root, 0, offer("I")?);
+    assert!(rt; lacks(&reply, Operation::Offer));
+    Ok(())
+}
+
+#[test]
 fn a_look_shows_what_may_be_observed(rt: HostRuntime) -> Result<(), Fail> {
     let mut desk = opened(rt.alloc())?;
     let root = SessionId::new(1);
@@ -173,6 +200,7 @@ fn a_look_shows_what_may_be_observed(rt: HostRuntime) -> Result<(), Fail> {
     for (text, allowed) in [("0.O", true), ("0.P", false)] {
         let object = Object::from_text(text).ok_or("no object")?;
         assert_eq!(rt; desk.check(root, Operation::Observe, &object), allowed);
+        assert!(rt; !desk.check(SessionId::new(2), Operation::Observe, &object));
     }
     Ok(())
 }
@@ -189,16 +217,6 @@ fn offers_and_slots_that_are_refused(rt: HostRuntime) -> Result<(), Fail> {
     assert!(rt; matches!(reply, Reply::Load { place: 1, .. }));
     let reply = desk.slot(root, 0, load(rt.alloc(), IDLE)?);
     assert!(rt; matches!(reply, Reply::Refused(Refusal::Occupied)));
-    let reply = desk.slot(root, 0, offer("X")?);
-    assert!(rt;
-        matches!(
-            reply,
-            Reply::Refused(Refusal::Permission {
-                operation: Operation::Offer,
-                ..
-            })
-        )
-    );
     for signal in ["0.X", "0.O", "0.I"] {
         grant(&mut desk, root, Operation::Offer, signal)?;
     }

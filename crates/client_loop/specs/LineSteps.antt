@@ -6,7 +6,7 @@ use Rattle.access_core.specs.declared.refusal.Refusal.{Refusal}
 use Rattle.access_core.specs.declared.refusal.Refusal.TheVariants.{TooLong, NoSession, AlreadyLoggedIn}
 use Rattle.access_core.specs.declared.reply.Reply.{Reply}
 use Rattle.access_core.specs.declared.reply.Reply.TheVariants as reply
-use Rattle.access_core.specs.Rules.{Refuses}
+use Rattle.access_core.specs.Answering.{IsRefused}
 use Rattle.access_core.specs.Desk.{DeskState, AdminStep, DeskStep}
 use Rattle.access_core.specs.Needs.{IsAccepted}
 use Rattle.wire_lines.specs.declared.lines.TheConstants.{LINE_BYTES}
@@ -18,11 +18,11 @@ use Rattle.wire_lines.specs.Replies.{line_of}
 -- a login is refused while one is held
 abbrev pub Unheld : (login : Option ℕ) → (DeskState → Reply → DeskState → Type 0) → (before : DeskState) → Reply → (after : DeskState) → Type 0
 Unheld None asked = asked
-Unheld (Some session) asked = Refuses AlreadyLoggedIn
+Unheld (Some session) asked = IsRefused AlreadyLoggedIn
 
 -- any other request is given by the login's session, and refused where none is held
 abbrev pub Held : (login : Option ℕ) → (ℕ → DeskState → Reply → DeskState → Type 0) → (before : DeskState) → Reply → (after : DeskState) → Type 0
-Held None asked = Refuses NoSession
+Held None asked = IsRefused NoSession
 Held (Some session) asked = asked session
 
 -- what the desk answers to a request on a connection with this login, and the desk afterwards

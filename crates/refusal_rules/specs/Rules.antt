@@ -81,6 +81,10 @@ pub record FirstRefuses {R : Type 0} (rules : Rules R) (refusal : R) : Type 0 wh
   pub refuses : RefusesAt rules place refusal
   pub passed : PassBefore rules place
 
+-- a test of the rules: it passes where each lets pass, and else answers the refusal of the first that doesn't
+abbrev pub TestsAll : {R : Type 0} → Rules R → Result (Unit {0}) R → Type 0
+TestsAll rules answer = MatchResult answer (λ _. AllPass rules) (FirstRefuses rules)
+
 -- the rule refuses or lets pass, not both, and it gives one refusal at most
 pub record IsDefinite {R : Type 0} (rule : Rule R) : Type 0 where
   pub exclusive : (refusal : R) → rule.refuses refusal → rule.passes → ⊥

@@ -15,5 +15,5 @@ returns-in-Err-clause-loaded c =
 
 pub returns-in-Err-clause-step : goal.returns-in-Err-clause-step
 returns-in-Err-clause-step c =
-    rw c.of_reactor.ensures (commit_refused c.args.stamp c.args.settled.journal c.in-Err.reactor c.args.settled.outputs c.requires.0 c.in-Err.refusal
-    c.requires.1 c.in-Err.ensures.0 c.in-Err.ensures.1)
+    rw c.of_reactor.ensures (commit_refused c.args.stamp c.args.settled.journal c.in-Err.reactor c.in-Err.refusal
+    c.in-Err.ensures.0 c.in-Err.ensures.1)

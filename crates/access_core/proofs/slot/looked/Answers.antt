@@ -1,4 +1,6 @@
-use Rattle.std.proofs.Common.{refl, inl, inr}
+use Rattle.std.proofs.Common.{refl}
+use Rattle.refusal_rules.proofs.RuleLemmas.{refuse, pass}
+use Rattle.access_core.proofs.Deciding.{refusing}
 use Rattle.access_core.proofs.Running.{not_no_instant, looks_from}
 use Rattle.access_core.proofs.slot.looked.Goals as goal
 
@@ -6,22 +8,18 @@ pub returns-in-Ok-statuses : goal.returns-in-Ok-statuses
 returns-in-Ok-statuses c = λ entries stands.
     let answer = c.in-Ok.ensures in
     let interface = c.interface-interface.ensures in
-    inr (record {
-      silent = not_no_instant c.args.reactor.now c.args.instant answer.instant answer.there;
-      next = inr (looks_from entries c.args.slot c.args.session c.args.instant c.args.reactor.now interface.0 c.interface-interface.result.now
+    pass (not_no_instant c.args.reactor.now c.args.instant answer.instant answer.there)
+    (pass (record {}) (looks_from entries c.args.slot c.args.session c.args.instant c.args.reactor.now interface.0 c.interface-interface.result.now
           answer.instant c.observed-seen.result c.in-Ok.shown c.in-Ok-statuses.signals c.version.result
-          interface.1 interface.2 answer.there answer.masked (c.observed-seen.ensures entries stands) c.in-Ok-statuses.ensures (c.version.ensures entries stands));
-    })
+          interface.1 interface.2 answer.there answer.masked (c.observed-seen.ensures entries stands) c.in-Ok-statuses.ensures (c.version.ensures entries stands)))
 
 pub returns-in-Err-statuses : goal.returns-in-Err-statuses
 returns-in-Err-statuses c = λ entries stands.
     let answer = c.in-Ok.ensures in
-    inr (record {
-      silent = not_no_instant c.args.reactor.now c.args.instant answer.instant answer.there;
-      next = inl (record { refusal = _; given = refl; refuses = record { replied = refl; stays = refl } });
-    })
+    pass (not_no_instant c.args.reactor.now c.args.instant answer.instant answer.there)
+    (refuse _ refl refusing)
 
 pub returns-in-Err : goal.returns-in-Err
 returns-in-Err c = λ entries stands.
     let answer = c.in-Err.ensures in
-    inl (record { refusal = _; given = (refl, answer.1); refuses = record { replied = refl; stays = refl } })
+    refuse _ (refl, answer.1) refusing

@@ -1,7 +1,7 @@
-use Rattle.std.proofs.Common.{◌∙◌, ap, inl, inr, ⊎_elim}
+use Rattle.std.proofs.Common.{◌∙◌, ap}
 use Rattle.reactor_core.specs.Meaning.{is_loaded}
 use Rattle.reactor_core.proofs.OneMeaning.{is_loaded_where}
-use Rattle.access_core.proofs.Stepping.{step_stuck}
+use Rattle.access_core.proofs.Stepping.{step_settled, step_stuck}
 use Rattle.access_core.proofs.slot.settled.Goals as goal
 
 pub committed-requires : goal.committed-requires
@@ -10,7 +10,7 @@ committed-requires c = rw c.in-Ok.ensures.0 c.in-Ok.ensures.1
 pub returns-in-Ok-clause-step : goal.returns-in-Ok-clause-step
 returns-in-Ok-clause-step c = λ entries stands.
     let done = rw (c.in-Ok.ensures.0, c.stamp.ensures entries stands) at c.committed.ensures.step in
-    ⊎_elim inl (λ commits. inr (inr commits)) done
+    step_settled _ _ _ _ _ _ _ _ _ c.in-Ok.ensures.1.1 done
 
 pub returns-in-Err-clause-loaded : goal.returns-in-Err-clause-loaded
 returns-in-Err-clause-loaded c = let none = c.in-Err.ensures.0 in ap is_loaded c.in-Err.ensures.1 ∙ is_loaded_where _ none.running none.runs

@@ -1,4 +1,5 @@
-use Rattle.std.proofs.Common.{◌≡◌, ◌<◌, ◌++◌, ◌∷◌, [], List, length, inl, inr, sym, ◌∙◌, ap, subst, refl, arith}
+use Rattle.std.proofs.Common.{◌<◌, ◌++◌, ◌∷◌, [], List, length, sym, ◌∙◌, ap, subst, refl, arith}
+use Rattle.refusal_rules.proofs.RuleLemmas.{refuse, pass}
 use Rattle.rbac_policy.specs.declared.sizes.TheConstants.{LAST_VERSION}
 use Rattle.rbac_policy.specs.Fits.{Fits}
 use Rattle.rbac_policy.specs.StandsFor.{StandsFor}
@@ -32,15 +33,12 @@ returns c =
     let after = stands_after policy entries c.args.entry c.self.invariant.0 fits in
     let desk : List Entry → DeskState = λ list. record { entries = list; slots = slots } in
     let low : length entries < most_entries c.args.entry.command = omega (arith, c.if-len-most_entries.false, c.len.ensures, c.most_entries.ensures) in
-    rw (← c.self.view_is) (inr (record {
-      silent = λ refusal full. absurd (omega (arith, full.1, low));
-      next = elim c.match-take_in.branch [
-        | in-Ok w ↦
-            let stands : StandsFor c.take_in.new.policy (entries ++ c.args.entry ∷ []) = rw w.in-Ok.ensures.1 after in
-            inr (record {
-              replied = w.result-is ∙ w.accepted.ensures entries c.args.entry stands c.change_of-change.ensures;
-              appended = ap desk w.in-Ok.ensures.0;
-            })
-        | in-Err w ↦ inl (record { refusal = Memory; given = refl; refuses = record { replied = w.result-is; stays = ap desk w.in-Err.ensures.0 } })
-      ];
-    }))
+    rw (← c.self.view_is) (pass low (elim c.match-take_in.branch [
+      | in-Ok w ↦
+          let stands : StandsFor c.take_in.new.policy (entries ++ c.args.entry ∷ []) = rw w.in-Ok.ensures.1 after in
+          pass (record {}) (record {
+            replied = w.result-is ∙ w.accepted.ensures entries c.args.entry stands c.change_of-change.ensures;
+            appended = ap desk w.in-Ok.ensures.0;
+          })
+      | in-Err w ↦ refuse Memory refl (record { replied = w.result-is; stays = ap desk w.in-Err.ensures.0 })
+    ]))

@@ -1,6 +1,5 @@
-use Rattle.std.proofs.Common.{◌∙◌, ◌<◌, subst}
+use Rattle.std.proofs.Common.{◌∙◌, ◌<◌}
 use Rattle.rbac_policy.specs.declared.objects.TheConstants.{SLOTS}
-use Rattle.access_core.specs.Needs.{Needs}
 use Rattle.access_core.proofs.Desks.{slots_with, number_at, desk_step}
 use Rattle.access_core.proofs.single.Single.slot.Goals as goal
 
@@ -12,17 +11,10 @@ invariant_of-self c =
           (c.decide_slot.ensures.number ∙ number_at c.self.inside.slots c.in-Some.place c.index-self-place.result c.self.invariant.1 below),
     )
 
-pub returns-clause-step : goal.returns-clause-step
-returns-clause-step c =
+pub returns : goal.returns
+returns c =
     let below : c.in-Some.place < SLOTS = rw c.in-Some.ensures.0 c.in-Some.ensures.1 in
     rw (← c.self.view_is, ← c.in-Some.ensures.0) (desk_step c.self.inside.entries c.self.inside.slots c.in-Some.place c.args.session c.args.command
     c.index-self-place.result c.decide_slot.new.slot c.decide_slot.result c.self.invariant.1 below
     ((c.lives.ensures c.self.inside.entries c.self.invariant.0).0 c.if-not-lives.false)
     c.decide_slot.ensures.number (c.decide_slot.ensures.step c.self.inside.entries c.self.invariant.0))
-
-pub returns-clause-allowed : goal.returns-clause-allowed
-returns-clause-allowed c = λ accepted.
-    let below : c.in-Some.place < SLOTS = rw c.in-Some.ensures.0 c.in-Some.ensures.1 in
-    rw (← c.self.view_is, ← c.in-Some.ensures.0) (subst (λ n. Needs c.self.inside.entries n c.args.session c.args.command)
-    (number_at c.self.inside.slots c.in-Some.place c.index-self-place.result c.self.invariant.1 below)
-    (c.decide_slot.ensures.allowed c.self.inside.entries c.self.invariant.0 accepted))

@@ -1,8 +1,7 @@
-use Rattle.std.proofs.Common.{inr}
-use Rattle.access_core.proofs.Running.{not_empty}
+use Rattle.refusal_rules.proofs.RuleLemmas.{pass}
 use Rattle.access_core.proofs.slot.Slot.step.Goals as goal
 
 pub returns-in-Loaded-clause-step : goal.returns-in-Loaded-clause-step
 returns-in-Loaded-clause-step c = λ entries stands.
     let held = rw (← c.in-Loaded.ensures.value) at c.self.invariant in
-    rw (← c.self.view_is, ← c.in-Loaded.ensures.value) (inr (record { silent = not_empty c.in-Loaded.reactor held; next = c.stepped-reply.ensures.step entries stands }))
+    rw (← c.self.view_is, ← c.in-Loaded.ensures.value) (pass held (c.stepped-reply.ensures.step entries stands))
