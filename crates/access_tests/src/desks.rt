@@ -20,6 +20,17 @@ const IDLE: &str = "module M: input I; output O; pause end module";
 /// An output that is emitted whether it is present or not, which no constructive reaction decides.
 const UNDECIDED: &str = "module M: output O; present O then emit O else emit O end end module";
 
+/// Whether the reply is the login of this session, at version 5.
+fn logs_in(reply: &Reply, wanted: SessionId) -> bool {
+    match reply {
+        Reply::Login {
+            session,
+            version: 5,
+        } => *session == wanted,
+        _ => false,
+    }
+}
+
 /// A desk on which root is logged in, with session 1.
 fn opened(alloc: Global) -> Result<Single, Fail> {
     let mut desk = Single::new(alloc)?;
@@ -28,13 +39,10 @@ fn opened(alloc: Global) -> Result<Single, Fail> {
         user: Name::root(),
         roles,
     };
-    match desk.admin(None, command) {
-        Reply::Login {
-            session,
-            version: 5,
-        } if session.number() == 1 => Ok(desk),
-        _ => Err(Fail::from("no login")),
+    if logs_in(&desk.admin(None, command), SessionId::new(1)) {
+        return Ok(desk);
     }
+    Err(Fail::from("no login"))
 }
 
 /// The version with the permission granted to the role root.

@@ -10,8 +10,8 @@ returns-in-Ok-statuses c = λ entries stands.
     let interface = c.interface-interface.ensures in
     pass (not_no_instant c.args.reactor.now c.args.instant answer.instant answer.there)
     (pass (record {}) (looks_from entries c.args.slot c.args.session c.args.instant c.args.reactor.now interface.0 c.interface-interface.result.now
-          answer.instant c.observed-seen.result c.in-Ok.shown c.in-Ok-statuses.signals c.version.result
-          interface.1 interface.2 answer.there answer.masked (c.observed-seen.ensures entries stands) c.in-Ok-statuses.ensures (c.version.ensures entries stands)))
+    answer.instant c.observed-seen.result c.in-Ok.shown c.in-Ok-statuses.signals c.version.result
+    interface.1 interface.2 answer.there answer.masked (c.observed-seen.ensures entries stands) c.in-Ok-statuses.ensures (c.version.ensures entries stands)))
 
 pub returns-in-Err-statuses : goal.returns-in-Err-statuses
 returns-in-Err-statuses c = λ entries stands.
