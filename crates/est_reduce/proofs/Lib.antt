@@ -1,0 +1,5 @@
+pub mod Binders
+pub mod Closing
+pub mod Counting
+pub mod Interfaces
+pub mod Reduced
