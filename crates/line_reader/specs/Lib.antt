@@ -1,6 +1,7 @@
 pub mod Lines
 pub mod Meters
 pub mod Readers
+pub mod Serving
 pub mod Waiting
 pub mod Writing
 pub mod Inner

@@ -1,8 +1,11 @@
 //! Readers that cut anywhere or fail, and writers that take little or nothing.
+ghost use Rattle.std.specs.Prelude.{⊤};
+
 use crate::exchange::next_line;
 use crate::lines::{LINE_BYTES, Line, LineFault, LineReader};
 use crate::meter::{MeteredReader, MeteredWriter, READS};
 use crate::replies::{Replies, WriteFault};
+use crate::serving::{Answerer, Why, serve};
 use std::alloc::{AllocError, Global};
 use std::io;
 use std::io::{ErrorKind, Read, Write};
@@ -141,15 +144,17 @@ fn long_lines(rt: HostRuntime) -> Result<(), Fail> {
         (LINE_BYTES + 1, "\nnext", None),
         (LINE_BYTES + 1, "", None),
     ] {
-        let mut line = vec![in alloc; b'x'; count]?;
-        let (text, end) = told(alloc, line.as_slice(), rest.as_bytes(), AMPLE)?;
-        match more {
-            Some(more) => {
-                line.extend_from_slice(more.as_bytes())?;
-                assert!(rt; text.as_slice() == line.as_slice());
+        let mut bytes = vec![in alloc; b'x'; count]?;
+        bytes.extend_from_slice(rest.as_bytes())?;
+        let mut lines = vec![in alloc; b'x'; count]?;
+        lines.extend_from_slice(more.unwrap_or("").as_bytes())?;
+        for cut in [0usize, 5, bytes.len() - rest.len()] {
+            let (first, second) = bytes.split_at(cut);
+            let (text, end) = told(alloc, first, second, AMPLE)?;
+            if more.is_some() {
+                assert!(rt; text.as_slice() == lines.as_slice());
                 assert!(rt; end == Ok(Line::End));
-            }
-            None => {
+            } else {
                 assert!(rt; text.is_empty());
                 assert!(rt; end == Err(LineFault::TooLong));
             }
@@ -242,5 +247,67 @@ fn replies_are_written_before_a_read(rt: HostRuntime) -> Result<(), Fail> {
         let sink = writer.into_device();
         assert!(rt; sink.written.as_slice() == written.as_bytes(), "{bytes:?}");
     }
+    Ok(())
+}
+
+/// Answers each line by itself and a full stop.
+#[derive(Drop)]
+struct Echo;
+
+impl Answerer for Echo {
+    ghost tells = { λ _ _ _ _. ⊤ };
+
+    ghost fails = { λ _ _ _. ⊤ };
+
+    fn answer(&mut self, alloc: Global, line: &[u8]) -> Result<Vec<u8>, AllocError> {
+        let mut text = Vec::from_slice(alloc, line)?;
+        text.extend_from_slice(b".\n")?;
+        Ok(text)
+    }
+}
+
+/// How a connection of two parts ended, and what it wrote.
+fn echoed(alloc: Global, reader: TwoParts<'_>, room: usize) -> (Why, Vec<u8>) {
+    let mut reader = MeteredReader::new(reader);
+    let mut writer = MeteredWriter::new(Sink {
+        written: Vec::new(alloc),
+        step: 3,
+        room,
+    });
+    let why = serve(alloc, &mut reader, &mut writer, &mut Echo, b"too long\n");
+    (why, writer.into_device().written)
+}
+
+#[test]
+fn connections_end(rt: HostRuntime) -> Result<(), Fail> {
+    let alloc = rt.alloc();
+    let long = vec![in alloc; b'x'; LINE_BYTES + 1]?;
+    for (first, second, calls_that_work, room, why, written) in [
+        ("", "", AMPLE, AMPLE, Why::Closed, ""),
+        ("a\nb", "c\n", AMPLE, AMPLE, Why::Closed, "a.\nbc.\n"),
+        ("a", "\nrest", AMPLE, AMPLE, Why::Closed, "a.\nrest.\n"),
+        ("a\nb", "c\n", 1, AMPLE, Why::ReadFault, "a.\n"),
+        ("a\nb", "c\nd", AMPLE, 4, Why::WriteFault, "a.\nb"),
+    ] {
+        let reader = TwoParts {
+            first: first.as_bytes(),
+            second: second.as_bytes(),
+            calls_that_work,
+        };
+        let end = echoed(alloc, reader, room);
+        assert!(rt; end.0 == why, "{first:?} {second:?}");
+        assert!(rt;
+            end.1.as_slice() == written.as_bytes(),
+            "{first:?} {second:?}"
+        );
+    }
+    let reader = TwoParts {
+        first: b"a\n",
+        second: long.as_slice(),
+        calls_that_work: AMPLE,
+    };
+    let end = echoed(alloc, reader, AMPLE);
+    assert!(rt; end.0 == Why::TooLong);
+    assert!(rt; end.1.as_slice() == b"a.\ntoo long\n".as_slice());
     Ok(())
 }

@@ -1,0 +1,202 @@
+//! A connection to its end: each line is answered, over any reader and writer, by whatever answers lines.
+ghost use Rattle.std.specs.Prelude.{◌≡◌, ◌<◌, ◌⊎◌, ℕ, List, [], true, map, MatchResult, IfOk, OnOk, OnErr, Ok, Err};
+ghost use Rattle.std.specs.Io.KnownBytes.{prepend_known};
+ghost use Rattle.line_reader.specs.Meters.{IsStopped};
+ghost use Rattle.line_reader.specs.Readers.{held_bytes, last_line, weight};
+ghost use Rattle.line_reader.specs.Inner.Turns.{IsSound, Turns, IsNextOf};
+ghost use Rattle.line_reader.specs.Serving.{BetweenLines, between, Exchange, Runs, KnownCuts, Serves};
+ghost use Rattle.line_reader.specs.Waiting.{waiting_bytes};
+ghost use Rattle.line_reader.specs.Writing.{WritesUpTo, WritesFront};
+ghost use Rattle.line_reader.specs.declared.serving.Why.TheVariants as why;
+ghost use Rattle.line_reader.specs.declared.lines.Line.TheVariants as line;
+ghost use Rattle.line_reader.specs.declared.lines.LineFault.TheVariants as fault;
+
+use crate::exchange::next_line;
+use crate::lines::{Line, LineFault, LineReader};
+use crate::meter::{MeteredReader, MeteredWriter};
+use crate::replies::{Replies, WriteFault};
+use std::alloc::{AllocError, Global};
+use std::io::{Read, Write};
+
+/// What answers the lines of a connection.
+pub trait Answerer {
+    /// A line was answered by this text.
+    ghost tells: { Self → List ℕ → List ℕ → Self → Type 0 };
+
+    /// A line was answered by nothing, since memory was refused.
+    ghost fails: { Self → List ℕ → Self → Type 0 };
+
+    /// The answer to a line, which comes without its LF.
+    ///
+    /// # Errors
+    ///
+    /// Where memory was refused for the text of the answer.
+    fn answer(&mut self, alloc: Global, line: &[u8]) -> Result<Vec<u8>, AllocError>
+        ensures { MatchResult result
+            (λ text. tells self.old line.now text.items self.new)
+            (λ _. fails self.old line.now self.new) };
+}
+
+/// Why a connection ended.
+#[derive(Clone, Copy, PartialEq, Eq, Debug)]
+pub enum Why {
+    /// The reader is at its end, and each line was answered.
+    Closed,
+    /// A line was longer than 65,536 bytes.
+    TooLong,
+    /// The reader failed, or was read too often.
+    ReadFault,
+    /// The writer failed, or took nothing.
+    WriteFault,
+    /// Memory was refused.
+    Memory,
+}
+
+/// The next line, where no ending was met but the end.
+fn take_line<R: Read, W: Write>(
+    lines: &mut LineReader,
+    replies: &mut Replies,
+    reader: &mut MeteredReader<R>,
+    writer: &mut MeteredWriter<W>,
+) -> Result<Result<Line, LineFault>, WriteFault>
+    requires { IsSound lines.old.ending (held_bytes lines.old) (R.remaining reader.old.device) }
+    ensures next { IfOk result (λ answer.
+        IsNextOf (prepend_known (held_bytes lines.old) (R.remaining reader.old.device)) answer
+        (last_line lines.new)
+        (prepend_known (held_bytes lines.new) (R.remaining reader.new.device))) }
+    ensures sound { IfOk result (λ answer. answer ≡ Ok line.Whole →
+        IsSound lines.new.ending (held_bytes lines.new) (R.remaining reader.new.device)) }
+    ensures stopped { IfOk result (λ answer. answer ≡ Err fault.Read →
+        IsStopped reader.new.failed reader.new.left) }
+    ensures less { IfOk result (λ answer. answer ≡ Ok line.Whole →
+        weight reader.new.left lines.new < weight reader.old.left lines.old) }
+    ensures writes { OnOk result (WritesUpTo (W.contents writer.old.device)
+        (W.contents writer.new.device) (waiting_bytes replies.old) (waiting_bytes replies.new)) }
+    ensures err { OnErr result (WritesFront (W.contents writer.old.device)
+        (W.contents writer.new.device) (waiting_bytes replies.old)) }
+    ensures failed { OnErr result (writer.new.failed ≡ true) }
+{
+    next_line(lines, replies, reader, writer)
+}
+
+/// Answers the next line, or says why the connection ends.
+fn turn<R: Read, W: Write, A: Answerer>(
+    alloc: Global,
+    lines: &mut LineReader,
+    replies: &mut Replies,
+    reader: &mut MeteredReader<R>,
+    writer: &mut MeteredWriter<W>,
+    desk: &mut A,
+    refusal: &[u8],
+) -> Result<(), Why>
+    requires { IsSound lines.old.ending (held_bytes lines.old) (R.remaining reader.old.device) }
+    ensures turns { Turns A.tells A.fails refusal.now
+        (between (prepend_known (held_bytes lines.old) (R.remaining reader.old.device)) desk.old)
+        result
+        (between (prepend_known (held_bytes lines.new) (R.remaining reader.new.device)) desk.new)
+        (W.contents writer.old.device) (W.contents writer.new.device)
+        (waiting_bytes replies.old) (waiting_bytes replies.new) }
+    ensures sound { OnOk result
+        (IsSound lines.new.ending (held_bytes lines.new) (R.remaining reader.new.device)) }
+    ensures less { OnOk result
+        (weight reader.new.left lines.new < weight reader.old.left lines.old) }
+    ensures read_fault { result ≡ Err why.ReadFault →
+        IsStopped reader.new.failed reader.new.left }
+    ensures write_fault { result ≡ Err why.WriteFault → writer.new.failed ≡ true }
+{
+    match take_line(lines, replies, reader, writer) {
+        Ok(Ok(Line::Whole)) => {}
+        Ok(Ok(Line::End)) => return Err(Why::Closed),
+        Ok(Err(LineFault::Read)) => return Err(Why::ReadFault),
+        Ok(Err(LineFault::TooLong)) => {
+            let Ok(()) = replies.add(writer, refusal) else {
+                return Err(Why::WriteFault);
+            };
+            return Err(Why::TooLong);
+        }
+        Err(WriteFault) => return Err(Why::WriteFault),
+    }
+    let Ok(text) = desk.answer(alloc, lines.line()) else {
+        return Err(Why::Memory);
+    };
+    let Ok(()) = replies.add(writer, text.as_slice()) else {
+        return Err(Why::WriteFault);
+    };
+    Ok(())
+}
+
+/// Answers lines until the connection ends. What is left waits.
+fn answer_all<R: Read, W: Write, A: Answerer>(
+    alloc: Global,
+    lines: &mut LineReader,
+    replies: &mut Replies,
+    reader: &mut MeteredReader<R>,
+    writer: &mut MeteredWriter<W>,
+    desk: &mut A,
+    refusal: &[u8],
+) -> Why
+    requires { IsSound lines.old.ending (held_bytes lines.old) (R.remaining reader.old.device) }
+    ensures serves { Serves A.tells A.fails refusal.now
+        (between (prepend_known (held_bytes lines.old) (R.remaining reader.old.device)) desk.old)
+        result desk.new (W.contents writer.old.device) (W.contents writer.new.device)
+        (waiting_bytes replies.old) (waiting_bytes replies.new) }
+    ensures read_fault { result ≡ why.ReadFault → IsStopped reader.new.failed reader.new.left }
+    ensures write_fault { result ≡ why.WriteFault → writer.new.failed ≡ true }
+{
+    loop {
+        if let Err(why) = turn(alloc, lines, replies, reader, writer, desk, refusal) {
+            return why;
+        }
+    }
+}
+
+/// Serves a connection to its end: each line that the reader gives is answered by the desk, in turn. Answers wait until no whole line is held,
+/// or no more have room, and are written before the next read and before the end. An over-long line is answered by `refusal`, and ends the
+/// connection.
+pub fn serve<R: Read, W: Write, A: Answerer>(
+    alloc: Global,
+    reader: &mut MeteredReader<R>,
+    writer: &mut MeteredWriter<W>,
+    desk: &mut A,
+    refusal: &[u8],
+) -> Why
+    // or the buffers found no memory
+    ensures serves { Serves A.tells A.fails refusal.now
+        (between (R.remaining reader.old.device) desk.old)
+        result desk.new (W.contents writer.old.device) (W.contents writer.new.device) [] []
+        ⊎ ((result ≡ why.Memory) × (reader.new ≡ reader.old) × (writer.new ≡ writer.old)
+        × (desk.new ≡ desk.old)) }
+    ensures read_fault { result ≡ why.ReadFault → IsStopped reader.new.failed reader.new.left }
+    ensures write_fault { result ≡ why.WriteFault → writer.new.failed ≡ true }
+{
+    let Ok(mut lines) = LineReader::new(alloc) else {
+        return Why::Memory;
+    };
+    let Ok(mut replies) = Replies::new(alloc) else {
+        return Why::Memory;
+    };
+    match answer_all(
+        alloc,
+        &mut lines,
+        &mut replies,
+        reader,
+        writer,
+        desk,
+        refusal,
+    ) {
+        Why::WriteFault => Why::WriteFault,
+        why => {
+            let Ok(()) = replies.write_out(writer) else {
+                return Why::WriteFault;
+            };
+            why
+        }
+    }
+}
+
+/// Whatever answers the lines: the lines that are answered are those of the bytes in turn.
+pub fn lines_are_answered_in_turn<A: Answerer>()
+    ensures { (before after : BetweenLines A) (exchanges : List Exchange)
+        → Runs A.tells before exchanges after
+        → KnownCuts before.ahead (map (λ e. e.line) exchanges) after.ahead }
+{}
