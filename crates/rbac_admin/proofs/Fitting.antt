@@ -1,6 +1,6 @@
 -- An entry that the policy step accepts is one that the policy can take in.
 use Rattle.std.proofs.Common.{◌≡◌, ℕ, zero, suc, ◌<◌, ◌↔◌, List, [], ◌∷◌, ◌++◌, length, true, false, Bool, IsTrue, rules, inl, inr, arith, sym, ◌∙◌, ap, refl, subst}
-use Rattle.std.specs.Prelude.{Option, Some, None, Ok, is_some}
+use Rattle.std.specs.Prelude.{Option, Some, Ok, is_some, Contains}
 use Rattle.std.proofs.lemmas.Bool.{cases_lt}
 use Rattle.std.proofs.lemmas.Option.{slice_get-get_or}
 use Rattle.rbac_policy.specs.declared.policy.Policy.{Policy}
@@ -10,15 +10,15 @@ use Rattle.rbac_policy.specs.declared.commands.Entry.{Entry}
 use Rattle.rbac_policy.specs.declared.sizes.TheConstants.{LAST_SESSION, LAST_VERSION}
 use Rattle.rbac_policy.specs.Names.{NameText}
 use Rattle.rbac_policy.specs.Entries.{logins}
-use Rattle.rbac_policy.specs.Facts.{IsUser, IsRole}
-use Rattle.rbac_policy.specs.Tables.{place_of, user_is}
-use Rattle.std.specs.List.{list_any}
+use Rattle.rbac_policy.specs.Facts.{IsRole, IsSet}
+use Rattle.rbac_policy.specs.Tables.{place_of}
 use Rattle.rbac_policy.specs.Fits.{Fits, FitsCommand}
 use Rattle.rbac_policy.specs.StandsFor.{StandsFor}
 use Rattle.rbac_policy.specs.Change.{absorbed}
-use Rattle.rbac_policy.proofs.Asking.{role_test, user_test}
+use Rattle.rbac_policy.proofs.Asking.{role_test}
 use Rattle.rbac_policy.proofs.Absorbing.{stands_after}
 use Rattle.rbac_admin.specs.Conditions.{FirstListed}
+use Rattle.rbac_admin.specs.Separation.{IsFirstSetOf}
 use Rattle.rbac_admin.specs.PolicyStep.{PolicyStep, entry_of, is_decided, is_followed}
 use Rattle.rbac_admin.proofs.Accepted.{passed, accepted_entry}
 use Rattle.rbac_admin.proofs.Listing.{NoneBefore, none_at_first, none_further, first_here}
@@ -46,16 +46,29 @@ decided_followed (AssignUser user role) decided = refl
 decided_followed (GrantPermission role operation object) decided = refl
 decided_followed (CreateSession user roles) decided = refl
 decided_followed DeleteSession decided = refl
-decided_followed (DeleteUser user) decided = decided
-decided_followed (DeleteRole role) decided = decided
-decided_followed (DeassignUser user role) decided = decided
-decided_followed (RevokePermission role operation object) decided = decided
-decided_followed (AddInheritance senior junior) decided = decided
-decided_followed (DeleteInheritance senior junior) decided = decided
+decided_followed (DeleteUser user) decided = refl
+decided_followed (DeleteRole role) decided = refl
+decided_followed (DeassignUser user role) decided = refl
+decided_followed (RevokePermission role operation object) decided = refl
+decided_followed (AddInheritance senior junior) decided = refl
+decided_followed (DeleteInheritance senior junior) decided = refl
 decided_followed (CreateDsdSet set count roles) decided = decided
 decided_followed (DeleteDsdSet set) decided = decided
-decided_followed (AddActiveRole role) decided = decided
-decided_followed (DropActiveRole role) decided = decided
+decided_followed (AddActiveRole role) decided = refl
+decided_followed (DropActiveRole role) decided = refl
+
+-- where no set is the first that has the role, none has it
+in_no_set : (L : List Entry) (role : NameText) → ((set : NameText) → IsFirstSetOf L role set → ⊥)
+    → (n place : ℕ) → place < n → (set : NameText) (count : ℕ) (members : List NameText) → IsSet L place set count members → Contains members role → ⊥
+in_no_set L role none zero place low set count members is_set member = absurd (omega (arith, low))
+in_no_set L role none (suc n) place low set count members is_set member = none set (record {
+  place = place;
+  count = count;
+  roles = members;
+  is_set = is_set;
+  member = member;
+  first = λ earlier other number others before is_other. in_no_set L role none n earlier (omega (arith, low, before)) other number others is_other;
+})
 
 module _ (p : Policy) (L : List Entry) (st : StandsFor p L) where
   fits_command : (session : Option ℕ) (command : AdminCommand) (e : Entry) → is_followed command ≡ true → PolicyStep L session command (Ok e)
@@ -79,22 +92,33 @@ module _ (p : Policy) (L : List Entry) (st : StandsFor p L) where
   fits_command session (AddUser user) e decided h =
       let all = passed L session (AddUser user) e h in
       record { absent = all.1.1.0; room = all.1.1.1.0 }
-  fits_command session (DeleteUser user) e decided h = cc
+  fits_command session (DeleteUser user) e decided h = (passed L session (DeleteUser user) e h).1.1.0
   fits_command session (AddRole role) e decided h =
       let all = passed L session (AddRole role) e h in
       record { absent = all.1.1.0; room = all.1.1.1.0 }
-  fits_command session (DeleteRole role) e decided h = cc
+  fits_command session (DeleteRole role) e decided h =
+      let all = passed L session (DeleteRole role) e h in
+      record { is_role = all.1.1.0; in_no_set = λ place. in_no_set L role all.1.1.1.0 (suc place) place (omega arith) }
   fits_command session (AssignUser user role) e decided h =
       let all = passed L session (AssignUser user role) e h in
       record { is_user = all.1.1.0; is_role = all.1.1.1.0 }
-  fits_command session (DeassignUser user role) e decided h = cc
-  fits_command session (RevokePermission role operation object) e decided h = cc
-  fits_command session (AddInheritance senior junior) e decided h = cc
-  fits_command session (DeleteInheritance senior junior) e decided h = cc
+  fits_command session (DeassignUser user role) e decided h = (passed L session (DeassignUser user role) e h).1.1.1.0
+  fits_command session (RevokePermission role operation object) e decided h = (passed L session (RevokePermission role operation object) e h).1.1.0
+  fits_command session (AddInheritance senior junior) e decided h =
+      let all = passed L session (AddInheritance senior junior) e h in
+      record { is_senior = all.1.1.0; is_junior = all.1.1.1.0 }
+  fits_command session (DeleteInheritance senior junior) e decided h =
+      let all = passed L session (DeleteInheritance senior junior) e h in
+      record { is_senior = all.1.1.0; is_junior = all.1.1.1.0 }
   fits_command session (CreateDsdSet set count roles) e decided h = cc
   fits_command session (DeleteDsdSet set) e decided h = cc
-  fits_command session (AddActiveRole role) e decided h = cc
-  fits_command session (DropActiveRole role) e decided h = cc
+  fits_command session (AddActiveRole role) e decided h =
+      let all = passed L session (AddActiveRole role) e h in
+      let by = all.0.1 in
+      record { number = all.0.0; given = by.given; lives = (by.user, by.lives); is_role = all.1.0 }
+  fits_command session (DropActiveRole role) e decided h =
+      let all = passed L session (DropActiveRole role) e h in
+      record { number = all.0.0; given = all.0.1.given; is_role = all.1.0 }
 
   -- an accepted entry of a command that the policy follows fits
   pub followed_fits : (session : Option ℕ) (command : AdminCommand) (e : Entry) → length L < LAST_VERSION → is_followed command ≡ true → PolicyStep L session command (Ok e) → Fits L e

@@ -122,9 +122,8 @@ is_administrative (AddActiveRole role) = false
 is_administrative (DropActiveRole role) = false
 is_administrative _ = true
 
--- the commands whose accepted entries a policy follows at this stage: those that are decided, and those of the opening entries
+-- the commands whose accepted entries a policy follows at this stage: all but those of separation sets
 abbrev pub is_followed : AdminCommand → Bool
-is_followed (AddUser user) = true
-is_followed (AddRole role) = true
-is_followed (AssignUser user role) = true
-is_followed command = is_decided command
+is_followed (CreateDsdSet set count roles) = false
+is_followed (DeleteDsdSet set) = false
+is_followed _ = true

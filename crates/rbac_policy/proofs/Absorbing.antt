@@ -1,5 +1,5 @@
 -- A policy that stands for a list, and takes in an entry that fits, stands for the longer list.
-use Rattle.std.proofs.Common.{◌≡◌, ℕ, ◌+◌, ◌<◌, ◌%◌, ◌⊎◌, List, [], ◌∷◌, ◌++◌, length, map, set, inl, inr, arith, sym, ◌∙◌, ap, refl, subst, true, false, Bool}
+use Rattle.std.proofs.Common.{◌≡◌, ℕ, ◌+◌, ◌<◌, ◌≤◌, ◌%◌, ◌⊎◌, List, [], ◌∷◌, ◌++◌, length, map, set, inl, inr, arith, sym, ◌∙◌, ap, refl, subst, true, false, Bool}
 use Rattle.std.specs.Prelude.{Option, Some, None, Contains, position, is_none}
 use Rattle.std.specs.List.{list_any}
 use Rattle.std.proofs.lemmas.Bool.{false≢true}
@@ -18,9 +18,9 @@ use Rattle.rbac_policy.specs.Names.{NameText}
 use Rattle.rbac_policy.specs.Entries.{logins}
 use Rattle.rbac_policy.specs.Facts.{IsUser, IsRole, IsPairGranted, IsLive}
 use Rattle.rbac_policy.specs.Counting.{HasAtLeast}
-use Rattle.rbac_policy.specs.Tables.{At, put_at, mask_of, session_without, grant_is}
-use Rattle.rbac_policy.specs.Change.{absorbed, swept, changed, assigned_at, granted_at}
-use Rattle.rbac_policy.specs.Fits.{Fits, FitsCommand, FitsAddUser, FitsAddRole, FitsAssignUser, FitsGrantPermission, FitsCreateSession}
+use Rattle.rbac_policy.specs.Tables.{At, place_of, put_at, mask_of, session_without, grant_is}
+use Rattle.rbac_policy.specs.Change.{absorbed, swept, changed, assigned_at, granted_at, deassigned_at, revoked_at, user_deleted, role_deleted_at, inherited_at, disinherited_at, taken_up_at, laid_down_at}
+use Rattle.rbac_policy.specs.Fits.{Fits, FitsCommand, FitsAddUser, FitsAddRole, FitsAssignUser, FitsGrantPermission, FitsCreateSession, FitsInheritance, FitsDeleteRole}
 use Rattle.rbac_policy.specs.StandsFor.{StandsFor, UsersStand, RolesStand, GrantsStand, SetsStand}
 use Rattle.rbac_policy.proofs.Ended.{Unswept, swept_stand}
 use Rattle.rbac_policy.proofs.Untouched.{untouched_users, untouched_roles, untouched_grants, untouched_sessions, untouched_sets, logins_push, logins_other}
@@ -32,21 +32,33 @@ use Rattle.rbac_policy.proofs.Adding.{adding}
 use Rattle.rbac_policy.proofs.Assigning.{assigning}
 use Rattle.rbac_policy.proofs.Naming.{added_mask, added_named, added_role, unique_added, renamed_users, renamed_grants, renamed_sessions}
 use Rattle.rbac_policy.proofs.Granting.{granting, passes_any}
+use Rattle.rbac_policy.proofs.Revoking.{revoking}
+use Rattle.rbac_policy.proofs.Deassigning.{deassigning, removing, ended_unswept}
+use Rattle.rbac_policy.proofs.Inheriting.{inheriting, disinheriting}
+use Rattle.rbac_policy.proofs.Deleting.{before_deletion, users_deleted, roles_deleted, grants_deleted}
+use Rattle.rbac_policy.proofs.Activating.{take_unswept, drop_unswept}
 use Rattle.rbac_policy.proofs.Sessions.{login_unswept, logout_unswept}
 
--- the parts of the changed policy, and the sweep, make the whole
-assemble : (target : Policy) (L : List Entry) (e : Entry) → target.version ≡ length L → length L < LAST_VERSION → target.logins ≡ logins (L ++ e ∷ [])
+-- the parts of the changed policy, and the sweep, make the whole; the sessions' masks are by the names of the table before
+assemble_renamed : (before : List (Option NameText)) (target : Policy) (L : List Entry) (e : Entry) → ((q : ℕ) (r : NameText) → At target.roles q r → At before q r)
+    → target.version ≡ length L → length L < LAST_VERSION → target.logins ≡ logins (L ++ e ∷ [])
     → UsersStand target.roles target.users (L ++ e ∷ []) → RolesStand target.roles target.juniors (L ++ e ∷ []) → GrantsStand target.roles target.grants (L ++ e ∷ [])
-    → Unswept target.roles target.sessions L e → SetsStand target.sets (L ++ e ∷ []) → StandsFor (swept target) (L ++ e ∷ [])
-assemble target L e version few count us rs gs un ss = record {
+    → Unswept before target.sessions L e → SetsStand target.sets (L ++ e ∷ []) → StandsFor (swept target) (L ++ e ∷ [])
+assemble_renamed before target L e keeps version few count us rs gs un ss = record {
   version = omega (arith, version, few, length_push L e);
   logins = count;
   users = us;
   roles = rs;
   grants = gs;
-  sessions = swept_stand target.roles target.roles (λ q r t. t) target.juniors target.users target.sessions L e rs us un;
+  sessions = swept_stand before target.roles keeps target.juniors target.users target.sessions L e rs us un;
   sets = ss;
 }
+
+-- where the table of roles is as it was
+assemble : (target : Policy) (L : List Entry) (e : Entry) → target.version ≡ length L → length L < LAST_VERSION → target.logins ≡ logins (L ++ e ∷ [])
+    → UsersStand target.roles target.users (L ++ e ∷ []) → RolesStand target.roles target.juniors (L ++ e ∷ []) → GrantsStand target.roles target.grants (L ++ e ∷ [])
+    → Unswept target.roles target.sessions L e → SetsStand target.sets (L ++ e ∷ []) → StandsFor (swept target) (L ++ e ∷ [])
+assemble target L e = assemble_renamed target.roles target L e (λ q r t. t)
 
 -- the role that is a role has a place
 role_place : (p : Policy) (L : List Entry) (role : NameText) → StandsFor p L → IsRole L role → Placed p.roles role
@@ -168,6 +180,129 @@ logout p L k st few =
     (logout_unswept p.roles st.roles.unique st.roles.places p.sessions L st.sessions k)
     (untouched_sets p.sets L e refl st.sets)
 
+-- a session that lives was made
+made_before : (p : Policy) (L : List Entry) (k : ℕ) → StandsFor p L → IsLive L k → k ≤ logins L
+made_before p L k st live =
+    let h = (st.sessions.exist k live.0).0 live.1 in
+    subst (λ n. n ≤ logins L) h.fact.0 (st.sessions.numbers h.at h.value h.there)
+
+take_up : (p : Policy) (L : List Entry) (k : ℕ) (role : NameText) → StandsFor p L → length L < LAST_VERSION → IsLive L k → IsRole L role
+    → StandsFor (swept (changed p (record { session = Some k; command = AddActiveRole role }))) (L ++ record { session = Some k; command = AddActiveRole role } ∷ [])
+take_up p L k role st few live is_role =
+    let e : Entry = record { session = Some k; command = AddActiveRole role } in
+    let q = role_place p L role st is_role in
+    let low : q.place < ROLES = omega (arith, slice_get_within p.roles q.place (Some role) q.there, st.roles.places) in
+    let is : changed p e ≡ taken_up_at (Some k) (Some q.place) p = ap (λ o. taken_up_at (Some k) o p) q.found in
+    subst (λ (t : Policy). StandsFor (swept t) (L ++ e ∷ [])) (sym is) (assemble (taken_up_at (Some k) (Some q.place) p) L e st.version few
+    (st.logins ∙ sym (logins_other L e refl))
+    (untouched_users p.roles p.users L e refl st.users)
+    (untouched_roles p.roles p.juniors L e refl st.roles)
+    (untouched_grants p.roles p.grants L e refl st.grants)
+    (take_unswept p.roles st.roles.unique st.roles.places q.place role q.there low p.sessions L k st.sessions (made_before p L k st live))
+    (untouched_sets p.sets L e refl st.sets))
+
+lay_down : (p : Policy) (L : List Entry) (k : ℕ) (role : NameText) → StandsFor p L → length L < LAST_VERSION → IsRole L role
+    → StandsFor (swept (changed p (record { session = Some k; command = DropActiveRole role }))) (L ++ record { session = Some k; command = DropActiveRole role } ∷ [])
+lay_down p L k role st few is_role =
+    let e : Entry = record { session = Some k; command = DropActiveRole role } in
+    let q = role_place p L role st is_role in
+    let low : q.place < ROLES = omega (arith, slice_get_within p.roles q.place (Some role) q.there, st.roles.places) in
+    let is : changed p e ≡ laid_down_at (Some k) (Some q.place) p = ap (λ o. laid_down_at (Some k) o p) q.found in
+    subst (λ (t : Policy). StandsFor (swept t) (L ++ e ∷ [])) (sym is) (assemble (laid_down_at (Some k) (Some q.place) p) L e st.version few
+    (st.logins ∙ sym (logins_other L e refl))
+    (untouched_users p.roles p.users L e refl st.users)
+    (untouched_roles p.roles p.juniors L e refl st.roles)
+    (untouched_grants p.roles p.grants L e refl st.grants)
+    (drop_unswept p.roles st.roles.unique st.roles.places q.place role q.there low p.sessions L k st.sessions)
+    (untouched_sets p.sets L e refl st.sets))
+
+deassign : (p : Policy) (L : List Entry) (s : Option ℕ) (user role : NameText) → StandsFor p L → length L < LAST_VERSION → IsRole L role
+    → StandsFor (swept (changed p (record { session = s; command = DeassignUser user role }))) (L ++ record { session = s; command = DeassignUser user role } ∷ [])
+deassign p L s user role st few is_role =
+    let e : Entry = record { session = s; command = DeassignUser user role } in
+    let q = role_place p L role st is_role in
+    let low : q.place < ROLES = omega (arith, slice_get_within p.roles q.place (Some role) q.there, st.roles.places) in
+    let is : changed p e ≡ deassigned_at (Some q.place) user p = ap (λ o. deassigned_at o user p) q.found in
+    subst (λ (t : Policy). StandsFor (swept t) (L ++ e ∷ [])) (sym is) (assemble (deassigned_at (Some q.place) user p) L e st.version few
+    (st.logins ∙ sym (logins_other L e refl))
+    (deassigning p.roles st.roles.unique q.place role q.there low p.users L s user st.users)
+    (untouched_roles p.roles p.juniors L e refl st.roles)
+    (untouched_grants p.roles p.grants L e refl st.grants)
+    (untouched_sessions p.roles p.sessions L e refl (logins_other L e refl) st.roles.unique st.roles.places st.sessions)
+    (untouched_sets p.sets L e refl st.sets))
+
+revoke : (p : Policy) (L : List Entry) (s : Option ℕ) (role : NameText) (op : Operation) (ob : Object) → StandsFor p L → length L < LAST_VERSION → IsRole L role
+    → StandsFor (swept (changed p (record { session = s; command = RevokePermission role op ob }))) (L ++ record { session = s; command = RevokePermission role op ob } ∷ [])
+revoke p L s role op ob st few is_role =
+    let e : Entry = record { session = s; command = RevokePermission role op ob } in
+    let q = role_place p L role st is_role in
+    let low : q.place < ROLES = omega (arith, slice_get_within p.roles q.place (Some role) q.there, st.roles.places) in
+    let is : changed p e ≡ revoked_at (Some q.place) op ob p = ap (λ o. revoked_at o op ob p) q.found in
+    subst (λ (t : Policy). StandsFor (swept t) (L ++ e ∷ [])) (sym is) (assemble (revoked_at (Some q.place) op ob p) L e st.version few
+    (st.logins ∙ sym (logins_other L e refl))
+    (untouched_users p.roles p.users L e refl st.users)
+    (untouched_roles p.roles p.juniors L e refl st.roles)
+    (revoking p.roles st.roles.unique q.place role q.there low p.grants L s op ob st.grants)
+    (untouched_sessions p.roles p.sessions L e refl (logins_other L e refl) st.roles.unique st.roles.places st.sessions)
+    (untouched_sets p.sets L e refl st.sets))
+
+delete_user : (p : Policy) (L : List Entry) (s : Option ℕ) (user : NameText) → StandsFor p L → length L < LAST_VERSION
+    → StandsFor (swept (changed p (record { session = s; command = DeleteUser user }))) (L ++ record { session = s; command = DeleteUser user } ∷ [])
+delete_user p L s user st few =
+    let e : Entry = record { session = s; command = DeleteUser user } in
+    assemble (user_deleted user p) L e st.version few
+    (st.logins ∙ sym (logins_other L e refl))
+    (removing p.roles L s user p.users st.users)
+    (untouched_roles p.roles p.juniors L e refl st.roles)
+    (untouched_grants p.roles p.grants L e refl st.grants)
+    (ended_unswept p.roles L s user st.roles.unique st.roles.places p.sessions st.sessions)
+    (untouched_sets p.sets L e refl st.sets)
+
+inherit : (p : Policy) (L : List Entry) (s : Option ℕ) (senior junior : NameText) → StandsFor p L → length L < LAST_VERSION → FitsInheritance L senior junior
+    → StandsFor (swept (changed p (record { session = s; command = AddInheritance senior junior }))) (L ++ record { session = s; command = AddInheritance senior junior } ∷ [])
+inherit p L s senior junior st few fits =
+    let e : Entry = record { session = s; command = AddInheritance senior junior } in
+    let a = role_place p L senior st fits.is_senior in
+    let b = role_place p L junior st fits.is_junior in
+    let is : changed p e ≡ inherited_at (Some a.place) (Some b.place) p = ap (λ o. inherited_at o (place_of junior p.roles) p) a.found ∙ ap (λ o. inherited_at (Some a.place) o p) b.found in
+    subst (λ (t : Policy). StandsFor (swept t) (L ++ e ∷ [])) (sym is) (assemble (inherited_at (Some a.place) (Some b.place) p) L e st.version few
+    (st.logins ∙ sym (logins_other L e refl))
+    (untouched_users p.roles p.users L e refl st.users)
+    (inheriting p.roles p.juniors L s a.place senior a.there b.place junior b.there st.roles)
+    (untouched_grants p.roles p.grants L e refl st.grants)
+    (untouched_sessions p.roles p.sessions L e refl (logins_other L e refl) st.roles.unique st.roles.places st.sessions)
+    (untouched_sets p.sets L e refl st.sets))
+
+disinherit : (p : Policy) (L : List Entry) (s : Option ℕ) (senior junior : NameText) → StandsFor p L → length L < LAST_VERSION → FitsInheritance L senior junior
+    → StandsFor (swept (changed p (record { session = s; command = DeleteInheritance senior junior }))) (L ++ record { session = s; command = DeleteInheritance senior junior } ∷ [])
+disinherit p L s senior junior st few fits =
+    let e : Entry = record { session = s; command = DeleteInheritance senior junior } in
+    let a = role_place p L senior st fits.is_senior in
+    let b = role_place p L junior st fits.is_junior in
+    let is : changed p e ≡ disinherited_at (Some a.place) (Some b.place) p = ap (λ o. disinherited_at o (place_of junior p.roles) p) a.found ∙ ap (λ o. disinherited_at (Some a.place) o p) b.found in
+    subst (λ (t : Policy). StandsFor (swept t) (L ++ e ∷ [])) (sym is) (assemble (disinherited_at (Some a.place) (Some b.place) p) L e st.version few
+    (st.logins ∙ sym (logins_other L e refl))
+    (untouched_users p.roles p.users L e refl st.users)
+    (disinheriting p.roles p.juniors L s a.place senior a.there b.place junior b.there st.roles)
+    (untouched_grants p.roles p.grants L e refl st.grants)
+    (untouched_sessions p.roles p.sessions L e refl (logins_other L e refl) st.roles.unique st.roles.places st.sessions)
+    (untouched_sets p.sets L e refl st.sets))
+
+delete_role : (p : Policy) (L : List Entry) (s : Option ℕ) (role : NameText) → StandsFor p L → length L < LAST_VERSION → FitsDeleteRole L role
+    → StandsFor (swept (changed p (record { session = s; command = DeleteRole role }))) (L ++ record { session = s; command = DeleteRole role } ∷ [])
+delete_role p L s role st few fits =
+    let e : Entry = record { session = s; command = DeleteRole role } in
+    let q = role_place p L role st fits.is_role in
+    let is : changed p e ≡ role_deleted_at (Some q.place) p = ap (λ o. role_deleted_at o p) q.found in
+    subst (λ (t : Policy). StandsFor (swept t) (L ++ e ∷ [])) (sym is) (assemble_renamed p.roles (role_deleted_at (Some q.place) p) L e
+    (λ k r there. (before_deletion p.roles p.juniors L s q.place role q.there st.roles k r there).0) st.version few
+    (st.logins ∙ sym (logins_other L e refl))
+    (users_deleted p.roles p.juniors L s q.place role q.there st.roles p.users st.users)
+    (roles_deleted p.roles p.juniors L s q.place role q.there st.roles)
+    (grants_deleted p.roles p.juniors L s q.place role q.there st.roles p.grants st.grants)
+    (untouched_sessions p.roles p.sessions L e refl (logins_other L e refl) st.roles.unique st.roles.places st.sessions)
+    (untouched_sets p.sets L e refl st.sets))
+
 by_command : (p : Policy) (L : List Entry) (s : Option ℕ) (c : AdminCommand) → StandsFor p L → length L < LAST_VERSION → FitsCommand c s L
     → StandsFor (swept (changed p (record { session = s; command = c }))) (L ++ record { session = s; command = c } ∷ [])
 by_command p L s (AddUser user) st few fits = add_user p L s user st few fits
@@ -180,16 +315,20 @@ by_command p L s (CreateSession user roles) st few fits =
 by_command p L s DeleteSession st few fits =
     let P : Option ℕ → Type 0 = λ o. StandsFor (swept (changed p (record { session = o; command = DeleteSession }))) (L ++ record { session = o; command = DeleteSession } ∷ []) in
     subst P (sym fits.given) (logout p L fits.number st few)
-by_command p L s (DeleteUser a) st few fits = absurd fits
-by_command p L s (DeleteRole a) st few fits = absurd fits
-by_command p L s (DeassignUser a b) st few fits = absurd fits
-by_command p L s (RevokePermission a b c) st few fits = absurd fits
-by_command p L s (AddInheritance a b) st few fits = absurd fits
-by_command p L s (DeleteInheritance a b) st few fits = absurd fits
+by_command p L s (DeleteUser user) st few fits = delete_user p L s user st few
+by_command p L s (DeleteRole role) st few fits = delete_role p L s role st few fits
+by_command p L s (DeassignUser user role) st few fits = deassign p L s user role st few fits
+by_command p L s (RevokePermission role op ob) st few fits = revoke p L s role op ob st few fits
+by_command p L s (AddInheritance senior junior) st few fits = inherit p L s senior junior st few fits
+by_command p L s (DeleteInheritance senior junior) st few fits = disinherit p L s senior junior st few fits
 by_command p L s (CreateDsdSet a b c) st few fits = absurd fits
 by_command p L s (DeleteDsdSet a) st few fits = absurd fits
-by_command p L s (AddActiveRole a) st few fits = absurd fits
-by_command p L s (DropActiveRole a) st few fits = absurd fits
+by_command p L s (AddActiveRole role) st few fits =
+    let P : Option ℕ → Type 0 = λ o. StandsFor (swept (changed p (record { session = o; command = AddActiveRole role }))) (L ++ record { session = o; command = AddActiveRole role } ∷ []) in
+    subst P (sym fits.given) (take_up p L fits.number role st few fits.lives fits.is_role)
+by_command p L s (DropActiveRole role) st few fits =
+    let P : Option ℕ → Type 0 = λ o. StandsFor (swept (changed p (record { session = o; command = DropActiveRole role }))) (L ++ record { session = o; command = DropActiveRole role } ∷ []) in
+    subst P (sym fits.given) (lay_down p L fits.number role st few fits.is_role)
 
 -- the law
 pub stands_after : (p : Policy) (L : List Entry) (e : Entry) → StandsFor p L → Fits L e → StandsFor (absorbed p e) (L ++ e ∷ [])

@@ -39,8 +39,8 @@ zeros (suc n) (suc at) = zeros n at
 abbrev pub blank : (u r j g s d : ℕ) → tables.Policy
 blank u r j g s d = record { version = 0; logins = 0; users = replicate u None; roles = replicate r None; juniors = replicate j 0; grants = replicate g None; sessions = replicate s None; sets = replicate d None }
 
-pub blank_stands : (u r j g s d : ℕ) → u ≡ USERS → r ≡ ROLES → g ≡ GRANTS → s ≡ SESSIONS → d ≡ SETS → StandsFor (blank u r j g s d) []
-blank_stands u r j g s d many_users many_roles many_grants many_sessions many_sets = record {
+pub blank_stands : (u r j g s d : ℕ) → u ≡ USERS → r ≡ ROLES → j ≡ ROLES → g ≡ GRANTS → s ≡ SESSIONS → d ≡ SETS → StandsFor (blank u r j g s d) []
+blank_stands u r j g s d many_users many_roles many_rows many_grants many_sessions many_sets = record {
   version = refl;
   logins = refl;
   users = record {
@@ -59,6 +59,7 @@ blank_stands u r j g s d many_users many_roles many_grants many_sessions many_se
     named = λ p place bit. absurd (omega (arith, rw (zeros j p) at bit, bit_at-zero place));
     empty = λ p none place bit. omega (arith, rw (zeros j p) at bit, bit_at-zero place);
     places = length-replicate {A = Option (List ℕ)} r None ∙ many_roles;
+    rows = length-replicate {A = ℕ} j 0 ∙ many_rows;
   };
   grants = record {
     granted = λ at x there. absurd (none_at g at x there);

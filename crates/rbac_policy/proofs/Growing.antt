@@ -50,7 +50,7 @@ opening_fits = fit_push _ _ (fit_push _ _ (fit_push _ _ (fit_push _ _ none_fit f
 
 pub stands_at : (entries : List Entry) → AllFit entries → (n : ℕ) → n ≤ length entries → StandsFor (policy_of (take n entries)) (take n entries)
 stands_at entries fit zero low =
-    subst (λ p. StandsFor p []) (sym policy_of_none) (blank_stands USERS ROLES ROLES GRANTS SESSIONS SETS refl refl refl refl refl)
+    subst (λ p. StandsFor p []) (sym policy_of_none) (blank_stands USERS ROLES ROLES GRANTS SESSIONS SETS refl refl refl refl refl refl)
 stands_at entries fit (suc n) low =
     let before = stands_at entries fit n (omega arith) in
     let d : Entry = record { session = None; command = DeleteSession } in

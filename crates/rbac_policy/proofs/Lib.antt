@@ -13,6 +13,12 @@ pub mod Sweep
 pub mod Ended
 pub mod Untouched
 pub mod Granting
+pub mod Mapping
+pub mod Activating
+pub mod Revoking
+pub mod Deassigning
+pub mod Inheriting
+pub mod Deleting
 pub mod Listed
 pub mod Assigning
 pub mod Naming

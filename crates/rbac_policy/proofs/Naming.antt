@@ -129,4 +129,5 @@ module _ (roles : List (Option NameText)) (juniors : List ℕ) (L : List Entry) 
       | inr ne ↦ rs.empty p (sym (get_set_other roles i p (Some r0) ne) ∙ none)
     ];
     places = length-set roles i (Some r0) ∙ rs.places;
+    rows = rs.rows;
   }

@@ -5,7 +5,8 @@ use Rattle.std.proofs.lemmas.Bool.{cases_eq, false≢true}
 use Rattle.std.proofs.lemmas.Nat.Bits.{bit_at-zero}
 use Rattle.std.proofs.lemmas.Option.{slice_get-map, same_Some, slice_get-get_or}
 use Rattle.std.proofs.lemmas.List.Quantifiers.{position-Some}
-use Rattle.rbac_closure.proofs.SetLemmas.{with_same, with_other}
+use Rattle.rbac_closure.proofs.SetLemmas.{with_same, with_other, has_without}
+use Rattle.rbac_closure.specs.Sets.{without_place}
 use Rattle.rbac_policy.specs.declared.sizes.TheConstants.{ROLES}
 use Rattle.rbac_policy.specs.Names.{NameText}
 use Rattle.rbac_policy.specs.Tables.{At, with_bit}
@@ -82,6 +83,20 @@ module _ (roles : List (Option NameText)) (unique : (p q : ℕ) (r : NameText) �
     | inl e ↦ (r0, subst (λ k. At roles k r0) (sym e) there)
     | inr ne ↦ n p (sym (with_other m p0 p ne) ∙ bit)
   ]
+
+  pub in_without_bit : (m : ℕ) (r : NameText) → InMask roles (without_place m p0) r ↔ (InMask roles m r × (r0 ≡ r → ⊥))
+  in_without_bit m r = (
+    λ i. let h = (has_without m p0 i.place).0 i.bit in
+        (record { place = i.place; there = i.there; bit = h.0 }, λ same. h.1 (unique i.place p0 r i.there (subst (At roles p0) same there))),
+    λ h. record {
+      place = h.0.place;
+      there = h.0.there;
+      bit = (has_without m p0 h.0.place).1 (h.0.bit, λ e. h.1 (one_role roles p0 r0 r there (subst (λ k. At roles k r) e h.0.there)));
+    },
+  )
+
+  pub named_without_bit : (m : ℕ) → IsNamed roles m → IsNamed roles (without_place m p0)
+  named_without_bit m n = λ p bit. n p ((has_without m p0 p).0 bit).0
 
 pub none_in_zero : (roles : List (Option NameText)) (r : NameText) → InMask roles 0 r → ⊥
 none_in_zero roles r i = omega (arith, i.bit, bit_at-zero i.place)

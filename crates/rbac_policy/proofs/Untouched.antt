@@ -98,6 +98,7 @@ untouched_roles roles juniors L e no_touch s =
       named = s.named;
       empty = s.empty;
       places = s.places;
+      rows = s.rows;
     }
 
 pub untouched_grants : (roles : List (Option NameText)) (grants : List (Option Grant)) (L : List Entry) (e : Entry) → touches_grants e.command ≡ false → GrantsStand roles grants L → GrantsStand roles grants (L ++ e ∷ [])
@@ -129,6 +130,11 @@ logins_push L e = fold_push (λ (a : ℕ) (x : Entry). a + cond (is_login x) 1 0
 
 pub logins_other : (L : List Entry) (e : Entry) → is_login e ≡ false → logins (L ++ e ∷ []) ≡ logins L
 logins_other L e h = logins_push L e ∙ ap (λ b. logins L + cond b 1 0) h ∙ add-zero (logins L)
+
+pub not_by_login : (e : Entry) (u : NameText) (roles : List NameText) → is_login e ≡ false → e.command ≡ CreateSession u roles → ⊥
+not_by_login e u roles quiet same =
+    let login : is_login e ≡ true = subst (λ c. is_login (record { session = e.session; command = c }) ≡ true) (sym same) refl in
+    false≢true (sym quiet ∙ login)
 
 pub untouched_sessions : (roles : List (Option NameText)) (sessions : List (Option Session)) (L : List Entry) (e : Entry) → touches_sessions e.command ≡ false → logins (L ++ e ∷ []) ≡ logins L → ((p q : ℕ) (role : NameText) → At roles p role → At roles q role → p ≡ q) → length roles ≡ ROLES → SessionsStand roles sessions L → Unswept roles sessions L e
 untouched_sessions roles sessions L e no_touch count unique many s =

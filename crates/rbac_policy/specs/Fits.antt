@@ -1,15 +1,15 @@
 -- What an entry asks of the entries before it, so that a policy that stands for them can take it in (this project's own form). Each accepted
--- entry of these six commands fits; the tables of a policy don't follow the other commands yet.
+-- entry of a command fits, but of those of separation sets, which the tables of a policy are not proved to follow yet.
 use Rattle.std.specs.Prelude.{◌≡◌, ℕ, ◌<◌, ◌≤◌, List, Option, Some, None, Contains, length, slice_get, take}
 use Rattle.rbac_policy.specs.declared.objects.Operation.{Operation}
 use Rattle.rbac_policy.specs.declared.objects.Object.{Object}
 use Rattle.rbac_policy.specs.declared.commands.AdminCommand.{AdminCommand}
-use Rattle.rbac_policy.specs.declared.commands.AdminCommand.TheVariants.{AddUser, AssignUser, AddRole, GrantPermission, CreateSession, DeleteSession}
+use Rattle.rbac_policy.specs.declared.commands.AdminCommand.TheVariants.{AddUser, DeleteUser, AssignUser, DeassignUser, AddRole, DeleteRole, GrantPermission, RevokePermission, AddInheritance, DeleteInheritance, CreateSession, DeleteSession, AddActiveRole, DropActiveRole}
 use Rattle.rbac_policy.specs.declared.commands.Entry.{Entry}
 use Rattle.rbac_policy.specs.declared.sizes.TheConstants.{USERS, ROLES, GRANTS, SESSIONS, LAST_SESSION, LAST_VERSION}
 use Rattle.rbac_policy.specs.Names.{NameText}
 use Rattle.rbac_policy.specs.Entries.{logins}
-use Rattle.rbac_policy.specs.Facts.{IsUser, IsRole, IsLive, IsPairGranted}
+use Rattle.rbac_policy.specs.Facts.{IsUser, IsRole, IsSet, IsLive, IsPairGranted}
 use Rattle.rbac_policy.specs.Counting.{HasAtLeast}
 
 -- the table of users is full
@@ -64,6 +64,29 @@ pub record FitsDeleteSession (session : Option ℕ) : Type 0 where
   pub number : ℕ
   pub given : session ≡ Some number
 
+-- both roles are there
+pub record FitsInheritance (entries : List Entry) (senior junior : NameText) : Type 0 where
+  pub is_senior : IsRole entries senior
+  pub is_junior : IsRole entries junior
+
+-- the role is there, and in no separation set
+pub record FitsDeleteRole (entries : List Entry) (role : NameText) : Type 0 where
+  pub is_role : IsRole entries role
+  pub in_no_set : (place : ℕ) (set : NameText) (count : ℕ) (members : List NameText) → IsSet entries place set count members → ¬ (Contains members role)
+
+-- a living session gives the command, and the role is there
+pub record FitsAddActiveRole (entries : List Entry) (session : Option ℕ) (role : NameText) : Type 0 where
+  pub number : ℕ
+  pub given : session ≡ Some number
+  pub lives : IsLive entries number
+  pub is_role : IsRole entries role
+
+-- a session gives the command, and the role is there
+pub record FitsDropActiveRole (entries : List Entry) (session : Option ℕ) (role : NameText) : Type 0 where
+  pub number : ℕ
+  pub given : session ≡ Some number
+  pub is_role : IsRole entries role
+
 -- what the command asks
 abbrev pub FitsCommand : AdminCommand → Option ℕ → List Entry → Type 0
 FitsCommand (AddUser user) session entries = FitsAddUser entries user
@@ -72,6 +95,14 @@ FitsCommand (AssignUser user role) session entries = FitsAssignUser entries user
 FitsCommand (GrantPermission role op object) session entries = FitsGrantPermission entries role op object
 FitsCommand (CreateSession user roles) session entries = FitsCreateSession entries session roles
 FitsCommand DeleteSession session entries = FitsDeleteSession session
+FitsCommand (DeassignUser user role) session entries = IsRole entries role
+FitsCommand (RevokePermission role op object) session entries = IsRole entries role
+FitsCommand (DeleteUser user) session entries = IsUser entries user
+FitsCommand (AddInheritance senior junior) session entries = FitsInheritance entries senior junior
+FitsCommand (DeleteInheritance senior junior) session entries = FitsInheritance entries senior junior
+FitsCommand (DeleteRole role) session entries = FitsDeleteRole entries role
+FitsCommand (AddActiveRole role) session entries = FitsAddActiveRole entries session role
+FitsCommand (DropActiveRole role) session entries = FitsDropActiveRole entries session role
 FitsCommand _ session entries = ⊥
 
 -- there is a version for the longer list, and what the command asks holds

@@ -54,6 +54,7 @@ pub record RolesStand (roles : List (Option NameText)) (juniors : List ℕ) (ent
   pub named : (place : ℕ) → IsNamed roles (slice_index juniors place)
   pub empty : (place : ℕ) → slice_get roles place ≡ Some None → (junior : ℕ) → Has (slice_index juniors place) junior → ⊥
   pub places : length roles ≡ ROLES
+  pub rows : length juniors ≡ ROLES
 
 -- the pairs of an operation and an object that are granted to some role, with these roles
 pub record GrantsStand (roles : List (Option NameText)) (grants : List (Option Grant)) (entries : List Entry) : Type 0 where
