@@ -1,29 +1,15 @@
 -- Emissions of inputs (this project's own form).
-use Rattle.std.specs.Prelude.{◌≡◌, ℕ, List, [], Bool, true, false, not, ◌||◌, ◌&&◌, Option, Some, None, option_map, if◌then◌else◌, codes}
+use Rattle.std.specs.Prelude.{◌≡◌, ℕ, List, [], Bool, false, not, ◌||◌, ◌&&◌, Option, Some, None, option_map, if◌then◌else◌}
 use Rattle.std.specs.List.{list_any, find}
 use Rattle.std.specs.Str.{bytes_eq}
 use Rattle.est_syntax.specs.Tree.{RenamingTree}
-use Rattle.est_link.specs.Occurrences.{Binder, Act, emits, tests, exits, binds, runs, Occurrence, occurrences, first_of}
-use Rattle.est_link.specs.Modules.{Program, program_named}
-use Rattle.est_link.specs.Visible.{is_local, unknown_at}
+use Rattle.est_link.specs.Occurrences.{Binder, Act, emits, tests, exits, binds, runs, Occurrence, occurrences}
+use Rattle.est_link.specs.Modules.{Program, program_named, first_in_bodies}
+use Rattle.est_link.specs.Visible.{is_local, is_tick}
+use Rattle.est_link.specs.Renamings.{renamed}
+use Rattle.est_link.specs.MainRelations.{is_input}
 use Rattle.est_link.specs.declared.head.Declared.{Declared}
-use Rattle.est_link.specs.declared.head.Kind.{Kind}
-use Rattle.est_link.specs.declared.head.Kind.TheVariants.{Input, Output}
 use Rattle.est_link.specs.declared.emission.Emission.{Emission}
-
--- an input
-abbrev pub is_input_kind : Kind → Bool
-is_input_kind Input = true
-is_input_kind Output = false
-
--- the caller's name in a renaming, or the name itself where there is none
-abbrev pub callers_name : Option RenamingTree → List ℕ → List ℕ
-callers_name None s = s
-callers_name (Some r) s = r.outer
-
--- the same by the renamings of a run: a name that is not renamed keeps its own (The Esterel v5 Language Primer, `run`)
-abbrev pub renamed : List RenamingTree → List ℕ → List ℕ
-renamed rs s = callers_name (find (λ (r : RenamingTree). bytes_eq r.inner s) rs) s
 
 -- a run binds to a name of the caller an interface name that the module that is run emits
 abbrev pub emits_in_run : (List ℕ → List ℕ → Bool) → List ℕ → List RenamingTree → Option Program → Bool
@@ -42,7 +28,7 @@ IsEmitted ps emitted p = (s : List ℕ) → emitted p.name s ≡ list_any (λ (o
 
 -- the name means an input or `tick` in p
 unfoldable pub is_refused : Program → List Binder → List ℕ → Bool
-is_refused p bs s = not (is_local bs s) && (list_any (λ (d : Declared). bytes_eq d.name s && is_input_kind d.kind) p.interface || bytes_eq s (codes "tick"))
+is_refused p bs s = not (is_local bs s) && (is_input p.interface s || is_tick s)
 
 -- the interface name is emitted by the module that is run, and bound to an input or to `tick`
 unfoldable pub is_refused_in_run : (List ℕ → List ℕ → Bool) → Program → List Binder → List RenamingTree → List ℕ → List ℕ → Bool
@@ -67,11 +53,7 @@ refused_at ps emitted p o = refused_act ps emitted p o.round o.act
 
 -- the first in a library
 abbrev pub first_refused : List Program → (List ℕ → List ℕ → Bool) → Option (List ℕ)
-first_refused ps emitted = first_of (λ (p : Program). first_of (refused_at ps emitted p) (occurrences [] p.body)) ps
-
--- the first name in a library that isn't visible
-abbrev pub first_unknown : List Program → Option (List ℕ)
-first_unknown ps = first_of (λ (p : Program). first_of (unknown_at ps p) (occurrences [] p.body)) ps
+first_refused ps emitted = first_in_bodies (refused_at ps emitted) ps
 
 -- what a table says
 abbrev pub emitted_of : List Emission → List ℕ → List ℕ → Bool

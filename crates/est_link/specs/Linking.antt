@@ -10,7 +10,7 @@ use Rattle.est_link.specs.Derived as derived
 use Rattle.est_link.specs.Derived.{Derived}
 use Rattle.est_link.specs.Occurrences.{Binder, signals, a_trap}
 use Rattle.est_link.specs.Modules.{Program, program_named}
-use Rattle.est_link.specs.Emissions.{renamed}
+use Rattle.est_link.specs.Renamings.{renamed}
 use Rattle.est_link.specs.declared.head.Declared.{Declared}
 use Rattle.est_reduce.specs.Bodies.{Body, nothing, pause, halt, emit, sustain, exit, await, present, suspend, abort, weak_abort, repeat, repeat_each, every, trap, signal, seq, par}
 

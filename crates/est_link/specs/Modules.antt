@@ -1,10 +1,11 @@
 -- The modules of a library, without what only spells them (this project's own form).
-use Rattle.std.specs.Prelude.{ℕ, List, [], ◌∷◌, ◌++◌, map, Bool, Option}
+use Rattle.std.specs.Prelude.{ℕ, List, [], ◌∷◌, ◌++◌, map, Bool, true, false, Option}
 use Rattle.std.specs.List.{list_any, find}
 use Rattle.std.specs.Str.{bytes_eq}
 use Rattle.est_syntax.specs.Tree.{NamesTree, RelationTree, DeclarationTree, input, output, relations, ModuleTree, LibraryTree}
 use Rattle.est_syntax.specs.Views.{declaration_view, statement_view}
 use Rattle.est_link.specs.Derived.{Derived, statement_derived}
+use Rattle.est_link.specs.Occurrences.{Occurrence, occurrences, first_of}
 use Rattle.est_link.specs.declared.head.Head.{Head}
 use Rattle.est_link.specs.declared.head.Declared.{Declared}
 use Rattle.est_link.specs.declared.head.Kind.{Kind}
@@ -16,6 +17,11 @@ pub record Program : Type 0 where
   pub interface : List Declared
   pub relations : List RelationTree
   pub body : Derived
+
+-- an input
+abbrev pub is_input_kind : Kind → Bool
+is_input_kind Input = true
+is_input_kind Output = false
 
 -- the names of one declaration, all of one kind
 abbrev pub with_kind : Kind → NamesTree → List Declared
@@ -54,3 +60,7 @@ program_named ps m = find (λ (p : Program). bytes_eq p.name m) ps
 -- whether the interface has a signal of this name
 abbrev pub is_declared : List Declared → List ℕ → Bool
 is_declared ds s = list_any (λ (d : Declared). bytes_eq d.name s) ds
+
+-- the first answer that a test gives at the places in the bodies of modules, in the order of the text
+abbrev pub first_in_bodies : {A : Type 0} → (Program → Occurrence → Option A) → List Program → Option A
+first_in_bodies f ps = first_of (λ (p : Program). first_of (f p) (occurrences [] p.body)) ps

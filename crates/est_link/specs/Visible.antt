@@ -6,7 +6,12 @@ use Rattle.std.specs.Str.{bytes_eq}
 use Rattle.est_syntax.specs.Tree.{NamesTree, RenamingTree}
 use Rattle.est_link.specs.Occurrences.{Binder, signals, a_trap, Act, emits, tests, exits, binds, runs, Occurrence}
 use Rattle.est_link.specs.Modules.{Program, program_named, is_declared}
+use Rattle.est_link.specs.Renamings.{is_renamed}
 use Rattle.est_link.specs.declared.head.Declared.{Declared}
+
+-- the signal that is present in every instant, and is nowhere declared (The Esterel v5 Language Primer)
+abbrev pub is_tick : List ℕ → Bool
+is_tick s = bytes_eq s (codes "tick")
 
 -- a declaration of names has this one
 abbrev pub is_among : NamesTree → List ℕ → Bool
@@ -26,11 +31,7 @@ is_trap (a_trap u ∷ bs) t = bytes_eq u t || is_trap bs t
 
 -- a signal of this name is visible: a local one, one of the interface, or `tick` (The Esterel v5 Language Primer)
 abbrev pub is_visible : Program → List Binder → List ℕ → Bool
-is_visible p bs s = is_local bs s || (is_declared p.interface s || bytes_eq s (codes "tick"))
-
--- a renaming names this signal of the module that is run
-abbrev pub is_renamed : List RenamingTree → List ℕ → Bool
-is_renamed rs s = list_any (λ (r : RenamingTree). bytes_eq r.inner s) rs
+is_visible p bs s = is_local bs s || (is_declared p.interface s || is_tick s)
 
 -- the name unless the test holds
 abbrev pub unless : Bool → List ℕ → Option (List ℕ)

@@ -8,7 +8,7 @@ ghost use Rattle.est_link.specs.Scopes.{binders_of};
 ghost use Rattle.est_link.specs.Modules.{program_of};
 ghost use Rattle.est_reduce.specs.Views.{bound_query as query_view};
 ghost use Rattle.est_link.specs.Linking.{locals_round, signal_at, trap_at, of_interface};
-ghost use Rattle.est_link.specs.Emissions.{renamed};
+ghost use Rattle.est_link.specs.Renamings.{renamed};
 ghost use Rattle.est_link.specs.Inner.Binds.{binding_of};
 
 use crate::head::{Declared, Head};
@@ -153,7 +153,7 @@ fn renaming_of<'a>(renamings: &'a [Renaming], name: &Identifier) -> Option<&'a R
 }
 
 /// The caller's name for a signal of the module that is run.
-#[tactic(auto, using(crate::proofs::Runs::renamed_is))]
+#[tactic(auto, using(crate::proofs::Lists::renamed_is))]
 fn callers_name(renamings: &[Renaming], name: Identifier) -> Identifier
     ensures { result ≡ renamed (map renaming_view renamings.now) name }
 {

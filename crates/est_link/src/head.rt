@@ -2,7 +2,7 @@
 ghost use Rattle.std.specs.Prelude.{◌≡◌, map, option_map, Bool};
 ghost use Rattle.std.specs.List.{find};
 ghost use Rattle.std.specs.Str.{bytes_eq};
-ghost use Rattle.est_link.specs.Modules.{is_declared};
+ghost use Rattle.est_link.specs.Modules.{program_of, program_named, is_declared};
 
 use est_syntax::tree::{Declaration, Statement};
 use est_text::identifier::Identifier;
@@ -38,21 +38,22 @@ pub struct Head<'a> {
     pub body: &'a Statement,
 }
 
-impl Head<'_> {
-    /// Whether the interface has this signal.
-    pub fn declares(&self, signal: &Identifier) -> bool
-        ensures { result ≡ is_declared self.now.interface.items signal.now }
-    {
-        self.interface
-            .iter()
-            .any(|declared| declared.name.is(signal))
-    }
+/// Whether an interface has this signal.
+pub fn is_declared(interface: &[Declared], signal: &Identifier) -> bool
+    ensures { result ≡ is_declared interface.now signal.now }
+{
+    interface.iter().any(|declared| declared.name.is(signal))
 }
 
-/// The first module of a name.
-#[tactic(auto, using(crate::proofs::Lists::find_map))]
-pub fn head_named<'a, 'b>(heads: &'b [Head<'a>], name: &Identifier) -> Option<&'b Head<'a>>
+fn find_head<'a, 'b>(heads: &'b [Head<'a>], name: &Identifier) -> Option<&'b Head<'a>>
     ensures { option_map (λ h. h.now) result ≡ find (λ h. bytes_eq h.name name.now) heads.now }
 {
     heads.iter().find(|head| head.name.is(name))
+}
+
+/// The first module of a name.
+pub fn head_named<'a, 'b>(heads: &'b [Head<'a>], name: &Identifier) -> Option<&'b Head<'a>>
+    ensures { option_map (λ h. program_of h.now) result ≡ program_named (map program_of heads.now) name.now }
+{
+    find_head(heads, name)
 }

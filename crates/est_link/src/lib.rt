@@ -8,9 +8,15 @@
 mod bindings;
 mod bound;
 pub mod check;
+pub mod duplicates;
 pub mod emission;
 mod flatten;
 pub mod head;
+pub mod names;
+pub mod relations;
+pub mod renamings;
+pub mod runs;
 pub mod scope;
 pub mod unknown;
+pub mod visit;
 pub mod walk;

@@ -1,0 +1,24 @@
+-- Relations of the main module, over its inputs (The Esterel v5 Language Primer, `relation`).
+use Rattle.std.specs.Prelude.{ℕ, suc, List, [], ◌∷◌, Bool, not, ◌||◌, ◌&&◌, Option, Some, None, if◌then◌else◌}
+use Rattle.std.specs.List.{list_any, position}
+use Rattle.std.specs.Str.{bytes_eq}
+use Rattle.est_syntax.specs.Tree.{RelationTree, excludes, implies}
+use Rattle.est_link.specs.Modules.{Program, is_input_kind}
+use Rattle.est_link.specs.declared.head.Declared.{Declared}
+
+-- the interface has an input of this name
+unfoldable pub is_input : List Declared → List ℕ → Bool
+is_input ds s = list_any (λ (d : Declared). bytes_eq d.name s && is_input_kind d.kind) ds
+
+-- one of the names is no input
+abbrev pub is_past_inputs : List Declared → List (List ℕ) → Bool
+is_past_inputs ds ns = list_any (λ n. not (is_input ds n)) ns
+
+-- a member of the relation is no input
+abbrev pub is_lawless : List Declared → RelationTree → Bool
+is_lawless ds (excludes a b ns) = is_past_inputs ds (a ∷ b ∷ ns)
+is_lawless ds (implies a b) = is_past_inputs ds (a ∷ b ∷ [])
+
+-- the place, from 0, of the first relation of a module with a member that is no input of it
+abbrev pub first_lawless : Program → Option ℕ
+first_lawless p = position (is_lawless p.interface) p.relations

@@ -1,0 +1,111 @@
+//! Renamings of a run, and those that name no interface signal of the module, or one twice.
+ghost use Rattle.std.specs.Prelude.{◌≡◌, map, option_map, nat_lt, length, filter};
+ghost use Rattle.std.specs.List.{find, list_any};
+ghost use Rattle.std.specs.Str.{bytes_eq};
+ghost use Rattle.est_syntax.specs.Views.{renaming_view};
+ghost use Rattle.est_link.specs.Scopes.{act_of};
+ghost use Rattle.est_link.specs.Modules.{program_of};
+ghost use Rattle.est_link.specs.Renamings.{renamed, is_renamed, is_renamed_twice, is_misnamed, bad_in_run, bad_act};
+
+use crate::check::Check;
+use crate::head::{Head, head_named, is_declared};
+use crate::scope::{Act, Scope};
+use est_syntax::tree::Renaming;
+use est_text::identifier::Identifier;
+
+fn has_inner(renamings: &[Renaming], signal: &Identifier) -> bool
+    ensures { result ≡ list_any (λ r. bytes_eq r.inner signal.now) renamings.now }
+{
+    renamings.iter().any(|renaming| renaming.inner.is(signal))
+}
+
+/// Whether a renaming names this signal of the module that is run.
+#[tactic(auto, using(crate::proofs::Lists::any_map))]
+pub fn is_renamed(renamings: &[Renaming], signal: &Identifier) -> bool
+    ensures { result ≡ is_renamed (map renaming_view renamings.now) signal.now }
+{
+    has_inner(renamings, signal)
+}
+
+fn renaming_of<'a>(renamings: &'a [Renaming], name: &Identifier) -> Option<&'a Renaming>
+    ensures { option_map (λ r. r.now) result ≡ find (λ r. bytes_eq r.inner name.now) renamings.now }
+{
+    renamings.iter().find(|renaming| renaming.inner.is(name))
+}
+
+/// The caller's name for a signal of the module that is run.
+#[tactic(auto, using(crate::proofs::Lists::renamed_is))]
+pub fn callers_name(renamings: &[Renaming], name: &Identifier) -> Identifier
+    ensures { result ≡ renamed (map renaming_view renamings.now) name.now }
+{
+    match renaming_of(renamings, name) {
+        Some(renaming) => renaming.outer,
+        None => *name,
+    }
+}
+
+fn count_inner(renamings: &[Renaming], signal: &Identifier) -> usize
+    ensures { result ≡ length (filter (λ r. bytes_eq r.inner signal.now) renamings.now) }
+{
+    renamings
+        .iter()
+        .filter(|renaming| renaming.inner.is(signal))
+        .count()
+}
+
+#[tactic(auto, using(crate::proofs::Lists::count_map))]
+fn is_renamed_twice(renamings: &[Renaming], signal: &Identifier) -> bool
+    ensures { result ≡ is_renamed_twice (map renaming_view renamings.now) signal.now }
+{
+    1 < count_inner(renamings, signal)
+}
+
+#[tactic(auto, unfolding(crate::specs::Renamings::is_misnamed))]
+fn is_misnamed(run: &Head<'_>, renamings: &[Renaming], signal: &Identifier) -> bool
+    ensures { result ≡ is_misnamed (program_of run.now) (map renaming_view renamings.now) signal.now }
+{
+    !is_declared(&run.interface, signal) || is_renamed_twice(renamings, signal)
+}
+
+fn misnamed<'a>(run: &Head<'_>, renamings: &'a [Renaming]) -> Option<&'a Renaming>
+    ensures { option_map (λ r. r.now) result ≡ find (λ r. is_misnamed (program_of run.now) (map renaming_view renamings.now) r.inner) renamings.now }
+{
+    renamings
+        .iter()
+        .find(|renaming| is_misnamed(run, renamings, &renaming.inner))
+}
+
+fn bad_in_run(renamings: &[Renaming], run: Option<&Head<'_>>) -> Option<Identifier>
+    ensures { result ≡ bad_in_run (map renaming_view renamings.now) (option_map (λ h. program_of h.now) run.entry) }
+{
+    match run {
+        Some(run) => match misnamed(run, renamings) {
+            Some(renaming) => Some(renaming.inner),
+            None => None,
+        },
+        None => None,
+    }
+}
+
+/// The check for renamings whose right name is no interface signal of the module that is run, or stands on the right
+/// twice.
+#[derive(Clone, Copy)]
+pub struct BadRename<'a> {
+    /// The modules of the library.
+    pub heads: &'a [Head<'a>],
+}
+
+impl Check for BadRename<'_> {
+    ghost use Rattle.std.specs.Prelude.{map};
+    ghost use Rattle.est_link.specs.Modules.{program_of};
+    ghost use Rattle.est_link.specs.Renamings.{bad_renaming_at};
+
+    ghost fault = { λ c. bad_renaming_at (map program_of c.heads.now) };
+
+    fn fault(&self, _home: &Head<'_>, act: &Act<'_>, _scope: &Scope<'_>) -> Option<Identifier> {
+        match act {
+            Act::Emits(_) | Act::Tests(_) | Act::Exits(_) | Act::Binds(_) => None,
+            Act::Runs(name, renamings) => bad_in_run(renamings, head_named(self.heads, name)),
+        }
+    }
+}

@@ -1,0 +1,44 @@
+//! Modules that are asked for and aren't there.
+ghost use Rattle.std.specs.Prelude.{◌≡◌, map};
+ghost use Rattle.est_link.specs.Modules.{program_of};
+ghost use Rattle.est_link.specs.Runs.{first_missing};
+
+use crate::check::{Check, first_in_bodies};
+use crate::head::{Head, head_named};
+use crate::scope::{Act, Scope};
+use est_text::identifier::Identifier;
+
+/// The check for runs of modules that aren't there.
+#[derive(Clone, Copy)]
+pub struct UnknownModule<'a> {
+    /// The modules of the library.
+    pub heads: &'a [Head<'a>],
+}
+
+impl Check for UnknownModule<'_> {
+    ghost use Rattle.std.specs.Prelude.{map};
+    ghost use Rattle.est_link.specs.Modules.{program_of};
+    ghost use Rattle.est_link.specs.Runs.{missing_at};
+
+    ghost fault = { λ c. missing_at (map program_of c.heads.now) };
+
+    fn fault(&self, _home: &Head<'_>, act: &Act<'_>, _scope: &Scope<'_>) -> Option<Identifier> {
+        match act {
+            Act::Emits(_) | Act::Tests(_) | Act::Exits(_) | Act::Binds(_) => None,
+            Act::Runs(name, _) => match head_named(self.heads, name) {
+                Some(_) => None,
+                None => Some(*name),
+            },
+        }
+    }
+}
+
+/// The main module where it isn't there; else the first module that is run and isn't there.
+pub fn first_missing<'a>(heads: &'a [Head<'a>], main: &Identifier) -> Option<Identifier>
+    ensures { result ≡ first_missing (map program_of heads.now) main.now }
+{
+    match head_named(heads, main) {
+        Some(_) => first_in_bodies(&UnknownModule { heads: &*heads }, &*heads),
+        None => Some(*main),
+    }
+}
