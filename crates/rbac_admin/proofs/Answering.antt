@@ -2,15 +2,16 @@
 use Rattle.std.proofs.Common.{◌≡◌, ◌∙◌, ◌⊎◌, sym, subst, ℕ, ◌↔◌, List, IsTrue, true, false, Bool, rules}
 use Rattle.std.specs.Prelude.{Option}
 use Rattle.std.proofs.lemmas.Option.{same_Some}
-use Rattle.refusal_rules.specs.Rules.{Refuses, Passes}
+use Rattle.refusal_rules.specs.Rules.{Unless, Refuses, Passes}
 use Rattle.refusal_rules.proofs.RuleLemmas.{refuse, pass}
 use Rattle.rbac_policy.specs.declared.commands.Entry.{Entry}
 use Rattle.rbac_policy.specs.declared.objects.Operation.TheVariants.{Administer}
 use Rattle.rbac_policy.specs.declared.objects.Object.TheVariants.{Policy}
-use Rattle.rbac_policy.specs.Facts.{May}
+use Rattle.rbac_policy.specs.Names.{NameText}
+use Rattle.rbac_policy.specs.Facts.{IsActive, May}
 use Rattle.rbac_admin.specs.declared.refusals.Refusal.{Refusal}
-use Rattle.rbac_admin.specs.declared.refusals.Refusal.TheVariants.{Permission}
-use Rattle.rbac_admin.specs.Conditions.{IsGivenBy}
+use Rattle.rbac_admin.specs.declared.refusals.Refusal.TheVariants.{Permission, NotActive}
+use Rattle.rbac_admin.specs.Conditions.{IsGivenBy, HasActive}
 use Rattle.rbac_admin.specs.PolicyStep.{no_session, no_permission}
 
 -- a test that is not passed
@@ -36,3 +37,13 @@ module _ (entries : List Entry) (session : Option ℕ) (n : ℕ) (by : IsGivenBy
       → Refuses (no_permission entries session) Refused ⊎ Passes (no_permission entries session) Next
   refuse_permission refusal given answered =
       refuse refusal (given.0, λ a. given.1 (subst (λ k. May entries k Administer Policy) (same_Some a.number n (sym a.given ∙ by.given)) a.may)) answered
+
+  pub pass_active : (role : NameText) {Refused : Refusal → Type 0} {Next : Type 0} → IsActive entries n role → Next
+      → Refuses (Unless (HasActive entries session role) (NotActive role)) Refused ⊎ Passes (Unless (HasActive entries session role) (NotActive role)) Next
+  pass_active role active then = pass (record { number = n; given = by.given; active = active }) then
+
+  pub refuse_active : (role : NameText) {Refused : Refusal → Type 0} {Next : Type 0} (refusal : Refusal)
+      → (refusal ≡ NotActive role) × (IsActive entries n role → ⊥) → Refused refusal
+      → Refuses (Unless (HasActive entries session role) (NotActive role)) Refused ⊎ Passes (Unless (HasActive entries session role) (NotActive role)) Next
+  refuse_active role refusal given answered =
+      refuse refusal (given.0, λ a. given.1 (subst (λ k. IsActive entries k role) (same_Some a.number n (sym a.given ∙ by.given)) a.active)) answered

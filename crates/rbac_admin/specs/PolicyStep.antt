@@ -107,12 +107,14 @@ abbrev pub PolicyStep : List Entry → Option ℕ → AdminCommand → Result En
 PolicyStep entries session command answer =
     Answers (policy_rules entries session command) (λ refusal. answer ≡ Err refusal) (answer ≡ Ok (entry_of session command))
 
--- the commands that `decide` answers at this stage
+-- the commands that `decide` answers at this stage: all but those that ask for separation sets
 abbrev pub is_decided : AdminCommand → Bool
-is_decided (GrantPermission role operation object) = true
-is_decided (CreateSession user roles) = true
-is_decided DeleteSession = true
-is_decided _ = false
+is_decided (DeleteRole role) = false
+is_decided (AddInheritance senior junior) = false
+is_decided (CreateDsdSet set count roles) = false
+is_decided (DeleteDsdSet set) = false
+is_decided (AddActiveRole role) = false
+is_decided _ = true
 
 -- the commands that only a session may give which has the right to administer the policy
 abbrev pub is_administrative : AdminCommand → Bool

@@ -6,8 +6,9 @@ ghost use Rattle.rbac_admin.specs.PolicyStep.{PolicyStep, is_decided};
 
 use crate::refusals::Refusal;
 use crate::rules::{
-    administers, authorized_roles, known_role, known_roles, known_user, living, new_grant,
-    number_left, room_for_grant, room_for_session, single_roles,
+    active_role, administers, authorized_roles, is_assigned, is_granted, known_edge, known_role,
+    known_roles, known_user, living, new_assignment, new_grant, new_role, new_user, number_left,
+    room_for_grant, room_for_role, room_for_session, room_for_user, single_roles,
 };
 use rbac_policy::commands::{AdminCommand, Entry, SessionId};
 use rbac_policy::names::{Name, RoleNames};
@@ -36,6 +37,156 @@ fn decide_grant(
             operation,
             object,
         },
+    })
+}
+
+fn decide_add_user(
+    policy: &Policy,
+    session: Option<SessionId>,
+    user: Name,
+) -> Result<Entry, Refusal>
+    ensures { (entries : List Entry) → StandsFor policy.now entries
+        → PolicyStep entries session (AdminCommand.AddUser user) result }
+{
+    let session = living(policy, session)?;
+    administers(policy, session)?;
+    new_user(policy, &user)?;
+    room_for_user(policy)?;
+    Ok(Entry {
+        session: Some(session),
+        command: AdminCommand::AddUser { user },
+    })
+}
+
+fn decide_delete_user(
+    policy: &Policy,
+    session: Option<SessionId>,
+    user: Name,
+) -> Result<Entry, Refusal>
+    ensures { (entries : List Entry) → StandsFor policy.now entries
+        → PolicyStep entries session (AdminCommand.DeleteUser user) result }
+{
+    let session = living(policy, session)?;
+    administers(policy, session)?;
+    known_user(policy, &user)?;
+    Ok(Entry {
+        session: Some(session),
+        command: AdminCommand::DeleteUser { user },
+    })
+}
+
+fn decide_add_role(
+    policy: &Policy,
+    session: Option<SessionId>,
+    role: Name,
+) -> Result<Entry, Refusal>
+    ensures { (entries : List Entry) → StandsFor policy.now entries
+        → PolicyStep entries session (AdminCommand.AddRole role) result }
+{
+    let session = living(policy, session)?;
+    administers(policy, session)?;
+    new_role(policy, &role)?;
+    room_for_role(policy)?;
+    Ok(Entry {
+        session: Some(session),
+        command: AdminCommand::AddRole { role },
+    })
+}
+
+fn decide_assign(
+    policy: &Policy,
+    session: Option<SessionId>,
+    user: Name,
+    role: Name,
+) -> Result<Entry, Refusal>
+    ensures { (entries : List Entry) → StandsFor policy.now entries
+        → PolicyStep entries session (AdminCommand.AssignUser user role) result }
+{
+    let session = living(policy, session)?;
+    administers(policy, session)?;
+    known_user(policy, &user)?;
+    known_role(policy, &role)?;
+    new_assignment(policy, &user, &role)?;
+    Ok(Entry {
+        session: Some(session),
+        command: AdminCommand::AssignUser { user, role },
+    })
+}
+
+fn decide_deassign(
+    policy: &Policy,
+    session: Option<SessionId>,
+    user: Name,
+    role: Name,
+) -> Result<Entry, Refusal>
+    ensures { (entries : List Entry) → StandsFor policy.now entries
+        → PolicyStep entries session (AdminCommand.DeassignUser user role) result }
+{
+    let session = living(policy, session)?;
+    administers(policy, session)?;
+    known_user(policy, &user)?;
+    known_role(policy, &role)?;
+    is_assigned(policy, &user, &role)?;
+    Ok(Entry {
+        session: Some(session),
+        command: AdminCommand::DeassignUser { user, role },
+    })
+}
+
+fn decide_revoke(
+    policy: &Policy,
+    session: Option<SessionId>,
+    role: Name,
+    operation: Operation,
+    object: Object,
+) -> Result<Entry, Refusal>
+    ensures { (entries : List Entry) → StandsFor policy.now entries
+        → PolicyStep entries session (AdminCommand.RevokePermission role operation object) result }
+{
+    let session = living(policy, session)?;
+    administers(policy, session)?;
+    known_role(policy, &role)?;
+    is_granted(policy, &role, &operation, &object)?;
+    Ok(Entry {
+        session: Some(session),
+        command: AdminCommand::RevokePermission {
+            role,
+            operation,
+            object,
+        },
+    })
+}
+
+fn decide_remove_edge(
+    policy: &Policy,
+    session: Option<SessionId>,
+    senior: Name,
+    junior: Name,
+) -> Result<Entry, Refusal>
+    ensures { (entries : List Entry) → StandsFor policy.now entries
+        → PolicyStep entries session (AdminCommand.DeleteInheritance senior junior) result }
+{
+    let session = living(policy, session)?;
+    administers(policy, session)?;
+    known_role(policy, &senior)?;
+    known_role(policy, &junior)?;
+    known_edge(policy, &senior, &junior)?;
+    Ok(Entry {
+        session: Some(session),
+        command: AdminCommand::DeleteInheritance { senior, junior },
+    })
+}
+
+fn decide_drop(policy: &Policy, session: Option<SessionId>, role: Name) -> Result<Entry, Refusal>
+    ensures { (entries : List Entry) → StandsFor policy.now entries
+        → PolicyStep entries session (AdminCommand.DropActiveRole role) result }
+{
+    let session = living(policy, session)?;
+    known_role(policy, &role)?;
+    active_role(policy, session, &role)?;
+    Ok(Entry {
+        session: Some(session),
+        command: AdminCommand::DropActiveRole { role },
     })
 }
 
@@ -69,11 +220,13 @@ fn decide_login(policy: &Policy, user: Name, roles: RoleNames) -> Result<Entry, 
 pub fn is_decided(command: &AdminCommand) -> bool
     ensures { result ≡ is_decided command.now }
 {
-    matches!(
+    !matches!(
         command,
-        AdminCommand::GrantPermission { .. }
-            | AdminCommand::CreateSession { .. }
-            | AdminCommand::DeleteSession
+        AdminCommand::DeleteRole { .. }
+            | AdminCommand::AddInheritance { .. }
+            | AdminCommand::CreateDsdSet { .. }
+            | AdminCommand::DeleteDsdSet { .. }
+            | AdminCommand::AddActiveRole { .. }
     )
 }
 
@@ -86,7 +239,15 @@ pub fn is_decided(command: &AdminCommand) -> bool
 /// - of GrantPermission: NoSession, Permission, UnknownRole, AlreadyGranted, Full of permissions;
 /// - of CreateSession: SessionsExhausted, UnknownUser, UnknownRole (the first listed), NotAuthorized (the first listed), AlreadyActive (the
 ///   first that stands a second time), Full of sessions;
-/// - of DeleteSession: NoSession.
+/// - of DeleteSession: NoSession;
+/// - of AddUser: NoSession, Permission, UserExists, Full of users;
+/// - of DeleteUser: NoSession, Permission, UnknownUser;
+/// - of AddRole: NoSession, Permission, RoleExists, Full of roles;
+/// - of AssignUser: NoSession, Permission, UnknownUser, UnknownRole, AlreadyAssigned;
+/// - of DeassignUser: NoSession, Permission, UnknownUser, UnknownRole, NotAssigned;
+/// - of RevokePermission: NoSession, Permission, UnknownRole, NotGranted;
+/// - of DeleteInheritance: NoSession, Permission, UnknownRole (the senior, then the junior), NoEdge;
+/// - of DropActiveRole: NoSession, UnknownRole, NotActive.
 pub fn decide(
     policy: &Policy,
     session: Option<SessionId>,
@@ -103,18 +264,24 @@ pub fn decide(
         } => decide_grant(policy, session, role, operation, object),
         AdminCommand::CreateSession { user, roles } => decide_login(policy, user, roles),
         AdminCommand::DeleteSession => decide_logout(policy, session),
-        AdminCommand::AddUser { .. }
-        | AdminCommand::DeleteUser { .. }
-        | AdminCommand::AddRole { .. }
-        | AdminCommand::DeleteRole { .. }
-        | AdminCommand::AssignUser { .. }
-        | AdminCommand::DeassignUser { .. }
-        | AdminCommand::RevokePermission { .. }
+        AdminCommand::AddUser { user } => decide_add_user(policy, session, user),
+        AdminCommand::DeleteUser { user } => decide_delete_user(policy, session, user),
+        AdminCommand::AddRole { role } => decide_add_role(policy, session, role),
+        AdminCommand::AssignUser { user, role } => decide_assign(policy, session, user, role),
+        AdminCommand::DeassignUser { user, role } => decide_deassign(policy, session, user, role),
+        AdminCommand::RevokePermission {
+            role,
+            operation,
+            object,
+        } => decide_revoke(policy, session, role, operation, object),
+        AdminCommand::DeleteInheritance { senior, junior } => decide_remove_edge(
+            policy, session, senior, junior,
+        ),
+        AdminCommand::DropActiveRole { role } => decide_drop(policy, session, role),
+        AdminCommand::DeleteRole { .. }
         | AdminCommand::AddInheritance { .. }
-        | AdminCommand::DeleteInheritance { .. }
         | AdminCommand::CreateDsdSet { .. }
         | AdminCommand::DeleteDsdSet { .. }
-        | AdminCommand::AddActiveRole { .. }
-        | AdminCommand::DropActiveRole { .. } => unreachable!(),
+        | AdminCommand::AddActiveRole { .. } => unreachable!(),
     }
 }

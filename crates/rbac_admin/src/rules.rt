@@ -4,8 +4,8 @@ ghost use Rattle.std.specs.Result.{MatchResult};
 ghost use Rattle.rbac_policy.specs.declared.commands.Entry.{Entry};
 ghost use Rattle.rbac_policy.specs.StandsFor.{StandsFor};
 ghost use Rattle.rbac_policy.specs.Names.{NameText};
-ghost use Rattle.rbac_policy.specs.Facts.{IsRole, IsAuthorized, IsGranted, May};
-ghost use Rattle.rbac_policy.specs.Fits.{NumbersExhausted, SessionsFull};
+ghost use Rattle.rbac_policy.specs.Facts.{IsUser, IsRole, IsAssigned, IsAuthorized, IsGranted, IsEdge, IsActive, IsLive, May};
+ghost use Rattle.rbac_policy.specs.Fits.{NumbersExhausted, UsersFull, RolesFull, SessionsFull};
 ghost use Rattle.refusal_rules.specs.Rules.{Says, Unless, Tests};
 ghost use Rattle.rbac_admin.specs.Conditions.{IsGivenBy, HasNoRoomFor, FirstListed};
 ghost use Rattle.rbac_admin.specs.PolicyStep.{no_session, unknown_user, unknown_role, unknown_listed, unauthorized_listed, repeated_listed};
@@ -92,6 +92,123 @@ pub fn room_for_grant(
         });
     }
     Ok(())
+}
+
+/// There is no such user yet.
+pub fn new_user(policy: &Policy, user: &Name) -> Result<(), Refusal>
+    ensures { (entries : List Entry) → StandsFor policy.now entries
+        → Tests (Says (Refusal.UserExists user.now) (IsUser entries user.now)) result }
+{
+    if policy.is_user(user) {
+        Err(Refusal::UserExists { user: *user })
+    } else {
+        Ok(())
+    }
+}
+
+/// There is room for another user.
+pub fn room_for_user(policy: &Policy) -> Result<(), Refusal>
+    ensures { (entries : List Entry) → StandsFor policy.now entries
+        → Tests (Says (Refusal.Full Table.Users) (UsersFull entries)) result }
+{
+    if policy.are_users_full() {
+        Err(Refusal::Full {
+            table: Table::Users,
+        })
+    } else {
+        Ok(())
+    }
+}
+
+/// There is no such role yet.
+pub fn new_role(policy: &Policy, role: &Name) -> Result<(), Refusal>
+    ensures { (entries : List Entry) → StandsFor policy.now entries
+        → Tests (Says (Refusal.RoleExists role.now) (IsRole entries role.now)) result }
+{
+    if policy.is_role(role) {
+        Err(Refusal::RoleExists { role: *role })
+    } else {
+        Ok(())
+    }
+}
+
+/// There is room for another role.
+pub fn room_for_role(policy: &Policy) -> Result<(), Refusal>
+    ensures { (entries : List Entry) → StandsFor policy.now entries
+        → Tests (Says (Refusal.Full Table.Roles) (RolesFull entries)) result }
+{
+    if policy.are_roles_full() {
+        Err(Refusal::Full {
+            table: Table::Roles,
+        })
+    } else {
+        Ok(())
+    }
+}
+
+/// The role is not assigned to the user yet.
+pub fn new_assignment(policy: &Policy, user: &Name, role: &Name) -> Result<(), Refusal>
+    ensures { (entries : List Entry) → StandsFor policy.now entries
+        → Tests (Says Refusal.AlreadyAssigned (IsAssigned entries user.now role.now)) result }
+{
+    if policy.is_assigned(user, role) {
+        Err(Refusal::AlreadyAssigned)
+    } else {
+        Ok(())
+    }
+}
+
+/// The role is assigned to the user.
+pub fn is_assigned(policy: &Policy, user: &Name, role: &Name) -> Result<(), Refusal>
+    ensures { (entries : List Entry) → StandsFor policy.now entries
+        → Tests (Unless (IsAssigned entries user.now role.now) Refusal.NotAssigned) result }
+{
+    if policy.is_assigned(user, role) {
+        Ok(())
+    } else {
+        Err(Refusal::NotAssigned)
+    }
+}
+
+/// The role itself has the permission.
+pub fn is_granted(
+    policy: &Policy,
+    role: &Name,
+    operation: &Operation,
+    object: &Object,
+) -> Result<(), Refusal>
+    ensures { (entries : List Entry) → StandsFor policy.now entries
+        → Tests (Unless (IsGranted entries role.now operation.now object.now) Refusal.NotGranted) result }
+{
+    if policy.is_granted(role, operation, object) {
+        Ok(())
+    } else {
+        Err(Refusal::NotGranted)
+    }
+}
+
+/// The edge itself is there.
+pub fn known_edge(policy: &Policy, senior: &Name, junior: &Name) -> Result<(), Refusal>
+    ensures { (entries : List Entry) → StandsFor policy.now entries
+        → Tests (Unless (IsEdge entries senior.now junior.now) Refusal.NoEdge) result }
+{
+    if policy.has_edge(senior, junior) {
+        Ok(())
+    } else {
+        Err(Refusal::NoEdge)
+    }
+}
+
+/// The role is active in the session, which lives.
+pub fn active_role(policy: &Policy, session: SessionId, role: &Name) -> Result<(), Refusal>
+    ensures { (entries : List Entry) → StandsFor policy.now entries → IsLive entries session
+        → Tests (Unless (IsActive entries session role.now) (Refusal.NotActive role.now)) result }
+{
+    if policy.is_active(session, role) {
+        Ok(())
+    } else {
+        Err(Refusal::NotActive { role: *role })
+    }
 }
 
 /// A session number is left.

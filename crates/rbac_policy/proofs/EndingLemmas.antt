@@ -1,18 +1,17 @@
 -- How many sessions live before and after a logout.
-use Rattle.std.proofs.Common.{◌≡◌, ◌≢◌, ℕ, zero, suc, ◌+◌, ◌<◌, ◌≤◌, ◌⊎◌, List, [], ◌∷◌, ◌++◌, length, inl, inr, arith, sym, ◌∙◌, ap, refl, subst}
-use Rattle.std.specs.Prelude.{Some, slice_get}
+use Rattle.std.proofs.Common.{◌≡◌, ◌≢◌, ℕ, zero, suc, ◌+◌, ◌<◌, ◌≤◌, List, [], ◌∷◌, ◌++◌, length, inl, inr, arith, sym, ◌∙◌, ap, refl}
+use Rattle.std.specs.Prelude.{Some}
 use Rattle.std.specs.List.{All, AllPairs}
 use Rattle.std.proofs.lemmas.List.{length_push}
-use Rattle.rbac_policy.specs.declared.commands.AdminCommand.TheVariants.{DeleteSession, CreateSession}
+use Rattle.rbac_policy.specs.declared.commands.AdminCommand.TheVariants.{DeleteSession}
 use Rattle.rbac_policy.specs.declared.commands.Entry.{Entry}
 use Rattle.rbac_policy.specs.declared.policy.Policy.{Policy}
 use Rattle.rbac_policy.specs.declared.sizes.TheConstants.{SESSIONS}
 use Rattle.rbac_policy.specs.Counting.{HasAtLeast}
 use Rattle.rbac_policy.specs.Facts.{IsLive}
 use Rattle.rbac_policy.specs.Leaving.{LeavesRoom}
-use Rattle.rbac_policy.specs.Names.{NameText}
 use Rattle.rbac_policy.specs.StandsFor.{StandsFor}
-use Rattle.rbac_policy.proofs.Lives.{Made, Remains, lives_after}
+use Rattle.rbac_policy.proofs.Lives.{Made, lives_after}
 use Rattle.rbac_policy.proofs.Room.{few, keeps_sessions}
 
 -- who lives after a logout lived before it, and is another session than the one that logged out

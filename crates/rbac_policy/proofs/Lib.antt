@@ -31,4 +31,6 @@ pub mod Beginning
 pub mod Growing
 pub mod Deciding
 pub mod Reading
+pub mod ReadingRoles
+pub mod ReadingOrder
 mod EndingLemmas

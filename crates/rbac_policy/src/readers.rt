@@ -1,8 +1,8 @@
 //! What a policy says of users, roles, permissions and sessions: what it is asked before a policy command is accepted.
-ghost use Rattle.std.specs.Prelude.{◌↔◌, List, IsTrue};
+ghost use Rattle.std.specs.Prelude.{◌↔◌, List, IsTrue, MatchOption};
 ghost use Rattle.rbac_policy.specs.declared.commands.Entry.{Entry};
-ghost use Rattle.rbac_policy.specs.Facts.{IsUser, IsRole, IsGranted, IsPairGranted, IsAuthorized, IsLive};
-ghost use Rattle.rbac_policy.specs.Fits.{NumbersExhausted, SessionsFull, PermissionsFull};
+ghost use Rattle.rbac_policy.specs.Facts.{IsUser, IsRole, IsAssigned, IsGranted, IsPairGranted, IsEdge, IsAtOrBelow, IsAuthorized, IsActive, Lives, IsLive};
+ghost use Rattle.rbac_policy.specs.Fits.{NumbersExhausted, UsersFull, RolesFull, SessionsFull, PermissionsFull};
 ghost use Rattle.rbac_policy.specs.StandsFor.{StandsFor};
 
 use crate::closure::below;
@@ -33,6 +33,70 @@ impl Policy {
         ensures { (entries : List Entry) → StandsFor self.now entries → (IsTrue result ↔ IsRole entries role.now) }
     {
         place_of(&self.roles, role).is_some()
+    }
+
+    /// The user of the session, if it lives.
+    pub fn user_of(&self, session: SessionId) -> Option<Name>
+        ensures { (entries : List Entry) → StandsFor self.now entries
+            → MatchOption result (IsLive entries session → ⊥) (Lives entries session) }
+    {
+        match session_of(&self.sessions, session) {
+            Some(found) => Some(found.user),
+            None => None,
+        }
+    }
+
+    /// Whether the session lives and the role is active in it.
+    pub fn is_active(&self, session: SessionId, role: &Name) -> bool
+        ensures { (entries : List Entry) → StandsFor self.now entries
+            → (IsTrue result ↔ (IsLive entries session × IsActive entries session role.now)) }
+    {
+        match session_of(&self.sessions, session) {
+            Some(found) => match place_of(&self.roles, role) {
+                Some(place) => found.active.has(place),
+                None => false,
+            },
+            None => false,
+        }
+    }
+
+    /// Whether the role is assigned to the user, not through other roles.
+    pub fn is_assigned(&self, user: &Name, role: &Name) -> bool
+        ensures { (entries : List Entry) → StandsFor self.now entries
+            → (IsTrue result ↔ IsAssigned entries user.now role.now) }
+    {
+        match place_of(&self.roles, role) {
+            Some(place) => roles_of(&self.users, user).has(place),
+            None => false,
+        }
+    }
+
+    /// Whether an edge leads from the senior to the junior, not through others.
+    pub fn has_edge(&self, senior: &Name, junior: &Name) -> bool
+        ensures { (entries : List Entry) → StandsFor self.now entries
+            → (IsTrue result ↔ IsEdge entries senior.now junior.now) }
+    {
+        match place_of(&self.roles, senior) {
+            Some(above) => match place_of(&self.roles, junior) {
+                Some(place) => self.juniors.has_edge(above, place),
+                None => false,
+            },
+            None => false,
+        }
+    }
+
+    /// Whether a chain of edges, possibly empty, leads from the senior to the junior.
+    pub fn lies_below(&self, junior: &Name, senior: &Name) -> bool
+        ensures { (entries : List Entry) → StandsFor self.now entries
+            → (IsTrue result ↔ IsAtOrBelow entries junior.now senior.now) }
+    {
+        match place_of(&self.roles, senior) {
+            Some(above) => match place_of(&self.roles, junior) {
+                Some(place) => self.juniors.below(above).has(place),
+                None => false,
+            },
+            None => *senior == *junior,
+        }
     }
 
     /// Whether the role itself has the permission.
@@ -73,6 +137,20 @@ impl Policy {
         ensures { (entries : List Entry) → StandsFor self.now entries → (IsTrue result ↔ NumbersExhausted entries) }
     {
         self.logins == LAST_SESSION
+    }
+
+    /// Whether there are as many users as there is room for.
+    pub fn are_users_full(&self) -> bool
+        ensures { (entries : List Entry) → StandsFor self.now entries → (IsTrue result ↔ UsersFull entries) }
+    {
+        free(&self.users).is_none()
+    }
+
+    /// Whether there are as many roles as there is room for.
+    pub fn are_roles_full(&self) -> bool
+        ensures { (entries : List Entry) → StandsFor self.now entries → (IsTrue result ↔ RolesFull entries) }
+    {
+        free(&self.roles).is_none()
     }
 
     /// Whether as many sessions live as there is room for.
