@@ -17,6 +17,7 @@ use Rattle.est_link.specs.Modules.{Program, program_of, program_named}
 use Rattle.est_link.specs.declared.head.Head.{Head}
 use Rattle.est_link.proofs.Lists.{program_found}
 use Rattle.est_reduce.specs.Bodies.{Body, seq, par}
+use Rattle.est_link.specs.Inner.Tables.{body_linked}
 use Rattle.est_link.specs.Inner.Joins.{joined_by, chained}
 use Rattle.est_link.specs.Linking.{interface_run, linked}
 
@@ -74,3 +75,6 @@ chained_more f g xs i x lt e = at_drop_more (chained f g) xs i x lt ∙ ap (λ y
 
 pub interface_found : (hs : List Head) (m : List ℕ) → interface_run (program_named (map program_of hs) m) ≡ interface_run (option_map program_of (find (λ (h : Head). bytes_eq h.name m) hs))
 interface_found hs m = ap interface_run (program_found hs m)
+
+pub body_found : (hs : List Head) (bodies : List ℕ → Body) (m : List ℕ) → body_linked (map program_of hs) bodies (program_named (map program_of hs) m) ≡ body_linked (map program_of hs) bodies (option_map program_of (find (λ (h : Head). bytes_eq h.name m) hs))
+body_found hs bodies m = ap (body_linked (map program_of hs) bodies) (program_found hs m)
