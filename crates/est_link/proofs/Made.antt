@@ -85,7 +85,7 @@ old_kept ps es e m old was =
     ((λ p found. more_runs (λ n. has_body es n ≡ true) (λ n. has_body (es ++ e ∷ []) n ≡ true) (has_more es e) p.body (was.0 p found)),
      (kept es e m old ∙ was.1 ∙ grown ps es e (program_named ps m) was.0))
 
-last_body : (e : Linked) (m : List ℕ) → bytes_eq e.name m ≡ true → bodies_of (e ∷ []) m ≡ body_of e.body
+pub last_body : (e : Linked) (m : List ℕ) → bytes_eq e.name m ≡ true → bodies_of (e ∷ []) m ≡ body_of e.body
 last_body e m h = ap (λ b. body_found (cond b (Some e) None)) h
 
 last_kept : (ps : List Program) (es : List Linked) (e : Linked) (m : List ℕ) → has_body es m ≡ false → bytes_eq e.name m ≡ true → IsMade ps es e → IsKept ps (es ++ e ∷ []) m
