@@ -1,5 +1,5 @@
 -- A body whose names are bound stays so where it is run.
-use Rattle.std.proofs.Common.{◌≡◌, ℕ, ◌+◌, ◌<◌, List, get_or, subst, arith}
+use Rattle.std.proofs.Common.{◌≡◌, ℕ, ◌+◌, List, get_or, subst, arith}
 use Rattle.est_kernel.specs.Term.{Name, outer, inner, Query, tick, of}
 use Rattle.est_reduce.specs.Bodies.{Body, nothing, pause, halt, emit, sustain, exit, await, present, suspend, abort, weak_abort, repeat, repeat_each, every, trap, signal, seq, par}
 use Rattle.est_link.specs.Linking.{bound, bound_name, bound_query, emitted}

@@ -4,7 +4,7 @@ use Rattle.std.proofs.Math.Seq.{drop-cons, take-suc}
 use Rattle.std.proofs.lemmas.List.{map-append}
 use Rattle.std.specs.Option.{option_or}
 use Rattle.std.specs.Str.{bytes_eq}
-use Rattle.est_link.specs.Modules.{Program, program_of, is_declared}
+use Rattle.est_link.specs.Modules.{program_of, is_declared}
 use Rattle.est_link.specs.Visible.{is_tick}
 use Rattle.est_link.specs.Duplicates.{redeclared, duplicate_of, duplicate_after}
 use Rattle.est_link.specs.declared.head.Head.{Head}

@@ -1,5 +1,5 @@
 -- Emissions by runs.
-use Rattle.std.proofs.Common.{◌≡◌, ℕ, List, Bool, Option, Some, option_map, ap, ◌∙◌}
+use Rattle.std.proofs.Common.{◌≡◌, ℕ, List, Bool, Some, option_map, ap, ◌∙◌}
 use Rattle.std.specs.List.{find}
 use Rattle.est_syntax.specs.Tree.{RenamingTree}
 use Rattle.est_link.specs.Occurrences.{Binder}

@@ -4,7 +4,7 @@ use Rattle.std.proofs.lemmas.Bool.{false≢true}
 use Rattle.std.proofs.lemmas.Slice.Eq.{bytes_eq-Decides}
 use Rattle.std.proofs.lemmas.List.Folds.{list_any-append}
 use Rattle.std.proofs.lemmas.List.{map-append, take_more}
-use Rattle.std.specs.List.{list_any, find}
+use Rattle.std.specs.List.{find}
 use Rattle.std.specs.Str.{bytes_eq}
 use Rattle.est_link.specs.Modules.{Program, program_named}
 use Rattle.est_link.specs.Bodies.{AllRuns, is_listed, AreBottomUp, IsLinked}

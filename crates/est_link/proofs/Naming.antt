@@ -1,23 +1,25 @@
 -- What names mean where they are visible.
-use Rattle.std.proofs.Common.{◌≡◌, ℕ, ◌+◌, ◌<◌, List, [], ◌∷◌, length, map, get_or, Bool, true, false, not, ◌||◌, ◌&&◌, cond, if◌then◌else◌, Option, Some, None, option_map, refl, ap, sym, ◌∙◌, subst, ⊎_elim, inl, inr, ◌⊎◌, arith, codes}
+use Rattle.std.proofs.Common.{◌≡◌, ℕ, ◌+◌, ◌<◌, List, [], ◌∷◌, length, get_or, Bool, true, false, not, ◌||◌, ◌&&◌, if◌then◌else◌, Option, Some, None, refl, ap, sym, ◌∙◌, subst, arith, codes}
 use Rattle.std.proofs.lemmas.Bool.{false≢true, true≢false}
 use Rattle.std.proofs.lemmas.List.{get_or-map}
 use Rattle.std.proofs.lemmas.List.Quantifiers.{position-Some}
-use Rattle.std.proofs.lemmas.Option.{slice_get-get_or, none-some}
+use Rattle.std.proofs.lemmas.Option.{slice_get-get_or}
 use Rattle.std.specs.List.{find, list_any, position, slice_get}
 use Rattle.std.specs.Str.{bytes_eq}
-use Rattle.est_syntax.specs.Tree.{NamesTree, RenamingTree}
-use Rattle.est_kernel.specs.Term.{Name, outer, inner, Query, tick, of}
+use Rattle.est_syntax.specs.Tree.{RenamingTree}
+use Rattle.est_kernel.specs.Term.{Query, tick}
 use Rattle.est_link.specs.Bodies.{MayEmit, MayAsk, AreBindings, IsSent}
-use Rattle.est_link.specs.Emissions.{is_refused, is_refused_in_run, refused_in_run, refused_act, renamed, callers_name, emits_by, emits_in_run, is_input_kind}
+use Rattle.est_link.specs.Emissions.{is_refused, is_refused_in_run, refused_in_run, refused_act, emits_by, emits_in_run}
+use Rattle.est_link.specs.Renamings.{renamed, callers_name, is_renamed}
+use Rattle.est_link.specs.MainRelations.{is_input}
 use Rattle.est_link.specs.Linking.{signal_at, locals_round, trap_at, of_interface, of_list, emitted, interface_bound}
-use Rattle.est_link.specs.Modules.{Program, program_named, is_declared}
+use Rattle.est_link.specs.Modules.{Program, program_named, is_declared, is_input_kind}
 use Rattle.est_link.specs.Occurrences.{Binder, signals, a_trap, runs, Occurrence}
-use Rattle.est_link.specs.Visible.{is_local, is_trap, is_visible, is_among, is_renamed, is_unbound, unknown_renaming, unknown_in_run, unknown_act}
+use Rattle.est_link.specs.Visible.{is_local, is_trap, is_visible, is_among, is_unbound, unknown_renaming, unknown_in_run, unknown_act}
 use Rattle.est_link.specs.declared.head.Declared.{Declared}
 use Rattle.est_link.specs.declared.head.Kind.TheVariants.{Input}
 use Rattle.est_link.proofs.Binding.{more_asked, more_sent}
-use Rattle.est_link.proofs.Testing.{or_parts, or_left, or_right, or_other, or_first, and_other, and_both, not_false, not_true, same_bytes, equal_bytes, none_at, any_at, found_passes, other_fails, none_found, no_place, none_has_place, place_passes, or_none_parts, map_none}
+use Rattle.est_link.proofs.Testing.{or_parts, or_other, or_first, and_other, and_both, not_false, not_true, same_bytes, equal_bytes, none_at, any_at, found_passes, other_fails, none_found, no_place, none_has_place, place_passes, or_none_parts, map_none}
 
 -- some declaration, for the place past the end
 abbrev pub nobody : Declared
@@ -83,7 +85,7 @@ global_at p (a_trap t ∷ bs) s h = global_at p bs s h
 
 -- a name that isn't local and is accepted is no input's, and not `tick`
 no_input : (p : Program) (bs : List Binder) (s : List ℕ) → is_local bs s ≡ false → is_refused p bs s ≡ false → (list_any (λ (d : Declared). bytes_eq d.name s && is_input_kind d.kind) p.interface ≡ false) × (bytes_eq s (codes "tick") ≡ false)
-unfolding is_refused
+unfolding is_refused is_input
 no_input p bs s h r = or_parts _ _ (and_other (not (is_local bs s)) _ (not_true (is_local bs s) h) r)
 
 place_sent : (em : List ℕ → List ℕ → Bool) (p : Program) (s : List ℕ) (o : Option ℕ) → position (λ (d : Declared). bytes_eq d.name s) p.interface ≡ o → is_declared p.interface s ≡ true → list_any (λ (d : Declared). bytes_eq d.name s && is_input_kind d.kind) p.interface ≡ false → em p.name s ≡ true → (l : ℕ) → MayEmit (length p.interface) (IsSent em p) l (emitted (of_interface o))

@@ -9,7 +9,7 @@ use Rattle.est_syntax.specs.declared.tree.Statement.{Statement}
 use Rattle.est_syntax.specs.declared.tree.Branches.TheViews.{out-Sequence, out-Statement}
 use Rattle.est_syntax.specs.declared.tree.Branches.TheFolds.{the_lemmas}
 use Rattle.est_link.specs.Derived.{Derived, missing, nothing, pause, halt, emit, sustain, exit, await, present, suspend, abort, weak_abort, repeat, repeat_each, every, trap, signal, run, seq, par, unit_derived, sequence_derived, statement_derived, then_units, beside_sequences}
-use Rattle.est_link.specs.Occurrences.{Binder, signals, a_trap, tests, binds, Act, Occurrence, occurrences}
+use Rattle.est_link.specs.Occurrences.{Binder, signals, a_trap, tests, binds, Occurrence, occurrences}
 use Rattle.est_link.specs.Walks.{past, passed}
 
 pub fold_append : {A B : Type 0} (f : B → A → B) (k : B) (xs ys : List A) → fold f k (xs ++ ys) ≡ fold f (fold f k xs) ys

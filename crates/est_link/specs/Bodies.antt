@@ -6,8 +6,8 @@ use Rattle.std.specs.Str.{bytes_eq}
 use Rattle.est_kernel.specs.Term.{Name, outer, inner, Query, tick, of}
 use Rattle.est_link.specs.Derived as derived
 use Rattle.est_link.specs.Derived.{Derived}
-use Rattle.est_link.specs.Modules.{Program, program_named}
-use Rattle.est_link.specs.Emissions.{IsEmitted, refused_at, is_input_kind}
+use Rattle.est_link.specs.Modules.{Program, program_named, is_input_kind}
+use Rattle.est_link.specs.Emissions.{IsEmitted, refused_at}
 use Rattle.est_link.specs.Linking.{IsLinking, emitted}
 use Rattle.est_link.specs.Occurrences.{occurrences, first_of}
 use Rattle.est_link.specs.Visible.{unknown_at}

@@ -1,17 +1,16 @@
 //! What names mean at a place in a module: the number of a binder, or a place in the interface.
-ghost use Rattle.std.specs.Prelude.{◌≡◌, ◌+◌, ◌∷◌, IfOk, map, length, option_map, get_or};
-ghost use Rattle.std.specs.List.{find, position};
+ghost use Rattle.std.specs.Prelude.{◌≡◌, ◌+◌, ◌∷◌, IfOk, length, get_or};
+ghost use Rattle.std.specs.List.{position};
 ghost use Rattle.std.specs.Str.{bytes_eq};
-ghost use Rattle.est_syntax.specs.Views.{renaming_view};
 ghost use Rattle.est_kernel.specs.Term.{tick};
 ghost use Rattle.est_link.specs.Scopes.{binders_of};
 ghost use Rattle.est_link.specs.Modules.{program_of};
 ghost use Rattle.est_reduce.specs.Views.{bound_query as query_view};
 ghost use Rattle.est_link.specs.Linking.{locals_round, signal_at, trap_at, of_interface};
-ghost use Rattle.est_link.specs.Renamings.{renamed};
 ghost use Rattle.est_link.specs.Inner.Binds.{binding_of};
 
 use crate::head::{Declared, Head};
+use crate::renamings::callers_name;
 use crate::scope::Scope;
 use est_reduce::body::{BoundSignal, BoundTest};
 use est_syntax::tree::{Names, Renaming};
@@ -145,31 +144,13 @@ pub fn trap_at(scope: &Scope<'_>, name: &Identifier) -> Result<u32, AllocError>
     }
 }
 
-/// The first renaming of a signal of the module that is run.
-fn renaming_of<'a>(renamings: &'a [Renaming], name: &Identifier) -> Option<&'a Renaming>
-    ensures { option_map (λ r. r.now) result ≡ find (λ r. bytes_eq r.inner name.now) renamings.now }
-{
-    renamings.iter().find(|renaming| renaming.inner.is(name))
-}
-
-/// The caller's name for a signal of the module that is run.
-#[tactic(auto, using(crate::proofs::Lists::renamed_is))]
-fn callers_name(renamings: &[Renaming], name: Identifier) -> Identifier
-    ensures { result ≡ renamed (map renaming_view renamings.now) name }
-{
-    match renaming_of(renamings, &name) {
-        Some(renaming) => renaming.outer,
-        None => name,
-    }
-}
-
 /// The signal that an interface signal of the module that is run stands for. Only names that are met are looked up.
 pub fn interface_bound(binding: &Binding<'_>, index: u32) -> Result<BoundTest, AllocError>
     ensures { IfOk result (λ t. query_view t ≡ get_or (binding_of binding.now) index tick) }
 {
     match binding.interface.get(index as usize) {
         Some(declared) => {
-            let name = callers_name(binding.renamings, declared.name);
+            let name = callers_name(binding.renamings, &declared.name);
             signal_at(binding.home, binding.scope, &name)
         }
         None => Ok(BoundTest::Tick),

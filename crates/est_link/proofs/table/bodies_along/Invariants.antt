@@ -2,7 +2,7 @@ use Rattle.std.proofs.Common.{◌≡◌, map, take}
 use Rattle.est_link.specs.Modules.{program_of}
 use Rattle.est_link.specs.Inner.Tables.{AreMade}
 use Rattle.est_link.specs.declared.flatten.Linked.{Linked}
-use Rattle.est_link.proofs.filling.bodies_along.Given as goal
+use Rattle.est_link.proofs.table.bodies_along.Given as goal
 
 abbrev pub invariant-loop-name : goal.invariant-loop-name
 invariant-loop-name l =

@@ -1,10 +1,10 @@
-use Rattle.std.proofs.Common.{◌≡◌, ◌∙◌, sym, ap, subst, map, take, ◌++◌, ◌∷◌, [], refl, List}
-use Rattle.std.proofs.lemmas.List.{get_or_default, take_more}
+use Rattle.std.proofs.Common.{◌∙◌, sym, ap, subst, map, []}
+use Rattle.std.proofs.lemmas.List.{get_or_default}
 use Rattle.est_link.specs.Modules.{program_of, program_named}
 use Rattle.est_link.specs.Inner.Tables.{AreMade, none, next, body_linked, bodies_of}
 use Rattle.est_link.specs.declared.flatten.Linked.{Linked}
 use Rattle.est_link.proofs.Made.{next_made, named_more}
-use Rattle.est_link.proofs.filling.bodies_along.Goals as goal
+use Rattle.est_link.proofs.table.bodies_along.Goals as goal
 
 pub loop-name-init : goal.loop-name-init
 loop-name-init c =
