@@ -1,4 +1,1 @@
-pub mod RunLemmas
-pub mod WritingLemmas
-pub mod CutLemmas
 pub mod RefusalLemmas

@@ -9,7 +9,7 @@ use Rattle.access_core.specs.declared.reply.Reply.TheVariants as reply
 use Rattle.access_core.specs.Answering.{IsRefused}
 use Rattle.access_core.specs.Desk.{DeskState, AdminStep, DeskStep}
 use Rattle.access_core.specs.Needs.{IsAccepted}
-use Rattle.wire_lines.specs.declared.lines.TheConstants.{LINE_BYTES}
+use Rattle.line_reader.specs.declared.lines.TheConstants.{LINE_BYTES}
 use Rattle.wire_lines.specs.declared.request.Request.{Request}
 use Rattle.wire_lines.specs.declared.request.Request.TheVariants.{Login, Logout, Grant, Load, Offer, Step, Look}
 use Rattle.wire_lines.specs.Requests.{IsReadAs, IsRequest}

@@ -4,9 +4,9 @@ ghost use Rattle.access_core.specs.Desk.{opening_desk};
 ghost use Rattle.client_loop.specs.LineSteps.{with_login, Tells, TellsNothing, HangsUp};
 
 use crate::answer::{answer, hang_up};
-use crate::serving::Answerer;
 use access_core::reply::Reply;
 use access_core::single::Single;
+use line_reader::serving::Answerer;
 use rbac_policy::commands::SessionId;
 use std::alloc::{AllocError, Global};
 

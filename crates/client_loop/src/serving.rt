@@ -1,136 +1,45 @@
-//! A connection, over any reader and writer, and whatever answers its lines.
-ghost use Rattle.std.specs.Prelude.{◌≡◌, ℕ, List, [], MatchResult, IfOk, IfErr, OnOk, map};
-ghost use Rattle.std.specs.Io.KnownBytes.{Appends, prepend_known};
-ghost use Rattle.std.specs.List.{concat};
-ghost use Rattle.client_loop.specs.Serving.{BetweenLines, between, Exchange, Runs, KnownCuts, WritesFront, Refuses, Turns, Serves};
+//! A connection to its end, over any reader and writer, and whatever answers its lines.
+ghost use Rattle.std.specs.Prelude.{◌≡◌, ◌⊎◌, [], true};
+ghost use Rattle.line_reader.specs.Meters.{IsStopped};
+ghost use Rattle.line_reader.specs.Serving.{between, Serves};
+ghost use Rattle.line_reader.specs.declared.serving.Why.TheVariants as why;
+ghost use Rattle.client_loop.specs.Serving.{too_long_text};
 
-use access_core::refusal::Refusal;
-use access_core::reply::Reply;
-use std::alloc::{AllocError, Global};
+use line_reader::meter::{MeteredReader, MeteredWriter};
+use line_reader::serving;
+use line_reader::serving::{Answerer, Why};
+use std::alloc::Global;
 use std::io::{Read, Write};
-use wire_lines::lines::{LineFault, next_line};
-use wire_lines::reply::reply_line;
 
-/// What answers the lines of a connection.
-pub trait Answerer {
-    /// A line was answered by this text.
-    ghost tells: { Self → List ℕ → List ℕ → Self → Type 0 };
+/// The answer to an over-long line.
+const TOO_LONG: &str = "{\"code\":1,\"fault\":\"TooLong\"}\n";
 
-    /// A line was answered by nothing, since memory was refused.
-    ghost fails: { Self → List ℕ → Self → Type 0 };
-
-    /// The answer to a line, which comes without its LF.
-    fn answer(&mut self, alloc: Global, line: &[u8]) -> Result<Vec<u8>, AllocError>
-        ensures { MatchResult result
-            (λ text. tells self.old line.now text.items self.new)
-            (λ _. fails self.old line.now self.new) };
-}
-
-/// Why a connection ended.
-#[derive(Clone, Copy, PartialEq, Eq, Debug)]
-pub enum End {
-    /// The reader is at its end, and each line was answered.
-    Closed,
-    /// A line was longer than 65,536 bytes.
-    TooLong,
-    /// The reader failed.
-    ReadFault,
-    /// The writer failed, or took nothing.
-    WriteFault,
-    /// Memory was refused.
-    Memory,
-}
-
-/// Writes a text, in parts where the writer takes no more at once.
-fn put<W: Write>(writer: &mut W, text: &[u8]) -> Result<(), End>
-    ensures ok { OnOk result (Appends (W.contents writer.old) (W.contents writer.new) text.now) }
-    ensures err { IfErr result (λ end. (end ≡ End.WriteFault)
-        × WritesFront (W.contents writer.old) (W.contents writer.new) text.now) }
+/// The answer to an over-long line, from a constant: it takes no memory.
+fn too_long_line() -> &'static [u8]
+    ensures { result.now ≡ too_long_text }
 {
-    let mut rest = text;
-    while !rest.is_empty() {
-        match writer.write(rest) {
-            Ok(0) | Err(_) => return Err(End::WriteFault),
-            Ok(count) => rest = rest.split_at(count).1,
-        }
-    }
-    match writer.flush() {
-        Ok(()) => Ok(()),
-        Err(_) => Err(End::WriteFault),
-    }
+    TOO_LONG.as_bytes()
 }
 
-/// Answers an over-long line, which ends the connection.
-fn refuse<W: Write>(alloc: Global, writer: &mut W) -> End
-    ensures { Refuses (W.contents writer.old) result (W.contents writer.new) }
-{
-    let Ok(text) = reply_line(alloc, &Reply::Refused(Refusal::TooLong)) else {
-        return End::Memory;
-    };
-    match put(writer, text.as_slice()) {
-        Ok(()) => End::TooLong,
-        Err(end) => end,
-    }
-}
-
-/// Answers the next line of what is held and what the reader has left, or says why the connection ends.
-fn turn<R: Read, W: Write, A: Answerer>(
-    alloc: Global,
-    held: &mut Vec<u8>,
-    reader: &mut R,
-    writer: &mut W,
-    desk: &mut A,
-) -> Result<(), End>
-    ensures { Turns A.tells A.fails
-        (between (prepend_known held.old.items (R.remaining reader.old))
-        (W.contents writer.old) desk.old)
-        result
-        (between (prepend_known held.new.items (R.remaining reader.new))
-        (W.contents writer.new) desk.new) }
-{
-    let line = match next_line(held, reader) {
-        Ok(Some(line)) => line,
-        Ok(None) => return Err(End::Closed),
-        Err(LineFault::TooLong) => return Err(refuse(alloc, writer)),
-        Err(LineFault::Read) => return Err(End::ReadFault),
-        Err(LineFault::Memory) => return Err(End::Memory),
-    };
-    let Ok(text) = desk.answer(alloc, line.as_slice()) else {
-        return Err(End::Memory);
-    };
-    put(writer, text.as_slice())
-}
-
-/// Serves a connection to its end: each line that the reader gives is answered by the desk, and the answer is written before the next line is
-/// read.
+/// Serves a connection to its end: each line that the reader gives is answered by the desk, in turn. Answers are gathered, and are written
+/// before a read that could wait and before the end. An over-long line is answered TooLong, and ends the connection.
 pub fn serve<R: Read, W: Write, A: Answerer>(
     alloc: Global,
-    reader: &mut R,
-    writer: &mut W,
+    reader: &mut MeteredReader<R>,
+    writer: &mut MeteredWriter<W>,
     desk: &mut A,
-) -> End
-    ensures { Serves A.tells A.fails
-        (between (R.remaining reader.old) (W.contents writer.old) desk.old)
-        result desk.new (W.contents writer.new) }
+) -> Why
+    // or memory was refused before anything was read
+    ensures serves { Serves A.tells A.fails too_long_text
+        (between (R.remaining reader.old.device) desk.old)
+        result desk.new (W.contents writer.old.device) (W.contents writer.new.device) [] []
+        ⊎ ((result ≡ why.Memory) × (reader.new ≡ reader.old) × (writer.new ≡ writer.old)
+        × (desk.new ≡ desk.old)) }
+    ensures read_fault { result ≡ why.ReadFault → IsStopped reader.new.failed reader.new.left }
+    ensures write_fault { result ≡ why.WriteFault → writer.new.failed ≡ true }
 {
-    let mut held = Vec::new(alloc);
-    for _ in 0..u64::MAX {
-        if let Err(end) = turn(alloc, &mut held, reader, writer, desk) {
-            return end;
-        }
-    }
-    End::ReadFault
+    serving::serve(alloc, reader, writer, desk, too_long_line())
 }
-
-/// Whatever answers the lines: the lines that are answered are those of the bytes in turn, and what is written is their answers in turn.
-pub fn lines_are_answered_in_turn<A: Answerer>()
-    ensures lines { (before after : BetweenLines A) (exchanges : List Exchange)
-        → Runs A.tells before exchanges after
-        → KnownCuts before.ahead (map (λ e. e.line) exchanges) after.ahead }
-    ensures texts { (before after : BetweenLines A) (exchanges : List Exchange)
-        → Runs A.tells before exchanges after
-        → Appends before.written after.written (concat (map (λ e. e.text) exchanges)) }
-{}
 
 #[cfg(test)]
 mod tests;

@@ -2,8 +2,8 @@
 use Rattle.std.specs.Prelude.{◌≡◌, ℕ, Result, Ok, Err, ⊤}
 use Rattle.estserve.specs.declared.fault.Fault.{Fault}
 use Rattle.estserve.specs.declared.fault.Fault.TheVariants as fault
-use Rattle.client_loop.specs.declared.serving.End.{End}
-use Rattle.client_loop.specs.declared.serving.End.TheVariants as end
+use Rattle.line_reader.specs.declared.serving.Why.{Why}
+use Rattle.line_reader.specs.declared.serving.Why.TheVariants as why
 
 -- the status of a fault: 2 for the words, and else 1
 abbrev pub status_of : Fault → ℕ
@@ -19,10 +19,10 @@ IsOfWords fault.Memory = Unit {0}
 IsOfWords _ = ⊥
 
 -- what the end of a connection means for the program
-abbrev pub IsOutcome : End → Result ⊤ Fault → Type 0
-IsOutcome end.Closed (Ok _) = Unit {0}
-IsOutcome end.TooLong (Ok _) = Unit {0}
-IsOutcome end.ReadFault (Err f) = f ≡ fault.Read
-IsOutcome end.WriteFault (Err f) = f ≡ fault.Write
-IsOutcome end.Memory (Err f) = f ≡ fault.Memory
+abbrev pub IsOutcome : Why → Result ⊤ Fault → Type 0
+IsOutcome why.Closed (Ok _) = Unit {0}
+IsOutcome why.TooLong (Ok _) = Unit {0}
+IsOutcome why.ReadFault (Err f) = f ≡ fault.Read
+IsOutcome why.WriteFault (Err f) = f ≡ fault.Write
+IsOutcome why.Memory (Err f) = f ≡ fault.Memory
 IsOutcome _ _ = ⊥

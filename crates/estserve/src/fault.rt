@@ -2,7 +2,7 @@
 ghost use Rattle.std.specs.Prelude.{◌≡◌};
 ghost use Rattle.estserve.specs.Faults.{status_of, IsOutcome};
 
-use client_loop::serving::End;
+use line_reader::serving::Why;
 use thiserror::Error;
 
 /// A fault of the program. Its text goes to standard error.
@@ -32,14 +32,14 @@ impl Fault {
 }
 
 /// What the end of a connection means for the program: a line over its limit is no fault.
-pub fn outcome(end: End) -> Result<(), Fault>
-    ensures { IsOutcome end result }
+pub fn outcome(why: Why) -> Result<(), Fault>
+    ensures { IsOutcome why result }
 {
-    match end {
-        End::Closed | End::TooLong => Ok(()),
-        End::ReadFault => Err(Fault::Read),
-        End::WriteFault => Err(Fault::Write),
-        End::Memory => Err(Fault::Memory),
+    match why {
+        Why::Closed | Why::TooLong => Ok(()),
+        Why::ReadFault => Err(Fault::Read),
+        Why::WriteFault => Err(Fault::Write),
+        Why::Memory => Err(Fault::Memory),
     }
 }
 
@@ -50,18 +50,18 @@ mod tests {
 
     #[test]
     fn statuses_of_ends(rt: HostRuntime) -> Result<(), Fail> {
-        for (end, wanted) in [
-            (End::Closed, 0),
-            (End::TooLong, 0),
-            (End::ReadFault, 1),
-            (End::WriteFault, 1),
-            (End::Memory, 1),
+        for (why, wanted) in [
+            (Why::Closed, 0),
+            (Why::TooLong, 0),
+            (Why::ReadFault, 1),
+            (Why::WriteFault, 1),
+            (Why::Memory, 1),
         ] {
-            let status = match outcome(end) {
+            let status = match outcome(why) {
                 Ok(()) => 0,
                 Err(fault) => fault.status(),
             };
-            assert_eq!(rt; status, wanted, "{end:?}");
+            assert_eq!(rt; status, wanted, "{why:?}");
         }
         Ok(())
     }

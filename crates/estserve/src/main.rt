@@ -13,6 +13,7 @@ use access_core::refusal::Refusal;
 use access_core::reply::Reply;
 use client_loop::connection::Connection;
 use client_loop::serving::serve;
+use line_reader::meter::{MeteredReader, MeteredWriter};
 use std::env;
 use std::process::ExitCode;
 
@@ -31,9 +32,11 @@ fn script(rt: &HostRuntime) -> Result<(), Fault> {
     let Ok(mut connection) = Connection::open(alloc) else {
         return Err(Fault::Memory);
     };
-    let end = serve(alloc, &mut rt.stdin(), &mut rt.stdout(), &mut connection);
+    let mut reader = MeteredReader::new(rt.stdin());
+    let mut writer = MeteredWriter::new(rt.stdout());
+    let why = serve(alloc, &mut reader, &mut writer, &mut connection);
     let left = connection.end();
-    outcome(end)?;
+    outcome(why)?;
     match left {
         Some(Reply::Refused(Refusal::Memory)) => Err(Fault::Memory),
         _ => Ok(()),

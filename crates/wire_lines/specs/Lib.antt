@@ -1,4 +1,3 @@
 pub mod Requests
 pub mod Replies
-pub mod Lines
 pub mod Inner

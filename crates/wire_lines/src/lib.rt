@@ -1,10 +1,9 @@
-//! Lines: bytes cut at LF, the request that a line asks for, and the line that a reply is.
+//! Lines: the request that a line asks for, and the line that a reply is.
 //!
-//! `lines` cuts what any reader gives into lines. `reading` gives the request that a line asks for, exactly where it asks for one, and tells a
+//! `reading` gives the request that a line asks for, exactly where it asks for one, and tells a
 //! line that is no JSON from one that is no request. `reply` writes a reply as its one text.
 #![tactic(auto)]
 
-pub mod lines;
 pub mod reading;
 pub mod reply;
 pub mod request;

@@ -1,15 +1,15 @@
 //! What one connection is answered, line by line, in the worked examples.
 use super::{Turn, answer, hang_up, hold_untold};
 use crate::connection::Connection;
-use crate::serving::Answerer;
 use access_core::refusal::Refusal;
 use access_core::reply::{Change, Reply};
 use access_core::single::Single;
+use line_reader::lines::LINE_BYTES;
+use line_reader::serving::Answerer;
 use rbac_policy::commands::{AdminCommand, SessionId};
 use std::alloc::Global;
 use std::process::Abort;
 use std::test::Fail;
-use wire_lines::lines::LINE_BYTES;
 
 /// A line, and the answer that is wanted.
 type Turns<'a> = &'a [(&'a str, &'a str)];
