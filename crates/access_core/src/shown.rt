@@ -25,7 +25,12 @@ fn may_observe(policy: &Policy, slot: SlotNumber, session: SessionId, name: &Ide
 }
 
 /// The signals of the interface that the session may observe in the slot, as a mask.
-pub fn observed(policy: &Policy, slot: SlotNumber, session: SessionId, interface: &Interface) -> u64
+pub fn find_observed(
+    policy: &Policy,
+    slot: SlotNumber,
+    session: SessionId,
+    interface: &Interface,
+) -> u64
     ensures { (entries : List Entry) → StandsFor policy.now entries → Sees entries session slot interface.now (bits result) }
 {
     let declarations = interface.declarations();
@@ -39,7 +44,7 @@ pub fn observed(policy: &Policy, slot: SlotNumber, session: SessionId, interface
 }
 
 /// The signals that are seen, in the order of declaration, each with whether it is present.
-pub fn statuses(
+pub fn list_statuses(
     alloc: Global,
     interface: &Interface,
     seen: u64,
@@ -60,14 +65,18 @@ pub fn statuses(
 }
 
 /// Those of the signals that are seen.
-pub fn seen_of(seen: u64, signals: u64) -> u64
+pub fn keep_seen(seen: u64, signals: u64) -> u64
     ensures { (place : ℕ) → bits result place ≡ (bits seen place && bits signals place) }
 {
     mask::common(seen, signals)
 }
 
 /// The names of the signals, in the order of declaration.
-pub fn names(alloc: Global, interface: &Interface, signals: u64) -> Result<SignalNames, AllocError>
+pub fn list_names(
+    alloc: Global,
+    interface: &Interface,
+    signals: u64,
+) -> Result<SignalNames, AllocError>
     ensures { IfOk result (λ names. names ≡ map (name_at interface.now) (filter (bits signals) (places_of interface.now))) }
 {
     let declarations = interface.declarations();

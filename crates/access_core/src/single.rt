@@ -117,7 +117,7 @@ fn take_in(policy: &mut Policy, entries: &mut PolicyJournal, entry: Entry) -> Re
 }
 
 /// The reply to the accepted entry, of this change or a login, that the policy took in last.
-fn accepted(policy: &Policy, change: Option<Change>) -> Reply
+fn answer_accepted(policy: &Policy, change: Option<Change>) -> Reply
     ensures { (before : List Entry) (entry : Entry) → StandsFor policy.now (before ++ entry ∷ []) → change ≡ change_of entry.command
         → result ≡ accepted_reply before entry.command }
 {
@@ -132,7 +132,7 @@ fn accepted(policy: &Policy, change: Option<Change>) -> Reply
 }
 
 /// An empty slot.
-fn empty(alloc: Global, number: u8) -> Slot
+fn make_slot(alloc: Global, number: u8) -> Slot
     requires { number < SLOTS }
     ensures { result ≡ empty_slot number }
 {
@@ -143,7 +143,7 @@ fn empty(alloc: Global, number: u8) -> Slot
 }
 
 /// Where the slot of this number stands, if there is one.
-fn slot_at(number: u64) -> Option<usize>
+fn find_slot(number: u64) -> Option<usize>
     ensures { MatchOption result (SLOTS ≤ number) (λ place. (place ≡ number) × (number < SLOTS)) }
 {
     let place = number;
@@ -155,26 +155,26 @@ fn slot_at(number: u64) -> Option<usize>
 }
 
 /// Sixteen empty slots.
-fn empty_slots(alloc: Global) -> [Slot; SLOTS as usize]
+fn make_slots(alloc: Global) -> [Slot; SLOTS as usize]
     ensures { result ≡ opening_desk.slots }
 {
     [
-        empty(alloc, 0),
-        empty(alloc, 1),
-        empty(alloc, 2),
-        empty(alloc, 3),
-        empty(alloc, 4),
-        empty(alloc, 5),
-        empty(alloc, 6),
-        empty(alloc, 7),
-        empty(alloc, 8),
-        empty(alloc, 9),
-        empty(alloc, 10),
-        empty(alloc, 11),
-        empty(alloc, 12),
-        empty(alloc, 13),
-        empty(alloc, 14),
-        empty(alloc, 15),
+        make_slot(alloc, 0),
+        make_slot(alloc, 1),
+        make_slot(alloc, 2),
+        make_slot(alloc, 3),
+        make_slot(alloc, 4),
+        make_slot(alloc, 5),
+        make_slot(alloc, 6),
+        make_slot(alloc, 7),
+        make_slot(alloc, 8),
+        make_slot(alloc, 9),
+        make_slot(alloc, 10),
+        make_slot(alloc, 11),
+        make_slot(alloc, 12),
+        make_slot(alloc, 13),
+        make_slot(alloc, 14),
+        make_slot(alloc, 15),
     ]
 }
 
@@ -187,7 +187,7 @@ impl Single {
         Ok(Single {
             policy: Policy::opening(),
             entries,
-            slots: empty_slots(alloc),
+            slots: make_slots(alloc),
         })
     }
 
@@ -215,7 +215,7 @@ impl Single {
         }
         let change = change_of(&entry.command);
         match take_in(&mut self.policy, &mut self.entries, entry) {
-            Ok(()) => accepted(&self.policy, change),
+            Ok(()) => answer_accepted(&self.policy, change),
             Err(_) => Reply::Refused(Refusal::Memory),
         }
     }
@@ -240,7 +240,7 @@ impl Single {
         if !self.policy.lives(session) {
             return Reply::Refused(Refusal::NoSession);
         }
-        let Some(place) = slot_at(number) else {
+        let Some(place) = find_slot(number) else {
             return Reply::Refused(Refusal::NoSlot);
         };
         let slot = &mut self.slots[place];

@@ -15,7 +15,7 @@ use crate::command::SlotCommand;
 use crate::conversions::of_reactor;
 use crate::refusal::Refusal;
 use crate::reply::Reply;
-use crate::shown::{names, observed, seen_of, statuses};
+use crate::shown::{find_observed, keep_seen, list_names, list_statuses};
 use est_kernel::state::Stuck;
 use est_text::identifier::Identifier;
 use rbac_policy::commands::SessionId;
@@ -72,7 +72,7 @@ fn stamp(policy: &Policy, session: SessionId) -> Stamp
 }
 
 /// What the session is shown of an instant of the reactor.
-fn looked(
+fn show_instant(
     alloc: Global,
     policy: &Policy,
     slot: SlotNumber,
@@ -85,9 +85,9 @@ fn looked(
         reactor.now result reactor.now }
 {
     let interface = reactor.interface();
-    let seen = observed(policy, slot, session, interface);
+    let seen = find_observed(policy, slot, session, interface);
     match reactor.shown(instant, seen) {
-        Ok(shown) => match statuses(alloc, interface, shown.mask, shown.present) {
+        Ok(shown) => match list_statuses(alloc, interface, shown.mask, shown.present) {
             Ok(signals) => Reply::Look {
                 instant,
                 signals,
@@ -100,7 +100,7 @@ fn looked(
 }
 
 /// The refusal of a step that has no reaction: it names the undecided outputs that the session may observe.
-fn undecided_refusal(
+fn refuse_stuck(
     alloc: Global,
     policy: &Policy,
     slot: SlotNumber,
@@ -113,16 +113,16 @@ fn undecided_refusal(
         → no_memory.refuses result ⊎ NamesUndecided entries slot session reactor.now result }
 {
     let interface = reactor.interface();
-    let seen = observed(policy, slot, session, interface);
-    let undecided = seen_of(seen, stuck.undecided);
-    match names(alloc, interface, undecided) {
+    let seen = find_observed(policy, slot, session, interface);
+    let undecided = keep_seen(seen, stuck.undecided);
+    match list_names(alloc, interface, undecided) {
         Ok(undecided) => Refusal::Stuck { undecided },
         Err(_) => Refusal::Memory,
     }
 }
 
 /// Offers the signal to the reactor.
-fn offered(reactor: &mut Reactor, stamp: Stamp, signal: &Identifier) -> Reply
+fn offer_signal(reactor: &mut Reactor, stamp: Stamp, signal: &Identifier) -> Reply
     ensures loaded { is_loaded reactor.new ≡ true }
     ensures step { Offers stamp signal.now reactor.old result reactor.new }
 {
@@ -136,7 +136,7 @@ fn offered(reactor: &mut Reactor, stamp: Stamp, signal: &Identifier) -> Reply
 }
 
 /// Commits the instant: the reply to the step, and the reactor afterwards.
-fn committed(settled: Settled, stamp: Stamp) -> (Reply, Reactor)
+fn commit_step(settled: Settled, stamp: Stamp) -> (Reply, Reactor)
     requires { (next : Term) × IsOutcome settled.journal settled.outputs next }
     ensures loaded { is_loaded result.1 ≡ true }
     ensures step { ByRules (no_memory ▸ journal_full settled.journal ▸ accept) (Steps stamp) settled.journal result.0 result.1 }
@@ -155,7 +155,7 @@ fn committed(settled: Settled, stamp: Stamp) -> (Reply, Reactor)
 }
 
 /// Settles the instant and commits it: the reply to the step, and the reactor afterwards.
-fn settled(
+fn settle_step(
     alloc: Global,
     policy: &Policy,
     slot: SlotNumber,
@@ -167,16 +167,16 @@ fn settled(
         → ByRules (step_rules entries slot session opened) (Steps (stamp_of entries session)) opened result.0 result.1 }
 {
     match opened.settle() {
-        Ok(settled) => committed(settled, stamp(policy, session)),
+        Ok(settled) => commit_step(settled, stamp(policy, session)),
         Err((stuck, reactor)) => {
-            let refusal = undecided_refusal(alloc, policy, slot, session, &reactor, stuck);
+            let refusal = refuse_stuck(alloc, policy, slot, session, &reactor, stuck);
             (Reply::Refused(refusal), reactor)
         }
     }
 }
 
 /// Steps the reactor: the reply, and the reactor afterwards.
-fn stepped(
+fn step_reactor(
     alloc: Global,
     policy: &Policy,
     slot: SlotNumber,
@@ -188,7 +188,7 @@ fn stepped(
         → ByRules (step_rules entries slot session reactor) (Steps (stamp_of entries session)) reactor result.0 result.1 }
 {
     match reactor.open() {
-        Ok(opened) => settled(alloc, policy, slot, session, opened),
+        Ok(opened) => settle_step(alloc, policy, slot, session, opened),
         Err((refusal, reactor)) => (Reply::Refused(of_reactor(refusal)), reactor),
     }
 }
@@ -260,7 +260,7 @@ impl Slot {
             self.old.journal result self.new.journal }
     {
         if let Content::Loaded(reactor) = &mut self.content {
-            return offered(reactor, stamp, signal);
+            return offer_signal(reactor, stamp, signal);
         }
         Reply::Refused(Refusal::Empty)
     }
@@ -278,7 +278,13 @@ impl Slot {
                 Reply::Refused(Refusal::Empty)
             }
             Content::Loaded(reactor) => {
-                let (reply, reactor) = stepped(self.alloc, policy, self.number, session, reactor);
+                let (reply, reactor) = step_reactor(
+                    self.alloc,
+                    policy,
+                    self.number,
+                    session,
+                    reactor,
+                );
                 self.content = Content::Loaded(reactor);
                 reply
             }
@@ -292,7 +298,7 @@ impl Slot {
     {
         match &self.content {
             Content::Empty(_) => Reply::Refused(Refusal::Empty),
-            Content::Loaded(reactor) => looked(
+            Content::Loaded(reactor) => show_instant(
                 self.alloc,
                 policy,
                 self.number,
@@ -317,7 +323,7 @@ fn permission_of(slot: SlotNumber, command: &SlotCommand) -> Option<(Operation, 
 }
 
 /// Whether the session lives and may give the command to the slot, and else why not.
-fn allowed(
+fn check_access(
     policy: &Policy,
     session: SessionId,
     slot: SlotNumber,
@@ -353,7 +359,7 @@ pub fn decide_slot(
     ensures step { (entries : List Entry) → StandsFor policy.now entries
         → SlotStep entries slot.old.number session command slot.old.journal result slot.new.journal }
 {
-    if let Err(refusal) = allowed(policy, session, slot.number(), &command) {
+    if let Err(refusal) = check_access(policy, session, slot.number(), &command) {
         return Reply::Refused(refusal);
     }
     match command {

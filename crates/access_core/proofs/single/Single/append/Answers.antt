@@ -37,7 +37,7 @@ returns c =
       | in-Ok w ↦
           let stands : StandsFor c.take_in.new.policy (entries ++ c.args.entry ∷ []) = rw w.in-Ok.ensures.1 after in
           pass (record {}) (record {
-            replied = w.result-is ∙ w.accepted.ensures entries c.args.entry stands c.change_of-change.ensures;
+            replied = w.result-is ∙ w.answer_accepted.ensures entries c.args.entry stands c.change_of-change.ensures;
             appended = ap desk w.in-Ok.ensures.0;
           })
       | in-Err w ↦ refuse Memory refl (record { replied = w.result-is; stays = ap desk w.in-Err.ensures.0 })

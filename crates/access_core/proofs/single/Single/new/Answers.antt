@@ -6,5 +6,5 @@ use Rattle.access_core.proofs.single.Single.new.Goals as goal
 pub invariant_of-result : goal.invariant_of-result
 invariant_of-result c = (
   rw c.in_ok-entries.ensures c.opening-2.ensures.stands,
-  subst AreSlots (sym c.empty_slots.ensures) opening_slots,
+  subst AreSlots (sym c.make_slots.ensures) opening_slots,
 )

@@ -4,4 +4,4 @@ use Rattle.access_core.proofs.slot.Slot.step.Goals as goal
 pub returns-in-Loaded-clause-step : goal.returns-in-Loaded-clause-step
 returns-in-Loaded-clause-step c = λ entries stands.
     let held = rw (← c.in-Loaded.ensures.value) at c.self.invariant in
-    rw (← c.self.view_is, ← c.in-Loaded.ensures.value) (pass held (c.stepped-reply.ensures.step entries stands))
+    rw (← c.self.view_is, ← c.in-Loaded.ensures.value) (pass held (c.step_reactor-reply.ensures.step entries stands))

@@ -2,8 +2,8 @@ use Rattle.std.proofs.Common.{◌∙◌, sym, get_or}
 use Rattle.est_kernel.specs.Bits.{bits}
 use Rattle.access_core.specs.Shown.{present_at}
 use Rattle.access_core.proofs.Places.{shown_more, same_more, read_there}
-use Rattle.access_core.proofs.shown.statuses.Goals.{then-has+in_ok-push, else-has}
-use Rattle.access_core.proofs.shown.statuses.Goals as goal
+use Rattle.access_core.proofs.shown.list_statuses.Goals.{then-has+in_ok-push, else-has}
+use Rattle.access_core.proofs.shown.list_statuses.Goals as goal
 
 pub loop-place-preserved : goal.loop-place-preserved
 loop-place-preserved c = elim c.if-has.branch [

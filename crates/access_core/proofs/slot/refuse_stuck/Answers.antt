@@ -6,7 +6,7 @@ use Rattle.reactor_core.specs.Meaning.{Running}
 use Rattle.access_core.specs.declared.refusal.Refusal.TheVariants.{Stuck}
 use Rattle.access_core.specs.Shown.{Sees, name_at, places_of, names_of}
 use Rattle.reactor_core.proofs.OneMeaning.{same_running}
-use Rattle.access_core.proofs.slot.undecided_refusal.Goals as goal
+use Rattle.access_core.proofs.slot.refuse_stuck.Goals as goal
 
 pub returns-in-Ok : goal.returns-in-Ok
 returns-in-Ok c = λ entries stands.
@@ -17,9 +17,9 @@ returns-in-Ok c = λ entries stands.
     inr (record {
       undecided = c.args.stuck.undecided;
       none = none;
-      sees = bits c.observed-seen.result;
-      observes = subst (λ (ds : List Declaration). Sees entries c.args.session c.args.slot ds (bits c.observed-seen.result)) same (c.observed-seen.ensures entries stands);
+      sees = bits c.find_observed-seen.result;
+      observes = subst (λ (ds : List Declaration). Sees entries c.args.session c.args.slot ds (bits c.find_observed-seen.result)) same (c.find_observed-seen.ensures entries stands);
       named = ap Stuck (c.in-Ok.ensures
-          ∙ ap (λ p. map (name_at c.interface-interface.result.now) (filter p (places_of c.interface-interface.result.now))) (fun_ext c.seen_of-undecided.ensures)
-          ∙ ap (λ (ds : List Declaration). names_of ds (bits c.observed-seen.result) c.args.stuck.undecided) same);
+          ∙ ap (λ p. map (name_at c.interface-interface.result.now) (filter p (places_of c.interface-interface.result.now))) (fun_ext c.keep_seen-undecided.ensures)
+          ∙ ap (λ (ds : List Declaration). names_of ds (bits c.find_observed-seen.result) c.args.stuck.undecided) same);
     })

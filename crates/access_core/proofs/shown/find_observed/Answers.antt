@@ -3,8 +3,8 @@ use Rattle.std.proofs.lemmas.Option.{slice_get_within}
 use Rattle.est_kernel.specs.Bits.{bits}
 use Rattle.access_core.proofs.Places.{marks_with, marks_without, marks_none, marks_of, read_there}
 use Rattle.est_kernel.proofs.Masks.{bits_zero}
-use Rattle.access_core.proofs.shown.observed.Goals.{then-may_observe, else-may_observe}
-use Rattle.access_core.proofs.shown.observed.Goals as goal
+use Rattle.access_core.proofs.shown.find_observed.Goals.{then-may_observe, else-may_observe}
+use Rattle.access_core.proofs.shown.find_observed.Goals as goal
 
 pub loop-place-init : goal.loop-place-init
 loop-place-init c = record { none = λ place h. bits_zero place; marks = λ entries stands. marks_none }

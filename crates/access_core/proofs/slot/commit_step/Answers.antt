@@ -2,7 +2,7 @@ use Rattle.std.proofs.Common.{◌∙◌, ap}
 use Rattle.reactor_core.specs.Meaning.{is_loaded}
 use Rattle.reactor_core.proofs.OneMeaning.{is_loaded_where}
 use Rattle.access_core.proofs.Stepping.{commit_accepted, commit_refused}
-use Rattle.access_core.proofs.slot.committed.Goals as goal
+use Rattle.access_core.proofs.slot.commit_step.Goals as goal
 
 pub returns-in-Ok-clause-step : goal.returns-in-Ok-clause-step
 returns-in-Ok-clause-step c =

@@ -1,6 +1,6 @@
 use Rattle.std.proofs.Common.{◌≡◌, ◌∙◌, sym, refl, true, Some}
 use Rattle.access_core.specs.Needs.{permission_of}
-use Rattle.access_core.proofs.slot.allowed.Goals as goal
+use Rattle.access_core.proofs.slot.check_access.Goals as goal
 
 pub returns : goal.returns
 returns c = λ entries stands.

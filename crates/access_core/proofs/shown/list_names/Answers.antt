@@ -2,8 +2,8 @@ use Rattle.std.proofs.Common.{◌∙◌, sym, get_or}
 use Rattle.est_kernel.specs.Bits.{bits}
 use Rattle.access_core.specs.Shown.{name_at}
 use Rattle.access_core.proofs.Places.{names_more, same_more, read_there}
-use Rattle.access_core.proofs.shown.names.Goals.{then-has+in_ok-push, else-has}
-use Rattle.access_core.proofs.shown.names.Goals as goal
+use Rattle.access_core.proofs.shown.list_names.Goals.{then-has+in_ok-push, else-has}
+use Rattle.access_core.proofs.shown.list_names.Goals as goal
 
 pub loop-place-preserved : goal.loop-place-preserved
 loop-place-preserved c = elim c.if-has.branch [

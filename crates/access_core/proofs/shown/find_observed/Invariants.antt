@@ -6,7 +6,7 @@ use Rattle.rbac_policy.specs.declared.objects.Object.TheVariants.{Signal}
 use Rattle.rbac_policy.specs.Facts.{May}
 use Rattle.rbac_policy.specs.StandsFor.{StandsFor}
 use Rattle.access_core.proofs.Places.{Marks}
-use Rattle.access_core.proofs.shown.observed.Given as goal
+use Rattle.access_core.proofs.shown.find_observed.Given as goal
 
 abbrev pub invariant-loop-place : goal.invariant-loop-place
 invariant-loop-place l = record {

@@ -1,7 +1,7 @@
 use Rattle.std.proofs.Common.{◌∙◌, ap}
 use Rattle.reactor_core.specs.Meaning.{is_loaded}
 use Rattle.reactor_core.proofs.OneMeaning.{is_loaded_where}
-use Rattle.access_core.proofs.slot.offered.Goals as goal
+use Rattle.access_core.proofs.slot.offer_signal.Goals as goal
 
 pub returns-in-Err-clause-loaded : goal.returns-in-Err-clause-loaded
 returns-in-Err-clause-loaded c =

@@ -1,4 +1,0 @@
-use Rattle.access_core.proofs.slot.stepped.Goals as goal
-
-pub returns-in-Ok-clause-step : goal.returns-in-Ok-clause-step
-returns-in-Ok-clause-step c = λ entries stands. rw c.in-Ok.ensures at c.settled.ensures.step entries stands
