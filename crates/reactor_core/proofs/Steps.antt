@@ -28,10 +28,11 @@ use Rattle.reactor_core.specs.declared.refusal.Refusal.{Refusal}
 use Rattle.reactor_core.specs.declared.refusal.Refusal.TheVariants.{NoInstant}
 use Rattle.reactor_core.specs.Reacting.{ReactsWith}
 use Rattle.reactor_core.specs.Meaning.{entry, instant, after_all, load_after, instants_after, offers_after, offers_of, with_place, mask_of, ModuleOf, Running, Runs, Leaves, loaded, offered, stepped}
-use Rattle.reactor_core.specs.Standing.{IsRunning, IsNextState}
+use Rattle.reactor_core.specs.Standing.{IsRunning, IsNextState, RefusesName}
 use Rattle.reactor_core.specs.Instants.{IsOutcome, HasNoOutcome, AddsInstant}
 use Rattle.reactor_core.proofs.OneMeaning.{same_running}
-use Rattle.reactor_core.specs.Answers.{HasRoom, RefusesEntry, RefusesName, IsSignal, OfferAnswer, ShownAnswer, within_mask}
+use Rattle.reactor_core.proofs.AnswerLemmas.{name_refused, name_passes, entry_refused, entry_passes}
+use Rattle.reactor_core.specs.Answers.{HasRoom, RefusesEntry, IsSignal, entry_rules, OfferAnswer, ShownAnswer, within_mask}
 
 -- what one more entry makes
 pub after_snoc : {A : Type 0} (after : A → Action → A) (value : A) (before : List SlotEntry) (e : SlotEntry)
@@ -202,7 +203,7 @@ module _ {journal : List SlotEntry} {place : ℕ} {state : State} {pending : ℕ
   offer_refused i w stamp name e h same = record {
     running = running i.load pending instants;
     runs = runs_here i;
-    given = record { why = inl h; stays = same };
+    given = name_refused _ i.load.kernel.interface pending name (entry_rules journal) e h (refl, same);
   }
 
   pub offer_not_added : (i : IsRunning journal place state pending instants) (w : List SlotEntry) (stamp : Stamp) (name : List ℕ) (e : Refusal) (n : ℕ)
@@ -210,7 +211,7 @@ module _ {journal : List SlotEntry} {place : ℕ} {state : State} {pending : ℕ
   offer_not_added i w stamp name e n s new h same = record {
     running = running i.load pending instants;
     runs = runs_here i;
-    given = record { why = inr (record { can = record { place = n; input = s; new = new }; refused = h }); stays = same };
+    given = name_passes _ i.load.kernel.interface pending name (entry_rules journal) n s new (entry_refused journal e h (refl, same));
   }
 
   pub offer_added : (i : IsRunning journal place state pending instants) (w : List SlotEntry) (stamp : Stamp) (name : List ℕ) (n : ℕ)
@@ -219,7 +220,7 @@ module _ {journal : List SlotEntry} {place : ℕ} {state : State} {pending : ℕ
   offer_added i w stamp name n s new room e = record {
     running = running i.load pending instants;
     runs = runs_here i;
-    given = record { can = record { place = n; input = s; new = new }; room = room; added = e };
+    given = name_passes _ i.load.kernel.interface pending name (entry_rules journal) n s new (entry_passes journal room (refl, e));
   }
 
   pub instant_shown : (i : IsRunning journal place state pending instants) (n mask : ℕ) (x : PastInstant)

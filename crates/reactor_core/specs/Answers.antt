@@ -1,10 +1,11 @@
 -- What a reactor answers: the reply to each command on a journal, and the journal afterwards.
-use Rattle.std.specs.Prelude.{◌≡◌, ◌⊎◌, ℕ, ◌-◌, ◌<◌, ◌≤◌, true, false, List, [], ◌∷◌, ◌++◌, length, Some, None, Result, MatchResult, slice_get, bit_or, bit_and}
+use Rattle.std.specs.Prelude.{◌≡◌, ◌⊎◌, ℕ, ◌-◌, ◌<◌, ◌≤◌, true, false, List, [], ◌∷◌, ◌++◌, length, Some, Result, Ok, Err, MatchResult, slice_get, bit_or, bit_and}
 use Rattle.est_kernel.specs.Interfaces.{declares}
 use Rattle.est_kernel.specs.declared.interface.Declaration.{Declaration}
 use Rattle.est_kernel.specs.declared.interface.Kind.{Kind}
-use Rattle.est_kernel.specs.declared.interface.Kind.TheVariants.{Input, Output}
+use Rattle.est_kernel.specs.declared.interface.Kind.TheVariants.{Input}
 use Rattle.est_kernel.specs.Bits.{bits}
+use Rattle.refusal_rules.specs.Rules.{Rule, Rules, Unless, MayRefuse, accept, ◌▸◌, ◌▸▸◌, Answers}
 use Rattle.reactor_core.specs.declared.entry.Stamp.{Stamp}
 use Rattle.reactor_core.specs.declared.entry.Load.{Load as LoadEntry}
 use Rattle.reactor_core.specs.declared.entry.PastInstant.{PastInstant}
@@ -30,90 +31,74 @@ pub record IsSignal (interface : List Declaration) (name : List ℕ) (place : �
   pub there : place_of interface name ≡ Some place
   pub kind_is : declares kind interface place ≡ true
 
--- the name is that of an input that is not pending
-pub record CanOffer (r : Running) (name : List ℕ) : Type 0 where
-  pub place : ℕ
-  pub input : IsSignal r.interface name place Input
-  pub new : bits r.pending place ≡ false
-
 -- why no further entry is added
 abbrev pub RefusesEntry : List SlotEntry → Refusal → Type 0
 RefusesEntry journal JournalFull = IsFull journal
 RefusesEntry journal Memory = HasRoom journal
 RefusesEntry journal _ = ⊥
 
--- the name is that of an output
-pub record IsOutputName (interface : List Declaration) (name : List ℕ) : Type 0 where
+-- the name is that of a signal
+pub record IsSignalName (interface : List Declaration) (name : List ℕ) : Type 0 where
   pub place : ℕ
-  pub output : IsSignal interface name place Output
+  pub there : place_of interface name ≡ Some place
 
--- the name is that of an input that is pending
-pub record IsPendingName (interface : List Declaration) (pending : ℕ) (name : List ℕ) : Type 0 where
+-- the name is that of an input
+pub record IsInputName (interface : List Declaration) (name : List ℕ) : Type 0 where
   pub place : ℕ
   pub input : IsSignal interface name place Input
-  pub offered : bits pending place ≡ true
 
--- why a name can't be offered: no signal has it, it is an output's, or its signal is pending
-abbrev pub RefusesName : List Declaration → (pending : ℕ) → List ℕ → Refusal → Type 0
-RefusesName interface pending name UnknownSignal = place_of interface name ≡ None
-RefusesName interface pending name NotInput = IsOutputName interface name
-RefusesName interface pending name AlreadyOffered = IsPendingName interface pending name
-RefusesName interface pending name _ = ⊥
+-- the name is that of an input that is not pending
+pub record CanOffer (interface : List Declaration) (pending : ℕ) (name : List ℕ) : Type 0 where
+  pub place : ℕ
+  pub input : IsSignal interface name place Input
+  pub new : bits pending place ≡ false
 
--- the name can be offered, but the journal takes no entry
-pub record IsUnrecordedOffer (journal : List SlotEntry) (r : Running) (name : List ℕ) (e : Refusal) : Type 0 where
-  pub can : CanOffer r name
-  pub refused : RefusesEntry journal e
+-- the rules for an entry, in the order in which they are asked: the journal has room, and memory may be refused
+abbrev pub entry_rules : List SlotEntry → Rules Refusal
+entry_rules journal = Unless (HasRoom journal) JournalFull ▸ MayRefuse Memory ▸ accept
 
--- why an offer of the name is refused: by its name, or else by the journal
-abbrev pub RefusesOffer : List SlotEntry → Running → List ℕ → Refusal → Type 0
-RefusesOffer journal r name e = RefusesName r.interface r.pending name e ⊎ IsUnrecordedOffer journal r name e
+-- the rules for the name of an offer: it is that of a signal, of an input, and of one that is not pending
+abbrev pub name_rules : List Declaration → (pending : ℕ) → (name : List ℕ) → Rules Refusal
+name_rules interface pending name =
+    Unless (IsSignalName interface name) UnknownSignal
+    ▸ Unless (IsInputName interface name) NotInput
+    ▸ Unless (CanOffer interface pending name) AlreadyOffered
+    ▸ accept
 
--- an offer is accepted: its entry is added
-pub record AcceptsOffer (before : List SlotEntry) (stamp : Stamp) (r : Running) (name : List ℕ) (after : List SlotEntry) : Type 0 where
-  pub can : CanOffer r name
-  pub room : HasRoom before
-  pub added : after ≡ before ++ entry stamp (Offer name) ∷ []
+-- the rules for an offer: those for its name, and then those for its entry
+abbrev pub offer_rules : List SlotEntry → Running → (name : List ℕ) → Rules Refusal
+offer_rules journal r name = name_rules r.interface r.pending name ▸▸ entry_rules journal
 
--- an offer is refused, and the journal stays as it was
-pub record RejectsOffer (before : List SlotEntry) (r : Running) (name : List ℕ) (refusal : Refusal) (after : List SlotEntry) : Type 0 where
-  pub why : RefusesOffer before r name refusal
-  pub stays : after ≡ before
-
--- the answer to an offer of the name, and the journal afterwards
+-- the answer to an offer of the name, and the journal afterwards: by the rules a refusal, and the journal as it was, or the entry is
+-- added
 pub record OfferAnswer (before : List SlotEntry) (stamp : Stamp) (name : List ℕ) (answer : Result (Unit {0}) Refusal) (after : List SlotEntry) : Type 0 where
   pub running : Running
   pub runs : Runs before running
-  pub given : MatchResult answer (λ _. AcceptsOffer before stamp running name after) (λ e. RejectsOffer before running name e after)
+  pub given : Answers (offer_rules before running name)
+      (λ refusal. (answer ≡ Err refusal) × (after ≡ before))
+      ((answer ≡ Ok (record {})) × (after ≡ before ++ entry stamp (Offer name) ∷ []))
 
--- the text gives the module of this name, but the journal takes no entry
-pub record IsUnrecordedLoad (journal : List SlotEntry) (main text : List ℕ) (e : Refusal) : Type 0 where
+-- the text has a fault, or it gives the module of this name, and so its load entry, which is handed on
+abbrev pub gives_module : (main text : List ℕ) → Rule Refusal
+gives_module main text = record { refuses = IsLoadFault main text; passes = (load : LoadEntry) × IsLoadOf main text load }
+
+-- the rules for a load of the text's module of this name: that of the text, and then those for the entry
+abbrev pub load_rules : List SlotEntry → (main text : List ℕ) → Rules Refusal
+load_rules journal main text = gives_module main text ▸ entry_rules journal
+
+-- the load's entry is added
+pub record AddsLoad (before : List SlotEntry) (stamp : Stamp) (main text : List ℕ) (after : List SlotEntry) : Type 0 where
   pub load : LoadEntry
   pub read : IsLoadOf main text load
-  pub refused : RefusesEntry journal e
-
--- why a load of the text's module of this name is refused: the text gives no such module, or else by the journal
-abbrev pub RefusesLoad : List SlotEntry → (main text : List ℕ) → Refusal → Type 0
-RefusesLoad journal main text e = IsLoadFault main text e ⊎ IsUnrecordedLoad journal main text e
-
--- a load is accepted: the text gives the module of this name, and its entry is added
-pub record AcceptsLoad (before : List SlotEntry) (stamp : Stamp) (main text : List ℕ) (after : List SlotEntry) : Type 0 where
-  pub load : LoadEntry
-  pub read : IsLoadOf main text load
-  pub room : HasRoom before
   pub added : after ≡ before ++ entry stamp (Load load) ∷ []
 
--- a load is refused, and the journal is given back as it was
-pub record RejectsLoad (before : List SlotEntry) (main text : List ℕ) (refusal : Refusal) (after : List SlotEntry) : Type 0 where
-  pub why : RefusesLoad before main text refusal
-  pub stays : after ≡ before
-
--- the answer to a load of the text's module of this name: the reactor, with the journal afterwards, or the refusal and the journal
+-- the answer to a load of the text's module of this name: by the rules a refusal, and the journal as it was, or the reactor, with the
+-- journal afterwards
 abbrev pub LoadAnswer : (before : List SlotEntry) → Stamp → (main text : List ℕ) → Result (List SlotEntry) (Refusal × List SlotEntry) → Type 0
 LoadAnswer before stamp main text answer =
-    MatchResult answer
-    (AcceptsLoad before stamp main text)
-    (λ refused. RejectsLoad before main text refused.0 refused.1)
+    Answers (load_rules before main text)
+    (λ refusal. answer ≡ Err (refusal, before))
+    ((after : List SlotEntry) × (answer ≡ Ok after) × AddsLoad before stamp main text after)
 
 -- the n-th instant since the load
 pub record IsInstant (journal : List SlotEntry) (n : ℕ) (i : PastInstant) : Type 0 where

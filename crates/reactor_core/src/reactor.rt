@@ -9,9 +9,9 @@ ghost use Rattle.est_meaning.specs.States.{IsState};
 ghost use Rattle.est_rounds.specs.Contract.{AreInputs, IsReaction, HasNoReaction};
 ghost use Rattle.reactor_core.specs.Meaning.{Running, Runs, last_load, is_loaded, instants_of, entry};
 ghost use Rattle.reactor_core.specs.Loading.{IsLoadOf, IsLoadFault};
-ghost use Rattle.reactor_core.specs.Standing.{LoadsAt, IsRunning, IsNextState};
+ghost use Rattle.reactor_core.specs.Standing.{LoadsAt, IsRunning, IsNextState, RefusesName};
 ghost use Rattle.reactor_core.specs.Instants.{HasNoOutcome, AddsInstant, OpenAnswer};
-ghost use Rattle.reactor_core.specs.Answers.{LoadAnswer, OfferAnswer, ShownAnswer, HasRoom, RefusesEntry, RefusesName, IsSignal};
+ghost use Rattle.reactor_core.specs.Answers.{LoadAnswer, OfferAnswer, ShownAnswer, HasRoom, RefusesEntry, IsSignal};
 
 use crate::entry::{Action, Load, PastInstant, SlotEntry, Stamp};
 use crate::journal::{JOURNAL_ENTRIES, Journal};

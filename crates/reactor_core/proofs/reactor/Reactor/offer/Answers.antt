@@ -2,7 +2,8 @@ use Rattle.std.proofs.Common.{ap, ◌∙◌, subst, List, ◌≡◌, refl}
 use Rattle.std.proofs.lemmas.Result.{err_from_is_err_and}
 use Rattle.est_kernel.specs.declared.interface.Declaration.{Declaration}
 use Rattle.est_kernel.specs.declared.interface.Kind.TheVariants.{Input}
-use Rattle.reactor_core.specs.Answers.{IsSignal, RefusesName}
+use Rattle.reactor_core.specs.Answers.{IsSignal}
+use Rattle.reactor_core.specs.Standing.{RefusesName}
 use Rattle.reactor_core.proofs.Steps.{offers, offer_refused, offer_not_added, offer_added}
 use Rattle.reactor_core.proofs.reactor.Reactor.offer.Goals as goal
 
