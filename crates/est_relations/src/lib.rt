@@ -5,4 +5,8 @@
 //! memory.
 #![tactic(auto)]
 
+pub mod laws;
+pub mod pending;
+pub mod refusal;
 pub mod relations;
+mod violations;

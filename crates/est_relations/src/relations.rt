@@ -1,8 +1,11 @@
 //! The relations of a module, in the order of its text.
 
 ghost use Rattle.std.specs.Prelude.{◌≡◌, ◌++◌, ◌∷◌, [], ◌≤◌, ◌<◌, length, map, IfOk, OnErr, IsTrue, ◌↔◌};
+ghost use Rattle.std.specs.Prelude.{option_map, nat_eq};
 ghost use Rattle.std.specs.List.{find, list_any};
+ghost use Rattle.est_kernel.specs.Bits.{bits};
 
+use est_kernel::mask;
 use est_kernel::statement::InterfaceSignal;
 use std::alloc::{AllocError, Global};
 use std::marker::Model;
@@ -43,6 +46,41 @@ impl Members {
         self.signals.push(member)?;
         Ok(())
     }
+
+    /// Whether the signal is a member.
+    #[tactic(auto, using(crate::proofs::Members::any_place))]
+    pub fn has(&self, signal: InterfaceSignal) -> bool
+        ensures { result ≡ list_any (nat_eq signal.index) self.now }
+    {
+        is_among(&self.signals, signal)
+    }
+
+    /// The first member, in written order, that is in the mask.
+    #[tactic(auto, using(crate::proofs::Members::find_place))]
+    pub fn first_in(&self, signals: u64) -> Option<InterfaceSignal>
+        ensures { option_map (λ s. s.index) result ≡ find (bits signals) self.now }
+    {
+        match first_among(&self.signals, signals) {
+            Some(member) => Some(*member),
+            None => None,
+        }
+    }
+}
+
+/// Whether the signal is one of these.
+fn is_among(members: &[InterfaceSignal], signal: InterfaceSignal) -> bool
+    ensures { result ≡ list_any (λ s. nat_eq signal.index s.index) members.now }
+{
+    members.iter().any(|member| signal.index == member.index)
+}
+
+/// The first of these that is in the mask.
+fn first_among(members: &[InterfaceSignal], signals: u64) -> Option<&InterfaceSignal>
+    ensures { option_map (λ s. s.now) result ≡ find (λ s. bits signals s.index) members.now }
+{
+    members
+        .iter()
+        .find(|member| mask::has(signals, member.index))
 }
 
 /// A relation between inputs.

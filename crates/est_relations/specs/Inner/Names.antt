@@ -1,0 +1,36 @@
+-- Names that are offered (this project's own form).
+use Rattle.std.specs.Prelude.{◌≡◌, ℕ, true, false, List, Some, None, Ok, Err}
+use Rattle.est_kernel.specs.Bits.{bits}
+use Rattle.est_kernel.specs.Interfaces.{inputs_of}
+use Rattle.est_kernel.specs.declared.interface.Declaration.{Declaration}
+use Rattle.est_relations.specs.Offers.{PendingInputs, place_of, IsOutputName, IsPendingName, KeepsExclusions, OfferAnswer}
+use Rattle.est_relations.specs.declared.relations.Relation.{Relation}
+use Rattle.est_relations.specs.declared.refusal.Refusal.{Refusal}
+use Rattle.est_relations.specs.declared.refusal.Refusal.TheVariants.{UnknownSignal, NotInput, AlreadyOffered}
+
+-- the name is that of the input at this place, which is not pending
+pub record IsNewInput (interface : List Declaration) (mask : ℕ) (name : List ℕ) (place : ℕ) : Type 0 where
+  pub there : place_of interface name ≡ Some place
+  pub input : inputs_of interface place ≡ true
+  pub new : bits mask place ≡ false
+
+-- why a name is no input's that is not pending
+abbrev pub RefusesName : List Declaration → (mask : ℕ) → List ℕ → Refusal → Type 0
+RefusesName interface mask name UnknownSignal = place_of interface name ≡ None
+RefusesName interface mask name NotInput = IsOutputName interface name
+RefusesName interface mask name AlreadyOffered = IsPendingName interface mask name
+RefusesName interface mask name _ = ⊥
+
+-- the pending inputs of this mask
+abbrev pub pending_inputs : List Declaration → List Relation → (mask : ℕ) → PendingInputs
+pending_inputs interface relations mask = record { interface = interface; relations = relations; mask = mask }
+
+-- the input of the name joins the pending ones, which are these afterwards
+pub record JoinsAs (interface : List Declaration) (relations : List Relation) (mask : ℕ) (name : List ℕ) (after : ℕ) : Type 0 where
+  pub answer : OfferAnswer (pending_inputs interface relations mask) name (Ok (record {})) (pending_inputs interface relations after)
+  pub kept : KeepsExclusions interface relations after
+
+-- why the name may not come
+abbrev pub RefusesOffer : List Declaration → List Relation → (mask : ℕ) → List ℕ → Refusal → Type 0
+RefusesOffer interface relations mask name e =
+    OfferAnswer (pending_inputs interface relations mask) name (Err e) (pending_inputs interface relations mask)

@@ -1,0 +1,11 @@
+//! What the definitions mean. Each function does nothing: its contract is the law.
+ghost use Rattle.std.specs.Prelude.{◌≡◌, ◌↔◌, ℕ, Bool, true, List, nat_eq};
+ghost use Rattle.std.specs.List.{list_any};
+ghost use Rattle.est_relations.specs.Keeping.{has_one_at_most};
+
+/// An exclusion holds exactly where any two members that are present are one, however often each is written.
+pub fn exclusions_are_of_sets()
+    ensures { (present : ℕ → Bool) (members : List ℕ) → (has_one_at_most present members ≡ true)
+        ↔ ((a b : ℕ) → list_any (nat_eq a) members ≡ true → list_any (nat_eq b) members ≡ true
+        → present a ≡ true → present b ≡ true → a ≡ b) }
+{}

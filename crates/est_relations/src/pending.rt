@@ -1,0 +1,156 @@
+//! The inputs that are offered and not yet taken by an instant.
+ghost use Rattle.std.specs.Prelude.{◌≡◌, ◌<◌, ◌≤◌, length, List, true, false, MatchOption, MatchResult};
+ghost use Rattle.est_kernel.specs.Bits.{bits};
+ghost use Rattle.est_kernel.specs.Interfaces.{inputs_of};
+ghost use Rattle.est_relations.specs.Inner.Names.{IsNewInput, RefusesName, JoinsAs, RefusesOffer};
+ghost use Rattle.est_relations.specs.Keeping.{AreOverInputs};
+ghost use Rattle.est_relations.specs.Offers.{KeepsExclusions, OfferAnswer, ReadyAnswer, with_place};
+
+use crate::refusal::Refusal;
+use crate::relations::Relations;
+use crate::violations::{first_broken, first_lacking};
+use est_kernel::interface::{Interface, Kind};
+use est_kernel::mask;
+use est_kernel::statement::InterfaceSignal;
+use est_text::identifier::Identifier;
+use std::marker::Model;
+
+/// The pending inputs of a module. It borrows the module's interface and relations, takes no memory, and keeps each exclusion at
+/// all times. A contract sees interface, relations, and the mask of the inputs.
+#[derive(Drop)]
+pub struct Pending<'a> {
+    interface: &'a Interface,
+    relations: &'a Relations,
+    inputs: u64,
+}
+
+impl<'a> Model for Pending<'a> {
+    ghost use Rattle.est_relations.specs.Offers.{PendingInputs, KeepsExclusions};
+
+    ghost Value = { PendingInputs };
+
+    ghost view = { λ p. record { interface = p.interface.now; relations = p.relations.now; mask = p.inputs } };
+
+    ghost invariant = { λ p. KeepsExclusions p.interface.now p.relations.now p.inputs };
+}
+
+/// The input of this name, where it is not pending.
+fn offered(
+    interface: &Interface,
+    pending: u64,
+    name: &Identifier,
+) -> Result<InterfaceSignal, Refusal>
+    ensures { MatchResult result
+        (λ s. IsNewInput interface.now pending name.now s.index)
+        (RefusesName interface.now pending name.now) }
+{
+    let Some(signal) = interface.find(name) else {
+        return Err(Refusal::UnknownSignal);
+    };
+    if interface.kind(signal) == Kind::Output {
+        return Err(Refusal::NotInput);
+    }
+    if mask::has(pending, signal.index) {
+        return Err(Refusal::AlreadyOffered);
+    }
+    Ok(signal)
+}
+
+/// The mask with this signal.
+fn with_signal(mask: u64, signal: InterfaceSignal) -> u64
+    ensures { result ≡ with_place mask signal.index }
+{
+    mask | 1 << signal.index
+}
+
+/// The pending inputs with the one of this name, where it may come.
+fn joined(
+    interface: &Interface,
+    relations: &Relations,
+    pending: u64,
+    name: &Identifier,
+) -> Result<u64, Refusal>
+    requires { KeepsExclusions interface.now relations.now pending }
+    ensures { MatchResult result
+        (JoinsAs interface.now relations.now pending name.now)
+        (RefusesOffer interface.now relations.now pending name.now) }
+{
+    let signal = offered(interface, pending, name)?;
+    match first_broken(relations.as_slice(), pending, signal) {
+        Some(broken) => Err(Refusal::Excluded {
+            relation: broken.relation,
+            signal: interface.get(broken.signal).name,
+        }),
+        None => Ok(with_signal(pending, signal)),
+    }
+}
+
+impl<'a> Pending<'a> {
+    /// Nothing is pending. That the relations are between inputs of the interface is the caller's condition: a `Flat` of
+    /// `est_reduce` says so of its own.
+    pub fn new(interface: &'a Interface, relations: &'a Relations) -> Pending<'a>
+        requires { AreOverInputs interface.now relations.now }
+        ensures { result ≡ record { interface = interface.now; relations = relations.now; mask = 0 } }
+    {
+        Pending {
+            interface,
+            relations,
+            inputs: 0,
+        }
+    }
+
+    /// These inputs are pending: for an owner that keeps the mask alone, as `inputs` gave it.
+    pub fn resume(interface: &'a Interface, relations: &'a Relations, inputs: u64) -> Pending<'a>
+        requires { KeepsExclusions interface.now relations.now inputs }
+        ensures { result ≡ record { interface = interface.now; relations = relations.now; mask = inputs } }
+    {
+        Pending {
+            interface,
+            relations,
+            inputs,
+        }
+    }
+
+    /// The pending inputs, as a mask over the interface in the order of declaration.
+    pub fn inputs(&self) -> u64
+        ensures inputs { result ≡ self.now.mask }
+        ensures kept { KeepsExclusions self.now.interface self.now.relations self.now.mask }
+    {
+        self.inputs
+    }
+
+    /// Makes the input of this name pending, where that keeps each exclusion. It is refused, and nothing changes, by the first of
+    /// these that holds: no signal has the name, it is an output's, its signal is pending already, or an exclusion would not hold.
+    pub fn offer(&mut self, name: &Identifier) -> Result<(), Refusal>
+        ensures { OfferAnswer self.old name.now result self.new }
+    {
+        match joined(self.interface, self.relations, self.inputs, name) {
+            Ok(inputs) => {
+                self.inputs = inputs;
+                Ok(())
+            }
+            Err(refusal) => Err(refusal),
+        }
+    }
+
+    /// Whether an instant may take the pending inputs: it may exactly where each relation holds of them. It is refused by the
+    /// first that doesn't, which is an implication.
+    pub fn ready(&self) -> Result<(), Refusal>
+        ensures { ReadyAnswer self.now result }
+    {
+        match first_lacking(self.relations.as_slice(), self.inputs) {
+            Some(lacking) => Err(Refusal::Implied {
+                relation: lacking.relation,
+                missing: self.interface.get(lacking.signal).name,
+            }),
+            None => Ok(()),
+        }
+    }
+
+    /// Takes all inputs away.
+    pub fn clear(&mut self)
+        ensures { self.new ≡ record { interface = self.old.interface; relations = self.old.relations; mask = 0 } }
+    {
+        self.inputs = 0;
+    }
+}

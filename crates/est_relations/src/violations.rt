@@ -1,0 +1,102 @@
+//! The first relation that does not hold.
+ghost use Rattle.std.specs.Prelude.{◌≡◌, ◌≢◌, ◌<◌, ◌≤◌, ◌+◌, length, List, true, false, MatchOption, MatchResult, IfSome, option_map, position, Some, None};
+ghost use Rattle.std.specs.List.{list_all};
+ghost use Rattle.est_kernel.specs.Bits.{bits};
+ghost use Rattle.est_relations.specs.Keeping.{keeps, keeps_exclusion};
+ghost use Rattle.est_relations.specs.Inner.Violations.{Excludes, Lacks};
+ghost use Rattle.est_relations.specs.Offers.{with_place, IsFirstBroken, IsFirstLacking};
+
+use crate::relations::Relation;
+use est_kernel::mask;
+use est_kernel::statement::InterfaceSignal;
+
+/// A relation that does not hold, and the signal by which it doesn't.
+#[derive(Clone, Copy)]
+pub struct Broken {
+    /// Its number, counted from 1.
+    pub relation: u8,
+    /// Of an exclusion its first pending member, of an implication the one that is missing.
+    pub signal: InterfaceSignal,
+}
+
+/// The pending signal that excludes this one, which is not pending, by the relation.
+fn excluded_by(
+    relation: &Relation,
+    pending: u64,
+    signal: InterfaceSignal,
+) -> Option<InterfaceSignal>
+    requires kept { keeps_exclusion (bits pending) relation.now ≡ true }
+    requires new { bits pending signal.index ≡ false }
+    ensures { MatchOption result
+        (keeps_exclusion (bits (with_place pending signal.index)) relation.now ≡ true)
+        (λ m. Excludes relation.now pending signal.index m.index) }
+{
+    match relation {
+        Relation::Exclusion(members) => {
+            if members.has(signal) {
+                members.first_in(pending)
+            } else {
+                None
+            }
+        }
+        Relation::Implication(_, _) => None,
+    }
+}
+
+/// The first exclusion that would not hold with this signal, which is not pending.
+pub fn first_broken(relations: &[Relation], pending: u64, signal: InterfaceSignal) -> Option<Broken>
+    requires few { length relations.now ≤ 32 }
+    requires kept { list_all (keeps_exclusion (bits pending)) relations.now ≡ true }
+    requires new { bits pending signal.index ≡ false }
+    ensures { MatchOption result
+        (list_all (keeps_exclusion (bits (with_place pending signal.index))) relations.now ≡ true)
+        (λ b. IsFirstBroken relations.now pending signal.index b.relation b.signal.index) }
+{
+    for (index, relation) in relations.iter().enumerate() {
+        if let Some(member) = excluded_by(relation, pending, signal) {
+            return Some(Broken {
+                relation: index as u8 + 1,
+                signal: member,
+            });
+        }
+    }
+    None
+}
+
+/// The signal that is missing by the relation.
+fn lacking_by(relation: &Relation, pending: u64) -> Option<InterfaceSignal>
+    requires kept { keeps_exclusion (bits pending) relation.now ≡ true }
+    ensures { MatchOption result
+        (keeps (bits pending) relation.now ≡ true)
+        (λ m. Lacks relation.now pending m) }
+{
+    match relation {
+        Relation::Exclusion(_) => None,
+        Relation::Implication(condition, implied) => {
+            if mask::has(pending, condition.index) && !mask::has(pending, implied.index) {
+                Some(*implied)
+            } else {
+                None
+            }
+        }
+    }
+}
+
+/// The first relation that does not hold, where each exclusion does.
+pub fn first_lacking(relations: &[Relation], pending: u64) -> Option<Broken>
+    requires few { length relations.now ≤ 32 }
+    requires kept { list_all (keeps_exclusion (bits pending)) relations.now ≡ true }
+    ensures { MatchOption result
+        (list_all (keeps (bits pending)) relations.now ≡ true)
+        (λ b. IsFirstLacking relations.now pending b.relation b.signal.index) }
+{
+    for (index, relation) in relations.iter().enumerate() {
+        if let Some(missing) = lacking_by(relation, pending) {
+            return Some(Broken {
+                relation: index as u8 + 1,
+                signal: missing,
+            });
+        }
+    }
+    None
+}
