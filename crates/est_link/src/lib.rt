@@ -8,6 +8,7 @@
 mod bindings;
 mod bound;
 pub mod check;
+pub mod count;
 pub mod duplicates;
 pub mod emission;
 mod flatten;

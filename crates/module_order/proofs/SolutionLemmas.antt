@@ -30,7 +30,7 @@ agree rows order work up asks f g f_is g_is there (suc n) i below l =
     f_is place (there i l) ∙ asks f g place each ∙ sym (g_is place (there i l))
 
 -- what stands in the order is a place
-places_are_there : (rows : List (List ℕ)) (order : List ℕ) → IsBottomUp rows order → (i : ℕ) → i < length order → slice_index order i < length rows
+pub places_are_there : (rows : List (List ℕ)) (order : List ℕ) → IsBottomUp rows order → (i : ℕ) → i < length order → slice_index order i < length rows
 places_are_there rows order h i l = All-get_or (λ p. p < length rows) order i 0 l (All-permutation (λ p. p < length rows) (range_with_len 0 (length rows)) order h.each_once
     (All-from_get_or (λ p. p < length rows) (range_with_len 0 (length rows)) 0 (λ k k_in.
     omega (arith, k_in, length-range_with_len 0 (length rows), get_or-range_with_len 0 (length rows) k 0 (omega (arith, k_in, length-range_with_len 0 (length rows)))))))
