@@ -17,7 +17,9 @@ use Rattle.module_order.proofs.SolutionLemmas.{each_stands, places_are_there}
 use Rattle.est_link.specs.Derived.{Derived, missing, nothing, pause, halt, emit, sustain, exit, await, present, suspend, abort, weak_abort, repeat, repeat_each, every, trap, signal, run, seq, par}
 use Rattle.est_link.specs.Occurrences.{Binder, signals, a_trap, Act, emits, tests, exits, binds, runs, Occurrence, occurrences}
 use Rattle.est_link.specs.Modules.{Program, program_of, program_named}
-use Rattle.est_link.specs.Counting.{counted, AreCounts, IsRunOf, HasRun, place_named, RunsModule, IsOrderOf, IsCountOf, IsWithinLimit}
+use Rattle.est_link.specs.Counting.{counted, AreCounts, IsCountOf, IsWithinLimit}
+use Rattle.est_link.specs.Orders.{place_named, places_run, run_rows, IsOrderOf}
+use Rattle.est_link.proofs.Ordering.{IsRunOf, run_is_run}
 use Rattle.est_link.specs.Inner.Numbers.{number_found, number_of, IsFilled}
 
 -- ---- counting by numbers that are cut alike, or that are the same for what is run
@@ -124,10 +126,6 @@ zeros_cut c (suc n) = ap (λ x. x ∷ replicate n 0) (sym (cut_zero c)) ∙ ap (
 nowhere : (i : ℕ) (x : ℕ) → slice_get {X = ℕ} [] i ≡ Some x → ⊥
 nowhere i x e = search (rules, e)
 
--- the place of a module, from that of its head
-pub place_found : (hs : List Head) (m : List ℕ) → place_named (map program_of hs) m ≡ position (λ (h : Head). bytes_eq h.name m) hs
-place_found hs m = position_map (λ (p : Program). bytes_eq p.name m) program_of hs
-
 -- before the first module, each number is 0
 pub filling_begins : (ps : List Program) (order : List ℕ) (n : ℕ) → n ≡ length ps → IsFilled ps (take 0 order) (replicate n 0)
 filling_begins ps order n e = record {
@@ -171,12 +169,12 @@ other_number whole place count (Some j) h = sym (get_or-set_other whole place j 
 
 -- a module among the first k + 1 does not run the one at k, so the number of what it runs is unchanged
 unchanged : (ps : List Program) (order : List ℕ) → IsOrderOf ps order → (k i place other : ℕ) (p : Program) (m : List ℕ) (whole : List ℕ) (count : ℕ) → k < length order → place ≡ slice_index order k → i < k + 1
-    → slice_get order i ≡ Some other → slice_get ps other ≡ Some p → HasRun p.body m → number_of ps whole m ≡ number_of ps (slice_set whole place count) m
-unchanged ps order is_order k i place other p m whole count k_in at i_in i_at p_at has = other_number whole place count (place_named ps m) (λ j j_named e.
-    let run : IsRun is_order.rows other j = is_order.runs other j (record { program = p; there = p_at; name = m; has = has; place = j_named }) in
+    → slice_get order i ≡ Some other → slice_get ps other ≡ Some p → (o : Occurrence) → Contains (occurrences [] p.body) o → IsRunOf o.act m → number_of ps whole m ≡ number_of ps (slice_set whole place count) m
+unchanged ps order is_order k i place other p m whole count k_in at i_in i_at p_at o stands is_run = other_number whole place count (place_named ps m) (λ j j_named e.
+    let run : IsRun (run_rows ps) other j = run_is_run ps other j p o m p_at stands is_run j_named in
     let i_there : i < length order = slice_get_within order i other i_at in
     let i_is : other ≡ slice_index order i = sym (get_or_from_slice_get order i other 0 i_at) in
-    let earlier : k < i = is_order.bottom_up.after_runs i k i_there k_in (subst (λ n. IsRun is_order.rows (slice_index order i) n) (e ∙ at) (subst (λ n. IsRun is_order.rows n j) i_is run)) in
+    let earlier : k < i = is_order.after_runs i k i_there k_in (subst (λ n. IsRun (run_rows ps) (slice_index order i) n) (e ∙ at) (subst (λ n. IsRun (run_rows ps) n j) i_is run)) in
     omega (arith, earlier, i_in))
 
 -- one more module is counted
@@ -197,7 +195,7 @@ filling_goes_on ps order table k place number is_order k_in at there counts h =
           let front = in_front order k i other other_at in
           let same : counted (number_of ps h.whole) p.body ≡ counted (number_of ps whole) p.body =
           counted_same (number_of ps h.whole) (number_of ps whole) [] p.body (λ o stands m is_run.
-          unchanged ps order is_order k i place other p m h.whole count k_in at front.0 front.1 p_at (record { at = o; stands = stands; is_run = is_run })) in
+          unchanged ps order is_order k i place other p m h.whole count k_in at front.0 front.1 p_at o stands is_run) in
           elim (cases_eq other place) [
             | inl e ↦
                 let is_p : program ≡ p = same_some program p (sym found.1 ∙ subst (λ n. slice_get ps n ≡ Some p) e p_at) in
@@ -229,8 +227,8 @@ pub are_counts : (ps : List Program) (order table : List ℕ) → IsOrderOf ps o
 are_counts ps order table is_order h m p e =
     let found = found_at (λ (q : Program). bytes_eq q.name m) ps p e in
     let place : ℕ = position_or_len (λ (q : Program). bytes_eq q.name m) ps in
-    let l : place < length is_order.rows = omega (arith, slice_get_within ps place p found.1, is_order.each) in
-    let stands = each_stands is_order.rows order is_order.bottom_up place l in
+    let l : place < length (run_rows ps) = omega (arith, slice_get_within ps place p found.1, length-map ps (places_run ps)) in
+    let stands = each_stands (run_rows ps) order is_order place l in
     ap (number_found h.whole) found.0 ∙ h.right stands.0 place p (slice_get-get_or order stands.0 0 stands.1 ∙ ap Some stands.2) found.1
 
 -- a number within the limit is a whole one, and one past it is past it

@@ -1,15 +1,15 @@
 //! How many statements a linked module has before reduction, worked out before any `run` is replaced: chains of runs
 //! that double the number at each step cost no more than their texts, and the numbers end at one more than may be.
 ghost use Rattle.std.specs.Prelude.{◌≡◌, ℕ, ◌+◌, ◌<◌, ◌≤◌, List, Some, length, map, min, slice_get, IfOk};
-ghost use Rattle.std.specs.List.{position};
-ghost use Rattle.std.specs.Str.{bytes_eq};
 ghost use Rattle.est_syntax.specs.Views.{unit_view, branches_view, sequence_view, statement_view};
 ghost use Rattle.est_link.specs.Derived.{unit_derived, branches_derived, sequence_derived, statement_derived};
 ghost use Rattle.est_link.specs.Modules.{Program, program_of};
-ghost use Rattle.est_link.specs.Counting.{counted, IsCountOf, IsOrderOf};
+ghost use Rattle.est_link.specs.Counting.{counted, IsCountOf};
+ghost use Rattle.est_link.specs.Orders.{IsOrderOf};
 ghost use Rattle.est_link.specs.Inner.Numbers.{number_of, numbers_of, IsFilled};
 
 use crate::head::Head;
+use crate::orders::place_named;
 use est_syntax::tree::{Branches, Sequence, Statement, Unit};
 use est_text::identifier::Identifier;
 use module_order::order::Order;
@@ -88,15 +88,8 @@ fn sum(first: u16, second: u16) -> u16
     (first + second).min(TOO_MANY)
 }
 
-/// The place of the first module of a name.
-fn place_named(heads: &[Head<'_>], name: &Identifier) -> Option<usize>
-    ensures { result ≡ position (λ h. bytes_eq h.name name.now) heads.now }
-{
-    heads.iter().position(|head| head.name.is(name))
-}
-
 /// The number of a module that was counted before.
-#[tactic(auto, using(crate::proofs::Filling::place_found))]
+#[tactic(auto, using(crate::proofs::Ordering::place_found))]
 fn number_of_module(numbers: &Numbers<'_>, name: &Identifier) -> u16
     ensures { result ≡ min TOO_MANY (numbers_of numbers.now name.now) }
 {

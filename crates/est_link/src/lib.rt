@@ -15,6 +15,7 @@ mod flatten;
 pub mod head;
 pub mod laws;
 pub mod names;
+pub mod orders;
 pub mod relations;
 pub mod renamings;
 pub mod runs;

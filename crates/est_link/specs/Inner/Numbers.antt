@@ -1,7 +1,8 @@
 -- Numbers of statements that a table of the code has, up to one more than may be (this project's own form).
 use Rattle.std.specs.Prelude.{◌≡◌, ℕ, List, length, map, min, Option, Some, None, slice_get, slice_index}
 use Rattle.est_link.specs.Modules.{Program, program_of}
-use Rattle.est_link.specs.Counting.{counted, place_named}
+use Rattle.est_link.specs.Counting.{counted}
+use Rattle.est_link.specs.Orders.{place_named}
 use Rattle.est_link.specs.declared.count.Numbers.{Numbers}
 use Rattle.est_link.specs.declared.count.TheConstants.{TOO_MANY}
 
