@@ -1,22 +1,19 @@
 -- The numbers of statements along an order of the modules: the table that is filled has the cut of whole numbers that meet
 -- the equation of each module.
-use Rattle.std.proofs.Common.{◌≡◌, ℕ, zero, suc, ◌+◌, ◌<◌, ◌≤◌, ◌≢◌, ◌⊎◌, inl, inr, min, Bool, true, false, cond, nat_lt, List, [], ◌∷◌, ◌++◌, length, map, take, replicate, set, get_or, slice_get, slice_index, slice_set, Option, Some, None, unwrap_or, Contains, refl, ap, sym, ◌∙◌, subst, arith, rules}
+use Rattle.std.proofs.Common.{◌≡◌, ℕ, zero, suc, ◌+◌, ◌<◌, ◌≤◌, inl, inr, min, Bool, cond, nat_lt, List, [], ◌∷◌, ◌++◌, length, map, take, replicate, slice_get, slice_index, slice_set, Option, Some, None, unwrap_or, Contains, refl, ap, sym, ◌∙◌, subst, arith, rules}
 use Rattle.std.specs.List.{find, position, position_or_len}
 use Rattle.std.specs.Str.{bytes_eq}
 use Rattle.std.proofs.lemmas.Bool.{cases_lt, cases_eq, lt-ltb}
-use Rattle.std.proofs.lemmas.List.{length-set, length-map, length-replicate, map-set, get_or-set_same, get_or-set_other, take_all}
+use Rattle.std.proofs.lemmas.List.{length-set, length-map, length-replicate, map-set, get_or-set_same, get_or-set_other}
 use Rattle.std.proofs.lemmas.List.Elements.{Contains-append_left, Contains-append_right}
 use Rattle.std.proofs.lemmas.List.Folds.{find_at}
 use Rattle.std.proofs.lemmas.Option.{slice_get_within, slice_get-get_or, get_or_from_slice_get}
-use Rattle.est_link.specs.declared.head.Head.{Head}
 use Rattle.est_link.specs.declared.count.TheConstants.{TOO_MANY, MOST_STATEMENTS}
-use Rattle.est_link.proofs.Places.{position_map}
 use Rattle.module_order.specs.Runs.{IsRun}
-use Rattle.module_order.specs.Orders.{IsBottomUp}
-use Rattle.module_order.proofs.SolutionLemmas.{each_stands, places_are_there}
+use Rattle.module_order.proofs.SolutionLemmas.{each_stands}
 use Rattle.est_link.specs.Derived.{Derived, missing, nothing, pause, halt, emit, sustain, exit, await, present, suspend, abort, weak_abort, repeat, repeat_each, every, trap, signal, run, seq, par}
-use Rattle.est_link.specs.Occurrences.{Binder, signals, a_trap, Act, emits, tests, exits, binds, runs, Occurrence, occurrences}
-use Rattle.est_link.specs.Modules.{Program, program_of, program_named}
+use Rattle.est_link.specs.Occurrences.{Binder, signals, a_trap, tests, binds, runs, Occurrence, occurrences}
+use Rattle.est_link.specs.Modules.{Program}
 use Rattle.est_link.specs.Counting.{counted, AreCounts, IsCountOf, IsWithinLimit}
 use Rattle.est_link.specs.Orders.{place_named, places_run, run_rows, IsOrderOf}
 use Rattle.est_link.proofs.Ordering.{IsRunOf, run_is_run}

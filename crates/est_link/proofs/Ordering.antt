@@ -1,5 +1,5 @@
 -- Which modules a module runs, as its walk notes them.
-use Rattle.std.proofs.Common.{◌≡◌, ℕ, zero, suc, ◌+◌, ◌<◌, ◌⊎◌, inl, inr, Bool, true, false, cond, nat_lt, List, [], ◌∷◌, ◌++◌, length, map, get_or, slice_get, slice_index_or, Option, Some, None, option_to_list, unwrap_or, Contains, append_assoc, append-nil, refl, ap, sym, ◌∙◌, subst, arith, rules}
+use Rattle.std.proofs.Common.{◌≡◌, ℕ, ◌<◌, inl, inr, Bool, true, false, cond, nat_lt, List, [], ◌∷◌, ◌++◌, length, map, slice_get, slice_index_or, Option, Some, None, option_to_list, unwrap_or, Contains, append_assoc, append-nil, refl, ap, sym, ◌∙◌, subst, arith, rules}
 use Rattle.std.specs.List.{fold, flat_map, position, position_or_len}
 use Rattle.std.specs.Str.{bytes_eq}
 use Rattle.std.proofs.lemmas.Bool.{ltb-true}
@@ -27,9 +27,9 @@ among : {X A : Type 0} (f : X → List A) (xs : List X) (x : X) (y : A) → Cont
 among f [] x y h k = absurd (omega (arith, h.1))
 among f (z ∷ xs) x y h k = elim (Contains-append_cases (z ∷ []) xs x h) [
   | inl here ↦ (elim (Contains-push_cases [] z x here) [
-      | inl none ↦ absurd (omega (arith, none.1))
-      | inr e ↦ Contains-append_left (f z) (flat_map f xs) y (subst (λ w. Contains (f w) y) (sym e) k)
-    ])
+    | inl none ↦ absurd (omega (arith, none.1))
+    | inr e ↦ Contains-append_left (f z) (flat_map f xs) y (subst (λ w. Contains (f w) y) (sym e) k)
+  ])
   | inr later ↦ Contains-append_right (f z) (flat_map f xs) y (among f xs x y later k)
 ]
 
@@ -64,6 +64,6 @@ pub run_is_run : (ps : List Program) (i j : ℕ) (p : Program) (o : Occurrence) 
 run_is_run ps i j p o m at stands is_run e = record {
   there = omega (arith, place_within ps m j e, length-map ps (places_run ps));
   named =
-    let row : slice_index_or (run_rows ps) i [] ≡ places_run ps p = get_or-map (places_run ps) ps i p [] (slice_get_within ps i p at) ∙ ap (places_run ps) (get_or_from_slice_get ps i p p at) in
-    subst (λ r. Contains r j) (sym row) (among (λ (q : Occurrence). place_run ps q.act) (occurrences [] p.body) o j stands (run_noted ps o.act m j is_run e));
+      let row : slice_index_or (run_rows ps) i [] ≡ places_run ps p = get_or-map (places_run ps) ps i p [] (slice_get_within ps i p at) ∙ ap (places_run ps) (get_or_from_slice_get ps i p p at) in
+      subst (λ r. Contains r j) (sym row) (among (λ (q : Occurrence). place_run ps q.act) (occurrences [] p.body) o j stands (run_noted ps o.act m j is_run e));
 }

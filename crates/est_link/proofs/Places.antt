@@ -76,7 +76,6 @@ chained_more f g xs i x lt e = at_drop_more (chained f g) xs i x lt ∙ ap (λ y
 pub interface_found : (hs : List Head) (m : List ℕ) → interface_run (program_named (map program_of hs) m) ≡ interface_run (option_map program_of (find (λ (h : Head). bytes_eq h.name m) hs))
 interface_found hs m = ap interface_run (program_found hs m)
 
-
 pub body_found : (hs : List Head) (bodies : List ℕ → Body) (m : List ℕ) → body_linked (map program_of hs) bodies (program_named (map program_of hs) m) ≡ body_linked (map program_of hs) bodies (option_map program_of (find (λ (h : Head). bytes_eq h.name m) hs))
 body_found hs bodies m = ap (body_linked (map program_of hs) bodies) (program_found hs m)
 
@@ -84,4 +83,3 @@ pub position_map : {X Y : Type 0} (p : Y → Bool) (f : X → Y) (xs : List X) �
 position_map p f [] = refl
 position_map p f (x ∷ xs) =
     position_cons p (f x) (map f xs) ∙ ap (λ (o : Option ℕ). cond (p (f x)) (Some 0) (option_map (λ i. i + 1) o)) (position_map p f xs) ∙ sym (position_cons (λ x. p (f x)) x xs)
-

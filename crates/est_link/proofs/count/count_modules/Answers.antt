@@ -1,4 +1,4 @@
-use Rattle.std.proofs.Common.{◌≡◌, ◌<◌, ℕ, List, min, length, slice_index, map, refl, ap, ◌∙◌, arith, rules}
+use Rattle.std.proofs.Common.{ℕ, List, min, length, slice_index, map, refl, ap, ◌∙◌, arith}
 use Rattle.std.proofs.lemmas.List.{length-map}
 use Rattle.module_order.proofs.SolutionLemmas.{places_are_there}
 use Rattle.est_link.specs.Modules.{program_of}

@@ -1,4 +1,4 @@
-use Rattle.std.proofs.Common.{◌≡◌, ℕ, List, Some, None, map, min, subst, ap, sym, ◌∙◌, arith, rules}
+use Rattle.std.proofs.Common.{ℕ, List, Some, None, map, min, subst, ap, ◌∙◌}
 use Rattle.est_link.specs.Modules.{program_of}
 use Rattle.est_link.specs.Inner.Numbers.{IsFilled, number_of}
 use Rattle.est_link.specs.declared.count.TheConstants.{TOO_MANY}
