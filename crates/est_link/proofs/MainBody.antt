@@ -8,7 +8,8 @@ use Rattle.est_kernel.specs.Interfaces.{declares, outputs_of, same_kind}
 use Rattle.est_kernel.specs.Scope.{IsAsked, IsEmitted}
 use Rattle.est_kernel.specs.Term.{Name, outer, inner, Query, tick, of}
 use Rattle.est_kernel.specs.declared.interface.Kind.TheVariants as kernel
-use Rattle.est_link.specs.Bodies.{MayEmit, MayAsk, IsBody, IsSent, declaration_of, declarations_of, kernel_kind}
+use Rattle.est_link.specs.Bodies.{MayEmit, MayAsk, IsBody, IsSent}
+use Rattle.est_link.specs.MainModule.{declaration_of, declarations_of, kernel_kind}
 use Rattle.est_link.specs.Modules.{Program, is_input_kind}
 use Rattle.est_link.specs.declared.head.Declared.{Declared}
 use Rattle.est_link.specs.declared.head.Kind.{Kind}

@@ -1,6 +1,6 @@
 -- The bodies of modules, worked out one after another, and what it means that each name of one is bound
 -- (this project's own form).
-use Rattle.std.specs.Prelude.{◌≡◌, ℕ, ◌+◌, ◌<◌, Bool, true, List, [], length, map, take, get_or, Some, None, false}
+use Rattle.std.specs.Prelude.{◌≡◌, ℕ, ◌+◌, ◌<◌, Bool, true, List, [], length, take, get_or, Some, None, false}
 use Rattle.std.specs.List.{list_any, slice_get}
 use Rattle.std.specs.Str.{bytes_eq}
 use Rattle.est_kernel.specs.Term.{Name, outer, inner, Query, tick, of}
@@ -11,12 +11,7 @@ use Rattle.est_link.specs.Emissions.{IsEmitted, refused_at}
 use Rattle.est_link.specs.Linking.{IsLinking, emitted}
 use Rattle.est_link.specs.Occurrences.{occurrences, first_of}
 use Rattle.est_link.specs.Visible.{unknown_at}
-use Rattle.est_kernel.specs.declared.interface.Declaration.{Declaration}
-use Rattle.est_kernel.specs.declared.interface.Kind as kernel
-use Rattle.est_kernel.specs.declared.interface.Kind.TheVariants as variants
 use Rattle.est_link.specs.declared.head.Declared.{Declared}
-use Rattle.est_link.specs.declared.head.Kind.{Kind}
-use Rattle.est_link.specs.declared.head.Kind.TheVariants.{Input, Output}
 use Rattle.est_reduce.specs.Bodies.{Body, nothing, pause, halt, emit, sustain, exit, await, present, suspend, abort, weak_abort, repeat, repeat_each, every, trap, signal, seq, par}
 
 -- ---- the module that a library is, from its main module
@@ -115,18 +110,3 @@ pub record HasSoundNames (ps : List Program) (emitted : List ℕ → List ℕ �
 pub record AreBindings (n : ℕ) (may : ℕ → Type 0) (m : ℕ) (callers : ℕ → Type 0) (locals : ℕ) (qs : List Query) : Type 0 where
   pub asked : (i : ℕ) → i < n → MayAsk m locals (get_or qs i tick)
   pub sent : (i : ℕ) → i < n → may i → MayEmit m callers locals (emitted (get_or qs i tick))
-
--- ---- the main module
-
--- input or output, as the kernel has it
-abbrev pub kernel_kind : Kind → kernel.Kind
-kernel_kind Input = variants.Input
-kernel_kind Output = variants.Output
-
--- a signal of an interface, as the kernel declares it
-abbrev pub declaration_of : Declared → Declaration
-declaration_of d = record { name = d.name; kind = kernel_kind d.kind }
-
--- the interface of a module, as the kernel has it
-abbrev pub declarations_of : Program → List Declaration
-declarations_of p = map declaration_of p.interface

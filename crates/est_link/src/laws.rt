@@ -1,6 +1,7 @@
 //! Laws of linking, over every library.
 ghost use Rattle.std.specs.Prelude.{◌≡◌, ℕ, List, Bool, Some, true};
-ghost use Rattle.est_link.specs.Bodies.{IsLinked, HasSoundNames, declarations_of};
+ghost use Rattle.est_link.specs.Bodies.{IsLinked, HasSoundNames};
+ghost use Rattle.est_link.specs.MainModule.{declarations_of};
 ghost use Rattle.est_link.specs.Inner.Tables.{AreMade, has_body, bodies_of};
 ghost use Rattle.est_link.specs.Modules.{Program, program_named};
 ghost use Rattle.est_link.specs.declared.flatten.Linked.{Linked};

@@ -14,6 +14,7 @@ pub mod emission;
 mod flatten;
 pub mod head;
 pub mod laws;
+mod main_module;
 pub mod names;
 pub mod orders;
 pub mod relations;

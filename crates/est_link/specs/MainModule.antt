@@ -1,0 +1,44 @@
+-- The interface and the relations of the main module, as the kernel has them: signals by their places in the interface
+-- (this project's own form).
+use Rattle.std.specs.Prelude.{◌≡◌, ℕ, List, [], ◌∷◌, map, unwrap_or, ⊤}
+use Rattle.std.specs.List.{position}
+use Rattle.est_syntax.specs.Tree.{RelationTree, excludes, implies}
+use Rattle.est_kernel.specs.Interfaces.{is_named}
+use Rattle.est_kernel.specs.declared.interface.Declaration.{Declaration}
+use Rattle.est_kernel.specs.declared.interface.Kind as kernel
+use Rattle.est_kernel.specs.declared.interface.Kind.TheVariants as variants
+use Rattle.est_link.specs.Modules.{Program}
+use Rattle.est_link.specs.declared.head.Declared.{Declared}
+use Rattle.est_link.specs.declared.head.Kind.{Kind}
+use Rattle.est_link.specs.declared.head.Kind.TheVariants.{Input, Output}
+use Rattle.est_relations.specs.declared.relations.Relation.{Relation}
+use Rattle.est_relations.specs.declared.relations.Relation.TheVariants.{Exclusion, Implication}
+
+-- input or output
+abbrev pub kernel_kind : Kind → kernel.Kind
+kernel_kind Input = variants.Input
+kernel_kind Output = variants.Output
+
+-- a signal of an interface
+abbrev pub declaration_of : Declared → Declaration
+declaration_of d = record { name = d.name; kind = kernel_kind d.kind }
+
+-- the interface of a module
+abbrev pub declarations_of : Program → List Declaration
+declarations_of p = map declaration_of p.interface
+
+-- the place of a name in an interface, which is 0 where it isn't there
+abbrev pub place_of : List Declaration → List ℕ → ℕ
+place_of ds s = unwrap_or (position (is_named s) ds) 0
+
+-- the relation is the one that is written, its members by their places
+abbrev pub IsRelation : List Declaration → RelationTree → Relation → Type 0
+IsRelation ds (excludes a b ns) (Exclusion members) = members ≡ map (place_of ds) (a ∷ b ∷ ns)
+IsRelation ds (implies a b) (Implication condition implied) = (condition.index ≡ place_of ds a) × (implied.index ≡ place_of ds b)
+IsRelation ds _ _ = ⊥
+
+-- the relations are those that are written
+abbrev pub AreRelations : List Declaration → List RelationTree → List Relation → Type 0
+AreRelations ds [] [] = ⊤
+AreRelations ds (t ∷ ts) (r ∷ rs) = IsRelation ds t r × AreRelations ds ts rs
+AreRelations ds _ _ = ⊥
