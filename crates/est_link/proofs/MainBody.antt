@@ -1,10 +1,10 @@
 -- The names of the main module's body are bound in its interface.
-use Rattle.std.proofs.Common.{◌≡◌, ℕ, zero, suc, ◌+◌, ◌<◌, List, [], ◌∷◌, length, map, get_or, Bool, true, false, Option, Some, None, refl, ap, sym, ◌∙◌, subst, arith}
+use Rattle.std.proofs.Common.{◌≡◌, ℕ, zero, suc, ◌+◌, ◌<◌, List, [], ◌∷◌, length, map, get_or, Bool, true, false, Some, refl, ap, sym, ◌∙◌, subst}
 use Rattle.std.proofs.lemmas.Bool.{true≢false}
 use Rattle.std.proofs.lemmas.List.{length-map}
 use Rattle.std.proofs.lemmas.Option.{slice_get-get_or, none-some}
 use Rattle.std.specs.List.{slice_get}
-use Rattle.est_kernel.specs.Interfaces.{declares, outputs_of, same_kind}
+use Rattle.est_kernel.specs.Interfaces.{declares, same_kind}
 use Rattle.est_kernel.specs.Scope.{IsAsked, IsEmitted}
 use Rattle.est_kernel.specs.Term.{Name, outer, inner, Query, tick, of}
 use Rattle.est_kernel.specs.declared.interface.Kind.TheVariants as kernel
