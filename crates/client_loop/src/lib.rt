@@ -7,4 +7,6 @@
 
 pub mod answer;
 pub mod connection;
+pub mod desk;
+pub mod login;
 pub mod serving;
