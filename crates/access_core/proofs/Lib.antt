@@ -4,3 +4,4 @@ pub mod Deciding
 pub mod Stepping
 pub mod Desks
 pub mod Unchanged
+pub mod Leaving

@@ -42,14 +42,18 @@ pub record AreSlots (slots : List SlotState) : Type 0 where
   pub sixteen : length slots ≡ SLOTS
   pub numbered : (number : ℕ) (slot : SlotState) → slice_get slots number ≡ Some slot → slot.number ≡ number
 
--- the most entries with which the policy list takes this command; the last places are for DeleteSession alone
-abbrev pub most_entries : AdminCommand → ℕ
-most_entries DeleteSession = POLICY_ENTRIES + ENDING_ENTRIES
-most_entries _ = POLICY_ENTRIES
+-- the policy list has room for the command: a logout always has, since a place is kept for that of each session that may live
+abbrev pub HasRoomFor : AdminCommand → List Entry → Type 0
+HasRoomFor DeleteSession entries = Unit {0}
+HasRoomFor _ entries = length entries < POLICY_ENTRIES
 
--- refuses where the policy list has no place for the entry
+-- refuses where the policy list has no room for the entry's command
 abbrev pub list_full : List Entry → Entry → Rule Refusal
-list_full entries entry = Unless (length entries < most_entries entry.command) JournalFull
+list_full entries entry = Unless (HasRoomFor entry.command entries) JournalFull
+
+-- the most entries of the policy list, the places that are kept for logouts among them
+abbrev pub most_entries : ℕ
+most_entries = POLICY_ENTRIES + ENDING_ENTRIES
 
 -- which change of the policy the command is; a login is none of them
 abbrev pub change_of : AdminCommand → Option Change

@@ -9,3 +9,4 @@ pub mod Needs
 pub mod SlotStep
 pub mod StuckSteps
 pub mod Desk
+pub mod Inner

@@ -8,7 +8,8 @@ ghost use Rattle.rbac_policy.specs.StandsFor.{StandsFor};
 ghost use Rattle.rbac_admin.specs.PolicyStep.{is_decided};
 ghost use Rattle.refusal_rules.specs.Rules.{accept, ◌▸◌};
 ghost use Rattle.access_core.specs.Answering.{ByRules, no_memory};
-ghost use Rattle.access_core.specs.Desk.{DeskState, opening_desk, empty_slot, change_of, accepted_reply, most_entries, list_full, Appends, AdminStep, DeskStep};
+ghost use Rattle.access_core.specs.Inner.Ending.{EndsLiving};
+ghost use Rattle.access_core.specs.Desk.{DeskState, opening_desk, empty_slot, change_of, accepted_reply, HasRoomFor, list_full, Appends, AdminStep, DeskStep};
 
 use crate::command::SlotCommand;
 use crate::refusal::Refusal;
@@ -26,7 +27,7 @@ use std::marker::Model;
 /// The most entries that the policy list takes, but for DeleteSession.
 pub const POLICY_ENTRIES: usize = 262_080;
 
-/// The further places of the policy list, which are for DeleteSession alone.
+/// The further places of the policy list, which are for DeleteSession alone: one for each session that may live.
 pub const ENDING_ENTRIES: usize = 64;
 
 /// A policy with the list of its accepted entries, and sixteen slots. A contract sees the list and the slots.
@@ -47,11 +48,12 @@ impl Model for Single {
     ghost coded = { Prim.hlevel (codes, entry.the_row.coded) };
 
     ghost use Rattle.rbac_policy.specs.StandsFor.{StandsFor};
-    ghost use Rattle.access_core.specs.Desk.{AreSlots};
+    ghost use Rattle.rbac_policy.specs.Leaving.{LeavesRoom};
+    ghost use Rattle.access_core.specs.Desk.{AreSlots, most_entries};
 
     ghost view = { λ s. record { entries = s.entries; slots = s.slots } };
 
-    ghost invariant = { λ s. StandsFor s.policy s.entries × AreSlots s.slots };
+    ghost invariant = { λ s. StandsFor s.policy s.entries × AreSlots s.slots × LeavesRoom most_entries s.entries };
 }
 
 /// The change that the command makes of the policy; a login makes none.
@@ -78,12 +80,12 @@ fn change_of(command: &AdminCommand) -> Option<Change>
     }
 }
 
-/// The most entries with which the policy list takes the command.
-fn most_entries(command: &AdminCommand) -> usize
-    ensures { result ≡ most_entries command.now }
+/// Whether the policy list has room for the command. A logout always has.
+fn has_room(entries: &[Entry], command: &AdminCommand) -> bool
+    ensures { IsTrue result ↔ HasRoomFor command.now entries.now }
 {
     match command {
-        AdminCommand::DeleteSession => POLICY_ENTRIES + ENDING_ENTRIES,
+        AdminCommand::DeleteSession => true,
         AdminCommand::AddUser { .. }
         | AdminCommand::DeleteUser { .. }
         | AdminCommand::AddRole { .. }
@@ -98,7 +100,7 @@ fn most_entries(command: &AdminCommand) -> usize
         | AdminCommand::DeleteDsdSet { .. }
         | AdminCommand::CreateSession { .. }
         | AdminCommand::AddActiveRole { .. }
-        | AdminCommand::DropActiveRole { .. } => POLICY_ENTRIES,
+        | AdminCommand::DropActiveRole { .. } => entries.len() < POLICY_ENTRIES,
     }
 }
 
@@ -207,10 +209,11 @@ impl Single {
 
     // Adds an entry to the list and takes it into the policy, or refuses it as JournalFull or Memory.
     fn append(&mut self, entry: Entry) -> Reply
-        requires { length self.old.entries < LAST_VERSION → Fits self.old.entries entry }
+        requires fits { length self.old.entries < LAST_VERSION → Fits self.old.entries entry }
+        requires logout { EndsLiving self.old.entries entry }
         ensures { ByRules (list_full self.old.entries entry ▸ no_memory ▸ accept) (Appends entry) self.old result self.new }
     {
-        if self.entries.len() >= most_entries(&entry.command) {
+        if !has_room(self.entries.entries(), &entry.command) {
             return Reply::Refused(Refusal::JournalFull);
         }
         let change = change_of(&entry.command);

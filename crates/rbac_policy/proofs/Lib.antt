@@ -33,4 +33,4 @@ pub mod Deciding
 pub mod Reading
 pub mod ReadingRoles
 pub mod ReadingOrder
-mod EndingLemmas
+pub mod EndingLemmas

@@ -1,5 +1,7 @@
-use Rattle.std.proofs.Common.{sym, subst}
-use Rattle.access_core.specs.Desk.{AreSlots}
+use Rattle.std.proofs.Common.{sym, subst, arith}
+use Rattle.rbac_policy.specs.Opening.{opening_entries}
+use Rattle.rbac_policy.proofs.EndingLemmas.{leaves_room}
+use Rattle.access_core.specs.Desk.{AreSlots, most_entries}
 use Rattle.access_core.proofs.Desks.{opening_slots}
 use Rattle.access_core.proofs.single.Single.new.Goals as goal
 
@@ -7,4 +9,5 @@ pub invariant_of-result : goal.invariant_of-result
 invariant_of-result c = (
   rw c.in_ok-entries.ensures c.opening-2.ensures.stands,
   subst AreSlots (sym c.make_slots.ensures) opening_slots,
+  rw c.in_ok-entries.ensures (leaves_room _ opening_entries most_entries c.opening-2.ensures.stands (omega arith)),
 )

@@ -9,6 +9,7 @@ invariant_of-self c =
       c.self.invariant.0,
       slots_with c.self.inside.slots c.in-Some.place c.decide_slot.new.slot c.self.invariant.1 below
           (c.decide_slot.ensures.number ∙ number_at c.self.inside.slots c.in-Some.place c.index-self-place.result c.self.invariant.1 below),
+      c.self.invariant.2,
     )
 
 pub returns : goal.returns
