@@ -17,19 +17,10 @@ use Rattle.rbac_policy.specs.StandsFor.{StandsFor}
 use Rattle.rbac_policy.specs.Change.{absorbed}
 use Rattle.rbac_policy.proofs.Asking.{role_test}
 use Rattle.rbac_policy.proofs.Absorbing.{stands_after}
-use Rattle.rbac_admin.specs.Conditions.{FirstListed}
-use Rattle.rbac_admin.specs.Separation.{IsFirstSetOf}
-use Rattle.rbac_admin.specs.PolicyStep.{PolicyStep, entry_of, is_decided, is_followed}
+use Rattle.rbac_policy.specs.Separation.{IsFirstSetOf}
+use Rattle.rbac_admin.specs.PolicyStep.{PolicyStep, entry_of, is_decided}
 use Rattle.rbac_admin.proofs.Accepted.{passed, accepted_entry}
-use Rattle.rbac_admin.proofs.Listing.{NoneBefore, none_at_first, none_further, first_here}
-
--- where no name is the first with the property, none has it
-none_anywhere : (P : List NameText → NameText → Type 0) (names : List NameText) → ((name : NameText) → FirstListed P names name → ⊥) → (place : ℕ) → NoneBefore P names place
-none_anywhere P names none zero = none_at_first P names
-none_anywhere P names none (suc place) =
-    let before = none_anywhere P names none place in
-    let further = none_further P names place before (λ name there has. none name (first_here P names place name before there has)) in
-    record { none = λ k name low. further.none k name (omega arith) }
+use Rattle.rbac_admin.proofs.Listing.{none_anywhere}
 
 -- the test of a role decides it
 role_unless : (p : Policy) (L : List Entry) → StandsFor p L → (r : NameText) → ((IsRole L r → ⊥) → ⊥) → IsRole L r
@@ -37,25 +28,6 @@ role_unless p L st r not_not = by_test (is_some (place_of r p.roles)) (role_test
   by_test : (b : Bool) → (IsTrue b ↔ IsRole L r) → IsRole L r
   by_test true test = test.0 (search rules)
   by_test false test = absurd (not_not (λ h. absurd (search (rules, test.1 h))))
-
--- what is decided is followed
-decided_followed : (command : AdminCommand) → is_decided command ≡ true → is_followed command ≡ true
-decided_followed (AddUser user) decided = refl
-decided_followed (AddRole role) decided = refl
-decided_followed (AssignUser user role) decided = refl
-decided_followed (GrantPermission role operation object) decided = refl
-decided_followed (CreateSession user roles) decided = refl
-decided_followed DeleteSession decided = refl
-decided_followed (DeleteUser user) decided = refl
-decided_followed (DeleteRole role) decided = refl
-decided_followed (DeassignUser user role) decided = refl
-decided_followed (RevokePermission role operation object) decided = refl
-decided_followed (AddInheritance senior junior) decided = refl
-decided_followed (DeleteInheritance senior junior) decided = refl
-decided_followed (CreateDsdSet set count roles) decided = decided
-decided_followed (DeleteDsdSet set) decided = decided
-decided_followed (AddActiveRole role) decided = refl
-decided_followed (DropActiveRole role) decided = refl
 
 -- where no set is the first that has the role, none has it
 in_no_set : (L : List Entry) (role : NameText) → ((set : NameText) → IsFirstSetOf L role set → ⊥)
@@ -71,12 +43,12 @@ in_no_set L role none (suc n) place low set count members is_set member = none s
 })
 
 module _ (p : Policy) (L : List Entry) (st : StandsFor p L) where
-  fits_command : (session : Option ℕ) (command : AdminCommand) (e : Entry) → is_followed command ≡ true → PolicyStep L session command (Ok e)
+  fits_command : (session : Option ℕ) (command : AdminCommand) (e : Entry) → PolicyStep L session command (Ok e)
       → FitsCommand (entry_of session command).command (entry_of session command).session L
-  fits_command session (GrantPermission role operation object) e decided h =
+  fits_command session (GrantPermission role operation object) e h =
       let all = passed L session (GrantPermission role operation object) e h in
       record { is_role = all.1.1.0; room = λ new full. all.1.1.1.1.0 (record { new = new; full = full }) }
-  fits_command session (CreateSession user roles) e decided h =
+  fits_command session (CreateSession user roles) e h =
       let all = passed L session (CreateSession user roles) e h in
       let unknown = none_anywhere (λ before role. IsRole L role → ⊥) roles all.1.1.0 in
       record {
@@ -86,52 +58,60 @@ module _ (p : Policy) (L : List Entry) (st : StandsFor p L) where
         room = all.1.1.1.1.1.1.0;
         numbers = elim (cases_lt (logins L) LAST_SESSION) [ inl low ↦ low | inr high ↦ absurd (all.0 high) ];
       }
-  fits_command session DeleteSession e decided h =
+  fits_command session DeleteSession e h =
       let session_is = (passed L session DeleteSession e h).0 in
       record { number = session_is.0; given = session_is.1.given }
-  fits_command session (AddUser user) e decided h =
+  fits_command session (AddUser user) e h =
       let all = passed L session (AddUser user) e h in
       record { absent = all.1.1.0; room = all.1.1.1.0 }
-  fits_command session (DeleteUser user) e decided h = (passed L session (DeleteUser user) e h).1.1.0
-  fits_command session (AddRole role) e decided h =
+  fits_command session (DeleteUser user) e h = (passed L session (DeleteUser user) e h).1.1.0
+  fits_command session (AddRole role) e h =
       let all = passed L session (AddRole role) e h in
       record { absent = all.1.1.0; room = all.1.1.1.0 }
-  fits_command session (DeleteRole role) e decided h =
+  fits_command session (DeleteRole role) e h =
       let all = passed L session (DeleteRole role) e h in
       record { is_role = all.1.1.0; in_no_set = λ place. in_no_set L role all.1.1.1.0 (suc place) place (omega arith) }
-  fits_command session (AssignUser user role) e decided h =
+  fits_command session (AssignUser user role) e h =
       let all = passed L session (AssignUser user role) e h in
       record { is_user = all.1.1.0; is_role = all.1.1.1.0 }
-  fits_command session (DeassignUser user role) e decided h = (passed L session (DeassignUser user role) e h).1.1.1.0
-  fits_command session (RevokePermission role operation object) e decided h = (passed L session (RevokePermission role operation object) e h).1.1.0
-  fits_command session (AddInheritance senior junior) e decided h =
+  fits_command session (DeassignUser user role) e h = (passed L session (DeassignUser user role) e h).1.1.1.0
+  fits_command session (RevokePermission role operation object) e h = (passed L session (RevokePermission role operation object) e h).1.1.0
+  fits_command session (AddInheritance senior junior) e h =
       let all = passed L session (AddInheritance senior junior) e h in
       record { is_senior = all.1.1.0; is_junior = all.1.1.1.0 }
-  fits_command session (DeleteInheritance senior junior) e decided h =
+  fits_command session (DeleteInheritance senior junior) e h =
       let all = passed L session (DeleteInheritance senior junior) e h in
       record { is_senior = all.1.1.0; is_junior = all.1.1.1.0 }
-  fits_command session (CreateDsdSet set count roles) e decided h = cc
-  fits_command session (DeleteDsdSet set) e decided h = cc
-  fits_command session (AddActiveRole role) e decided h =
+  fits_command session (CreateDsdSet set count roles) e h =
+      let all = passed L session (CreateDsdSet set count roles) e h in
+      let unknown = none_anywhere (λ before role. IsRole L role → ⊥) roles all.1.1.1.0 in
+      record {
+        absent = all.1.1.0;
+        are_roles = λ role listed. role_unless p L st role
+            ((unknown (suc listed.0)).none listed.0 role (omega arith) (slice_get-get_or roles listed.0 role listed.1 ∙ ap Some listed.2));
+        room = all.1.1.1.1.1.1.0;
+      }
+  fits_command session (DeleteDsdSet set) e h = (passed L session (DeleteDsdSet set) e h).1.1.0
+  fits_command session (AddActiveRole role) e h =
       let all = passed L session (AddActiveRole role) e h in
       let by = all.0.1 in
       record { number = all.0.0; given = by.given; lives = (by.user, by.lives); is_role = all.1.0 }
-  fits_command session (DropActiveRole role) e decided h =
+  fits_command session (DropActiveRole role) e h =
       let all = passed L session (DropActiveRole role) e h in
       record { number = all.0.0; given = all.0.1.given; is_role = all.1.0 }
 
-  -- an accepted entry of a command that the policy follows fits
-  pub followed_fits : (session : Option ℕ) (command : AdminCommand) (e : Entry) → length L < LAST_VERSION → is_followed command ≡ true → PolicyStep L session command (Ok e) → Fits L e
-  followed_fits session command e few followed h =
+  -- an accepted entry fits
+  pub step_fits : (session : Option ℕ) (command : AdminCommand) (e : Entry) → length L < LAST_VERSION → PolicyStep L session command (Ok e) → Fits L e
+  step_fits session command e few h =
       let is = accepted_entry L session command e h in
       let Fitting : Entry → Type 0 = λ x. FitsCommand x.command x.session L in
-      record { few = few; command = subst Fitting (sym is) (fits_command session command e followed h) }
+      record { few = few; command = subst Fitting (sym is) (fits_command session command e h) }
 
-  -- an accepted entry of a command that is decided fits
+  -- so does that of a command that is decided
   pub accepted_fits : (session : Option ℕ) (command : AdminCommand) (e : Entry) → length L < LAST_VERSION → is_decided command ≡ true → PolicyStep L session command (Ok e) → Fits L e
-  accepted_fits session command e few decided h = followed_fits session command e few (decided_followed command decided) h
+  accepted_fits session command e few decided h = step_fits session command e few h
 
   -- the policy that has taken it in stands for the longer list
-  pub accepted_stands : (session : Option ℕ) (command : AdminCommand) (e : Entry) → length L < LAST_VERSION → is_followed command ≡ true → PolicyStep L session command (Ok e)
+  pub accepted_stands : (session : Option ℕ) (command : AdminCommand) (e : Entry) → length L < LAST_VERSION → PolicyStep L session command (Ok e)
       → StandsFor (absorbed p e) (L ++ e ∷ [])
-  accepted_stands session command e few followed h = stands_after p L e st (followed_fits session command e few followed h)
+  accepted_stands session command e few h = stands_after p L e st (step_fits session command e few h)

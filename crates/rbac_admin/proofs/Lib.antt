@@ -1,6 +1,6 @@
 pub mod Answering
 pub mod Listing
-pub mod NoSets
 pub mod OneAnswer
 pub mod Accepted
 pub mod Fitting
+pub mod Authorizing

@@ -1,5 +1,5 @@
 -- The first name of a list that has a property.
-use Rattle.std.proofs.Common.{◌≡◌, ℕ, ◌+◌, ◌<◌, ◌≤◌, ◌⊎◌, List, length, inl, inr, arith, sym, ◌∙◌, ap, subst}
+use Rattle.std.proofs.Common.{◌≡◌, ℕ, zero, suc, ◌+◌, ◌<◌, ◌≤◌, ◌⊎◌, List, length, inl, inr, arith, sym, ◌∙◌, ap, subst}
 use Rattle.std.specs.Prelude.{Some, slice_get, take}
 use Rattle.std.proofs.lemmas.Option.{slice_get_within}
 use Rattle.rbac_policy.specs.Names.{NameText}
@@ -32,6 +32,14 @@ module _ (P : List NameText → NameText → Type 0) (names : List NameText) whe
 
   pub none_at_all : (place : ℕ) → length names ≤ place → NoneBefore P names place → (name : NameText) → FirstListed P names name → ⊥
   none_at_all place whole before name first = before.none first.at name (omega (arith, slice_get_within names first.at name first.there)) first.there first.has
+
+-- where no name is the first with the property, none has it
+pub none_anywhere : (P : List NameText → NameText → Type 0) (names : List NameText) → ((name : NameText) → FirstListed P names name → ⊥) → (place : ℕ) → NoneBefore P names place
+none_anywhere P names none zero = none_at_first P names
+none_anywhere P names none (suc place) =
+    let before = none_anywhere P names none place in
+    let further = none_further P names place before (λ name there has. none name (first_here P names place name before there has)) in
+    record { none = λ k name low. further.none k name (omega arith) }
 
 -- what stands before a place
 pub taken : (names : List NameText) (n k : ℕ) (name : NameText) → k < n → slice_get names k ≡ Some name → Contains (take n names) name

@@ -12,7 +12,7 @@ use Rattle.rbac_policy.specs.declared.commands.AdminCommand.{AdminCommand}
 use Rattle.rbac_policy.specs.declared.commands.AdminCommand.TheVariants.{AddUser, DeleteUser, AddRole, DeleteRole, AssignUser, DeassignUser, GrantPermission, RevokePermission, AddInheritance, DeleteInheritance, CreateDsdSet, DeleteDsdSet, CreateSession, DeleteSession, AddActiveRole, DropActiveRole}
 use Rattle.rbac_policy.specs.declared.commands.Entry.{Entry}
 use Rattle.rbac_admin.specs.declared.refusals.Refusal.{Refusal}
-use Rattle.rbac_admin.specs.Separation.{IsFirstViolated, IsFirstSetOf}
+use Rattle.rbac_policy.specs.Separation.{IsFirstViolated, IsFirstSetOf}
 use Rattle.rbac_admin.specs.Conditions.{FirstListed}
 use Rattle.rbac_admin.specs.PolicyStep.{PolicyStep, policy_rules, entry_of, violation}
 

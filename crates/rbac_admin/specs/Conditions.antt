@@ -6,11 +6,9 @@ use Rattle.rbac_policy.specs.declared.objects.Operation.TheVariants.{Administer}
 use Rattle.rbac_policy.specs.declared.objects.Object.{Object}
 use Rattle.rbac_policy.specs.declared.objects.Object.TheVariants.{Policy}
 use Rattle.rbac_policy.specs.declared.commands.Entry.{Entry}
-use Rattle.rbac_policy.specs.declared.sizes.TheConstants.{SETS}
 use Rattle.rbac_policy.specs.Names.{NameText}
-use Rattle.rbac_policy.specs.Facts.{IsSet, IsPairGranted, IsActive, IsAuthorized, Lives, May}
+use Rattle.rbac_policy.specs.Facts.{IsPairGranted, IsActive, IsAuthorized, Lives, May}
 use Rattle.rbac_policy.specs.Fits.{PermissionsFull}
-use Rattle.rbac_policy.specs.Counting.{HasAtLeast}
 
 -- the command is given by the session of this number, which lives
 pub record IsGivenBy (entries : List Entry) (session : Option ℕ) (number : ℕ) : Type 0 where
@@ -44,17 +42,6 @@ pub record HasActive (entries : List Entry) (session : Option ℕ) (role : NameT
 pub record HasNoRoomFor (entries : List Entry) (operation : Operation) (object : Object) : Type 0 where
   pub new : IsPairGranted entries operation object → ⊥
   pub full : PermissionsFull entries
-
--- there is a separation set of this name
-pub record IsSetName (entries : List Entry) (set : NameText) : Type 0 where
-  pub place : ℕ
-  pub count : ℕ
-  pub roles : List NameText
-  pub is_set : IsSet entries place set count roles
-
--- the table of separation sets is full
-abbrev pub SetsFull : List Entry → Type 0
-SetsFull entries = HasAtLeast SETS (IsSetName entries)
 
 -- no separation set has this number and these roles: a role stands twice, or the number is under 2 or over that of the roles
 abbrev pub IsNoShape : ℕ → List NameText → Type 0

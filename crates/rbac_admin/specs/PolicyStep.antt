@@ -8,12 +8,12 @@ use Rattle.rbac_policy.specs.declared.commands.AdminCommand.TheVariants.{AddUser
 use Rattle.rbac_policy.specs.declared.commands.Table.TheVariants.{Users, Roles, Permissions, Sessions, Sets}
 use Rattle.rbac_policy.specs.declared.commands.Entry.{Entry}
 use Rattle.rbac_policy.specs.Names.{NameText}
-use Rattle.rbac_policy.specs.Facts.{IsUser, IsRole, IsAssigned, IsGranted, IsEdge, IsAtOrBelow, IsAuthorized}
-use Rattle.rbac_policy.specs.Fits.{UsersFull, RolesFull, SessionsFull, NumbersExhausted}
+use Rattle.rbac_policy.specs.Facts.{IsUser, IsRole, IsSetName, IsAssigned, IsGranted, IsEdge, IsAtOrBelow, IsAuthorized}
+use Rattle.rbac_policy.specs.Fits.{UsersFull, RolesFull, SetsFull, SessionsFull, NumbersExhausted}
 use Rattle.rbac_admin.specs.declared.refusals.Refusal.{Refusal}
 use Rattle.rbac_admin.specs.declared.refusals.Refusal.TheVariants.{NoSession, SessionsExhausted, Permission, DsdViolated, NotAuthorized, AlreadyActive, NotActive, Cycle, UnknownUser, UnknownRole, UserExists, RoleExists, AlreadyAssigned, NotAssigned, AlreadyGranted, NotGranted, EdgeExists, NoEdge, DsdExists, NoDsd, DsdShape, RoleInDsd, Full}
-use Rattle.rbac_admin.specs.Conditions.{HasSession, Administers, HasAuthorized, HasActive, HasNoRoomFor, IsSetName, SetsFull, IsNoShape, FirstListed}
-use Rattle.rbac_admin.specs.Separation.{IsFirstViolated, IsFirstSetOf}
+use Rattle.rbac_admin.specs.Conditions.{HasSession, Administers, HasAuthorized, HasActive, HasNoRoomFor, IsNoShape, FirstListed}
+use Rattle.rbac_policy.specs.Separation.{IsFirstViolated, IsFirstSetOf}
 
 -- refuses where no session gives the command, or it doesn't live; and hands on the session that does
 abbrev pub no_session : List Entry → Option ℕ → Rule Refusal
@@ -123,9 +123,3 @@ is_administrative DeleteSession = false
 is_administrative (AddActiveRole role) = false
 is_administrative (DropActiveRole role) = false
 is_administrative _ = true
-
--- the commands whose accepted entries a policy follows at this stage: all but those of separation sets
-abbrev pub is_followed : AdminCommand → Bool
-is_followed (CreateDsdSet set count roles) = false
-is_followed (DeleteDsdSet set) = false
-is_followed _ = true

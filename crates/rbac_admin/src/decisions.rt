@@ -8,7 +8,8 @@ use crate::refusals::Refusal;
 use crate::rules::{
     active_role, administers, authorized_roles, is_assigned, is_granted, known_edge, known_role,
     known_roles, known_user, living, new_assignment, new_grant, new_role, new_user, number_left,
-    room_for_grant, room_for_role, room_for_session, room_for_user, single_roles,
+    room_for_grant, room_for_role, room_for_session, room_for_user, separated_login,
+    single_roles,
 };
 use rbac_policy::commands::{AdminCommand, Entry, SessionId};
 use rbac_policy::names::{Name, RoleNames};
@@ -209,6 +210,7 @@ fn decide_login(policy: &Policy, user: Name, roles: RoleNames) -> Result<Entry, 
     known_roles(policy, &roles)?;
     authorized_roles(policy, &user, &roles)?;
     single_roles(&roles)?;
+    separated_login(policy, &user, &roles)?;
     room_for_session(policy)?;
     Ok(Entry {
         session: None,
@@ -238,7 +240,7 @@ pub fn is_decided(command: &AdminCommand) -> bool
 ///
 /// - of GrantPermission: NoSession, Permission, UnknownRole, AlreadyGranted, Full of permissions;
 /// - of CreateSession: SessionsExhausted, UnknownUser, UnknownRole (the first listed), NotAuthorized (the first listed), AlreadyActive (the
-///   first that stands a second time), Full of sessions;
+///   first that stands a second time), DsdViolated, Full of sessions;
 /// - of DeleteSession: NoSession;
 /// - of AddUser: NoSession, Permission, UserExists, Full of users;
 /// - of DeleteUser: NoSession, Permission, UnknownUser;

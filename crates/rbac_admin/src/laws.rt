@@ -9,7 +9,7 @@ ghost use Rattle.rbac_policy.specs.StandsFor.{StandsFor};
 ghost use Rattle.rbac_policy.specs.declared.sizes.TheConstants.{LAST_VERSION};
 ghost use Rattle.rbac_admin.specs.declared.refusals.Refusal.{Refusal};
 ghost use Rattle.rbac_admin.specs.Conditions.{Administers};
-ghost use Rattle.rbac_admin.specs.PolicyStep.{PolicyStep, policy_rules, entry_of, is_administrative, is_followed};
+ghost use Rattle.rbac_admin.specs.PolicyStep.{PolicyStep, policy_rules, entry_of, is_administrative};
 
 /// The policy step gives one answer at most.
 pub fn one_answer()
@@ -50,6 +50,6 @@ pub fn first_refusal()
 /// A policy that stands for a list, and then takes in an accepted entry, stands for the longer list.
 pub fn accepted_stands()
     ensures { (policy : Policy) (entries : List Entry) (session : Option ℕ) (command : AdminCommand) (entry : Entry)
-        → StandsFor policy entries → length entries < LAST_VERSION → IsTrue (is_followed command)
+        → StandsFor policy entries → length entries < LAST_VERSION
         → PolicyStep entries session command (Ok entry) → StandsFor (absorbed policy entry) (entries ++ entry ∷ []) }
 {}

@@ -1,5 +1,5 @@
 //! The rules of refusal, each asked of a policy: a test passes where the rule gives no refusal, and else answers the one that it gives.
-ghost use Rattle.std.specs.Prelude.{◌≡◌, ◌↔◌, List, Option, IsTrue, MatchOption, Contains, take};
+ghost use Rattle.std.specs.Prelude.{◌≡◌, ◌↔◌, List, Option, None, IsTrue, MatchOption, Contains, take};
 ghost use Rattle.std.specs.Result.{MatchResult};
 ghost use Rattle.rbac_policy.specs.declared.commands.Entry.{Entry};
 ghost use Rattle.rbac_policy.specs.StandsFor.{StandsFor};
@@ -8,10 +8,10 @@ ghost use Rattle.rbac_policy.specs.Facts.{IsUser, IsRole, IsAssigned, IsAuthoriz
 ghost use Rattle.rbac_policy.specs.Fits.{NumbersExhausted, UsersFull, RolesFull, SessionsFull};
 ghost use Rattle.refusal_rules.specs.Rules.{Says, Unless, Tests};
 ghost use Rattle.rbac_admin.specs.Conditions.{IsGivenBy, HasNoRoomFor, FirstListed};
-ghost use Rattle.rbac_admin.specs.PolicyStep.{no_session, unknown_user, unknown_role, unknown_listed, unauthorized_listed, repeated_listed};
+ghost use Rattle.rbac_admin.specs.PolicyStep.{no_session, unknown_user, unknown_role, unknown_listed, unauthorized_listed, repeated_listed, violation};
 
 use crate::refusals::Refusal;
-use rbac_policy::commands::{SessionId, Table};
+use rbac_policy::commands::{AdminCommand, SessionId, Table};
 use rbac_policy::names::{Name, RoleNames};
 use rbac_policy::objects::{Object, Operation};
 use rbac_policy::policy::Policy;
@@ -302,6 +302,21 @@ pub fn known_roles(policy: &Policy, roles: &RoleNames) -> Result<(), Refusal>
 {
     match first_unknown(policy, roles) {
         Some(role) => Err(Refusal::UnknownRole { role }),
+        None => Ok(()),
+    }
+}
+
+/// No session violates a separation set once the user has logged in with these roles, for which it is authorized.
+pub fn separated_login(policy: &Policy, user: &Name, roles: &RoleNames) -> Result<(), Refusal>
+    ensures { (entries : List Entry) → StandsFor policy.now entries → ¬ (NumbersExhausted entries)
+        → ((role : NameText) → Contains roles.now role → IsAuthorized entries user.now role)
+        → Tests (violation entries None (AdminCommand.CreateSession user.now roles.now)) result }
+{
+    match policy.first_violated_by_login(user, roles) {
+        Some(violation) => Err(Refusal::DsdViolated {
+            set: violation.set,
+            session: violation.session,
+        }),
         None => Ok(()),
     }
 }

@@ -1,6 +1,7 @@
 -- Sets of places of roles, each as the number that has a bit for each of its places (this project's own form).
-use Rattle.std.specs.Prelude.{◌≡◌, ℕ, ◌^◌}
+use Rattle.std.specs.Prelude.{◌≡◌, ℕ, zero, suc, ◌^◌, ◌==◌, List, [], ◌∷◌, if◌then◌else◌}
 use Rattle.std.specs.Int.{bit_at}
+use Rattle.rbac_closure.specs.declared.sets.TheConstants.{ROLES}
 use Rattle.std.specs.Int.RustNames.{bit_and, bit_or, bit_xor}
 
 -- the place is in the set
@@ -30,3 +31,12 @@ with_place set place = bit_or set (2 ^ place)
 -- the set without the place: it is put in, and turned
 abbrev pub without_place : ℕ → ℕ → ℕ
 without_place set place = bit_xor (bit_or set (2 ^ place)) (2 ^ place)
+
+-- the places of the set that stand before this one, the last of them first
+unfoldable pub places_before : ℕ → ℕ → List ℕ
+places_before zero set = []
+places_before (suc place) set = if bit_at set place == 1 then place ∷ places_before place set else places_before place set
+
+-- the places of the set, the last of them first
+abbrev pub places_of : ℕ → List ℕ
+places_of set = places_before ROLES set

@@ -1,6 +1,6 @@
 //! Sets of roles, each role being named by its place in a table.
-ghost use Rattle.std.specs.Prelude.{◌≡◌, ◌↔◌, ◌<◌, ◌^◌, ℕ, IsTrue};
-ghost use Rattle.rbac_closure.specs.Sets.{Has, Meets, IsWithin, with_place, without_place, either, common};
+ghost use Rattle.std.specs.Prelude.{◌≡◌, ◌↔◌, ◌<◌, ◌^◌, ℕ, IsTrue, length};
+ghost use Rattle.rbac_closure.specs.Sets.{Has, Meets, IsWithin, with_place, without_place, either, common, places_of};
 
 use std::marker::Model;
 
@@ -89,6 +89,20 @@ impl RoleSet {
         RoleSet {
             bits: self.bits & other.bits,
         }
+    }
+
+    /// How many places it has.
+    #[tactic(auto, unfolding(crate::specs::Sets::places_before))]
+    pub fn len(self) -> usize
+        ensures { result ≡ length (places_of self) }
+    {
+        let mut count = 0;
+        for place in 0..ROLES {
+            if self.has(place) {
+                count += 1;
+            }
+        }
+        count
     }
 
     /// Whether the set has no place.

@@ -12,21 +12,22 @@ use Rattle.rbac_policy.specs.declared.commands.AdminCommand.TheVariants.{AddUser
 use Rattle.rbac_policy.specs.declared.commands.Entry.{Entry}
 use Rattle.rbac_policy.specs.declared.rows.User.{User}
 use Rattle.rbac_policy.specs.declared.rows.Session.{Session}
+use Rattle.rbac_policy.specs.declared.rows.DsdSet.{DsdSet}
 use Rattle.rbac_policy.specs.declared.policy.Policy.{Policy}
-use Rattle.rbac_policy.specs.declared.sizes.TheConstants.{USERS, ROLES, GRANTS, SESSIONS, LAST_SESSION, LAST_VERSION}
+use Rattle.rbac_policy.specs.declared.sizes.TheConstants.{USERS, ROLES, GRANTS, SESSIONS, SETS, LAST_SESSION, LAST_VERSION}
 use Rattle.rbac_policy.specs.Names.{NameText}
 use Rattle.rbac_policy.specs.Entries.{logins}
-use Rattle.rbac_policy.specs.Facts.{IsUser, IsRole, IsPairGranted, IsLive}
+use Rattle.rbac_policy.specs.Facts.{IsUser, IsRole, IsSetName, IsPairGranted, IsLive}
 use Rattle.rbac_policy.specs.Counting.{HasAtLeast}
 use Rattle.rbac_policy.specs.Tables.{At, place_of, put_at, mask_of, session_without, grant_is}
-use Rattle.rbac_policy.specs.Change.{absorbed, swept, changed, assigned_at, granted_at, deassigned_at, revoked_at, user_deleted, role_deleted_at, inherited_at, disinherited_at, taken_up_at, laid_down_at}
-use Rattle.rbac_policy.specs.Fits.{Fits, FitsCommand, FitsAddUser, FitsAddRole, FitsAssignUser, FitsGrantPermission, FitsCreateSession, FitsInheritance, FitsDeleteRole}
+use Rattle.rbac_policy.specs.Change.{absorbed, swept, changed, assigned_at, granted_at, deassigned_at, revoked_at, user_deleted, role_deleted_at, inherited_at, disinherited_at, set_deleted, taken_up_at, laid_down_at}
+use Rattle.rbac_policy.specs.Fits.{Fits, FitsCommand, FitsAddUser, FitsAddRole, FitsAssignUser, FitsGrantPermission, FitsCreateSession, FitsInheritance, FitsDeleteRole, FitsCreateDsdSet}
 use Rattle.rbac_policy.specs.StandsFor.{StandsFor, UsersStand, RolesStand, GrantsStand, SetsStand}
 use Rattle.rbac_policy.proofs.Ended.{Unswept, swept_stand}
 use Rattle.rbac_policy.proofs.Untouched.{untouched_users, untouched_roles, untouched_grants, untouched_sessions, untouched_sets, logins_push, logins_other}
 use Rattle.rbac_policy.proofs.Slots.{free}
 use Rattle.rbac_policy.proofs.Equality.{operations, objects, both}
-use Rattle.rbac_policy.proofs.Room.{room, keeps_users, keeps_roles, keeps_grants, keeps_sessions, pair_of}
+use Rattle.rbac_policy.proofs.Room.{room, keeps_users, keeps_roles, keeps_grants, keeps_sessions, keeps_sets, pair_of}
 use Rattle.rbac_policy.proofs.Listed.{Placed, placed}
 use Rattle.rbac_policy.proofs.Adding.{adding}
 use Rattle.rbac_policy.proofs.Assigning.{assigning}
@@ -35,7 +36,8 @@ use Rattle.rbac_policy.proofs.Granting.{granting, passes_any}
 use Rattle.rbac_policy.proofs.Revoking.{revoking}
 use Rattle.rbac_policy.proofs.Deassigning.{deassigning, removing, ended_unswept}
 use Rattle.rbac_policy.proofs.Inheriting.{inheriting, disinheriting}
-use Rattle.rbac_policy.proofs.Deleting.{before_deletion, users_deleted, roles_deleted, grants_deleted}
+use Rattle.rbac_policy.proofs.Deleting.{before_deletion, users_deleted, roles_deleted, grants_deleted, sets_deleted}
+use Rattle.rbac_policy.proofs.Separating.{renamed_sets, created, removed}
 use Rattle.rbac_policy.proofs.Activating.{take_unswept, drop_unswept}
 use Rattle.rbac_policy.proofs.Sessions.{login_unswept, logout_unswept}
 
@@ -43,7 +45,7 @@ use Rattle.rbac_policy.proofs.Sessions.{login_unswept, logout_unswept}
 assemble_renamed : (before : List (Option NameText)) (target : Policy) (L : List Entry) (e : Entry) → ((q : ℕ) (r : NameText) → At target.roles q r → At before q r)
     → target.version ≡ length L → length L < LAST_VERSION → target.logins ≡ logins (L ++ e ∷ [])
     → UsersStand target.roles target.users (L ++ e ∷ []) → RolesStand target.roles target.juniors (L ++ e ∷ []) → GrantsStand target.roles target.grants (L ++ e ∷ [])
-    → Unswept before target.sessions L e → SetsStand target.sets (L ++ e ∷ []) → StandsFor (swept target) (L ++ e ∷ [])
+    → Unswept before target.sessions L e → SetsStand target.roles target.sets (L ++ e ∷ []) → StandsFor (swept target) (L ++ e ∷ [])
 assemble_renamed before target L e keeps version few count us rs gs un ss = record {
   version = omega (arith, version, few, length_push L e);
   logins = count;
@@ -57,7 +59,7 @@ assemble_renamed before target L e keeps version few count us rs gs un ss = reco
 -- where the table of roles is as it was
 assemble : (target : Policy) (L : List Entry) (e : Entry) → target.version ≡ length L → length L < LAST_VERSION → target.logins ≡ logins (L ++ e ∷ [])
     → UsersStand target.roles target.users (L ++ e ∷ []) → RolesStand target.roles target.juniors (L ++ e ∷ []) → GrantsStand target.roles target.grants (L ++ e ∷ [])
-    → Unswept target.roles target.sessions L e → SetsStand target.sets (L ++ e ∷ []) → StandsFor (swept target) (L ++ e ∷ [])
+    → Unswept target.roles target.sessions L e → SetsStand target.roles target.sets (L ++ e ∷ []) → StandsFor (swept target) (L ++ e ∷ [])
 assemble target L e = assemble_renamed target.roles target L e (λ q r t. t)
 
 -- the role that is a role has a place
@@ -81,7 +83,7 @@ add_user p L s user st few fits =
     (untouched_roles p.roles p.juniors L e refl st.roles)
     (untouched_grants p.roles p.grants L e refl st.grants)
     (untouched_sessions p.roles p.sessions L e refl (logins_other L e refl) st.roles.unique st.roles.places st.sessions)
-    (untouched_sets p.sets L e refl st.sets))
+    (untouched_sets p.roles p.sets L e refl st.sets))
 
 add_role : (p : Policy) (L : List Entry) (s : Option ℕ) (role : NameText) → StandsFor p L → length L < LAST_VERSION → FitsAddRole L role
     → StandsFor (swept (changed p (record { session = s; command = AddRole role }))) (L ++ record { session = s; command = AddRole role } ∷ [])
@@ -103,7 +105,8 @@ add_role p L s role st few fits =
     (renamed_grants before after p.grants (L ++ e ∷ []) same named (untouched_grants before p.grants L e refl st.grants))
     (renamed_sessions before after p.sessions L e same named (unique_added before p.juniors L s role st.roles fits.absent i fr) (length-set before i (Some role) ∙ st.roles.places)
     (untouched_sessions before p.sessions L e refl (logins_other L e refl) st.roles.unique st.roles.places st.sessions))
-    (untouched_sets p.sets L e refl st.sets))
+    (renamed_sets before after p.sets (L ++ e ∷ []) (λ at x there. same x.roles (st.sets.named at x there)) (λ at x there. named x.roles (st.sets.named at x there))
+    (untouched_sets before p.sets L e refl st.sets)))
 
 assign : (p : Policy) (L : List Entry) (s : Option ℕ) (user role : NameText) → StandsFor p L → length L < LAST_VERSION → FitsAssignUser L user role
     → StandsFor (swept (changed p (record { session = s; command = AssignUser user role }))) (L ++ record { session = s; command = AssignUser user role } ∷ [])
@@ -118,7 +121,7 @@ assign p L s user role st few fits =
     (untouched_roles p.roles p.juniors L e refl st.roles)
     (untouched_grants p.roles p.grants L e refl st.grants)
     (untouched_sessions p.roles p.sessions L e refl (logins_other L e refl) st.roles.unique st.roles.places st.sessions)
-    (untouched_sets p.sets L e refl st.sets))
+    (untouched_sets p.roles p.sets L e refl st.sets))
 
 -- the pair has a row, or there is a free one
 row_or_room : (p : Policy) (L : List Entry) (op : Operation) (ob : Object) → StandsFor p L → ((IsPairGranted L op ob → ⊥) → HasAtLeast {A = Operation × Object} GRANTS (λ pair. IsPairGranted L pair.0 pair.1) → ⊥)
@@ -143,7 +146,7 @@ grant p L s role op ob st few fits =
     (untouched_roles p.roles p.juniors L e refl st.roles)
     (granting p.roles st.roles.unique q.place role q.there low p.grants L s op ob st.grants (row_or_room p L op ob st fits.room))
     (untouched_sessions p.roles p.sessions L e refl (logins_other L e refl) st.roles.unique st.roles.places st.sessions)
-    (untouched_sets p.sets L e refl st.sets))
+    (untouched_sets p.roles p.sets L e refl st.sets))
 
 login : (p : Policy) (L : List Entry) (user : NameText) (listed : List NameText) → StandsFor p L → length L < LAST_VERSION → FitsCreateSession L None listed
     → StandsFor (swept (changed p (record { session = None; command = CreateSession user listed }))) (L ++ record { session = None; command = CreateSession user listed } ∷ [])
@@ -165,7 +168,7 @@ login p L user listed st few fits =
     (untouched_roles p.roles p.juniors L e refl st.roles)
     (untouched_grants p.roles p.grants L e refl st.grants)
     (login_unswept p.roles st.roles.unique st.roles.places p.sessions L st.sessions user listed known i fr)
-    (untouched_sets p.sets L e refl st.sets))
+    (untouched_sets p.roles p.sets L e refl st.sets))
 
 logout : (p : Policy) (L : List Entry) (k : ℕ) → StandsFor p L → length L < LAST_VERSION
     → StandsFor (swept (changed p (record { session = Some k; command = DeleteSession }))) (L ++ record { session = Some k; command = DeleteSession } ∷ [])
@@ -178,7 +181,7 @@ logout p L k st few =
     (untouched_roles p.roles p.juniors L e refl st.roles)
     (untouched_grants p.roles p.grants L e refl st.grants)
     (logout_unswept p.roles st.roles.unique st.roles.places p.sessions L st.sessions k)
-    (untouched_sets p.sets L e refl st.sets)
+    (untouched_sets p.roles p.sets L e refl st.sets)
 
 -- a session that lives was made
 made_before : (p : Policy) (L : List Entry) (k : ℕ) → StandsFor p L → IsLive L k → k ≤ logins L
@@ -199,7 +202,7 @@ take_up p L k role st few live is_role =
     (untouched_roles p.roles p.juniors L e refl st.roles)
     (untouched_grants p.roles p.grants L e refl st.grants)
     (take_unswept p.roles st.roles.unique st.roles.places q.place role q.there low p.sessions L k st.sessions (made_before p L k st live))
-    (untouched_sets p.sets L e refl st.sets))
+    (untouched_sets p.roles p.sets L e refl st.sets))
 
 lay_down : (p : Policy) (L : List Entry) (k : ℕ) (role : NameText) → StandsFor p L → length L < LAST_VERSION → IsRole L role
     → StandsFor (swept (changed p (record { session = Some k; command = DropActiveRole role }))) (L ++ record { session = Some k; command = DropActiveRole role } ∷ [])
@@ -214,7 +217,7 @@ lay_down p L k role st few is_role =
     (untouched_roles p.roles p.juniors L e refl st.roles)
     (untouched_grants p.roles p.grants L e refl st.grants)
     (drop_unswept p.roles st.roles.unique st.roles.places q.place role q.there low p.sessions L k st.sessions)
-    (untouched_sets p.sets L e refl st.sets))
+    (untouched_sets p.roles p.sets L e refl st.sets))
 
 deassign : (p : Policy) (L : List Entry) (s : Option ℕ) (user role : NameText) → StandsFor p L → length L < LAST_VERSION → IsRole L role
     → StandsFor (swept (changed p (record { session = s; command = DeassignUser user role }))) (L ++ record { session = s; command = DeassignUser user role } ∷ [])
@@ -229,7 +232,7 @@ deassign p L s user role st few is_role =
     (untouched_roles p.roles p.juniors L e refl st.roles)
     (untouched_grants p.roles p.grants L e refl st.grants)
     (untouched_sessions p.roles p.sessions L e refl (logins_other L e refl) st.roles.unique st.roles.places st.sessions)
-    (untouched_sets p.sets L e refl st.sets))
+    (untouched_sets p.roles p.sets L e refl st.sets))
 
 revoke : (p : Policy) (L : List Entry) (s : Option ℕ) (role : NameText) (op : Operation) (ob : Object) → StandsFor p L → length L < LAST_VERSION → IsRole L role
     → StandsFor (swept (changed p (record { session = s; command = RevokePermission role op ob }))) (L ++ record { session = s; command = RevokePermission role op ob } ∷ [])
@@ -244,7 +247,7 @@ revoke p L s role op ob st few is_role =
     (untouched_roles p.roles p.juniors L e refl st.roles)
     (revoking p.roles st.roles.unique q.place role q.there low p.grants L s op ob st.grants)
     (untouched_sessions p.roles p.sessions L e refl (logins_other L e refl) st.roles.unique st.roles.places st.sessions)
-    (untouched_sets p.sets L e refl st.sets))
+    (untouched_sets p.roles p.sets L e refl st.sets))
 
 delete_user : (p : Policy) (L : List Entry) (s : Option ℕ) (user : NameText) → StandsFor p L → length L < LAST_VERSION
     → StandsFor (swept (changed p (record { session = s; command = DeleteUser user }))) (L ++ record { session = s; command = DeleteUser user } ∷ [])
@@ -256,7 +259,7 @@ delete_user p L s user st few =
     (untouched_roles p.roles p.juniors L e refl st.roles)
     (untouched_grants p.roles p.grants L e refl st.grants)
     (ended_unswept p.roles L s user st.roles.unique st.roles.places p.sessions st.sessions)
-    (untouched_sets p.sets L e refl st.sets)
+    (untouched_sets p.roles p.sets L e refl st.sets)
 
 inherit : (p : Policy) (L : List Entry) (s : Option ℕ) (senior junior : NameText) → StandsFor p L → length L < LAST_VERSION → FitsInheritance L senior junior
     → StandsFor (swept (changed p (record { session = s; command = AddInheritance senior junior }))) (L ++ record { session = s; command = AddInheritance senior junior } ∷ [])
@@ -271,7 +274,7 @@ inherit p L s senior junior st few fits =
     (inheriting p.roles p.juniors L s a.place senior a.there b.place junior b.there st.roles)
     (untouched_grants p.roles p.grants L e refl st.grants)
     (untouched_sessions p.roles p.sessions L e refl (logins_other L e refl) st.roles.unique st.roles.places st.sessions)
-    (untouched_sets p.sets L e refl st.sets))
+    (untouched_sets p.roles p.sets L e refl st.sets))
 
 disinherit : (p : Policy) (L : List Entry) (s : Option ℕ) (senior junior : NameText) → StandsFor p L → length L < LAST_VERSION → FitsInheritance L senior junior
     → StandsFor (swept (changed p (record { session = s; command = DeleteInheritance senior junior }))) (L ++ record { session = s; command = DeleteInheritance senior junior } ∷ [])
@@ -286,7 +289,7 @@ disinherit p L s senior junior st few fits =
     (disinheriting p.roles p.juniors L s a.place senior a.there b.place junior b.there st.roles)
     (untouched_grants p.roles p.grants L e refl st.grants)
     (untouched_sessions p.roles p.sessions L e refl (logins_other L e refl) st.roles.unique st.roles.places st.sessions)
-    (untouched_sets p.sets L e refl st.sets))
+    (untouched_sets p.roles p.sets L e refl st.sets))
 
 delete_role : (p : Policy) (L : List Entry) (s : Option ℕ) (role : NameText) → StandsFor p L → length L < LAST_VERSION → FitsDeleteRole L role
     → StandsFor (swept (changed p (record { session = s; command = DeleteRole role }))) (L ++ record { session = s; command = DeleteRole role } ∷ [])
@@ -301,7 +304,40 @@ delete_role p L s role st few fits =
     (roles_deleted p.roles p.juniors L s q.place role q.there st.roles)
     (grants_deleted p.roles p.juniors L s q.place role q.there st.roles p.grants st.grants)
     (untouched_sessions p.roles p.sessions L e refl (logins_other L e refl) st.roles.unique st.roles.places st.sessions)
-    (untouched_sets p.sets L e refl st.sets))
+    (sets_deleted p.roles p.juniors L s q.place role q.there st.roles p.sets st.sets fits.in_no_set))
+
+create_set : (p : Policy) (L : List Entry) (s : Option ℕ) (name : NameText) (count : ℕ) (listed : List NameText) → StandsFor p L → length L < LAST_VERSION → FitsCreateDsdSet L name listed
+    → StandsFor (swept (changed p (record { session = s; command = CreateDsdSet name count listed }))) (L ++ record { session = s; command = CreateDsdSet name count listed } ∷ [])
+create_set p L s name count listed st few fits =
+    let e : Entry = record { session = s; command = CreateDsdSet name count listed } in
+    let place = room (λ (x : DsdSet). x.name) p.sets (IsSetName L) SETS (keeps_sets p.roles p.sets L st.sets) st.sets.places fits.room in
+    let i = place.0 in
+    let fr = free p.sets i place.1 in
+    let known : (r : NameText) → Contains listed r → (q : ℕ) × At p.roles q r = λ r c. let h = (st.roles.exist r).0 (fits.are_roles r c) in (h.at, subst (At p.roles h.at) h.fact h.there) in
+    let row = λ (n : ℕ). let z : DsdSet = record { name = name; count = count; roles = mask_of p.roles listed; place = n } in z in
+    let target : Policy = record p { sets = set p.sets i (Some (row (length L))) } in
+    let is : changed p e ≡ target =
+    ap (λ (n : ℕ). let z : Policy = record p { sets = put_at (row n) p.sets (position is_none p.sets) } in z) st.version
+    ∙ ap (λ (o : Option ℕ). let z : Policy = record p { sets = put_at (row (length L)) p.sets o } in z) place.1 in
+    subst (λ (t : Policy). StandsFor (swept t) (L ++ e ∷ [])) (sym is) (assemble target L e st.version few
+    (st.logins ∙ sym (logins_other L e refl))
+    (untouched_users p.roles p.users L e refl st.users)
+    (untouched_roles p.roles p.juniors L e refl st.roles)
+    (untouched_grants p.roles p.grants L e refl st.grants)
+    (untouched_sessions p.roles p.sessions L e refl (logins_other L e refl) st.roles.unique st.roles.places st.sessions)
+    (created p.roles st.roles.unique st.roles.places p.sets L s name st.sets count listed known fits.absent i fr))
+
+delete_set : (p : Policy) (L : List Entry) (s : Option ℕ) (name : NameText) → StandsFor p L → length L < LAST_VERSION
+    → StandsFor (swept (changed p (record { session = s; command = DeleteDsdSet name }))) (L ++ record { session = s; command = DeleteDsdSet name } ∷ [])
+delete_set p L s name st few =
+    let e : Entry = record { session = s; command = DeleteDsdSet name } in
+    assemble (set_deleted name p) L e st.version few
+    (st.logins ∙ sym (logins_other L e refl))
+    (untouched_users p.roles p.users L e refl st.users)
+    (untouched_roles p.roles p.juniors L e refl st.roles)
+    (untouched_grants p.roles p.grants L e refl st.grants)
+    (untouched_sessions p.roles p.sessions L e refl (logins_other L e refl) st.roles.unique st.roles.places st.sessions)
+    (removed p.roles st.roles.unique st.roles.places p.sets L s name st.sets)
 
 by_command : (p : Policy) (L : List Entry) (s : Option ℕ) (c : AdminCommand) → StandsFor p L → length L < LAST_VERSION → FitsCommand c s L
     → StandsFor (swept (changed p (record { session = s; command = c }))) (L ++ record { session = s; command = c } ∷ [])
@@ -321,8 +357,8 @@ by_command p L s (DeassignUser user role) st few fits = deassign p L s user role
 by_command p L s (RevokePermission role op ob) st few fits = revoke p L s role op ob st few fits
 by_command p L s (AddInheritance senior junior) st few fits = inherit p L s senior junior st few fits
 by_command p L s (DeleteInheritance senior junior) st few fits = disinherit p L s senior junior st few fits
-by_command p L s (CreateDsdSet a b c) st few fits = absurd fits
-by_command p L s (DeleteDsdSet a) st few fits = absurd fits
+by_command p L s (CreateDsdSet name count listed) st few fits = create_set p L s name count listed st few fits
+by_command p L s (DeleteDsdSet name) st few fits = delete_set p L s name st few
 by_command p L s (AddActiveRole role) st few fits =
     let P : Option ℕ → Type 0 = λ o. StandsFor (swept (changed p (record { session = o; command = AddActiveRole role }))) (L ++ record { session = o; command = AddActiveRole role } ∷ []) in
     subst P (sym fits.given) (take_up p L fits.number role st few fits.lives fits.is_role)

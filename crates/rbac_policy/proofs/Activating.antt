@@ -48,26 +48,34 @@ module _ (roles : List (Option NameText)) (unique : (p q : ℕ) (r : NameText) �
     by_test : (b : Bool) → (x.number == k) ≡ b → SessionSlot roles L the_drop (session_relieved k p0) x
     by_test true e =
         let same = (Decides-eqb x.number k).0 e in
-        inr (new, ap (λ b. cond b (Some new) (Some x)) e, record {
-          number = refl;
-          user = refl;
-          stays = drop_stays x.number x.user;
-          active = λ r. through (dropped x.number r) (through {B = InMask roles x.active r × (r0 ≡ r → ⊥)} (
-            λ h. ((ss.active at x there r).0 h.0, λ s. h.1 (sym same, s)),
-            λ h. ((ss.active at x there r).1 h.0, λ s. h.1 s.1),
-          ) (flip (in_without_bit roles unique p0 r0 there0 low x.active r)));
-          named = named_without_bit roles unique p0 r0 there0 low x.active (ss.named at x there);
-        })
-    by_test false e = inr (x, ap (λ b. cond b (Some new) (Some x)) e, record {
-      number = refl;
-      user = refl;
-      stays = drop_stays x.number x.user;
-      active = λ r. through (dropped x.number r) (
-        λ h. (ss.active at x there r).0 h.0,
-        λ m. ((ss.active at x there r).1 m, λ s. false≢true (sym e ∙ (Decides-eqb x.number k).1 (sym s.0))),
-      );
-      named = ss.named at x there;
-    })
+        inr (
+          new,
+          ap (λ b. cond b (Some new) (Some x)) e,
+          record {
+            number = refl;
+            user = refl;
+            stays = drop_stays x.number x.user;
+            active = λ r. through (dropped x.number r) (through {B = InMask roles x.active r × (r0 ≡ r → ⊥)} (
+              λ h. ((ss.active at x there r).0 h.0, λ s. h.1 (sym same, s)),
+              λ h. ((ss.active at x there r).1 h.0, λ s. h.1 s.1),
+            ) (flip (in_without_bit roles unique p0 r0 there0 low x.active r)));
+            named = named_without_bit roles unique p0 r0 there0 low x.active (ss.named at x there);
+          },
+        )
+    by_test false e = inr (
+      x,
+      ap (λ b. cond b (Some new) (Some x)) e,
+      record {
+        number = refl;
+        user = refl;
+        stays = drop_stays x.number x.user;
+        active = λ r. through (dropped x.number r) (
+          λ h. (ss.active at x there r).0 h.0,
+          λ m. ((ss.active at x there r).1 m, λ s. false≢true (sym e ∙ (Decides-eqb x.number k).1 (sym s.0))),
+        );
+        named = ss.named at x there;
+      },
+    )
 
   pub drop_unswept : Unswept roles (map (session_relieved k p0) sessions) L the_drop
   drop_unswept = sessions_mapped roles sessions L the_drop (session_relieved k p0) refl ss drop_slot refl unique many (λ n r a. ss.made n r ((dropped n r).0 a).0)
@@ -100,25 +108,33 @@ module _ (roles : List (Option NameText)) (unique : (p q : ℕ) (r : NameText) �
     by_test : (b : Bool) → (x.number == k) ≡ b → SessionSlot roles L the_take (session_given k p0) x
     by_test true e =
         let same = (Decides-eqb x.number k).0 e in
-        inr (new, ap (λ b. cond b (Some new) (Some x)) e, record {
-          number = refl;
-          user = refl;
-          stays = take_stays x.number x.user;
-          active = λ r. through (taken x.number r) (through
-              (sums {A = (k ≡ x.number) × (r0 ≡ r)} {C = r0 ≡ r} (λ p. p.1, λ q. (sym same, q)) (ss.active at x there r))
-              (flip (in_with_bit roles unique p0 r0 there0 low x.active r)));
-          named = named_with_bit roles unique p0 r0 there0 low x.active (ss.named at x there);
-        })
-    by_test false e = inr (x, ap (λ b. cond b (Some new) (Some x)) e, record {
-      number = refl;
-      user = refl;
-      stays = take_stays x.number x.user;
-      active = λ r. through (taken x.number r) (
-        λ h. elim h [ inl s ↦ absurd (false≢true (sym e ∙ (Decides-eqb x.number k).1 (sym s.0))) | inr a ↦ (ss.active at x there r).0 a ],
-        λ m. inr ((ss.active at x there r).1 m),
-      );
-      named = ss.named at x there;
-    })
+        inr (
+          new,
+          ap (λ b. cond b (Some new) (Some x)) e,
+          record {
+            number = refl;
+            user = refl;
+            stays = take_stays x.number x.user;
+            active = λ r. through (taken x.number r) (through
+                (sums {A = (k ≡ x.number) × (r0 ≡ r)} {C = r0 ≡ r} (λ p. p.1, λ q. (sym same, q)) (ss.active at x there r))
+                (flip (in_with_bit roles unique p0 r0 there0 low x.active r)));
+            named = named_with_bit roles unique p0 r0 there0 low x.active (ss.named at x there);
+          },
+        )
+    by_test false e = inr (
+      x,
+      ap (λ b. cond b (Some new) (Some x)) e,
+      record {
+        number = refl;
+        user = refl;
+        stays = take_stays x.number x.user;
+        active = λ r. through (taken x.number r) (
+          λ h. elim h [ inl s ↦ absurd (false≢true (sym e ∙ (Decides-eqb x.number k).1 (sym s.0))) | inr a ↦ (ss.active at x there r).0 a ],
+          λ m. inr ((ss.active at x there r).1 m),
+        );
+        named = ss.named at x there;
+      },
+    )
 
   -- the session that takes the role up was made
   pub take_unswept : k ≤ logins L → Unswept roles (map (session_given k p0) sessions) L the_take

@@ -79,8 +79,10 @@ blank_stands u r j g s d many_users many_roles many_rows many_grants many_sessio
     places = length-replicate {A = Option Session} s None ∙ many_sessions;
   };
   sets = record {
-    none = λ place name count roles h. none_in_force _ _ h;
-    empty = λ at x there. none_at d at x there;
+    listed = λ place name count members h. absurd (none_in_force _ _ h);
+    made = λ at x there. absurd (none_at d at x there);
+    named = λ at x there. absurd (none_at d at x there);
+    unique = λ p q x y there. absurd (none_at d p x there);
     places = length-replicate {A = Option DsdSet} d None ∙ many_sets;
   };
 }

@@ -51,24 +51,32 @@ module _ (roles : List (Option NameText)) (unique : (p q : ℕ) (r : NameText) �
     by_test : (b : Bool) → bytes_eq x.name u0 ≡ b → UserSlot roles (L ++ the_deassignment ∷ []) (user_relieved u0 p0) x
     by_test true e =
         let same = (bytes_eq-Decides x.name u0).0 e in
-        inr (new, ap (λ b. cond b (Some new) (Some x)) e, record {
-          name = refl;
-          stays = still;
-          assigned = λ r. through (taken_push x.name r) (through {B = InMask roles x.roles r × (r0 ≡ r → ⊥)} (
-            λ h. ((us.assigned at x there r).0 h.0, λ q. h.1 (sym same, q)),
-            λ h. ((us.assigned at x there r).1 h.0, λ q. h.1 q.1),
-          ) (flip (in_without_bit roles unique p0 r0 there0 low x.roles r)));
-          named = named_without_bit roles unique p0 r0 there0 low x.roles (us.named at x there);
-        })
-    by_test false e = inr (x, ap (λ b. cond b (Some new) (Some x)) e, record {
-      name = refl;
-      stays = still;
-      assigned = λ r. through (taken_push x.name r) (
-        λ h. (us.assigned at x there r).0 h.0,
-        λ m. ((us.assigned at x there r).1 m, λ q. false≢true (sym e ∙ (bytes_eq-Decides x.name u0).1 (sym q.0))),
-      );
-      named = us.named at x there;
-    })
+        inr (
+          new,
+          ap (λ b. cond b (Some new) (Some x)) e,
+          record {
+            name = refl;
+            stays = still;
+            assigned = λ r. through (taken_push x.name r) (through {B = InMask roles x.roles r × (r0 ≡ r → ⊥)} (
+              λ h. ((us.assigned at x there r).0 h.0, λ q. h.1 (sym same, q)),
+              λ h. ((us.assigned at x there r).1 h.0, λ q. h.1 q.1),
+            ) (flip (in_without_bit roles unique p0 r0 there0 low x.roles r)));
+            named = named_without_bit roles unique p0 r0 there0 low x.roles (us.named at x there);
+          },
+        )
+    by_test false e = inr (
+      x,
+      ap (λ b. cond b (Some new) (Some x)) e,
+      record {
+        name = refl;
+        stays = still;
+        assigned = λ r. through (taken_push x.name r) (
+          λ h. (us.assigned at x there r).0 h.0,
+          λ m. ((us.assigned at x there r).1 m, λ q. false≢true (sym e ∙ (bytes_eq-Decides x.name u0).1 (sym q.0))),
+        );
+        named = us.named at x there;
+      },
+    )
 
   pub deassigning : UsersStand roles (map (user_relieved u0 p0) users) (L ++ the_deassignment ∷ [])
   deassigning = users_mapped roles roles users L (L ++ the_deassignment ∷ []) (user_relieved u0 p0) refl us slot (λ u h. (user_same u).0 h)
@@ -101,12 +109,16 @@ module _ (roles : List (Option NameText)) (L : List Entry) (s : Option ℕ) (u0 
       by_test true e = inl (ap (λ b. cond b None (Some x)) e, λ h. ((user_push x.name).0 h).1 (sym ((bytes_eq-Decides x.name u0).0 e)))
       by_test false e =
           let other : u0 ≡ x.name → ⊥ = λ q. false≢true (sym e ∙ (bytes_eq-Decides x.name u0).1 (sym q)) in
-          inr (x, ap (λ b. cond b None (Some x)) e, record {
-            name = refl;
-            stays = (user_push x.name).1 ((us.exist x.name).1 (record { at = at; value = x; there = there; fact = refl }), other);
-            assigned = λ r. through (assigned_push x.name r) (λ h. (us.assigned at x there r).0 h.0, λ m. ((us.assigned at x there r).1 m, other));
-            named = us.named at x there;
-          })
+          inr (
+            x,
+            ap (λ b. cond b None (Some x)) e,
+            record {
+              name = refl;
+              stays = (user_push x.name).1 ((us.exist x.name).1 (record { at = at; value = x; there = there; fact = refl }), other);
+              assigned = λ r. through (assigned_push x.name r) (λ h. (us.assigned at x there r).0 h.0, λ m. ((us.assigned at x there r).1 m, other));
+              named = us.named at x there;
+            },
+          )
 
     pub removing : UsersStand roles (map (user_without u0) users) (L ++ the_removal ∷ [])
     removing = users_mapped roles roles users L (L ++ the_removal ∷ []) (user_without u0) refl us gone_slot (λ u h. ((user_push u).0 h).0)
@@ -122,13 +134,17 @@ module _ (roles : List (Option NameText)) (L : List Entry) (s : Option ℕ) (u0 
     ended_slot at x there = by_test (bytes_eq x.user u0) refl where
       by_test : (b : Bool) → bytes_eq x.user u0 ≡ b → SessionSlot roles L the_removal (session_of_other u0) x
       by_test true e = inl (ap (λ b. cond b None (Some x)) e, inr (ap DeleteUser (sym ((bytes_eq-Decides x.user u0).0 e))))
-      by_test false e = inr (x, ap (λ b. cond b None (Some x)) e, record {
-        number = refl;
-        user = refl;
-        stays = λ ends. elim ends [ inl a ↦ (let h = a.1 in cc) | inr b ↦ false≢true (sym e ∙ (bytes_eq-Decides x.user u0).1 cc) ];
-        active = λ r. through (still_active x.number r) (ss.active at x there r);
-        named = ss.named at x there;
-      })
+      by_test false e = inr (
+        x,
+        ap (λ b. cond b None (Some x)) e,
+        record {
+          number = refl;
+          user = refl;
+          stays = λ ends. elim ends [ inl a ↦ (let h = a.1 in cc) | inr b ↦ false≢true (sym e ∙ (bytes_eq-Decides x.user u0).1 cc) ];
+          active = λ r. through (still_active x.number r) (ss.active at x there r);
+          named = ss.named at x there;
+        },
+      )
 
     pub ended_unswept : Unswept roles (map (session_of_other u0) sessions) L the_removal
     ended_unswept = sessions_mapped roles sessions L the_removal (session_of_other u0) refl ss ended_slot refl unique many (λ n r a. ss.made n r ((still_active n r).0 a))

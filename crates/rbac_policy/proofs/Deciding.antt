@@ -1,5 +1,11 @@
 -- A policy that stands for a list decides what may be done there.
-use Rattle.std.proofs.Common.{◌≡◌, ◌↔◌, ℕ, Bool, true, false, IsTrue, List, refl, inl, inr, rules}
+use Rattle.std.proofs.Common.{◌≡◌, ◌↔◌, ◌<◌, ◌^◌, ℕ, Bool, true, false, IsTrue, List, refl, subst, arith, inl, inr, rules}
+use Rattle.std.proofs.lemmas.Option.{slice_get_within}
+use Rattle.rbac_policy.specs.declared.sizes.TheConstants.{ROLES}
+use Rattle.rbac_policy.specs.Names.{NameText}
+use Rattle.rbac_policy.proofs.Walking.{below_sound, below_all}
+use Rattle.rbac_policy.proofs.Order.{authorized_below, below_authorized, below_named}
+use Rattle.rbac_policy.proofs.Masks.{low_bits}
 use Rattle.std.specs.Prelude.{Option, Some, None, is_some}
 use Rattle.std.specs.Int.Bits.{bit_and}
 use Rattle.std.proofs.lemmas.Bool.{cases_eq}
@@ -10,12 +16,13 @@ use Rattle.rbac_policy.specs.declared.policy.Policy.{Policy}
 use Rattle.rbac_policy.specs.declared.rows.Grant.{Grant}
 use Rattle.rbac_policy.specs.declared.rows.Session.{Session}
 use Rattle.rbac_policy.specs.Decided.{Decided}
-use Rattle.rbac_policy.specs.Facts.{IsLive, May}
+use Rattle.rbac_policy.specs.Facts.{IsLive, IsAuthorized, May}
 use Rattle.rbac_policy.specs.Order.{below}
 use Rattle.rbac_policy.specs.StandsFor.{StandsFor}
-use Rattle.rbac_policy.specs.Tables.{session_of, grant_of}
-use Rattle.rbac_policy.proofs.Asking.{may_no_session, may_no_grant, may_found, session_test}
-use Rattle.rbac_closure.proofs.SetLemmas.{common_place, no_common_place}
+use Rattle.rbac_policy.specs.Tables.{session_of, grant_of, place_of, roles_of}
+use Rattle.rbac_policy.proofs.Asking.{may_no_session, may_no_grant, may_found, session_test, role_at, no_role}
+use Rattle.rbac_closure.specs.Sets.{Has}
+use Rattle.rbac_closure.proofs.SetLemmas.{common_place, no_common_place, has_cases}
 
 module _ (p : Policy) (L : List Entry) (st : StandsFor p L) where
   pub live_decided : (n : ℕ) → Decided (IsLive L n)
@@ -39,3 +46,26 @@ module _ (p : Policy) (L : List Entry) (st : StandsFor p L) where
     by_session : (o : Option Session) → session_of n p.sessions ≡ o → Decided (May L n op object)
     by_session None none = inr (may_no_session p L st n op object none)
     by_session (Some x) sx = by_grant x sx (grant_of op object p.grants) refl
+
+  -- whether a user is authorized for a role
+  pub authorized_decided : (u r : NameText) → Decided (IsAuthorized L u r)
+  authorized_decided u r = by_place (place_of r p.roles) refl where
+    all : ℕ
+    all = below p.juniors (roles_of u p.users)
+
+    fits : all < 2 ^ ROLES
+    fits = low_bits all (λ q bit.
+        let n = below_named p.roles p.juniors p.users L st.roles st.users u q (below_sound p.juniors (roles_of u p.users) q bit) in
+        omega (arith, slice_get_within p.roles q (Some n.0) n.1, st.roles.places))
+
+    by_place : (o : Option ℕ) → place_of r p.roles ≡ o → Decided (IsAuthorized L u r)
+    by_place None e = inr (λ a. no_role p L st r e a.exists)
+    by_place (Some q) e =
+        let there = role_at p L st r q e in
+        elim (has_cases all q) [
+          | inl has ↦ inl (below_authorized p.roles p.juniors p.users L st.roles st.users u r q there (below_sound p.juniors (roles_of u p.users) q has))
+          | inr none ↦ inr (λ a.
+              let h = authorized_below p.roles p.juniors p.users L st.roles st.users u r a in
+              let same = st.roles.unique h.0 q r h.1 there in
+              absurd (omega (arith, none, subst (Has all) same (below_all p.juniors (roles_of u p.users) fits h.0 h.2))))
+        ]

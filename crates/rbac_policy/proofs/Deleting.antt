@@ -1,10 +1,10 @@
 -- The tables after a role was deleted: its place is free, and nothing has it.
 use Rattle.std.proofs.Common.{◌≡◌, ℕ, ◌<◌, ◌⊎◌, ◌↔◌, List, [], ◌∷◌, ◌++◌, length, map, set, inl, inr, arith, sym, ◌∙◌, ap, refl, subst}
-use Rattle.std.specs.Prelude.{slice_get, Option, Some, None}
+use Rattle.std.specs.Prelude.{slice_get, Option, Some, None, Contains}
 use Rattle.std.proofs.lemmas.Bool.{cases_eq}
 use Rattle.std.proofs.lemmas.Option.{slice_get_within}
 use Rattle.std.proofs.lemmas.List.{length-set, length-map}
-use Rattle.rbac_closure.specs.Sets.{without_place}
+use Rattle.rbac_closure.specs.Sets.{Has, without_place}
 use Rattle.rbac_closure.specs.Edges.{role_cleared}
 use Rattle.rbac_closure.proofs.SetLemmas.{has_without}
 use Rattle.rbac_closure.proofs.EdgeLemmas.{cleared_edges}
@@ -14,13 +14,15 @@ use Rattle.rbac_policy.specs.declared.commands.AdminCommand.TheVariants.{AddUser
 use Rattle.rbac_policy.specs.declared.commands.Entry.{Entry}
 use Rattle.rbac_policy.specs.declared.rows.User.{User}
 use Rattle.rbac_policy.specs.declared.rows.Grant.{Grant}
+use Rattle.rbac_policy.specs.declared.rows.DsdSet.{DsdSet}
 use Rattle.rbac_policy.specs.Names.{NameText}
-use Rattle.rbac_policy.specs.Facts.{IsUser, IsRole, IsAssigned, IsGranted, IsEdge}
+use Rattle.rbac_policy.specs.Facts.{IsUser, IsRole, IsSet, IsAssigned, IsGranted, IsEdge}
 use Rattle.rbac_policy.specs.Tables.{At, user_cleared, grant_cleared}
-use Rattle.rbac_policy.specs.StandsFor.{InMask, IsNamed, UsersStand, RolesStand, GrantsStand}
+use Rattle.rbac_policy.specs.StandsFor.{InMask, IsNamed, UsersStand, RolesStand, GrantsStand, SetsStand}
 use Rattle.rbac_policy.proofs.Steps.{in_force_push}
 use Rattle.rbac_policy.proofs.Order.{one_role}
-use Rattle.rbac_policy.proofs.Untouched.{untouched, through}
+use Rattle.rbac_policy.proofs.Untouched.{untouched, through, untouched_sets}
+use Rattle.rbac_policy.proofs.Separating.{renamed_sets}
 use Rattle.rbac_policy.proofs.Slots.{get_set_same, get_set_other}
 use Rattle.rbac_policy.proofs.Mapping.{UserSlot, users_mapped, GrantSlot, grants_mapped}
 use Rattle.rbac_policy.proofs.Revoking.{narrowed}
@@ -148,15 +150,19 @@ module _ (roles : List (Option NameText)) (juniors : List ℕ) (L : List Entry) 
 
   module _ (users : List (Option User)) (us : UsersStand roles users L) where
     user_slot : (at : ℕ) (x : User) → At users at x → UserSlot after (L ++ the_deletion ∷ []) (user_cleared p0) x
-    user_slot at x there = inr (record { name = x.name; roles = without_place x.roles p0 }, refl, record {
-      name = refl;
-      stays = (user_same x.name).1 ((us.exist x.name).1 (record { at = at; value = x; there = there; fact = refl }));
-      assigned = λ r. through (assigned_push x.name r) (through {B = InMask roles x.roles r × (r0 ≡ r → ⊥)} (
-        λ h. ((us.assigned at x there r).0 h.0, h.1),
-        λ h. ((us.assigned at x there r).1 h.0, h.1),
-      ) (cleared_mask x.roles r));
-      named = cleared_named x.roles (us.named at x there);
-    })
+    user_slot at x there = inr (
+      record { name = x.name; roles = without_place x.roles p0 },
+      refl,
+      record {
+        name = refl;
+        stays = (user_same x.name).1 ((us.exist x.name).1 (record { at = at; value = x; there = there; fact = refl }));
+        assigned = λ r. through (assigned_push x.name r) (through {B = InMask roles x.roles r × (r0 ≡ r → ⊥)} (
+          λ h. ((us.assigned at x there r).0 h.0, h.1),
+          λ h. ((us.assigned at x there r).1 h.0, h.1),
+        ) (cleared_mask x.roles r));
+        named = cleared_named x.roles (us.named at x there);
+      },
+    )
 
     pub users_deleted : UsersStand after (map (user_cleared p0) users) (L ++ the_deletion ∷ [])
     users_deleted = users_mapped roles after users L (L ++ the_deletion ∷ []) (user_cleared p0) refl us user_slot (λ u h. (user_same u).0 h)
@@ -173,3 +179,18 @@ module _ (roles : List (Option NameText)) (juniors : List ℕ) (L : List Entry) 
 
     pub grants_deleted : GrantsStand after (map (grant_cleared p0) grants) (L ++ the_deletion ∷ [])
     grants_deleted = grants_mapped roles after grants L (L ++ the_deletion ∷ []) (grant_cleared p0) refl gs grant_slot (λ r op ob h. ((granted_push r op ob).0 h).0)
+
+  -- a set that doesn't have the role keeps its mask
+  module _ (sets : List (Option DsdSet)) (ss : SetsStand roles sets L) (in_no_set : (place : ℕ) (name : NameText) (count : ℕ) (members : List NameText) → IsSet L place name count members → Contains members r0 → ⊥) where
+    not_its : (at : ℕ) (x : DsdSet) → At sets at x → InMask roles x.roles r0 → ⊥
+    not_its at x there mine = let m = ss.made at x there in in_no_set x.place x.name x.count m.0 m.1 ((m.2.members r0).1 mine)
+
+    other_place : (at : ℕ) (x : DsdSet) → At sets at x → (p : ℕ) → Has x.roles p → p ≡ p0 → ⊥
+    other_place at x there p bit same = not_its at x there (record { place = p0; there = there0; bit = subst (Has x.roles) same bit })
+
+    pub sets_deleted : SetsStand after sets (L ++ the_deletion ∷ [])
+    sets_deleted = renamed_sets roles after sets (L ++ the_deletion ∷ []) (λ at x there r. (
+      λ i. record { place = i.place; there = stays_there i.place r i.there (other_place at x there i.place i.bit); bit = i.bit },
+      λ i. record { place = i.place; there = (before_deletion i.place r i.there).0; bit = i.bit },
+    )) (λ at x there p bit. let n = ss.named at x there p bit in (n.0, stays_there p n.0 n.1 (other_place at x there p bit)))
+        (untouched_sets roles sets L the_deletion refl ss)

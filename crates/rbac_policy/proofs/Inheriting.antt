@@ -100,8 +100,11 @@ module _ (roles : List (Option NameText)) (juniors : List ℕ) (L : List Entry) 
           record {
             place = m.place;
             there = m.there;
-            bit = (removed_edges p0 q0 juniors within p m.place).1 (m.bit, λ it.
-                k.1 (one_role roles p0 a0 r senior_there (subst (λ i. At roles i r) it.0 there), one_role roles q0 b0 j junior_there (subst (λ i. At roles i j) it.1 m.there)));
+            bit = (removed_edges p0 q0 juniors within p m.place).1 (
+              m.bit,
+              λ it.
+                  k.1 (one_role roles p0 a0 r senior_there (subst (λ i. At roles i r) it.0 there), one_role roles q0 b0 j junior_there (subst (λ i. At roles i j) it.1 m.there)),
+            );
           },
       λ m.
           let x = (removed_edges p0 q0 juniors within p m.place).0 m.bit in

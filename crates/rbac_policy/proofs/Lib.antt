@@ -18,6 +18,7 @@ pub mod Activating
 pub mod Revoking
 pub mod Deassigning
 pub mod Inheriting
+pub mod Separating
 pub mod Deleting
 pub mod Listed
 pub mod Assigning
@@ -34,3 +35,8 @@ pub mod Reading
 pub mod ReadingRoles
 pub mod ReadingOrder
 pub mod EndingLemmas
+pub mod Counted
+pub mod Least
+pub mod Violating
+pub mod Separated
+pub mod LoggingIn

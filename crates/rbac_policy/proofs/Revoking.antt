@@ -36,13 +36,17 @@ narrowed after new x left granted named o is = by_test (left == 0) refl where
     sym is ∙ ap (λ b. cond b None (Some row)) e,
     λ r h. none_in_zero after r (subst (λ m. InMask after m r) ((Decides-eqb left 0).0 e) ((granted r).0 h)),
   )
-  by_test false e = inr (row, sym is ∙ ap (λ b. cond b None (Some row)) e, record {
-    operation = refl;
-    object = refl;
-    granted = granted;
-    named = named;
-    used = some_place left left (omega arith) (λ zero. false≢true (sym e ∙ (Decides-eqb left 0).1 zero));
-  })
+  by_test false e = inr (
+    row,
+    sym is ∙ ap (λ b. cond b None (Some row)) e,
+    record {
+      operation = refl;
+      object = refl;
+      granted = granted;
+      named = named;
+      used = some_place left left (omega arith) (λ zero. false≢true (sym e ∙ (Decides-eqb left 0).1 zero));
+    },
+  )
 
 module _ (roles : List (Option NameText)) (unique : (p q : ℕ) (r : NameText) → At roles p r → At roles q r → p ≡ q) (p0 : ℕ) (r0 : NameText) (there0 : At roles p0 r0) (low : p0 < ROLES)
     (grants : List (Option Grant)) (L : List Entry) (s : Option ℕ) (op : Operation) (ob : Object) (gs : GrantsStand roles grants L) where
@@ -75,16 +79,20 @@ module _ (roles : List (Option NameText)) (unique : (p q : ℕ) (r : NameText) �
         ) (flip (in_without_bit roles unique p0 r0 there0 low x.roles r))))
         (named_without_bit roles unique p0 r0 there0 low x.roles (gs.named at x there))
         (grant_revoked op ob p0 (Some x)) (sym (ap (λ b. cond b (grant_with x left) (Some x)) e))
-    by_test false e = inr (x, ap (λ b. cond b (grant_with x left) (Some x)) e, record {
-      operation = refl;
-      object = refl;
-      granted = λ r. through (revoked_push r x.operation x.object) (
-        λ h. (gs.granted at x there r).0 h.0,
-        λ m. ((gs.granted at x there r).1 m, λ same. false≢true (sym e ∙ (both _ _ _ _ (operations x.operation op) (objects x.object ob)).1 (sym same.1, sym same.2))),
-      );
-      named = gs.named at x there;
-      used = gs.used at x there;
-    })
+    by_test false e = inr (
+      x,
+      ap (λ b. cond b (grant_with x left) (Some x)) e,
+      record {
+        operation = refl;
+        object = refl;
+        granted = λ r. through (revoked_push r x.operation x.object) (
+          λ h. (gs.granted at x there r).0 h.0,
+          λ m. ((gs.granted at x there r).1 m, λ same. false≢true (sym e ∙ (both _ _ _ _ (operations x.operation op) (objects x.object ob)).1 (sym same.1, sym same.2))),
+        );
+        named = gs.named at x there;
+        used = gs.used at x there;
+      },
+    )
 
   pub revoking : GrantsStand roles (map (grant_revoked op ob p0) grants) (L ++ the_revocation ∷ [])
   revoking = grants_mapped roles roles grants L (L ++ the_revocation ∷ []) (grant_revoked op ob p0) refl gs slot (λ r op' ob' h. ((revoked_push r op' ob').0 h).0)

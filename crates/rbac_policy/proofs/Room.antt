@@ -10,11 +10,12 @@ use Rattle.rbac_policy.specs.declared.commands.Entry.{Entry}
 use Rattle.rbac_policy.specs.declared.rows.User.{User}
 use Rattle.rbac_policy.specs.declared.rows.Grant.{Grant}
 use Rattle.rbac_policy.specs.declared.rows.Session.{Session}
+use Rattle.rbac_policy.specs.declared.rows.DsdSet.{DsdSet}
 use Rattle.rbac_policy.specs.Names.{NameText}
-use Rattle.rbac_policy.specs.Facts.{IsUser, IsRole, IsPairGranted, IsLive}
+use Rattle.rbac_policy.specs.Facts.{IsUser, IsRole, IsSetName, IsPairGranted, IsLive}
 use Rattle.rbac_policy.specs.Counting.{HasAtLeast}
 use Rattle.rbac_policy.specs.Tables.{At}
-use Rattle.rbac_policy.specs.StandsFor.{Holds, IsKeyed, UsersStand, RolesStand, GrantsStand, SessionsStand}
+use Rattle.rbac_policy.specs.StandsFor.{Holds, IsKeyed, UsersStand, RolesStand, GrantsStand, SessionsStand, SetsStand}
 use Rattle.rbac_policy.proofs.Listed.{position_within}
 use Rattle.rbac_policy.proofs.Slots.{free}
 
@@ -39,14 +40,14 @@ still_in (x ∷ xs) (suc k) zero y ne there = (0, there)
 still_in (x ∷ xs) (suc k) (suc j) y ne there = let r = still_in xs k j y (λ e. ne (ap suc e)) there in (suc r.0, r.1)
 
 -- where the value is kept
-record Kept {A B : Type 0} (R : A → B → Type 0) (ys : List B) (x : A) : Type 0 where
-  at : ℕ
-  value : B
-  there : slice_get ys at ≡ Some value
-  by : R x value
+pub record Kept {A B : Type 0} (R : A → B → Type 0) (ys : List B) (x : A) : Type 0 where
+  pub at : ℕ
+  pub value : B
+  pub there : slice_get ys at ≡ Some value
+  pub by : R x value
 
 -- distinct values, each kept in a place of its own, are no more than the places
-pigeons : {A B : Type 0} (R : A → B → Type 0) → ((x y : A) (b : B) → R x b → R y b → x ≡ y) → (xs : List A) (ys : List B) → AllPairs (λ x y. x ≢ y) xs → ((p : ℕ) (x : A) → slice_get xs p ≡ Some x → Kept R ys x) → length xs ≤ length ys
+pub pigeons : {A B : Type 0} (R : A → B → Type 0) → ((x y : A) (b : B) → R x b → R y b → x ≡ y) → (xs : List A) (ys : List B) → AllPairs (λ x y. x ≢ y) xs → ((p : ℕ) (x : A) → slice_get xs p ≡ Some x → Kept R ys x) → length xs ≤ length ys
 pigeons R one [] ys distinct kept = omega arith
 pigeons {A = A} {B = B} R one (x ∷ xs) ys distinct kept =
     let h = kept 0 x refl in
@@ -148,7 +149,7 @@ room key slots P n k many few = by_position (position is_none slots) refl where
   by_position None e = absurd (few (full_without_room key slots P n k many e))
   by_position (Some i) e = (i, e)
 
--- the four tables
+-- the five tables
 pub keeps_users : (roles : List (Option NameText)) (users : List (Option User)) (L : List Entry) → UsersStand roles users L → Keeps (λ (x : User). x.name) users (IsUser L)
 keeps_users roles users L s = record {
   unique = s.unique;
@@ -189,4 +190,11 @@ keeps_sessions roles sessions L s = record {
   unique = s.unique;
   stands = λ n h. let k = (s.exist n h.0).0 h.1 in record { at = k.at; value = k.value; there = k.there; fact = k.fact.0 };
   fact = λ at x there. (x.user, (s.exist x.number x.user).1 (record { at = at; value = x; there = there; fact = (refl, refl) }));
+}
+
+pub keeps_sets : (roles : List (Option NameText)) (sets : List (Option DsdSet)) (L : List Entry) → SetsStand roles sets L → Keeps (λ (x : DsdSet). x.name) sets (IsSetName L)
+keeps_sets roles sets L s = record {
+  unique = s.unique;
+  stands = λ name h. let k = s.listed h.place name h.count h.roles h.is_set in record { at = k.at; value = k.value; there = k.there; fact = k.fact.name };
+  fact = λ at x there. let m = s.made at x there in record { place = x.place; count = x.count; roles = m.0; is_set = m.1 };
 }

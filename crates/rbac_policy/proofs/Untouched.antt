@@ -14,7 +14,7 @@ use Rattle.rbac_policy.specs.declared.rows.Grant.{Grant}
 use Rattle.rbac_policy.specs.declared.rows.Session.{Session}
 use Rattle.rbac_policy.specs.declared.rows.DsdSet.{DsdSet}
 use Rattle.rbac_policy.specs.Entries.{InForce, logins, is_login}
-use Rattle.rbac_policy.specs.Facts.{IsUser, IsRole, IsAssigned, IsGranted, IsEdge, IsActive, Lives}
+use Rattle.rbac_policy.specs.Facts.{IsUser, IsRole, IsSet, IsAssigned, IsGranted, IsEdge, IsActive, Lives}
 use Rattle.rbac_policy.specs.Tables.{At}
 use Rattle.rbac_policy.specs.StandsFor.{UsersStand, RolesStand, GrantsStand, SessionsStand, SetsStand}
 use Rattle.rbac_policy.specs.Names.{NameText}
@@ -115,15 +115,17 @@ untouched_grants roles grants L e no_touch s =
       places = s.places;
     }
 
-pub untouched_sets : (sets : List (Option DsdSet)) (L : List Entry) (e : Entry) → touches_sets e.command ≡ false → SetsStand sets L → SetsStand sets (L ++ e ∷ [])
-untouched_sets sets L e no_touch s = record {
-  none = λ place name count roles h. elim ((in_force_push _ _ L e).0 h) [
-    | inl m ↦ not_by touches_sets e.command (CreateDsdSet name count roles) no_touch refl m.1
-    | inr k ↦ s.none place name count roles k.0
-  ];
-  empty = s.empty;
-  places = s.places;
-}
+pub untouched_sets : (roles : List (Option NameText)) (sets : List (Option DsdSet)) (L : List Entry) (e : Entry) → touches_sets e.command ≡ false → SetsStand roles sets L → SetsStand roles sets (L ++ e ∷ [])
+untouched_sets roles sets L e no_touch s =
+    let still : (place : ℕ) (name : NameText) (count : ℕ) (members : List NameText) → IsSet (L ++ e ∷ []) place name count members ↔ IsSet L place name count members = λ place name count members.
+    untouched _ _ L e (λ h. not_by touches_sets e.command (CreateDsdSet name count members) no_touch refl h.1) (λ h. not_by touches_sets e.command (DeleteDsdSet name) no_touch refl h) in
+    record {
+      listed = λ place name count members h. s.listed place name count members ((still place name count members).0 h);
+      made = λ at x there. let m = s.made at x there in (m.0, (still x.place x.name x.count m.0).1 m.1, m.2);
+      named = s.named;
+      unique = s.unique;
+      places = s.places;
+    }
 
 pub logins_push : (L : List Entry) (e : Entry) → logins (L ++ e ∷ []) ≡ logins L + cond (is_login e) 1 0
 logins_push L e = fold_push (λ (a : ℕ) (x : Entry). a + cond (is_login x) 1 0) 0 L e

@@ -24,6 +24,13 @@ abbrev pub IsSet : List Entry → ℕ → NameText → ℕ → List NameText →
 IsSet entries place set count roles =
     InForce (λ before e. (length before ≡ place) × (e.command ≡ CreateDsdSet set count roles)) (λ e. e.command ≡ DeleteDsdSet set) entries
 
+-- there is a separation set of this name
+pub record IsSetName (entries : List Entry) (set : NameText) : Type 0 where
+  pub place : ℕ
+  pub count : ℕ
+  pub roles : List NameText
+  pub is_set : IsSet entries place set count roles
+
 -- the entry takes the role from the user (DeassignUser; DeleteUser and DeleteRole take all of theirs)
 abbrev pub Unassigns : NameText → NameText → Entry → Type 0
 Unassigns user role e = (e.command ≡ DeassignUser user role) ⊎ (e.command ≡ DeleteUser user) ⊎ (e.command ≡ DeleteRole role)

@@ -1,15 +1,15 @@
 -- What an entry asks of the entries before it, so that a policy that stands for them can take it in (this project's own form). Each accepted
--- entry of a command fits, but of those of separation sets, which the tables of a policy are not proved to follow yet.
+-- entry fits.
 use Rattle.std.specs.Prelude.{◌≡◌, ℕ, ◌<◌, ◌≤◌, List, Option, Some, None, Contains, length, slice_get, take}
 use Rattle.rbac_policy.specs.declared.objects.Operation.{Operation}
 use Rattle.rbac_policy.specs.declared.objects.Object.{Object}
 use Rattle.rbac_policy.specs.declared.commands.AdminCommand.{AdminCommand}
-use Rattle.rbac_policy.specs.declared.commands.AdminCommand.TheVariants.{AddUser, DeleteUser, AssignUser, DeassignUser, AddRole, DeleteRole, GrantPermission, RevokePermission, AddInheritance, DeleteInheritance, CreateSession, DeleteSession, AddActiveRole, DropActiveRole}
+use Rattle.rbac_policy.specs.declared.commands.AdminCommand.TheVariants.{AddUser, DeleteUser, AssignUser, DeassignUser, AddRole, DeleteRole, GrantPermission, RevokePermission, AddInheritance, DeleteInheritance, CreateDsdSet, DeleteDsdSet, CreateSession, DeleteSession, AddActiveRole, DropActiveRole}
 use Rattle.rbac_policy.specs.declared.commands.Entry.{Entry}
-use Rattle.rbac_policy.specs.declared.sizes.TheConstants.{USERS, ROLES, GRANTS, SESSIONS, LAST_SESSION, LAST_VERSION}
+use Rattle.rbac_policy.specs.declared.sizes.TheConstants.{USERS, ROLES, GRANTS, SESSIONS, SETS, LAST_SESSION, LAST_VERSION}
 use Rattle.rbac_policy.specs.Names.{NameText}
 use Rattle.rbac_policy.specs.Entries.{logins}
-use Rattle.rbac_policy.specs.Facts.{IsUser, IsRole, IsSet, IsLive, IsPairGranted}
+use Rattle.rbac_policy.specs.Facts.{IsUser, IsRole, IsSet, IsSetName, IsLive, IsPairGranted}
 use Rattle.rbac_policy.specs.Counting.{HasAtLeast}
 
 -- the table of users is full
@@ -27,6 +27,10 @@ PermissionsFull entries = HasAtLeast {A = Operation × Object} GRANTS (λ pair. 
 -- as many sessions live as there is room for
 abbrev pub SessionsFull : List Entry → Type 0
 SessionsFull entries = HasAtLeast SESSIONS (IsLive entries)
+
+-- the table of separation sets is full
+abbrev pub SetsFull : List Entry → Type 0
+SetsFull entries = HasAtLeast SETS (IsSetName entries)
 
 -- all session numbers were given
 abbrev pub NumbersExhausted : List Entry → Type 0
@@ -74,6 +78,12 @@ pub record FitsDeleteRole (entries : List Entry) (role : NameText) : Type 0 wher
   pub is_role : IsRole entries role
   pub in_no_set : (place : ℕ) (set : NameText) (count : ℕ) (members : List NameText) → IsSet entries place set count members → ¬ (Contains members role)
 
+-- the separation set is new, its roles are there, and there is room
+pub record FitsCreateDsdSet (entries : List Entry) (set : NameText) (roles : List NameText) : Type 0 where
+  pub absent : ¬ (IsSetName entries set)
+  pub are_roles : (role : NameText) → Contains roles role → IsRole entries role
+  pub room : ¬ (SetsFull entries)
+
 -- a living session gives the command, and the role is there
 pub record FitsAddActiveRole (entries : List Entry) (session : Option ℕ) (role : NameText) : Type 0 where
   pub number : ℕ
@@ -101,9 +111,10 @@ FitsCommand (DeleteUser user) session entries = IsUser entries user
 FitsCommand (AddInheritance senior junior) session entries = FitsInheritance entries senior junior
 FitsCommand (DeleteInheritance senior junior) session entries = FitsInheritance entries senior junior
 FitsCommand (DeleteRole role) session entries = FitsDeleteRole entries role
+FitsCommand (CreateDsdSet set count roles) session entries = FitsCreateDsdSet entries set roles
+FitsCommand (DeleteDsdSet set) session entries = IsSetName entries set
 FitsCommand (AddActiveRole role) session entries = FitsAddActiveRole entries session role
 FitsCommand (DropActiveRole role) session entries = FitsDropActiveRole entries session role
-FitsCommand _ session entries = ⊥
 
 -- there is a version for the longer list, and what the command asks holds
 pub record Fits (entries : List Entry) (entry : Entry) : Type 0 where

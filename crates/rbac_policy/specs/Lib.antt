@@ -9,6 +9,8 @@ pub mod Opening
 pub mod Fits
 pub mod Tables
 pub mod Change
+pub mod Violations
+pub mod Separation
 pub mod StandsFor
 pub mod Decided
 pub mod Leaving

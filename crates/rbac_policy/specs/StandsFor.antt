@@ -1,5 +1,5 @@
 -- When the tables of a policy say what a list of accepted entries says (this project's own form).
-use Rattle.std.specs.Prelude.{◌≡◌, ℕ, ◌≤◌, ◌↔◌, List, Option, Some, None, slice_get, length, slice_index}
+use Rattle.std.specs.Prelude.{◌≡◌, ℕ, ◌≤◌, ◌↔◌, List, Option, Some, None, Contains, slice_get, length, slice_index}
 use Rattle.rbac_policy.specs.declared.objects.Operation.{Operation}
 use Rattle.rbac_policy.specs.declared.objects.Object.{Object}
 use Rattle.rbac_policy.specs.declared.commands.Entry.{Entry}
@@ -75,10 +75,19 @@ pub record SessionsStand (roles : List (Option NameText)) (sessions : List (Opti
   pub unique : IsKeyed (λ (x : Session). x.number) sessions
   pub places : length sessions ≡ SESSIONS
 
--- The separation sets. No command fills their table yet, so that a policy stands only for lists without sets.
-pub record SetsStand (sets : List (Option DsdSet)) (entries : List Entry) : Type 0 where
-  pub none : (place : ℕ) (set : NameText) (count : ℕ) (roles : List NameText) → IsSet entries place set count roles → ⊥
-  pub empty : (at : ℕ) (x : DsdSet) → At sets at x → ⊥
+-- the row is that of the separation set of this name, number and members, which the entry at this place made
+pub record IsRowOf (roles : List (Option NameText)) (place : ℕ) (set : NameText) (count : ℕ) (listed : List NameText) (row : DsdSet) : Type 0 where
+  pub name : row.name ≡ set
+  pub number : row.count ≡ count
+  pub made : row.place ≡ place
+  pub members : (role : NameText) → Contains listed role ↔ InMask roles row.roles role
+
+-- the separation sets, with their numbers and members and the places of the entries that made them
+pub record SetsStand (roles : List (Option NameText)) (sets : List (Option DsdSet)) (entries : List Entry) : Type 0 where
+  pub listed : (place : ℕ) (set : NameText) (count : ℕ) (members : List NameText) → IsSet entries place set count members → Holds (IsRowOf roles place set count members) sets
+  pub made : (at : ℕ) (x : DsdSet) → At sets at x → (members : List NameText) × IsSet entries x.place x.name x.count members × IsRowOf roles x.place x.name x.count members x
+  pub named : (at : ℕ) (x : DsdSet) → At sets at x → IsNamed roles x.roles
+  pub unique : IsKeyed (λ (x : DsdSet). x.name) sets
   pub places : length sets ≡ SETS
 
 -- the policy stands for the entries
@@ -89,4 +98,4 @@ pub record StandsFor (policy : Policy) (entries : List Entry) : Type 0 where
   pub roles : RolesStand policy.roles policy.juniors entries
   pub grants : GrantsStand policy.roles policy.grants entries
   pub sessions : SessionsStand policy.roles policy.sessions entries
-  pub sets : SetsStand policy.sets entries
+  pub sets : SetsStand policy.roles policy.sets entries

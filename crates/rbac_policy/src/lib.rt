@@ -14,6 +14,7 @@ pub mod opening;
 pub mod policy;
 pub mod readers;
 mod rows;
+pub mod separation;
 pub mod sizes;
 mod tables;
 pub mod texts;

@@ -234,8 +234,6 @@ impl Policy {
     }
 
     /// Takes the entry in, whether it was accepted or not: what it leaves depends on the tables and the entry alone.
-    ///
-    /// `stands` speaks of each command but CreateDsdSet and DeleteDsdSet so far.
     pub fn absorb(&mut self, entry: &Entry)
         ensures exact { self.new ≡ absorbed self.old entry.now }
         ensures stands { (entries : List Entry) → StandsFor self.old entries → Fits entries entry.now

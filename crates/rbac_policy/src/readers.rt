@@ -1,5 +1,7 @@
 //! What a policy says of users, roles, permissions and sessions: what it is asked before a policy command is accepted.
-ghost use Rattle.std.specs.Prelude.{◌↔◌, List, IsTrue, MatchOption};
+ghost use Rattle.std.specs.Prelude.{ℕ, ◌↔◌, ◌++◌, ◌∷◌, [], List, IsTrue, MatchOption, Contains};
+ghost use Rattle.rbac_policy.specs.Names.{NameText};
+ghost use Rattle.rbac_policy.specs.Separation.{IsFirstViolated, login_entry};
 ghost use Rattle.rbac_policy.specs.declared.commands.Entry.{Entry};
 ghost use Rattle.rbac_policy.specs.Facts.{IsUser, IsRole, IsAssigned, IsGranted, IsPairGranted, IsEdge, IsAtOrBelow, IsAuthorized, IsActive, Lives, IsLive};
 ghost use Rattle.rbac_policy.specs.Fits.{NumbersExhausted, UsersFull, RolesFull, SessionsFull, PermissionsFull};
@@ -7,11 +9,13 @@ ghost use Rattle.rbac_policy.specs.StandsFor.{StandsFor};
 
 use crate::closure::below;
 use crate::commands::SessionId;
-use crate::names::Name;
+use crate::names::{Name, RoleNames};
 use crate::objects::{Object, Operation};
 use crate::policy::Policy;
+use crate::rows::Session;
+use crate::separation::{Violation, first_violation};
 use crate::sizes::LAST_SESSION;
-use crate::tables::{free, grant_of, has_user, place_of, roles_of, session_of};
+use crate::tables::{free, grant_of, has_user, mask_of, place_of, roles_of, session_of};
 
 impl Policy {
     /// Whether the session lives.
@@ -130,6 +134,33 @@ impl Policy {
             Some(place) => below(&self.juniors, roles_of(&self.users, user)).has(place),
             None => false,
         }
+    }
+
+    /// The first separation set, in order of creation, that some living session violates, and the least session that does.
+    pub fn first_violated(&self) -> Option<Violation>
+        ensures { (entries : List Entry) → StandsFor self.now entries
+            → MatchOption result
+            ((set : NameText) (session : ℕ) → IsFirstViolated entries set session → ⊥)
+            (λ violation. IsFirstViolated entries violation.set violation.session) }
+    {
+        first_violation(&self.sets, &self.sessions, &None, &self.juniors)
+    }
+
+    /// The first separation set, in order of creation, that some session violates once the user has logged in with these roles, for which
+    /// it is authorized, and the least session that does. The new session has the next number.
+    pub fn first_violated_by_login(&self, user: &Name, roles: &RoleNames) -> Option<Violation>
+        ensures { (entries : List Entry) → StandsFor self.now entries → ¬ (NumbersExhausted entries)
+            → ((role : NameText) → Contains roles.now role → IsAuthorized entries user.now role)
+            → MatchOption result
+            ((set : NameText) (session : ℕ) → IsFirstViolated (entries ++ login_entry user.now roles.now ∷ []) set session → ⊥)
+            (λ violation. IsFirstViolated (entries ++ login_entry user.now roles.now ∷ []) violation.set violation.session) }
+    {
+        let coming = Some(Session {
+            number: SessionId::new(self.logins.wrapping_add(1)),
+            user: *user,
+            active: mask_of(&self.roles, roles),
+        });
+        first_violation(&self.sets, &self.sessions, &coming, &self.juniors)
     }
 
     /// Whether all session numbers were given.

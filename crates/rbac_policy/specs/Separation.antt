@@ -1,8 +1,13 @@
 -- Dynamic separation of duty over the list of accepted entries (ANSI INCITS 359-2004; the order of sets and sessions is this project's own form).
-use Rattle.std.specs.Prelude.{ℕ, ◌<◌, List, Contains}
+use Rattle.std.specs.Prelude.{ℕ, ◌<◌, List, None, Contains}
+use Rattle.rbac_policy.specs.declared.commands.AdminCommand.TheVariants.{CreateSession}
 use Rattle.rbac_policy.specs.declared.commands.Entry.{Entry}
 use Rattle.rbac_policy.specs.Names.{NameText}
 use Rattle.rbac_policy.specs.Facts.{IsSet, Violates}
+
+-- the entry of a login of the user with these roles, which no session gives
+abbrev pub login_entry : NameText → List NameText → Entry
+login_entry user roles = record { session = None; command = CreateSession user roles }
 
 -- the set is the first, in order of creation, that some session violates, and the session is the least that violates it
 pub record IsFirstViolated (entries : List Entry) (set : NameText) (session : ℕ) : Type 0 where
