@@ -9,6 +9,8 @@ mod drawings;
 #[cfg(test)]
 mod kernels;
 #[cfg(test)]
+mod modules;
+#[cfg(test)]
 mod reactions;
 #[cfg(test)]
 mod texts;
