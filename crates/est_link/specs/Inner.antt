@@ -2,3 +2,4 @@ pub mod Joins
 pub mod Tables
 pub mod Numbers
 pub mod Binds
+pub mod Needs

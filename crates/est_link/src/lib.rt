@@ -16,6 +16,7 @@ pub mod head;
 pub mod laws;
 mod main_module;
 pub mod names;
+mod needed;
 pub mod orders;
 pub mod relations;
 pub mod renamings;

@@ -69,7 +69,7 @@ impl Visitor for RunPlaces<'_> {
 }
 
 /// The places of the modules that a module runs, in the order of the text.
-fn places_run<'a>(
+pub(crate) fn places_run<'a>(
     alloc: Global,
     heads: &'a [Head<'a>],
     home: &Head<'_>,

@@ -1,0 +1,15 @@
+use Rattle.std.proofs.Common.{◌≡◌, ◌≤◌, length, map, Contains}
+use Rattle.est_link.specs.Modules.{program_of}
+use Rattle.est_link.specs.Inner.Needs.{IsClosedFrom}
+use Rattle.est_link.proofs.needed.needed_places.Given as goal
+
+abbrev pub invariant-loop-left : goal.invariant-loop-left
+invariant-loop-left l =
+    record {
+      within : l.left ≤ length l.order;
+      closed : IsClosedFrom (map program_of l.heads) l.order l.left l.needed.items;
+      main : Contains l.needed.items l.main;
+    }
+
+abbrev pub decreases-loop-left : goal.decreases-loop-left
+decreases-loop-left l = l.left
