@@ -14,6 +14,7 @@ pub mod emission;
 mod flatten;
 pub mod head;
 pub mod laws;
+pub mod linked_module;
 mod main_module;
 pub mod names;
 mod needed;

@@ -38,7 +38,7 @@ fn name_at(heads: &[Head<'_>], place: usize) -> Identifier
 }
 
 /// The set of the places of the module at `main` and of those that it runs, and so on.
-fn needed_places<'a>(
+pub fn needed_places<'a>(
     alloc: Global,
     heads: &'a [Head<'a>],
     order: &[usize],
@@ -62,7 +62,7 @@ fn needed_places<'a>(
 }
 
 /// The names of the modules of a set, each after those of the modules that it runs.
-fn names_along(
+pub fn names_along(
     alloc: Global,
     heads: &[Head<'_>],
     order: &[usize],

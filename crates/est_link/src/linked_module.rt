@@ -1,0 +1,68 @@
+//! The flat body of the main module, its runs replaced.
+ghost use Rattle.std.specs.Prelude.{◌≡◌, ℕ, Bool, List, None, Some, IfOk, map};
+ghost use Rattle.std.specs.List.{find, position};
+ghost use Rattle.std.specs.Str.{bytes_eq};
+ghost use Rattle.est_link.specs.Bodies.{IsLinked, HasSoundNames};
+ghost use Rattle.est_link.specs.Duplicates.{first_duplicate};
+ghost use Rattle.est_link.specs.Inner.Tables.{bodies_of};
+ghost use Rattle.est_link.specs.MainModule.{declarations_of};
+ghost use Rattle.est_link.specs.Modules.{Program, program_of, program_named};
+ghost use Rattle.est_link.specs.Orders.{IsOrderOf};
+ghost use Rattle.est_link.specs.Runs.{first_missing};
+ghost use Rattle.est_reduce.specs.Bound.{IsBound};
+ghost use Rattle.est_reduce.specs.Views.{body_of};
+
+use crate::flatten::Linked;
+use crate::head::Head;
+use crate::needed::{names_along, needed_places};
+use crate::orders::place_named;
+use crate::table::bodies_along;
+use est_reduce::body::Body;
+use est_text::identifier::Identifier;
+use module_order::order::Order;
+use std::alloc::{AllocError, Global};
+
+/// The place of the entry of a name.
+fn entry_named(bodies: &[Linked], name: &Identifier) -> Option<usize>
+    ensures { result ≡ position (λ e. bytes_eq e.name name.now) bodies.now }
+{
+    bodies.iter().position(|entry| entry.name.is(name))
+}
+
+/// The body that a table has for a name.
+fn take_body(mut bodies: Vec<Linked>, name: &Identifier) -> Body
+    ensures { body_of result ≡ bodies_of bodies.items name.now }
+{
+    match entry_named(&bodies, name) {
+        Some(place) => bodies.swap_remove(place).body,
+        None => Body::Nothing,
+    }
+}
+
+/// The flat body of main, from those of the modules that it runs; no other module is made flat.
+///
+/// # Errors
+///
+/// `AllocError` where memory is refused.
+pub fn linked_body<'a>(
+    alloc: Global,
+    heads: &'a [Head<'a>],
+    order: &Order,
+    main: &Identifier,
+) -> Result<Body, AllocError>
+    requires order { IsOrderOf (map program_of heads.now) order.now }
+    requires distinct { first_duplicate (map program_of heads.now) ≡ None }
+    requires there { first_missing (map program_of heads.now) main.now ≡ None }
+    ensures linked { IfOk result (λ b. IsLinked (map program_of heads.now) main.now (body_of b)) }
+    ensures bound { IfOk result (λ b. (emitted : List ℕ → List ℕ → Bool) (p : Program) → HasSoundNames (map program_of heads.now) emitted → program_named (map program_of heads.now) main.now ≡ Some p → IsBound (declarations_of p) 0 0 (body_of b)) }
+{
+    match place_named(heads, main) {
+        Some(place) => {
+            let needed = needed_places(alloc, &*heads, order.places(), place)?;
+            let names = names_along(alloc, heads, order.places(), &needed)?;
+            let bodies = bodies_along(alloc, heads, &names)?;
+            Ok(take_body(bodies, main))
+        }
+        None => Ok(Body::Nothing),
+    }
+}
