@@ -55,13 +55,14 @@ all_fine ps em p [] known accepted sent = tt
 all_fine ps em p (o ∷ os) known accepted sent =
     let unknown = or_none_parts (unknown_at ps p o) (first_of (unknown_at ps p) os) known in
     let refused = or_none_parts (refused_at ps em p o) (first_of (refused_at ps em p) os) accepted in
-    let later = λ (s : List ℕ). list_any (λ (o : Occurrence). not (is_local o.round s) && emits_by ps em s o.act) os in
-    (record {
+    let later = λ (s : List ℕ). list_any (λ (o : Occurrence). not (is_local o.round s) && emits_by ps em s o.act) os in (
+      record {
         known = unknown.0;
         accepted = refused.0;
         sent = λ s h e. sent s (emission_here (is_local o.round s) (emits_by ps em s o.act) (later s) h e);
-     },
-     all_fine ps em p os unknown.1 refused.1 (λ s h. sent s (or_right (not (is_local o.round s) && emits_by ps em s o.act) (later s) h)))
+      },
+      all_fine ps em p os unknown.1 refused.1 (λ s h. sent s (or_right (not (is_local o.round s) && emits_by ps em s o.act) (later s) h)),
+    )
 
 -- ---- a statement
 
@@ -89,8 +90,8 @@ run_bound ps em p bs m rs (Some q) f found fine sound =
     let e : locals_round bs + 0 ≡ locals_round bs = omega arith in
     let none : 0 + traps_round bs ≡ traps_round bs = omega arith in
     subst (λ l. IsBody (length p.interface) (IsSent em p) (traps_round bs) l (bound (interface_bound p bs rs q.interface) (locals_round bs) f)) e
-        (bound_body (length q.interface) (IsSent em q) (length p.interface) (IsSent em p) (locals_round bs) (interface_bound p bs rs q.interface) (run_bindings ps em p bs m rs q found fine) (traps_round bs) 0 f
-            (subst (λ t. IsBody (length q.interface) (IsSent em q) t 0 f) none (more_traps (length q.interface) (IsSent em q) (traps_round bs) 0 0 f sound)))
+    (bound_body (length q.interface) (IsSent em q) (length p.interface) (IsSent em p) (locals_round bs) (interface_bound p bs rs q.interface) (run_bindings ps em p bs m rs q found fine) (traps_round bs) 0 f
+    (subst (λ t. IsBody (length q.interface) (IsSent em q) t 0 f) none (more_traps (length q.interface) (IsSent em q) (traps_round bs) 0 0 f sound)))
 
 pub linked_bound : (ps : List Program) (em : List ℕ → List ℕ → Bool) (p : Program) (b : List ℕ → Body) (bs : List Binder) (d : Derived) → AllByRecursion (IsFine ps em p) (occurrences bs d) → AllRuns (λ m. IsSound em (program_named ps m) (b m)) d → IsBody (length p.interface) (IsSent em p) (traps_round bs) (locals_round bs) (linked ps b p bs d)
 linked_bound ps em p b bs derived.missing h r = tt
@@ -126,8 +127,8 @@ sound_linked : (ps : List Program) (em : List ℕ → List ℕ → Bool) (b : Li
 sound_linked ps em b m None found names runs_sound = refl
 sound_linked ps em b m (Some p) found names runs_sound =
     linked_bound ps em p b [] p.body
-        (all_fine ps em p (occurrences [] p.body) (names.known m p found) (names.accepted m p found) (λ s h. names.emissions m p found s ∙ h))
-        (runs_sound p refl)
+    (all_fine ps em p (occurrences [] p.body) (names.known m p found) (names.accepted m p found) (λ s h. names.emissions m p found s ∙ h))
+    (runs_sound p refl)
 
 old_sound : (ps : List Program) (em : List ℕ → List ℕ → Bool) (es : List Linked) (e : Linked) (m : List ℕ) → has_body es m ≡ true → IsSound em (program_named ps m) (bodies_of es m) → IsSound em (program_named ps m) (bodies_of (es ++ e ∷ []) m)
 old_sound ps em es e m here sound = subst (IsSound em (program_named ps m)) (sym (kept es e m here)) sound
@@ -136,10 +137,10 @@ last_sound : (ps : List Program) (em : List ℕ → List ℕ → Bool) (es : Lis
 last_sound ps em es e m names before absent is made =
     let same : e.name ≡ m = same_bytes e.name m is in
     let body : bodies_of (es ++ e ∷ []) m ≡ body_linked ps (bodies_of es) (program_named ps m) =
-        new_last es e m absent ∙ last_body e m is ∙ made.made ∙ ap (λ n. body_linked ps (bodies_of es) (program_named ps n)) same in
+    new_last es e m absent ∙ last_body e m is ∙ made.made ∙ ap (λ n. body_linked ps (bodies_of es) (program_named ps n)) same in
     subst (IsSound em (program_named ps m)) (sym body)
-        (sound_linked ps em (bodies_of es) m (program_named ps m) refl names
-            (λ p found. more_runs (λ n. has_body es n ≡ true) (λ n. IsSound em (program_named ps n) (bodies_of es n)) before p.body (made.ready p (ap (program_named ps) same ∙ found))))
+    (sound_linked ps em (bodies_of es) m (program_named ps m) refl names
+    (λ p found. more_runs (λ n. has_body es n ≡ true) (λ n. IsSound em (program_named ps n) (bodies_of es n)) before p.body (made.ready p (ap (program_named ps) same ∙ found))))
 
 -- each name of each body of a table is bound
 pub made_sound : (ps : List Program) (em : List ℕ → List ℕ → Bool) (es : List Linked) → AreMade ps es → HasSoundNames ps em → (m : List ℕ) → has_body es m ≡ true → IsSound em (program_named ps m) (bodies_of es m)
@@ -147,6 +148,6 @@ made_sound ps em es none names m h = absurd (false≢true h)
 made_sound ps em es (next before e is made this) names m h =
     let here : has_body (before ++ e ∷ []) m ≡ true = sym (ap (λ xs. has_body xs m) is) ∙ h in
     subst (λ xs. IsSound em (program_named ps m) (bodies_of xs m)) (sym is) (⊎_elim
-        (λ old. old_sound ps em before e m old (made_sound ps em before made names m old))
-        (λ new. last_sound ps em before e m names (λ n there. made_sound ps em before made names n there) new.0 new.1 this)
-        (old_or_last before e m here))
+    (λ old. old_sound ps em before e m old (made_sound ps em before made names m old))
+    (λ new. last_sound ps em before e m names (λ n there. made_sound ps em before made names n there) new.0 new.1 this)
+    (old_or_last before e m here))

@@ -81,9 +81,10 @@ grown ps es e None runs = refl
 grown ps es e (Some p) runs = sym (same_linked ps (bodies_of (es ++ e ∷ [])) (bodies_of es) p [] p.body (more_runs (λ n. has_body es n ≡ true) (λ n. bodies_of (es ++ e ∷ []) n ≡ bodies_of es n) (kept es e) p.body (runs p refl)))
 
 old_kept : (ps : List Program) (es : List Linked) (e : Linked) (m : List ℕ) → has_body es m ≡ true → IsKept ps es m → IsKept ps (es ++ e ∷ []) m
-old_kept ps es e m old was =
-    ((λ p found. more_runs (λ n. has_body es n ≡ true) (λ n. has_body (es ++ e ∷ []) n ≡ true) (has_more es e) p.body (was.0 p found)),
-     (kept es e m old ∙ was.1 ∙ grown ps es e (program_named ps m) was.0))
+old_kept ps es e m old was = (
+  (λ p found. more_runs (λ n. has_body es n ≡ true) (λ n. has_body (es ++ e ∷ []) n ≡ true) (has_more es e) p.body (was.0 p found)),
+  (kept es e m old ∙ was.1 ∙ grown ps es e (program_named ps m) was.0),
+)
 
 pub last_body : (e : Linked) (m : List ℕ) → bytes_eq e.name m ≡ true → bodies_of (e ∷ []) m ≡ body_of e.body
 last_body e m h = ap (λ b. body_found (cond b (Some e) None)) h
@@ -91,18 +92,19 @@ last_body e m h = ap (λ b. body_found (cond b (Some e) None)) h
 last_kept : (ps : List Program) (es : List Linked) (e : Linked) (m : List ℕ) → has_body es m ≡ false → bytes_eq e.name m ≡ true → IsMade ps es e → IsKept ps (es ++ e ∷ []) m
 last_kept ps es e m absent is made =
     let same : e.name ≡ m = (bytes_eq-Decides e.name m).0 is in
-    let ready : (p : Program) → program_named ps m ≡ Some p → AllRuns (λ n. has_body es n ≡ true) p.body = λ p found. made.ready p (ap (program_named ps) same ∙ found) in
-    ((λ p found. more_runs (λ n. has_body es n ≡ true) (λ n. has_body (es ++ e ∷ []) n ≡ true) (has_more es e) p.body (ready p found)),
-     (new_last es e m absent ∙ last_body e m is ∙ made.made ∙ ap (λ n. body_linked ps (bodies_of es) (program_named ps n)) same ∙ grown ps es e (program_named ps m) ready))
+    let ready : (p : Program) → program_named ps m ≡ Some p → AllRuns (λ n. has_body es n ≡ true) p.body = λ p found. made.ready p (ap (program_named ps) same ∙ found) in (
+      (λ p found. more_runs (λ n. has_body es n ≡ true) (λ n. has_body (es ++ e ∷ []) n ≡ true) (has_more es e) p.body (ready p found)),
+      (new_last es e m absent ∙ last_body e m is ∙ made.made ∙ ap (λ n. body_linked ps (bodies_of es) (program_named ps n)) same ∙ grown ps es e (program_named ps m) ready),
+    )
 
 pub made_kept : (ps : List Program) (es : List Linked) → AreMade ps es → (m : List ℕ) → has_body es m ≡ true → IsKept ps es m
 made_kept ps es none m h = absurd (false≢true h)
 made_kept ps es (next before e is made this) m h =
     let here : has_body (before ++ e ∷ []) m ≡ true = sym (ap (λ xs. has_body xs m) is) ∙ h in
     subst (λ xs. IsKept ps xs m) (sym is) (⊎_elim
-        (λ old. old_kept ps before e m old (made_kept ps before made m old))
-        (λ new. last_kept ps before e m new.0 new.1 this)
-        (old_or_last before e m here))
+    (λ old. old_kept ps before e m old (made_kept ps before made m old))
+    (λ new. last_kept ps before e m new.0 new.1 this)
+    (old_or_last before e m here))
 
 -- the table has the flat body of each of its modules
 pub made_linked : (ps : List Program) (es : List Linked) → AreMade ps es → (main : List ℕ) → has_body es main ≡ true → IsLinked ps main (bodies_of es main)

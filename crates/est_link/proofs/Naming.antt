@@ -69,10 +69,10 @@ pub local_sent : (may : ℕ → Type 0) (p : Program) (bs : List Binder) (s : Li
 local_sent may p [] s h = absurd (false≢true h)
 local_sent may p (signals ns ∷ bs) s h =
     list_sent (length p.interface) may (locals_round bs) (length (ns.first ∷ ns.later)) (position (λ n. bytes_eq n s) (ns.first ∷ ns.later)) (signal_at p bs s) (is_among ns s) (is_local bs s)
-        (λ i e. (position-Some (λ n. bytes_eq n s) (ns.first ∷ ns.later) i [] e).0)
-        (λ e. no_place (λ n. bytes_eq n s) (ns.first ∷ ns.later) e)
-        (local_sent may p bs s)
-        h
+    (λ i e. (position-Some (λ n. bytes_eq n s) (ns.first ∷ ns.later) i [] e).0)
+    (λ e. no_place (λ n. bytes_eq n s) (ns.first ∷ ns.later) e)
+    (local_sent may p bs s)
+    h
 local_sent may p (a_trap t ∷ bs) s h = local_sent may p bs s h
 
 -- a name that isn't local means a signal of the interface
@@ -90,12 +90,14 @@ no_input p bs s h r = or_parts _ _ (and_other (not (is_local bs s)) _ (not_true 
 
 place_sent : (em : List ℕ → List ℕ → Bool) (p : Program) (s : List ℕ) (o : Option ℕ) → position (λ (d : Declared). bytes_eq d.name s) p.interface ≡ o → is_declared p.interface s ≡ true → list_any (λ (d : Declared). bytes_eq d.name s && is_input_kind d.kind) p.interface ≡ false → em p.name s ≡ true → (l : ℕ) → MayEmit (length p.interface) (IsSent em p) l (emitted (of_interface o))
 place_sent em p s None at_i declared inputs sent l = absurd (true≢false (sym declared ∙ no_place (λ (d : Declared). bytes_eq d.name s) p.interface at_i))
-place_sent em p s (Some i) at_i declared inputs sent l =
-    ((position-Some (λ (d : Declared). bytes_eq d.name s) p.interface i nobody at_i).0,
-     (λ d there.
-        let named = place_passes (λ (d : Declared). bytes_eq d.name s) p.interface i d at_i there in
-        ((ap (em p.name) (same_bytes d.name s named) ∙ sent),
-         and_other (bytes_eq d.name s) (is_input_kind d.kind) named (none_at (λ (d : Declared). bytes_eq d.name s && is_input_kind d.kind) p.interface i d inputs there))))
+place_sent em p s (Some i) at_i declared inputs sent l = (
+  (position-Some (λ (d : Declared). bytes_eq d.name s) p.interface i nobody at_i).0,
+  (λ d there.
+      let named = place_passes (λ (d : Declared). bytes_eq d.name s) p.interface i d at_i there in (
+        (ap (em p.name) (same_bytes d.name s named) ∙ sent),
+        and_other (bytes_eq d.name s) (is_input_kind d.kind) named (none_at (λ (d : Declared). bytes_eq d.name s && is_input_kind d.kind) p.interface i d inputs there),
+      )),
+)
 
 global_sent : (em : List ℕ → List ℕ → Bool) (p : Program) (bs : List Binder) (s : List ℕ) → is_local bs s ≡ false → is_visible p bs s ≡ true → is_refused p bs s ≡ false → em p.name s ≡ true → MayEmit (length p.interface) (IsSent em p) (locals_round bs) (emitted (signal_at p bs s))
 global_sent em p bs s h visible accepted sent =
@@ -103,7 +105,7 @@ global_sent em p bs s h visible accepted sent =
     let known : (is_declared p.interface s || bytes_eq s (codes "tick")) ≡ true = or_other (is_local bs s) _ h visible in
     let declared : is_declared p.interface s ≡ true = or_first (is_declared p.interface s) (bytes_eq s (codes "tick")) parts.1 known in
     subst (λ q. MayEmit (length p.interface) (IsSent em p) (locals_round bs) (emitted q)) (sym (global_at p bs s h))
-        (place_sent em p s (position (λ (d : Declared). bytes_eq d.name s) p.interface) refl declared parts.0 sent (locals_round bs))
+    (place_sent em p s (position (λ (d : Declared). bytes_eq d.name s) p.interface) refl declared parts.0 sent (locals_round bs))
 
 by_place : (em : List ℕ → List ℕ → Bool) (p : Program) (bs : List Binder) (s : List ℕ) (b : Bool) → is_local bs s ≡ b → is_visible p bs s ≡ true → is_refused p bs s ≡ false → (is_local bs s ≡ false → em p.name s ≡ true) → MayEmit (length p.interface) (IsSent em p) (locals_round bs) (emitted (signal_at p bs s))
 by_place em p bs s true h visible accepted sent = local_sent (IsSent em p) p bs s h
@@ -141,11 +143,11 @@ run_sent ps em p bs m rs q found fine i d there sent =
     let refused : refused_in_run em p bs rs m (Some q) ≡ None = sym (ap (refused_in_run em p bs rs m) found) ∙ fine.accepted in
     let allowed = none_at (λ (d : Declared). is_refused_in_run em p bs rs m d.name) q.interface i d (none_found _ q.interface (map_none _ _ refused)) there in
     sent_at em p bs (renamed rs d.name)
-        (renamed_known p bs rs d.name (find (λ (r : RenamingTree). bytes_eq r.inner d.name) rs) refl left unbound)
-        (renamed_accepted em p bs rs m d.name allowed (ap (λ n. em n d.name) (sym same) ∙ sent))
-        (λ h. fine.sent (renamed rs d.name) h
-            (ap (emits_in_run em (renamed rs d.name) rs) found
-            ∙ any_at (λ (e : Declared). em q.name e.name && bytes_eq (renamed rs e.name) (renamed rs d.name)) q.interface i d there (and_both (em q.name d.name) _ sent (equal_bytes (renamed rs d.name)))))
+    (renamed_known p bs rs d.name (find (λ (r : RenamingTree). bytes_eq r.inner d.name) rs) refl left unbound)
+    (renamed_accepted em p bs rs m d.name allowed (ap (λ n. em n d.name) (sym same) ∙ sent))
+    (λ h. fine.sent (renamed rs d.name) h
+    (ap (emits_in_run em (renamed rs d.name) rs) found
+    ∙ any_at (λ (e : Declared). em q.name e.name && bytes_eq (renamed rs e.name) (renamed rs d.name)) q.interface i d there (and_both (em q.name d.name) _ sent (equal_bytes (renamed rs d.name)))))
 
 bound_at : (p : Program) (bs : List Binder) (rs : List RenamingTree) (ds : List Declared) (i : ℕ) → i < length ds → get_or (interface_bound p bs rs ds) i tick ≡ signal_at p bs (renamed rs (get_or ds i nobody).name)
 bound_at p bs rs ds i lt = get_or-map (λ (d : Declared). signal_at p bs (renamed rs d.name)) ds i nobody tick lt
@@ -156,7 +158,7 @@ run_bindings ps em p bs m rs q found fine =
     record {
       asked = λ i lt. subst (MayAsk (length p.interface) (locals_round bs)) (sym (bound_at p bs rs q.interface i lt)) (asked_at p bs (renamed rs (get_or q.interface i nobody).name));
       sent = λ i lt may.
-        let there = slice_get-get_or q.interface i nobody lt in
-        subst (λ x. MayEmit (length p.interface) (IsSent em p) (locals_round bs) (emitted x)) (sym (bound_at p bs rs q.interface i lt))
-            (run_sent ps em p bs m rs q found fine i (get_or q.interface i nobody) there (may (get_or q.interface i nobody) there).0);
+          let there = slice_get-get_or q.interface i nobody lt in
+          subst (λ x. MayEmit (length p.interface) (IsSent em p) (locals_round bs) (emitted x)) (sym (bound_at p bs rs q.interface i lt))
+          (run_sent ps em p bs m rs q found fine i (get_or q.interface i nobody) there (may (get_or q.interface i nobody) there).0);
     }

@@ -1,14 +1,13 @@
 -- The modules that main runs, in an order.
-use Rattle.std.proofs.Common.{◌≡◌, ℕ, zero, suc, ◌+◌, ◌<◌, ◌≤◌, ◌⊎◌, inl, inr, List, [], ◌∷◌, ◌++◌, length, map, take, get_or, slice_index, slice_index_or, Bool, true, false, ◌||◌, cond, if◌then◌else◌, Option, Some, None, option_map, Contains, refl, ap, sym, ◌∙◌, subst, ⊎_elim, arith}
-use Rattle.std.proofs.lemmas.Bool.{false≢true, true≢false, cases_lt}
+use Rattle.std.proofs.Common.{◌≡◌, ℕ, zero, suc, ◌+◌, ◌<◌, inl, inr, List, [], ◌∷◌, ◌++◌, length, take, get_or, slice_index, slice_index_or, Bool, true, false, cond, if◌then◌else◌, Option, Some, None, option_map, Contains, refl, ap, sym, ◌∙◌, subst, arith}
+use Rattle.std.proofs.lemmas.Bool.{cases_lt}
 use Rattle.std.proofs.lemmas.Option.{none-some, slice_get_within, slice_get-get_or, get_or_from_slice_get}
 use Rattle.std.proofs.lemmas.List.{get_or-map, length-append, length-map, get_or_append_left, take-append-le}
 use Rattle.std.proofs.Math.ListN.{get_or-eq_default}
 use Rattle.std.proofs.Math.Seq.{get_or-append_seam, take-append_seam}
 use Rattle.std.proofs.lemmas.List.Elements.{Contains-append_left, Contains-append_right, Contains-append_cases, Contains-push}
 use Rattle.std.proofs.lemmas.List.Folds.{list_any-append}
-use Rattle.std.specs.List.{list_any, find, position, slice_get}
-use Rattle.std.specs.Option.{option_or}
+use Rattle.std.specs.List.{find, position, slice_get}
 use Rattle.std.specs.Str.{bytes_eq}
 use Rattle.est_link.specs.Bodies.{AllRuns, AreBottomUp, is_listed}
 use Rattle.est_link.specs.Derived.{Derived, missing, nothing, pause, halt, emit, sustain, exit, await, present, suspend, abort, weak_abort, repeat, repeat_each, every, trap, signal, run, seq, par}
@@ -16,12 +15,11 @@ use Rattle.est_link.specs.Duplicates.{stands_in, duplicate_of, duplicate_after, 
 use Rattle.est_link.specs.Inner.Needs.{IsClosed, IsClosedFrom, HasFront}
 use Rattle.est_link.specs.Modules.{Program, program_named, first_in_bodies}
 use Rattle.est_link.specs.Occurrences.{Binder, signals, a_trap, Act, emits, tests, exits, binds, runs, Occurrence, occurrences, first_of}
-use Rattle.est_link.specs.Orders.{IsOrderOf, run_rows, places_run, place_named}
+use Rattle.est_link.specs.Orders.{IsOrderOf, run_rows, places_run}
 use Rattle.est_link.specs.Runs.{missing_at, missing_act, unless_there}
 use Rattle.est_link.proofs.Ordering.{IsRunOf, run_is_run}
 use Rattle.est_link.proofs.Places.{position_cons}
 use Rattle.est_link.proofs.Testing.{or_parts, or_none_parts, or_left, or_right, some_same, equal_bytes, same_bytes, found_passes}
-use Rattle.module_order.specs.Orders.{IsBottomUp}
 use Rattle.module_order.specs.Runs.{IsRun}
 use Rattle.module_order.proofs.SolutionLemmas.{each_stands, places_are_there}
 
@@ -36,9 +34,10 @@ runs_among P bs (emit s) h = tt
 runs_among P bs (sustain s) h = tt
 runs_among P bs (exit t) h = tt
 runs_among P bs (await d) h = tt
-runs_among P bs (present s p q) h =
-    (runs_among P bs p (λ o x. h o (Contains-append_right (_ ∷ []) (occurrences bs p ++ occurrences bs q) o (Contains-append_left (occurrences bs p) (occurrences bs q) o x))),
-     runs_among P bs q (λ o x. h o (Contains-append_right (_ ∷ []) (occurrences bs p ++ occurrences bs q) o (Contains-append_right (occurrences bs p) (occurrences bs q) o x))))
+runs_among P bs (present s p q) h = (
+  runs_among P bs p (λ o x. h o (Contains-append_right (_ ∷ []) (occurrences bs p ++ occurrences bs q) o (Contains-append_left (occurrences bs p) (occurrences bs q) o x))),
+  runs_among P bs q (λ o x. h o (Contains-append_right (_ ∷ []) (occurrences bs p ++ occurrences bs q) o (Contains-append_right (occurrences bs p) (occurrences bs q) o x))),
+)
 runs_among P bs (suspend p d) h = runs_among P bs p (λ o x. h o (Contains-append_left (occurrences bs p) _ o x))
 runs_among P bs (abort p d) h = runs_among P bs p (λ o x. h o (Contains-append_left (occurrences bs p) _ o x))
 runs_among P bs (weak_abort p d) h = runs_among P bs p (λ o x. h o (Contains-append_left (occurrences bs p) _ o x))
@@ -48,12 +47,14 @@ runs_among P bs (every d p) h = runs_among P bs p (λ o x. h o (Contains-append_
 runs_among P bs (trap t p) h = runs_among P (a_trap t ∷ bs) p h
 runs_among P bs (signal ns p) h = runs_among P (signals ns ∷ bs) p (λ o x. h o (Contains-append_right (_ ∷ []) (occurrences (signals ns ∷ bs) p) o x))
 runs_among P bs (run m rs) h = h (record { act = runs m rs; round = bs }) (Contains-push [] (record { act = runs m rs; round = bs })) m refl
-runs_among P bs (seq p q) h =
-    (runs_among P bs p (λ o x. h o (Contains-append_left (occurrences bs p) (occurrences bs q) o x)),
-     runs_among P bs q (λ o x. h o (Contains-append_right (occurrences bs p) (occurrences bs q) o x)))
-runs_among P bs (par p q) h =
-    (runs_among P bs p (λ o x. h o (Contains-append_left (occurrences bs p) (occurrences bs q) o x)),
-     runs_among P bs q (λ o x. h o (Contains-append_right (occurrences bs p) (occurrences bs q) o x)))
+runs_among P bs (seq p q) h = (
+  runs_among P bs p (λ o x. h o (Contains-append_left (occurrences bs p) (occurrences bs q) o x)),
+  runs_among P bs q (λ o x. h o (Contains-append_right (occurrences bs p) (occurrences bs q) o x)),
+)
+runs_among P bs (par p q) h = (
+  runs_among P bs p (λ o x. h o (Contains-append_left (occurrences bs p) (occurrences bs q) o x)),
+  runs_among P bs q (λ o x. h o (Contains-append_right (occurrences bs p) (occurrences bs q) o x)),
+)
 
 -- ---- modules of one name each
 
@@ -174,7 +175,7 @@ bottom_up_more : (ps : List Program) (names : List (List ℕ)) (m : List ℕ) �
 bottom_up_more ps names m up ready i lt p found = elim (cases_lt i (length names)) [
   | inl before ↦
       subst (λ ns. AllRuns (λ n. is_listed ns n ≡ true) p.body) (sym (take-append-le i names (m ∷ []) (omega (arith, before))))
-          (up i before p (ap (program_named ps) (sym (get_or_append_left names (m ∷ []) [] i before)) ∙ found))
+      (up i before p (ap (program_named ps) (sym (get_or_append_left names (m ∷ []) [] i before)) ∙ found))
   | inr behind ↦
       let last : i ≡ length names = omega (arith, behind, lt, length-append names (m ∷ [])) in
       let name : get_or (names ++ m ∷ []) i [] ≡ m = ap (λ j. get_or (names ++ m ∷ []) j []) last ∙ get_or-append_seam names m [] [] in
@@ -186,8 +187,8 @@ bottom_up_more ps names m up ready i lt p found = elim (cases_lt i (length names
 pub next_name : (ps : List Program) (order set : List ℕ) (names : List (List ℕ)) (k : ℕ) (p : Program) → IsOrderOf ps order → IsClosed ps set → first_duplicate ps ≡ None → first_in_bodies (missing_at ps) ps ≡ None → AreBottomUp ps names → HasFront ps set order k names → k < length order → Contains set (slice_index order k) → slice_get ps (slice_index order k) ≡ Some p → AreBottomUp ps (names ++ p.name ∷ [])
 next_name ps order set names k p up closed distinct there names_up front lt has at =
     bottom_up_more ps names p.name names_up (λ q found.
-        let same : p ≡ q = some_same p q (sym (first_of_name [] ps distinct (slice_index order k) p at) ∙ found) in
-        subst (λ (r : Program). AllRuns (λ n. is_listed names n ≡ true) r.body) same (next_ready ps order set names k p up closed there front lt has at))
+    let same : p ≡ q = some_same p q (sym (first_of_name [] ps distinct (slice_index order k) p at) ∙ found) in
+    subst (λ (r : Program). AllRuns (λ n. is_listed names n ≡ true) r.body) same (next_ready ps order set names k p up closed there front lt has at))
 
 pub next_front : (ps : List Program) (order set : List ℕ) (names : List (List ℕ)) (k : ℕ) (p : Program) → HasFront ps set order k names → slice_get ps (slice_index order k) ≡ Some p → HasFront ps set order (k + 1) (names ++ p.name ∷ [])
 next_front ps order set names k p front at i lt has q here = elim (cases_lt i k) [

@@ -1,5 +1,5 @@
 -- The main module's entry of a table.
-use Rattle.std.proofs.Common.{◌≡◌, ℕ, zero, suc, ◌+◌, ◌<◌, List, [], ◌∷◌, length, map, get_or, slice_index, Bool, true, false, cond, Option, Some, None, option_map, Contains, refl, ap, sym, ◌∙◌, subst, arith}
+use Rattle.std.proofs.Common.{◌≡◌, ℕ, suc, ◌+◌, ◌<◌, List, [], ◌∷◌, length, map, get_or, Bool, true, false, cond, Option, Some, None, option_map, Contains, refl, ap, sym, ◌∙◌, subst, arith}
 use Rattle.std.proofs.lemmas.Option.{none-some, slice_get_read, slice_get_within}
 use Rattle.std.proofs.lemmas.List.Quantifiers.{position-Some}
 use Rattle.std.proofs.lemmas.List.{length-map}
@@ -16,7 +16,7 @@ use Rattle.est_link.proofs.Made.{has_named}
 use Rattle.est_link.proofs.Needing.{program_at}
 use Rattle.est_link.proofs.Places.{position_cons}
 use Rattle.est_link.proofs.Testing.{some_same, no_place, place_passes, same_bytes, or_parts}
-use Rattle.est_reduce.specs.Bodies.{Body, nothing}
+use Rattle.est_reduce.specs.Bodies.{nothing}
 use Rattle.est_reduce.specs.Views.{body_of}
 use Rattle.module_order.proofs.SolutionLemmas.{each_stands}
 

@@ -12,5 +12,4 @@ ghost use Rattle.est_reduce.specs.Bound.{IsBound};
 fn tables_are_linked()
     ensures linked { (ps : List Program) (es : List Linked) → AreMade ps es → (main : List ℕ) → has_body es main ≡ true → IsLinked ps main (bodies_of es main) }
     ensures bound { (ps : List Program) (emitted : List ℕ → List ℕ → Bool) (es : List Linked) → AreMade ps es → HasSoundNames ps emitted → (main : List ℕ) (p : Program) → has_body es main ≡ true → program_named ps main ≡ Some p → IsBound (declarations_of p) 0 0 (bodies_of es main) }
-{
-}
+{}

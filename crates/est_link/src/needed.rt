@@ -22,7 +22,11 @@ fn is_in(set: &[usize], place: usize) -> bool
 }
 
 /// The places of the modules that the module at a place runs.
-fn places_at<'a>(alloc: Global, heads: &'a [Head<'a>], place: usize) -> Result<Vec<usize>, AllocError>
+fn places_at<'a>(
+    alloc: Global,
+    heads: &'a [Head<'a>],
+    place: usize,
+) -> Result<Vec<usize>, AllocError>
     requires { place < length heads.now }
     ensures { IfOk result (λ places. (p : Program) → slice_get (map program_of heads.now) place ≡ Some p → places.items ≡ places_run (map program_of heads.now) p) }
 {

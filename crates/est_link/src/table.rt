@@ -24,7 +24,11 @@ fn body_at(
 {
     match head_named(heads, name) {
         Some(home) => {
-            let linker = Linker { heads: &*heads, bodies: &*bodies, home };
+            let linker = Linker {
+                heads: &*heads,
+                bodies: &*bodies,
+                home,
+            };
             flat_statement(alloc, &linker, &Scope::Module, home.body)
         }
         None => Ok(Body::Nothing),

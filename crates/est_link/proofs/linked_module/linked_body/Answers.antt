@@ -1,4 +1,4 @@
-use Rattle.std.proofs.Common.{◌≡◌, ◌∙◌, sym, ap, subst, List, map, length, true, Some, Contains}
+use Rattle.std.proofs.Common.{◌≡◌, ◌∙◌, sym, subst, map, length, true, Contains}
 use Rattle.est_link.specs.Bodies.{IsLinked}
 use Rattle.est_link.specs.Inner.Needs.{IsClosed, HasFront}
 use Rattle.est_link.specs.Inner.Tables.{has_body, bodies_of}
@@ -45,7 +45,7 @@ returns-in_ok-bodies-in-Some-clause-bound c =
     let has : Contains set place = subst (λ xs. Contains xs place) (sym c.deref.ensures.value) c.in_ok-needed-in-Some.ensures.main in
     let here : has_body es main ≡ true = main_has ps order set es main place module_at.0 (subst (IsOrderOf ps) (sym c.places-in-Some.ensures) c.requires.order) front has at module_at.1 in
     λ em p names found. subst (IsBound (declarations_of p) 0 0) (sym c.take_body.ensures)
-        (main_bound em p 0 0 (bodies_of es main) (subst (λ o. IsSound em o (bodies_of es main)) found (made_sound ps em es c.in_ok-bodies-in-Some.ensures.made names main here)))
+    (main_bound em p 0 0 (bodies_of es main) (subst (λ o. IsSound em o (bodies_of es main)) found (made_sound ps em es c.in_ok-bodies-in-Some.ensures.made names main here)))
 
 pub returns-in-None-clause-linked : goal.returns-in-None-clause-linked
 returns-in-None-clause-linked c = absurd (main_there (map program_of c.args.heads.now) c.args.main.now c.requires.there (c.in-None.ensures ∙ sym (place_found c.args.heads.now c.args.main.now)))

@@ -1,4 +1,4 @@
-use Rattle.std.proofs.Common.{◌≡◌, map}
+use Rattle.std.proofs.Common.{map}
 use Rattle.est_link.specs.Bodies.{AreBottomUp}
 use Rattle.est_link.specs.Modules.{program_of}
 use Rattle.est_link.specs.Inner.Needs.{HasFront}
