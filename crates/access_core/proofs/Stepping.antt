@@ -1,6 +1,7 @@
 -- The reply to a step, from the moves of its instant.
-use Rattle.std.proofs.Common.{◌≡◌, ◌⊎◌, ◌∙◌, ℕ, true, List, length, refl, ap, subst, inl, inr, arith}
-use Rattle.refusal_rules.specs.Rules.{accept, ◌▸◌}
+use Rattle.std.proofs.Common.{◌≡◌, ◌⊎◌, ◌∙◌, ℕ, true, List, length, refl, ap, subst, inl, inr}
+use Rattle.std.specs.Prelude.{Result, Ok, Err}
+use Rattle.refusal_rules.specs.Rules.{MayRefuse, accept, ◌▸◌, Answers}
 use Rattle.refusal_rules.proofs.RuleLemmas.{refuse, pass}
 use Rattle.est_kernel.specs.Term.{Term}
 use Rattle.rbac_policy.specs.declared.commands.Entry.{Entry}
@@ -12,13 +13,12 @@ use Rattle.reactor_core.specs.declared.entry.SlotEntry.{SlotEntry}
 use Rattle.reactor_core.specs.declared.refusal.Refusal.{Refusal as ReactorRefusal}
 use Rattle.reactor_core.specs.declared.refusal.Refusal.TheVariants as reactor
 use Rattle.reactor_core.specs.Meaning.{is_loaded, instants_of}
-use Rattle.reactor_core.specs.Answers.{HasRoom, RefusesEntry}
-use Rattle.reactor_core.specs.Instants.{IsOutcome, AddsInstant}
+use Rattle.reactor_core.specs.Instants.{IsOutcome, AddsInstant, SettledInstant, CommitAnswer}
 use Rattle.reactor_core.proofs.OneMeaning.{not_both}
 use Rattle.access_core.specs.declared.command.SlotCommand.{SlotCommand}
 use Rattle.access_core.specs.declared.command.SlotCommand.TheVariants.{Step}
 use Rattle.access_core.specs.declared.refusal.Refusal.{Refusal}
-use Rattle.access_core.specs.declared.refusal.Refusal.TheVariants.{Stuck}
+use Rattle.access_core.specs.declared.refusal.Refusal.TheVariants.{Stuck, JournalFull, Memory}
 use Rattle.access_core.specs.declared.reply.Reply.{Reply}
 use Rattle.access_core.specs.declared.reply.Reply.TheVariants.{Refused, Step as Stepped}
 use Rattle.access_core.specs.Conversions.{of_reactor}
@@ -26,24 +26,37 @@ use Rattle.access_core.specs.Answering.{ByRules, no_memory}
 use Rattle.access_core.specs.SlotStep.{SlotStep, no_permission, empty, NamesUndecided, no_reaction, journal_full, step_rules, Steps, stamp_of}
 use Rattle.access_core.specs.StuckSteps.{ReachesReactor, IsStuckExactly}
 
--- the journal refuses the instant's entry
-pub commit_refused : (stamp : Stamp) (before after : List SlotEntry) (refusal : ReactorRefusal) → RefusesEntry before refusal → after ≡ before
-    → ByRules (no_memory ▸ journal_full before ▸ accept) (Steps stamp) before (Refused (of_reactor refusal)) after
-commit_refused stamp before after reactor.JournalFull full same =
-    pass (record {}) (refuse _ (refl, λ (room : HasRoom before). omega arith) (record { replied = refl; stays = same }))
-commit_refused stamp before after reactor.Memory room same = refuse _ refl (record { replied = refl; stays = same })
-commit_refused stamp before after reactor.UnknownSignal h same = absurd h
-commit_refused stamp before after reactor.NotInput h same = absurd h
-commit_refused stamp before after reactor.AlreadyOffered h same = absurd h
-commit_refused stamp before after reactor.NoInstant h same = absurd h
-commit_refused stamp before after (reactor.Lexical place) h same = absurd h
-commit_refused stamp before after (reactor.Syntax place) h same = absurd h
-commit_refused stamp before after (reactor.UnknownModule name) h same = absurd h
-commit_refused stamp before after (reactor.UnknownName name) h same = absurd h
-commit_refused stamp before after (reactor.DuplicateName name) h same = absurd h
-commit_refused stamp before after (reactor.EmitInput name) h same = absurd h
-commit_refused stamp before after reactor.InstantLoop h same = absurd h
-commit_refused stamp before after (reactor.TooLarge limit) h same = absurd h
+module _ (stamp : Stamp) (settled : SettledInstant) (refused : ReactorRefusal × List SlotEntry) where
+  abbrev answer : Result (List SlotEntry) (ReactorRefusal × List SlotEntry)
+  answer = Err refused
+
+  abbrev Told : Type 0
+  Told = ByRules (no_memory ▸ journal_full settled.journal ▸ accept) (Steps stamp) settled.journal (Refused (of_reactor refused.0)) refused.1
+
+  -- memory is refused for the instant's entry
+  no_entry : Answers (MayRefuse reactor.Memory ▸ accept) (λ given. answer ≡ Err (given, settled.journal))
+      ((added : List SlotEntry) × (answer ≡ Ok added) × ((next : Term) × AddsInstant settled.journal settled.outputs next stamp added))
+      → Told
+  no_entry (inl memory) =
+      let told = memory.answered in
+      let same : refused ≡ (memory.refusal, settled.journal) = cc in
+      refuse Memory refl (record {
+        replied = ap Refused (ap of_reactor (ap (λ (r : ReactorRefusal × List SlotEntry). r.0) same ∙ memory.given));
+        stays = ap (λ (r : ReactorRefusal × List SlotEntry). r.1) same;
+      })
+  no_entry (inr added) = let no = added.next.1 in absurd cc
+
+  -- the journal refuses the instant's entry
+  pub commit_refused : CommitAnswer settled stamp (Err refused)
+      → ByRules (no_memory ▸ journal_full settled.journal ▸ accept) (Steps stamp) settled.journal (Refused (of_reactor refused.0)) refused.1
+  commit_refused (inl full) =
+      let told = full.answered in
+      let same : refused ≡ (full.refusal, settled.journal) = cc in
+      pass (record {}) (refuse JournalFull (refl, full.given.1) (record {
+        replied = ap Refused (ap of_reactor (ap (λ (r : ReactorRefusal × List SlotEntry). r.0) same ∙ full.given.0));
+        stays = ap (λ (r : ReactorRefusal × List SlotEntry). r.1) same;
+      }))
+  commit_refused (inr room) = no_entry room.next
 
 -- the instant is added
 pub commit_accepted : (stamp : Stamp) (before journal after : List SlotEntry) (o : ℕ) (t : Term) (instant place : ℕ)

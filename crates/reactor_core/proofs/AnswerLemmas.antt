@@ -1,12 +1,13 @@
--- The answers to an offer and a load, rule by rule.
+-- The answers to an offer, a load and a commit, rule by rule.
 use Rattle.std.proofs.Common.{◌≡◌, ◌∙◌, ℕ, zero, suc, true, false, List, [], ◌∷◌, refl, sym, ap, subst, arith}
-use Rattle.std.specs.Prelude.{Result, Ok, Err}
+use Rattle.std.specs.Prelude.{Ok, Err}
 use Rattle.std.proofs.lemmas.Option.{same_Some}
 use Rattle.est_kernel.specs.Bits.{bits}
 use Rattle.est_kernel.specs.Interfaces.{declares, same_kind}
 use Rattle.est_kernel.specs.declared.interface.Declaration.{Declaration}
 use Rattle.est_kernel.specs.declared.interface.Kind.{Kind}
 use Rattle.est_kernel.specs.declared.interface.Kind.TheVariants.{Input, Output}
+use Rattle.est_kernel.specs.Term.{Term}
 use Rattle.refusal_rules.specs.Rules.{Rules, ◌▸▸◌, Answers}
 use Rattle.refusal_rules.proofs.RuleLemmas.{refuse, pass, answered}
 use Rattle.reactor_core.specs.declared.entry.Stamp.{Stamp}
@@ -14,6 +15,7 @@ use Rattle.reactor_core.specs.declared.entry.SlotEntry.{SlotEntry}
 use Rattle.reactor_core.specs.declared.refusal.Refusal.{Refusal}
 use Rattle.reactor_core.specs.declared.refusal.Refusal.TheVariants.{UnknownSignal, NotInput, AlreadyOffered, NoInstant, JournalFull, Lexical, Syntax, UnknownModule, UnknownName, DuplicateName, EmitInput, InstantLoop, TooLarge, Memory}
 use Rattle.reactor_core.specs.Answers.{HasRoom, IsFull, RefusesEntry, IsSignal, IsInputName, CanOffer, name_rules, entry_rules, offer_rules, load_rules, OfferAnswer, LoadAnswer}
+use Rattle.reactor_core.specs.Instants.{SettledInstant, AddsInstant, CommitAnswer}
 use Rattle.reactor_core.specs.Standing.{IsOutputName, IsPendingName, RefusesName}
 
 -- no kind is both
@@ -106,4 +108,24 @@ pub load_stays : (before : List SlotEntry) (stamp : Stamp) (main text : List ℕ
 load_stays before stamp main text refused h =
     answered (load_rules before main text) _ _ (refused.1 ≡ before)
     (λ refusal told. let same : refused ≡ (refusal, before) = cc in ap (λ (r : Refusal × List SlotEntry). r.1) same)
+    (λ added. let no = added.1 in absurd cc) h
+
+-- a commit that is accepted adds the instant
+pub commit_adds : (settled : SettledInstant) (stamp : Stamp) (after : List SlotEntry)
+    → CommitAnswer settled stamp (Ok after) → (next : Term) × AddsInstant settled.journal settled.outputs next stamp after
+commit_adds settled stamp after h =
+    answered (entry_rules settled.journal) _ _ ((next : Term) × AddsInstant settled.journal settled.outputs next stamp after)
+    (λ refusal no. absurd cc)
+    (λ added.
+    let e = added.1 in
+    let same : added.0 ≡ after = cc in
+    (added.2.0, subst (λ (journal : List SlotEntry). AddsInstant settled.journal settled.outputs added.2.0 stamp journal) same added.2.1))
+    h
+
+-- a refused commit gives the reactor back
+pub commit_stays : (settled : SettledInstant) (stamp : Stamp) (refused : Refusal × List SlotEntry)
+    → CommitAnswer settled stamp (Err refused) → refused.1 ≡ settled.journal
+commit_stays settled stamp refused h =
+    answered (entry_rules settled.journal) _ _ (refused.1 ≡ settled.journal)
+    (λ refusal told. let same : refused ≡ (refusal, settled.journal) = cc in ap (λ (r : Refusal × List SlotEntry). r.1) same)
     (λ added. let no = added.1 in absurd cc) h

@@ -1,6 +1,7 @@
 -- The life of an instant: it is opened, settled and committed, or given up; and what each of these moves answers (this project's
 -- own form).
-use Rattle.std.specs.Prelude.{◌≡◌, ℕ, List, [], ◌∷◌, ◌++◌, Result, MatchResult}
+use Rattle.std.specs.Prelude.{◌≡◌, ℕ, List, [], ◌∷◌, ◌++◌, Result, Ok, Err, MatchResult}
+use Rattle.refusal_rules.specs.Rules.{Answers}
 use Rattle.est_kernel.specs.Term.{Term}
 use Rattle.est_kernel.specs.declared.state.Stuck.{Stuck}
 use Rattle.reactor_core.specs.declared.entry.Stamp.{Stamp}
@@ -9,7 +10,7 @@ use Rattle.reactor_core.specs.declared.entry.SlotEntry.{SlotEntry}
 use Rattle.reactor_core.specs.declared.refusal.Refusal.{Refusal}
 use Rattle.reactor_core.specs.Reacting.{ReactsWith, IsStuck}
 use Rattle.reactor_core.specs.Meaning.{entry, instant, Running, Runs, Leaves}
-use Rattle.reactor_core.specs.Answers.{HasRoom, RefusesEntry}
+use Rattle.reactor_core.specs.Answers.{HasRoom, entry_rules}
 
 -- the outcome of the next instant after these entries: the constructive reaction of the term that is left to the pending inputs
 -- emits these outputs and leaves this term
@@ -54,9 +55,9 @@ SettleAnswer before answer =
     (λ settled. (settled.journal ≡ before) × ((next : Term) × IsOutcome before settled.outputs next))
     (λ refused. HasNoOutcome before refused.0.undecided × (refused.1 ≡ before))
 
--- the answer to committing: the reactor with the instant, or why the journal takes no entry, and the reactor as it was
+-- the answer to committing: by the rules for an entry a refusal, and the reactor as it was, or the reactor with the instant
 abbrev pub CommitAnswer : SettledInstant → Stamp → Result (List SlotEntry) (Refusal × List SlotEntry) → Type 0
 CommitAnswer settled stamp answer =
-    MatchResult answer
-    (λ after. (next : Term) × AddsInstant settled.journal settled.outputs next stamp after)
-    (λ refused. RefusesEntry settled.journal refused.0 × (refused.1 ≡ settled.journal))
+    Answers (entry_rules settled.journal)
+    (λ refusal. answer ≡ Err (refusal, settled.journal))
+    ((after : List SlotEntry) × (answer ≡ Ok after) × ((next : Term) × AddsInstant settled.journal settled.outputs next stamp after))
