@@ -1,9 +1,9 @@
 -- The modules of a library, without what only spells them (this project's own form).
 use Rattle.std.specs.Prelude.{ℕ, List, [], ◌∷◌, ◌++◌, map, Bool, true, false, Option}
-use Rattle.std.specs.List.{list_any, find}
+use Rattle.std.specs.List.{list_any, find, flat_map}
 use Rattle.std.specs.Str.{bytes_eq}
 use Rattle.est_syntax.specs.Tree.{NamesTree, RelationTree, DeclarationTree, input, output, relations, ModuleTree, LibraryTree}
-use Rattle.est_syntax.specs.Views.{declaration_view, statement_view}
+use Rattle.est_syntax.specs.Views.{relation_view, statement_view}
 use Rattle.est_link.specs.Derived.{Derived, statement_derived}
 use Rattle.est_link.specs.Occurrences.{Occurrence, occurrences, first_of}
 use Rattle.est_link.specs.declared.head.Head.{Head}
@@ -27,19 +27,25 @@ is_input_kind Output = false
 abbrev pub with_kind : Kind → NamesTree → List Declared
 with_kind k ns = map (λ n. record { name = n; kind = k }) (ns.first ∷ ns.later)
 
+-- the interface signals of one declaration
+abbrev pub declared_by : DeclarationTree → List Declared
+declared_by (input ns) = with_kind Input ns
+declared_by (output ns) = with_kind Output ns
+declared_by (relations r rs) = []
+
 -- the interface signals of declarations (The Esterel v5 Language Primer, interface declarations)
 abbrev pub interface_of : List DeclarationTree → List Declared
-interface_of [] = []
-interface_of (input ns ∷ ds) = with_kind Input ns ++ interface_of ds
-interface_of (output ns ∷ ds) = with_kind Output ns ++ interface_of ds
-interface_of (relations r rs ∷ ds) = interface_of ds
+interface_of ds = flat_map declared_by ds
 
--- the relations of declarations, each part between commas by itself
+-- the relations of one declaration, each part between commas by itself
+abbrev pub related_by : DeclarationTree → List RelationTree
+related_by (input ns) = []
+related_by (output ns) = []
+related_by (relations r rs) = r ∷ rs
+
+-- the relations of declarations
 abbrev pub relations_of : List DeclarationTree → List RelationTree
-relations_of [] = []
-relations_of (input ns ∷ ds) = relations_of ds
-relations_of (output ns ∷ ds) = relations_of ds
-relations_of (relations r rs ∷ ds) = r ∷ rs ++ relations_of ds
+relations_of ds = flat_map related_by ds
 
 -- a module of a tree
 abbrev pub module_program : ModuleTree → Program
@@ -51,7 +57,7 @@ programs_of l = map module_program (l.first ∷ l.later)
 
 -- the module that a head of the code is
 abbrev pub program_of : Head → Program
-program_of h = record { name = h.name; interface = h.interface.items; relations = relations_of (map declaration_view h.declarations.now); body = statement_derived (statement_view h.body.now) }
+program_of h = record { name = h.name; interface = h.interface.items; relations = map (λ r. relation_view r.now) h.relations.items; body = statement_derived (statement_view h.body.now) }
 
 -- the first module of a name, if one has it
 abbrev pub program_named : List Program → List ℕ → Option Program

@@ -1,11 +1,11 @@
 //! Relations of the main module, over its inputs.
 ghost use Rattle.std.specs.Prelude.{◌≡◌, ◌∷◌, [], map, ◌||◌, not};
-ghost use Rattle.std.specs.List.{list_any};
+ghost use Rattle.std.specs.List.{list_any, position};
 ghost use Rattle.est_syntax.specs.Views.{relation_view};
-ghost use Rattle.est_link.specs.Modules.{is_input_kind};
-ghost use Rattle.est_link.specs.MainRelations.{is_input, is_lawless};
+ghost use Rattle.est_link.specs.Modules.{is_input_kind, program_of};
+ghost use Rattle.est_link.specs.MainRelations.{is_input, is_lawless, first_lawless};
 
-use crate::head::{Declared, Kind};
+use crate::head::{Declared, Head, Kind};
 use est_syntax::tree::Relation;
 use est_text::identifier::Identifier;
 
@@ -46,4 +46,18 @@ pub fn is_lawless(interface: &[Declared], relation: &Relation) -> bool
             !is_input(interface, first) || !is_input(interface, second)
         }
     }
+}
+
+fn lawless_place(interface: &[Declared], relations: &[&Relation]) -> Option<usize>
+    ensures { result ≡ position (λ r. is_lawless interface.now (relation_view r.now)) relations.now }
+{
+    relations.iter().position(|relation| is_lawless(interface, relation))
+}
+
+/// The place, from 0, of the first relation of a module with a member that is no input of it.
+#[tactic(auto, using(crate::proofs::Lists::position_map))]
+pub fn first_lawless(home: &Head<'_>) -> Option<usize>
+    ensures { result ≡ first_lawless (program_of home.now) }
+{
+    lawless_place(&home.interface, &home.relations)
 }
