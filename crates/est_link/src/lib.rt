@@ -9,6 +9,7 @@ mod bindings;
 mod bound;
 pub mod check;
 pub mod count;
+pub mod checks;
 pub mod duplicates;
 pub mod emission;
 mod flatten;
