@@ -23,7 +23,7 @@ lawless_number (Some p) = option_map (λ i. i + 1) (first_lawless p)
 -- the first of the checks that come behind it: renamings, names, emissions, relations of the main module
 abbrev pub fault_behind_order : List Program → List ℕ → (List ℕ → List ℕ → Bool) → Option LinkFault
 fault_behind_order ps main emitted =
-  option_or (option_map BadRename (first_in_bodies (bad_renaming_at ps) ps))
+    option_or (option_map BadRename (first_in_bodies (bad_renaming_at ps) ps))
     (option_or (option_map UnknownName (first_in_bodies (unknown_at ps) ps))
-      (option_or (option_map EmitInput (first_refused ps emitted))
-        (option_map Semantics (lawless_number (program_named ps main)))))
+    (option_or (option_map EmitInput (first_refused ps emitted))
+    (option_map Semantics (lawless_number (program_named ps main)))))

@@ -6,7 +6,7 @@ ghost use Rattle.est_link.specs.LinkFaults.{lawless_number, fault_before_order, 
 
 use crate::check::first_in_bodies;
 use crate::duplicates::first_duplicate;
-use crate::emission::{EmitInput, Emission};
+use crate::emission::{Emission, EmitInput};
 use crate::fault::LinkFault;
 use crate::head::{Head, head_named};
 use crate::relations::first_lawless;

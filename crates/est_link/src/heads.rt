@@ -42,7 +42,11 @@ fn interface_of(alloc: Global, declarations: &[Declaration]) -> Result<Vec<Decla
 }
 
 /// Adds the relations of a list.
-fn add_listed<'a>(relations: &mut Vec<&'a Relation>, first: &'a Relation, later: &'a [Relation]) -> Result<(), AllocError>
+fn add_listed<'a>(
+    relations: &mut Vec<&'a Relation>,
+    first: &'a Relation,
+    later: &'a [Relation],
+) -> Result<(), AllocError>
     ensures { OnOk result (map (λ r. relation_view r.now) relations.new.items ≡ map (λ r. relation_view r.now) relations.old.items ++ relation_view first.now ∷ map relation_view later.now) }
 {
     relations.push(&*first)?;
@@ -53,7 +57,10 @@ fn add_listed<'a>(relations: &mut Vec<&'a Relation>, first: &'a Relation, later:
 }
 
 /// Adds the relations of a declaration.
-fn add_relations<'a>(relations: &mut Vec<&'a Relation>, declaration: &'a Declaration) -> Result<(), AllocError>
+fn add_relations<'a>(
+    relations: &mut Vec<&'a Relation>,
+    declaration: &'a Declaration,
+) -> Result<(), AllocError>
     ensures { OnOk result (map (λ r. relation_view r.now) relations.new.items ≡ map (λ r. relation_view r.now) relations.old.items ++ related_by (declaration_view declaration.now)) }
 {
     match declaration {
@@ -63,7 +70,10 @@ fn add_relations<'a>(relations: &mut Vec<&'a Relation>, declaration: &'a Declara
 }
 
 /// The relations of declarations, in the order of the text.
-fn relations_of<'a>(alloc: Global, declarations: &'a [Declaration]) -> Result<Vec<&'a Relation>, AllocError>
+fn relations_of<'a>(
+    alloc: Global,
+    declarations: &'a [Declaration],
+) -> Result<Vec<&'a Relation>, AllocError>
     ensures { IfOk result (λ relations. map (λ r. relation_view r.now) relations.items ≡ relations_of (map declaration_view declarations.now)) }
 {
     let mut relations = Vec::new(alloc);

@@ -51,7 +51,9 @@ pub fn is_lawless(interface: &[Declared], relation: &Relation) -> bool
 fn lawless_place(interface: &[Declared], relations: &[&Relation]) -> Option<usize>
     ensures { result ≡ position (λ r. is_lawless interface.now (relation_view r.now)) relations.now }
 {
-    relations.iter().position(|relation| is_lawless(interface, relation))
+    relations
+        .iter()
+        .position(|relation| is_lawless(interface, relation))
 }
 
 /// The place, from 0, of the first relation of a module with a member that is no input of it.

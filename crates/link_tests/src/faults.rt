@@ -1,0 +1,181 @@
+//! Libraries and the first fault of their checks.
+use est_link::checks::{fault_before_order, fault_behind_order};
+use est_link::emission::Emission;
+use est_link::fault::LinkFault;
+use est_link::heads::heads_of;
+use est_syntax::parse::parse;
+use est_text::identifier::Identifier;
+use est_text::lex::lex;
+use std::alloc::Global;
+use std::test::Fail;
+
+/// The kind of a fault.
+#[derive(Clone, Copy, PartialEq, Eq, Debug)]
+enum Kind {
+    Duplicate,
+    Missing,
+    Rename,
+    Unknown,
+    Emit,
+}
+
+/// Names that are declared twice, and modules that aren't there. The main module is M.
+const BEFORE_ORDER: [(&str, Kind, &str); 12] = [
+    ("module N: nothing end module", Kind::Missing, "M"),
+    ("module M: input A; output A; nothing end module", Kind::Duplicate, "A"),
+    // of two faults the first in the text
+    ("module M: input A, B; output B, A; nothing end module", Kind::Duplicate, "B"),
+    ("module M: input A, A; signal B, B in nothing end end module", Kind::Duplicate, "A"),
+    ("module M: signal C, A, B, A, B in nothing end end module module M: nothing end module", Kind::Duplicate, "A"),
+    ("module M: nothing end module module M: input A, A; nothing end module", Kind::Duplicate, "M"),
+    ("module M: input tick; output A, A; nothing end module", Kind::Duplicate, "tick"),
+    ("module M: signal A in signal A, tick in nothing end end end module", Kind::Duplicate, "tick"),
+    ("module N: nothing end module module P: input B, B; nothing end module", Kind::Duplicate, "B"),
+    ("module N: run P end module module M: run Q; run R end module", Kind::Missing, "P"),
+    ("module M: run tick; run R end module", Kind::Missing, "tick"),
+    // names of modules, traps and signals are apart
+    ("module M: input M; trap M in signal A in exit M end end; run B end module", Kind::Missing, "B"),
+];
+
+/// Renamings, names and emissions. The main module is M, and N emits A and T.
+const BEHIND_ORDER: [(&str, Kind, &str); 22] = [
+    ("module M: emit X end module", Kind::Unknown, "X"),
+    ("module M: emit tick end module", Kind::Emit, "tick"),
+    ("module T: input A; run M [signal A/Z] end module module M: input B; nothing end module", Kind::Rename, "Z"),
+    ("module M: output A, B; run N [signal A/Y, B/Z, A/Y] end module module N: input Y; nothing end module", Kind::Rename, "Y"),
+    ("module M: output A, B; run N [signal A/Y, B/Z] end module module N: input Y; nothing end module", Kind::Rename, "Z"),
+    ("module M: emit X; run N [signal A/B] end module module N: nothing end module", Kind::Rename, "B"),
+    // the order of the text in a statement
+    ("module M: present X then emit Y end end module", Kind::Unknown, "X"),
+    ("module M: suspend emit Y when X end module", Kind::Unknown, "Y"),
+    ("module M: weak abort emit Y when X end module", Kind::Unknown, "Y"),
+    ("module M: every X do emit Y end end module", Kind::Unknown, "X"),
+    ("module M: loop emit Y each X end module", Kind::Unknown, "Y"),
+    ("module M: trap T in exit U end || await X end module", Kind::Unknown, "U"),
+    ("module M: signal A in emit A end; emit A end module", Kind::Unknown, "A"),
+    // a trap of the caller isn't seen in a module that is run
+    ("module M: trap T in run N end end module module N: exit T end module", Kind::Unknown, "T"),
+    // a left name; then the interface names of the module in their order, of which one is renamed
+    ("module M: output B; run N [signal X/B] end module module N: output A, B; nothing end module", Kind::Unknown, "X"),
+    ("module M: output X; run N [signal X/B] end module module N: output A, B, C; nothing end module", Kind::Unknown, "A"),
+    ("module M: output A; signal B in run N end; run N end module module N: output A, B; nothing end module", Kind::Unknown, "B"),
+    // an input that a statement emits, or a run alone
+    ("module M: input I; output O; emit O; sustain I; emit tick end module", Kind::Emit, "I"),
+    ("module M: input A; output B; run N end module module N: output B, A; emit A end module", Kind::Emit, "A"),
+    ("module M: input I; output O; run N [signal O/B, I/A] end module module N: output B, A; emit A end module", Kind::Emit, "I"),
+    ("module M: run N [signal tick/A] end module module N: output A; emit A end module", Kind::Emit, "tick"),
+    // an input that the module that is run emits: the run comes before that module's own emission
+    ("module M: input I; run N [signal I/A] end module module N: input A; emit A end module", Kind::Emit, "I"),
+];
+
+/// Libraries of which M passes: a local signal hides an input, and an input of a run that isn't emitted may be one.
+const PASSED: [&str; 5] = [
+    "module M: input I; signal I in emit I end end module",
+    "module M: input I; output A; run N [signal I/B] end module module N: output B, A; emit A end module",
+    "module M: input I; signal A in run N end end module module N: output A; emit A end module",
+    "module M: input A; trap A in exit A end; await immediate tick end module",
+    "module M: input A, B; relation A # A, A => B; run N end module module N: relation X => Y; nothing end module",
+];
+
+/// The number of the first lawless relation of M.
+const LAWLESS: [(&str, usize); 4] = [
+    ("module M: input A; output O; relation A => O; nothing end module", 1),
+    ("module M: input A, B; output O; relation A # B, A => O, O # B; nothing end module", 2),
+    ("module M: input A, B; relation A => B; relation B # A # tick; nothing end module", 2),
+    ("module N: relation X => Y; nothing end module module M: input A; relation A # X; nothing end module", 1),
+];
+
+/// What N emits in the libraries of the tables.
+fn table() -> Option<[Emission; 1]> {
+    let module_name = Identifier::from_text("N")?;
+    let signal = Identifier::from_text("A")?;
+    Some([Emission { module_name, signal }])
+}
+
+/// The kind and the name of a fault; of a lawless relation no more than that it is one.
+fn told(fault: LinkFault) -> Option<(Kind, Identifier)> {
+    match fault {
+        LinkFault::DuplicateName(name) => Some((Kind::Duplicate, name)),
+        LinkFault::UnknownModule(name) => Some((Kind::Missing, name)),
+        LinkFault::BadRename(name) => Some((Kind::Rename, name)),
+        LinkFault::UnknownName(name) => Some((Kind::Unknown, name)),
+        LinkFault::EmitInput(name) => Some((Kind::Emit, name)),
+        LinkFault::RecursiveRun(_) | LinkFault::Semantics(_) => None,
+    }
+}
+
+/// The first fault of a library whose main module is M: of the checks before the order of its modules, and of those
+/// behind it.
+fn faults_of(alloc: Global, text: &str) -> Result<(Option<LinkFault>, Option<LinkFault>), Fail> {
+    let tokens = lex(alloc, text)?;
+    let library = parse(alloc, &tokens)?;
+    let heads = heads_of(alloc, &library)?;
+    let Some(main) = Identifier::from_text("M") else {
+        return Err(Fail::from("no name"));
+    };
+    let Some(emissions) = table() else {
+        return Err(Fail::from("no name"));
+    };
+    let before = fault_before_order(&heads, &main);
+    let behind = fault_behind_order(&heads, &main, &emissions);
+    Ok((before, behind))
+}
+
+/// Whether the fault is of this kind and has this name.
+fn is_told(fault: Option<LinkFault>, kind: Kind, name: &str) -> bool {
+    match fault {
+        Some(fault) => match told(fault) {
+            Some((told_kind, told_name)) => told_kind == kind && told_name.as_str() == name,
+            None => false,
+        },
+        None => false,
+    }
+}
+
+/// The first fault of a library, of these checks.
+fn fault_of(alloc: Global, text: &str) -> Result<Option<LinkFault>, Fail> {
+    let (before, behind) = faults_of(alloc, text)?;
+    if before.is_some() {
+        return Ok(before);
+    }
+    Ok(behind)
+}
+
+/// Fails where the first fault of a library of a table is another.
+fn expect_names(alloc: Global, rows: &[(&str, Kind, &str)]) -> Result<(), Fail> {
+    for (text, kind, name) in rows {
+        let fault = fault_of(alloc, text)?;
+        if !is_told(fault, *kind, name) {
+            return Err(Fail::from(format!(in alloc; "{fault:?} in place of {kind:?} {name}: {text}")?));
+        }
+    }
+    Ok(())
+}
+
+#[test]
+fn first_faults_are_named(rt: HostRuntime) -> Result<(), Fail> {
+    expect_names(rt.alloc(), &BEFORE_ORDER)?;
+    expect_names(rt.alloc(), &BEHIND_ORDER)
+}
+
+#[test]
+fn lawless_relations_are_numbered(rt: HostRuntime) -> Result<(), Fail> {
+    for (text, number) in LAWLESS {
+        let fault = fault_of(rt.alloc(), text)?;
+        if fault != Some(LinkFault::Semantics(number)) {
+            return Err(Fail::from(format!(in rt.alloc(); "{fault:?} in place of {number}: {text}")?));
+        }
+    }
+    Ok(())
+}
+
+#[test]
+fn libraries_without_a_fault_pass(rt: HostRuntime) -> Result<(), Fail> {
+    for text in PASSED {
+        let fault = fault_of(rt.alloc(), text)?;
+        if fault.is_some() {
+            return Err(Fail::from(format!(in rt.alloc(); "{fault:?}: {text}")?));
+        }
+    }
+    Ok(())
+}
