@@ -1,5 +1,5 @@
 -- The first fault of a library, in the order of its checks (this project's own form).
-use Rattle.std.specs.Prelude.{ℕ, ◌+◌, List, Bool, Option, Some, None, option_map}
+use Rattle.std.specs.Prelude.{ℕ, List, Bool, Option, Some, None, option_map}
 use Rattle.std.specs.Option.{option_or}
 use Rattle.est_link.specs.Modules.{Program, program_named, first_in_bodies}
 use Rattle.est_link.specs.Duplicates.{first_duplicate}
@@ -15,10 +15,10 @@ use Rattle.est_link.specs.declared.fault.LinkFault.TheVariants.{DuplicateName, U
 abbrev pub fault_before_order : List Program → List ℕ → Option LinkFault
 fault_before_order ps main = option_or (option_map DuplicateName (first_duplicate ps)) (option_map UnknownModule (first_missing ps main))
 
--- the number, from 1, of the first lawless relation of the main module
+-- the number of the first lawless relation of the main module
 abbrev pub lawless_number : Option Program → Option ℕ
 lawless_number None = None
-lawless_number (Some p) = option_map (λ i. i + 1) (first_lawless p)
+lawless_number (Some p) = first_lawless p
 
 -- the first of the checks that come behind it: renamings, names, emissions, relations of the main module
 abbrev pub fault_behind_order : List Program → List ℕ → (List ℕ → List ℕ → Bool) → Option LinkFault

@@ -1,5 +1,5 @@
 -- Relations of the main module, over its inputs (The Esterel v5 Language Primer, `relation`).
-use Rattle.std.specs.Prelude.{ℕ, List, [], ◌∷◌, Bool, not, ◌&&◌, Option}
+use Rattle.std.specs.Prelude.{ℕ, ◌+◌, List, [], ◌∷◌, Bool, not, ◌&&◌, Option, option_map}
 use Rattle.std.specs.List.{list_any, position}
 use Rattle.std.specs.Str.{bytes_eq}
 use Rattle.est_syntax.specs.Tree.{RelationTree, excludes, implies}
@@ -19,6 +19,6 @@ abbrev pub is_lawless : List Declared → RelationTree → Bool
 is_lawless ds (excludes a b ns) = is_past_inputs ds (a ∷ b ∷ ns)
 is_lawless ds (implies a b) = is_past_inputs ds (a ∷ b ∷ [])
 
--- the place, from 0, of the first relation of a module with a member that is no input of it
+-- the number, from 1, of the first relation of a module with a member that is no input of it
 abbrev pub first_lawless : Program → Option ℕ
-first_lawless p = position (is_lawless p.interface) p.relations
+first_lawless p = option_map (λ i. i + 1) (position (is_lawless p.interface) p.relations)

@@ -3,7 +3,7 @@ use Rattle.std.specs.Prelude.{ℕ, List, [], ◌∷◌, ◌++◌, map, Bool, tru
 use Rattle.std.specs.List.{list_any, find, flat_map}
 use Rattle.std.specs.Str.{bytes_eq}
 use Rattle.est_syntax.specs.Tree.{NamesTree, RelationTree, DeclarationTree, input, output, relations, ModuleTree, LibraryTree}
-use Rattle.est_syntax.specs.Views.{relation_view, statement_view}
+use Rattle.est_syntax.specs.Views.{declaration_view, statement_view}
 use Rattle.est_link.specs.Derived.{Derived, statement_derived}
 use Rattle.est_link.specs.Occurrences.{Occurrence, occurrences, first_of}
 use Rattle.est_link.specs.declared.head.Head.{Head}
@@ -57,7 +57,7 @@ programs_of l = map module_program (l.first ∷ l.later)
 
 -- the module that a head of the code is
 abbrev pub program_of : Head → Program
-program_of h = record { name = h.name; interface = h.interface.items; relations = map (λ r. relation_view r.now) h.relations.items; body = statement_derived (statement_view h.body.now) }
+program_of h = record { name = h.name; interface = h.interface.items; relations = relations_of (map declaration_view h.declarations.now); body = statement_derived (statement_view h.body.now) }
 
 -- the first module of a name, if one has it
 abbrev pub program_named : List Program → List ℕ → Option Program

@@ -1,5 +1,5 @@
 //! The checks of a library in their order.
-ghost use Rattle.std.specs.Prelude.{◌≡◌, map, option_map};
+ghost use Rattle.std.specs.Prelude.{◌≡◌, map, option_map, IfOk};
 ghost use Rattle.est_link.specs.Modules.{program_of};
 ghost use Rattle.est_link.specs.Emissions.{emitted_of};
 ghost use Rattle.est_link.specs.LinkFaults.{lawless_number, fault_before_order, fault_behind_order};
@@ -14,6 +14,7 @@ use crate::renamings::BadRename;
 use crate::runs::first_missing;
 use crate::unknown::UnknownName;
 use est_text::identifier::Identifier;
+use std::alloc::{AllocError, Global};
 
 /// The first fault of the checks that come before the order of the modules: names that are declared twice, modules
 /// that aren't there.
@@ -29,43 +30,45 @@ pub fn fault_before_order<'a>(heads: &'a [Head<'a>], main: &Identifier) -> Optio
     }
 }
 
-/// The number, from 1, of the first lawless relation of the main module.
-fn lawless_number(main: Option<&Head<'_>>) -> Option<usize>
-    ensures { result ≡ lawless_number (option_map (λ h. program_of h.now) main.entry) }
+/// The number of the first lawless relation of the main module.
+fn lawless_number(alloc: Global, main: Option<&Head<'_>>) -> Result<Option<usize>, AllocError>
+    ensures { IfOk result (λ number. number ≡ lawless_number (option_map (λ h. program_of h.now) main.entry)) }
 {
     match main {
-        Some(home) => match first_lawless(home) {
-            Some(place) => Some(place + 1),
-            None => None,
-        },
-        None => None,
+        Some(home) => first_lawless(alloc, home),
+        None => Ok(None),
     }
 }
 
 /// The first fault of the checks that come behind the order of the modules: renamings, names that aren't visible,
 /// emissions of inputs, relations of the main module. The table says what each module emits.
+///
+/// # Errors
+///
+/// `AllocError` where memory is refused for the list of the relations.
 pub fn fault_behind_order<'a>(
+    alloc: Global,
     heads: &'a [Head<'a>],
     main: &Identifier,
     table: &'a [Emission],
-) -> Option<LinkFault>
-    ensures { result ≡ fault_behind_order (map program_of heads.now) main.now (emitted_of table.now) }
+) -> Result<Option<LinkFault>, AllocError>
+    ensures { IfOk result (λ fault. fault ≡ fault_behind_order (map program_of heads.now) main.now (emitted_of table.now)) }
 {
     if let Some(name) = first_in_bodies(&BadRename { heads: &*heads }, &*heads) {
-        return Some(LinkFault::BadRename(name));
+        return Ok(Some(LinkFault::BadRename(name)));
     }
     if let Some(name) = first_in_bodies(&UnknownName { heads: &*heads }, &*heads) {
-        return Some(LinkFault::UnknownName(name));
+        return Ok(Some(LinkFault::UnknownName(name)));
     }
     let emit = EmitInput {
         heads: &*heads,
         table: &*table,
     };
     if let Some(name) = first_in_bodies(&emit, &*heads) {
-        return Some(LinkFault::EmitInput(name));
+        return Ok(Some(LinkFault::EmitInput(name)));
     }
-    match lawless_number(head_named(heads, main)) {
-        Some(number) => Some(LinkFault::Semantics(number)),
-        None => None,
+    match lawless_number(alloc, head_named(heads, main))? {
+        Some(number) => Ok(Some(LinkFault::Semantics(number))),
+        None => Ok(None),
     }
 }

@@ -4,7 +4,7 @@ ghost use Rattle.std.specs.List.{find};
 ghost use Rattle.std.specs.Str.{bytes_eq};
 ghost use Rattle.est_link.specs.Modules.{program_of, program_named, is_declared};
 
-use est_syntax::tree::{Relation, Statement};
+use est_syntax::tree::{Declaration, Statement};
 use est_text::identifier::Identifier;
 
 /// Whether a signal comes from outside or goes there.
@@ -32,8 +32,8 @@ pub struct Head<'a> {
     pub name: Identifier,
     /// Its interface.
     pub interface: Vec<Declared>,
-    /// Its relations, each part between commas by itself.
-    pub relations: Vec<&'a Relation>,
+    /// Its declarations, as they are written.
+    pub declarations: &'a [Declaration],
     /// Its body.
     pub body: &'a Statement,
 }

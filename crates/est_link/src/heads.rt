@@ -1,10 +1,10 @@
-//! The modules of a library with their interfaces and relations at hand.
-ghost use Rattle.std.specs.Prelude.{◌≡◌, ◌++◌, ◌∷◌, OnOk, IfOk, map};
-ghost use Rattle.est_syntax.specs.Views.{names_view, relation_view, declaration_view, module_view, library_view};
-ghost use Rattle.est_link.specs.Modules.{with_kind, declared_by, related_by, interface_of, relations_of, program_of, module_program, programs_of};
+//! The modules of a library with their interfaces at hand.
+ghost use Rattle.std.specs.Prelude.{◌≡◌, ◌++◌, OnOk, IfOk, map};
+ghost use Rattle.est_syntax.specs.Views.{names_view, declaration_view, module_view, library_view};
+ghost use Rattle.est_link.specs.Modules.{with_kind, declared_by, interface_of, program_of, module_program, programs_of};
 
 use crate::head::{Declared, Head, Kind};
-use est_syntax::tree::{Declaration, Library, Module, Names, Relation};
+use est_syntax::tree::{Declaration, Library, Module, Names};
 use std::alloc::{AllocError, Global};
 
 /// Adds the names of one declaration, all of one kind.
@@ -41,60 +41,18 @@ fn interface_of(alloc: Global, declarations: &[Declaration]) -> Result<Vec<Decla
     Ok(interface)
 }
 
-/// Adds the relations of a list.
-fn add_listed<'a>(
-    relations: &mut Vec<&'a Relation>,
-    first: &'a Relation,
-    later: &'a [Relation],
-) -> Result<(), AllocError>
-    ensures { OnOk result (map (λ r. relation_view r.now) relations.new.items ≡ map (λ r. relation_view r.now) relations.old.items ++ relation_view first.now ∷ map relation_view later.now) }
-{
-    relations.push(&*first)?;
-    for relation in later {
-        relations.push(&*relation)?;
-    }
-    Ok(())
-}
-
-/// Adds the relations of a declaration.
-fn add_relations<'a>(
-    relations: &mut Vec<&'a Relation>,
-    declaration: &'a Declaration,
-) -> Result<(), AllocError>
-    ensures { OnOk result (map (λ r. relation_view r.now) relations.new.items ≡ map (λ r. relation_view r.now) relations.old.items ++ related_by (declaration_view declaration.now)) }
-{
-    match declaration {
-        Declaration::Input(_) | Declaration::Output(_) => Ok(()),
-        Declaration::Relations(first, later) => add_listed(relations, &*first, &**later),
-    }
-}
-
-/// The relations of declarations, in the order of the text.
-fn relations_of<'a>(
-    alloc: Global,
-    declarations: &'a [Declaration],
-) -> Result<Vec<&'a Relation>, AllocError>
-    ensures { IfOk result (λ relations. map (λ r. relation_view r.now) relations.items ≡ relations_of (map declaration_view declarations.now)) }
-{
-    let mut relations = Vec::new(alloc);
-    for declaration in declarations {
-        add_relations(&mut relations, &*declaration)?;
-    }
-    Ok(relations)
-}
-
-/// A module with its interface and its relations at hand.
+/// A module with its interface at hand.
 ///
 /// # Errors
 ///
-/// `AllocError` where memory is refused for them.
+/// `AllocError` where memory is refused.
 pub fn head_of<'a>(alloc: Global, declared: &'a Module) -> Result<Head<'a>, AllocError>
     ensures { IfOk result (λ head. program_of head ≡ module_program (module_view declared.now)) }
 {
     Ok(Head {
         name: declared.name,
         interface: interface_of(alloc, &declared.declarations)?,
-        relations: relations_of(alloc, &declared.declarations)?,
+        declarations: &declared.declarations,
         body: &declared.body,
     })
 }
@@ -103,7 +61,7 @@ pub fn head_of<'a>(alloc: Global, declared: &'a Module) -> Result<Head<'a>, Allo
 ///
 /// # Errors
 ///
-/// `AllocError` where memory is refused for them.
+/// `AllocError` where memory is refused.
 pub fn heads_of<'a>(alloc: Global, library: &'a Library) -> Result<Vec<Head<'a>>, AllocError>
     ensures { IfOk result (λ heads. map program_of heads.items ≡ programs_of (library_view library.now)) }
 {

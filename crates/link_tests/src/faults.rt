@@ -22,50 +22,174 @@ enum Kind {
 /// Names that are declared twice, and modules that aren't there. The main module is M.
 const BEFORE_ORDER: [(&str, Kind, &str); 12] = [
     ("module N: nothing end module", Kind::Missing, "M"),
-    ("module M: input A; output A; nothing end module", Kind::Duplicate, "A"),
+    (
+        "module M: input A; output A; nothing end module",
+        Kind::Duplicate,
+        "A",
+    ),
     // of two faults the first in the text
-    ("module M: input A, B; output B, A; nothing end module", Kind::Duplicate, "B"),
-    ("module M: input A, A; signal B, B in nothing end end module", Kind::Duplicate, "A"),
-    ("module M: signal C, A, B, A, B in nothing end end module module M: nothing end module", Kind::Duplicate, "A"),
-    ("module M: nothing end module module M: input A, A; nothing end module", Kind::Duplicate, "M"),
-    ("module M: input tick; output A, A; nothing end module", Kind::Duplicate, "tick"),
-    ("module M: signal A in signal A, tick in nothing end end end module", Kind::Duplicate, "tick"),
-    ("module N: nothing end module module P: input B, B; nothing end module", Kind::Duplicate, "B"),
-    ("module N: run P end module module M: run Q; run R end module", Kind::Missing, "P"),
-    ("module M: run tick; run R end module", Kind::Missing, "tick"),
+    (
+        "module M: input A, B; output B, A; nothing end module",
+        Kind::Duplicate,
+        "B",
+    ),
+    (
+        "module M: input A, A; signal B, B in nothing end end module",
+        Kind::Duplicate,
+        "A",
+    ),
+    (
+        "module M: signal C, A, B, A, B in nothing end end module module M: nothing end module",
+        Kind::Duplicate,
+        "A",
+    ),
+    (
+        "module M: nothing end module module M: input A, A; nothing end module",
+        Kind::Duplicate,
+        "M",
+    ),
+    (
+        "module M: input tick; output A, A; nothing end module",
+        Kind::Duplicate,
+        "tick",
+    ),
+    (
+        "module M: signal A in signal A, tick in nothing end end end module",
+        Kind::Duplicate,
+        "tick",
+    ),
+    (
+        "module N: nothing end module module P: input B, B; nothing end module",
+        Kind::Duplicate,
+        "B",
+    ),
+    (
+        "module N: run P end module module M: run Q; run R end module",
+        Kind::Missing,
+        "P",
+    ),
+    (
+        "module M: run tick; run R end module",
+        Kind::Missing,
+        "tick",
+    ),
     // names of modules, traps and signals are apart
-    ("module M: input M; trap M in signal A in exit M end end; run B end module", Kind::Missing, "B"),
+    (
+        "module M: input M; trap M in signal A in exit M end end; run B end module",
+        Kind::Missing,
+        "B",
+    ),
 ];
 
 /// Renamings, names and emissions. The main module is M, and N emits A and T.
 const BEHIND_ORDER: [(&str, Kind, &str); 22] = [
     ("module M: emit X end module", Kind::Unknown, "X"),
     ("module M: emit tick end module", Kind::Emit, "tick"),
-    ("module T: input A; run M [signal A/Z] end module module M: input B; nothing end module", Kind::Rename, "Z"),
-    ("module M: output A, B; run N [signal A/Y, B/Z, A/Y] end module module N: input Y; nothing end module", Kind::Rename, "Y"),
-    ("module M: output A, B; run N [signal A/Y, B/Z] end module module N: input Y; nothing end module", Kind::Rename, "Z"),
-    ("module M: emit X; run N [signal A/B] end module module N: nothing end module", Kind::Rename, "B"),
+    (
+        "module T: input A; run M [signal A/Z] end module module M: input B; nothing end module",
+        Kind::Rename,
+        "Z",
+    ),
+    (
+        "module M: output A, B; run N [signal A/Y, B/Z, A/Y] end module module N: input Y; nothing end module",
+        Kind::Rename,
+        "Y",
+    ),
+    (
+        "module M: output A, B; run N [signal A/Y, B/Z] end module module N: input Y; nothing end module",
+        Kind::Rename,
+        "Z",
+    ),
+    (
+        "module M: emit X; run N [signal A/B] end module module N: nothing end module",
+        Kind::Rename,
+        "B",
+    ),
     // the order of the text in a statement
-    ("module M: present X then emit Y end end module", Kind::Unknown, "X"),
-    ("module M: suspend emit Y when X end module", Kind::Unknown, "Y"),
-    ("module M: weak abort emit Y when X end module", Kind::Unknown, "Y"),
-    ("module M: every X do emit Y end end module", Kind::Unknown, "X"),
-    ("module M: loop emit Y each X end module", Kind::Unknown, "Y"),
-    ("module M: trap T in exit U end || await X end module", Kind::Unknown, "U"),
-    ("module M: signal A in emit A end; emit A end module", Kind::Unknown, "A"),
+    (
+        "module M: present X then emit Y end end module",
+        Kind::Unknown,
+        "X",
+    ),
+    (
+        "module M: suspend emit Y when X end module",
+        Kind::Unknown,
+        "Y",
+    ),
+    (
+        "module M: weak abort emit Y when X end module",
+        Kind::Unknown,
+        "Y",
+    ),
+    (
+        "module M: every X do emit Y end end module",
+        Kind::Unknown,
+        "X",
+    ),
+    (
+        "module M: loop emit Y each X end module",
+        Kind::Unknown,
+        "Y",
+    ),
+    (
+        "module M: trap T in exit U end || await X end module",
+        Kind::Unknown,
+        "U",
+    ),
+    (
+        "module M: signal A in emit A end; emit A end module",
+        Kind::Unknown,
+        "A",
+    ),
     // a trap of the caller isn't seen in a module that is run
-    ("module M: trap T in run N end end module module N: exit T end module", Kind::Unknown, "T"),
+    (
+        "module M: trap T in run N end end module module N: exit T end module",
+        Kind::Unknown,
+        "T",
+    ),
     // a left name; then the interface names of the module in their order, of which one is renamed
-    ("module M: output B; run N [signal X/B] end module module N: output A, B; nothing end module", Kind::Unknown, "X"),
-    ("module M: output X; run N [signal X/B] end module module N: output A, B, C; nothing end module", Kind::Unknown, "A"),
-    ("module M: output A; signal B in run N end; run N end module module N: output A, B; nothing end module", Kind::Unknown, "B"),
+    (
+        "module M: output B; run N [signal X/B] end module module N: output A, B; nothing end module",
+        Kind::Unknown,
+        "X",
+    ),
+    (
+        "module M: output X; run N [signal X/B] end module module N: output A, B, C; nothing end module",
+        Kind::Unknown,
+        "A",
+    ),
+    (
+        "module M: output A; signal B in run N end; run N end module module N: output A, B; nothing end module",
+        Kind::Unknown,
+        "B",
+    ),
     // an input that a statement emits, or a run alone
-    ("module M: input I; output O; emit O; sustain I; emit tick end module", Kind::Emit, "I"),
-    ("module M: input A; output B; run N end module module N: output B, A; emit A end module", Kind::Emit, "A"),
-    ("module M: input I; output O; run N [signal O/B, I/A] end module module N: output B, A; emit A end module", Kind::Emit, "I"),
-    ("module M: run N [signal tick/A] end module module N: output A; emit A end module", Kind::Emit, "tick"),
+    (
+        "module M: input I; output O; emit O; sustain I; emit tick end module",
+        Kind::Emit,
+        "I",
+    ),
+    (
+        "module M: input A; output B; run N end module module N: output B, A; emit A end module",
+        Kind::Emit,
+        "A",
+    ),
+    (
+        "module M: input I; output O; run N [signal O/B, I/A] end module module N: output B, A; emit A end module",
+        Kind::Emit,
+        "I",
+    ),
+    (
+        "module M: run N [signal tick/A] end module module N: output A; emit A end module",
+        Kind::Emit,
+        "tick",
+    ),
     // an input that the module that is run emits: the run comes before that module's own emission
-    ("module M: input I; run N [signal I/A] end module module N: input A; emit A end module", Kind::Emit, "I"),
+    (
+        "module M: input I; run N [signal I/A] end module module N: input A; emit A end module",
+        Kind::Emit,
+        "I",
+    ),
 ];
 
 /// Libraries of which M passes: a local signal hides an input, and an input of a run that isn't emitted may be one.
@@ -79,17 +203,32 @@ const PASSED: [&str; 5] = [
 
 /// The number of the first lawless relation of M.
 const LAWLESS: [(&str, usize); 4] = [
-    ("module M: input A; output O; relation A => O; nothing end module", 1),
-    ("module M: input A, B; output O; relation A # B, A => O, O # B; nothing end module", 2),
-    ("module M: input A, B; relation A => B; relation B # A # tick; nothing end module", 2),
-    ("module N: relation X => Y; nothing end module module M: input A; relation A # X; nothing end module", 1),
+    (
+        "module M: input A; output O; relation A => O; nothing end module",
+        1,
+    ),
+    (
+        "module M: input A, B; output O; relation A # B, A => O, O # B; nothing end module",
+        2,
+    ),
+    (
+        "module M: input A, B; relation A => B; relation B # A # tick; nothing end module",
+        2,
+    ),
+    (
+        "module N: relation X => Y; nothing end module module M: input A; relation A # X; nothing end module",
+        1,
+    ),
 ];
 
 /// What N emits in the libraries of the tables.
 fn table() -> Option<[Emission; 1]> {
     let module_name = Identifier::from_text("N")?;
     let signal = Identifier::from_text("A")?;
-    Some([Emission { module_name, signal }])
+    Some([Emission {
+        module_name,
+        signal,
+    }])
 }
 
 /// The kind and the name of a fault; of a lawless relation no more than that it is one.
@@ -117,7 +256,7 @@ fn faults_of(alloc: Global, text: &str) -> Result<(Option<LinkFault>, Option<Lin
         return Err(Fail::from("no name"));
     };
     let before = fault_before_order(&heads, &main);
-    let behind = fault_behind_order(&heads, &main, &emissions);
+    let behind = fault_behind_order(alloc, &heads, &main, &emissions)?;
     Ok((before, behind))
 }
 
@@ -146,7 +285,9 @@ fn expect_names(alloc: Global, rows: &[(&str, Kind, &str)]) -> Result<(), Fail> 
     for (text, kind, name) in rows {
         let fault = fault_of(alloc, text)?;
         if !is_told(fault, *kind, name) {
-            return Err(Fail::from(format!(in alloc; "{fault:?} in place of {kind:?} {name}: {text}")?));
+            return Err(Fail::from(format!(in alloc;
+                "{fault:?} in place of {kind:?} {name}: {text}"
+            )?));
         }
     }
     Ok(())
@@ -163,7 +304,9 @@ fn lawless_relations_are_numbered(rt: HostRuntime) -> Result<(), Fail> {
     for (text, number) in LAWLESS {
         let fault = fault_of(rt.alloc(), text)?;
         if fault != Some(LinkFault::Semantics(number)) {
-            return Err(Fail::from(format!(in rt.alloc(); "{fault:?} in place of {number}: {text}")?));
+            return Err(Fail::from(format!(in rt.alloc();
+                "{fault:?} in place of {number}: {text}"
+            )?));
         }
     }
     Ok(())
