@@ -154,6 +154,21 @@ impl Rows {
         rows
     }
 
+    /// The same with the edge, in rows of their own.
+    pub fn with_edge(&self, senior: usize, junior: usize) -> Rows
+        requires senior_is { senior < ROLES }
+        requires junior_is { junior < ROLES }
+        ensures { result ≡ edge_added senior junior self.now }
+    {
+        let mut rows = Rows {
+            juniors: self.juniors,
+            below: self.below,
+            above: self.above,
+        };
+        rows.add_edge(senior, junior);
+        rows
+    }
+
     /// Removes the edge. What lies below the senior by other edges stays there.
     pub fn remove_edge(&mut self, senior: usize, junior: usize)
         requires senior_is { senior < ROLES }

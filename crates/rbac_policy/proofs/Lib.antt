@@ -40,3 +40,5 @@ pub mod Least
 pub mod Violating
 pub mod Separated
 pub mod LoggingIn
+pub mod ReadingSets
+pub mod Prospects

@@ -15,6 +15,7 @@ pub mod policy;
 pub mod readers;
 mod rows;
 pub mod separation;
+mod sets;
 pub mod sizes;
 mod tables;
 pub mod texts;

@@ -1,10 +1,11 @@
 //! What a policy says of users, roles, permissions and sessions: what it is asked before a policy command is accepted.
-ghost use Rattle.std.specs.Prelude.{ℕ, ◌↔◌, ◌++◌, ◌∷◌, [], List, IsTrue, MatchOption, Contains};
+ghost use Rattle.std.specs.Prelude.{ℕ, Option, ◌↔◌, ◌++◌, ◌∷◌, [], List, IsTrue, MatchOption, Contains};
 ghost use Rattle.rbac_policy.specs.Names.{NameText};
-ghost use Rattle.rbac_policy.specs.Separation.{IsFirstViolated, login_entry};
+ghost use Rattle.rbac_policy.specs.Separation.{IsFirstSetOf, IsFirstViolated, login_entry};
+ghost use Rattle.rbac_policy.specs.declared.commands.AdminCommand.TheVariants.{AddInheritance, CreateDsdSet};
 ghost use Rattle.rbac_policy.specs.declared.commands.Entry.{Entry};
-ghost use Rattle.rbac_policy.specs.Facts.{IsUser, IsRole, IsAssigned, IsGranted, IsPairGranted, IsEdge, IsAtOrBelow, IsAuthorized, IsActive, Lives, IsLive};
-ghost use Rattle.rbac_policy.specs.Fits.{NumbersExhausted, UsersFull, RolesFull, SessionsFull, PermissionsFull};
+ghost use Rattle.rbac_policy.specs.Facts.{IsUser, IsRole, IsSetName, IsAssigned, IsGranted, IsPairGranted, IsEdge, IsAtOrBelow, IsAuthorized, IsActive, Lives, IsLive};
+ghost use Rattle.rbac_policy.specs.Fits.{NumbersExhausted, UsersFull, RolesFull, SetsFull, SessionsFull, PermissionsFull};
 ghost use Rattle.rbac_policy.specs.StandsFor.{StandsFor};
 
 use crate::closure::below;
@@ -12,8 +13,9 @@ use crate::commands::SessionId;
 use crate::names::{Name, RoleNames};
 use crate::objects::{Object, Operation};
 use crate::policy::Policy;
-use crate::rows::Session;
-use crate::separation::{Violation, first_violation};
+use crate::rows::{DsdSet, Session};
+use crate::sets::{first_set_with, has_set};
+use crate::separation::{Violation, first_violation, first_violation_with};
 use crate::sizes::LAST_SESSION;
 use crate::tables::{free, grant_of, has_user, mask_of, place_of, roles_of, session_of};
 
@@ -161,6 +163,75 @@ impl Policy {
             active: mask_of(&self.roles, roles),
         });
         first_violation(&self.sets, &self.sessions, &coming, &self.juniors)
+    }
+
+    /// The first separation set, in order of creation, that some session violates once an edge leads from the senior to the junior, and
+    /// the least session that does.
+    pub fn first_violated_by_edge(&self, senior: &Name, junior: &Name) -> Option<Violation>
+        ensures { (entries : List Entry) (by : Option ℕ) → StandsFor self.now entries
+            → IsRole entries senior.now → IsRole entries junior.now
+            → MatchOption result
+            ((set : NameText) (session : ℕ) → IsFirstViolated (entries ++ record { session = by; command = AddInheritance senior.now junior.now } ∷ []) set session → ⊥)
+            (λ violation. IsFirstViolated (entries ++ record { session = by; command = AddInheritance senior.now junior.now } ∷ []) violation.set violation.session) }
+    {
+        match place_of(&self.roles, senior) {
+            Some(above) => match place_of(&self.roles, junior) {
+                Some(place) => {
+                    let juniors = self.juniors.with_edge(above, place);
+                    first_violation(&self.sets, &self.sessions, &None, &juniors)
+                }
+                None => None,
+            },
+            None => None,
+        }
+    }
+
+    /// The first separation set, in order of creation, that some session violates once there is one more of this name, number and roles,
+    /// and the least session that does.
+    pub fn first_violated_by_set(&self, set: &Name, count: u64, roles: &RoleNames) -> Option<Violation>
+        ensures { (entries : List Entry) (by : Option ℕ) → StandsFor self.now entries
+            → ((role : NameText) → Contains roles.now role → IsRole entries role)
+            → MatchOption result
+            ((name : NameText) (session : ℕ) → IsFirstViolated (entries ++ record { session = by; command = CreateDsdSet set.now count roles.now } ∷ []) name session → ⊥)
+            (λ violation. IsFirstViolated (entries ++ record { session = by; command = CreateDsdSet set.now count roles.now } ∷ []) violation.set violation.session) }
+    {
+        let coming = Some(DsdSet {
+            name: *set,
+            count,
+            roles: mask_of(&self.roles, roles),
+            place: self.version,
+        });
+        first_violation_with(&self.sets, &coming, &self.sessions, &self.juniors)
+    }
+
+    /// Whether there is such a separation set.
+    pub fn is_set(&self, set: &Name) -> bool
+        ensures { (entries : List Entry) → StandsFor self.now entries → (IsTrue result ↔ IsSetName entries set.now) }
+    {
+        has_set(&self.sets, set)
+    }
+
+    /// Whether there are as many separation sets as there is room for.
+    pub fn are_sets_full(&self) -> bool
+        ensures { (entries : List Entry) → StandsFor self.now entries → (IsTrue result ↔ SetsFull entries) }
+    {
+        free(&self.sets).is_none()
+    }
+
+    /// The first separation set, in order of creation, of which the role is a member.
+    pub fn first_set_of(&self, role: &Name) -> Option<Name>
+        ensures { (entries : List Entry) → StandsFor self.now entries
+            → MatchOption result
+            ((set : NameText) → IsFirstSetOf entries role.now set → ⊥)
+            (IsFirstSetOf entries role.now) }
+    {
+        match place_of(&self.roles, role) {
+            Some(place) => match first_set_with(&self.sets, place) {
+                Some(row) => Some(row.name),
+                None => None,
+            },
+            None => None,
+        }
     }
 
     /// Whether all session numbers were given.
