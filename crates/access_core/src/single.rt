@@ -225,7 +225,7 @@ impl Single {
 
     /// Answers a policy command, which this session gives. An accepted command adds its one entry to the policy list.
     ///
-    /// At this stage the command is one that doesn't ask for separation sets.
+    /// At this stage the command is any but AddActiveRole.
     pub fn admin(&mut self, session: Option<SessionId>, command: AdminCommand) -> Reply
         requires { IsTrue (is_decided command) }
         ensures { AdminStep session command self.old result self.new }

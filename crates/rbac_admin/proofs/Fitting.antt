@@ -23,7 +23,7 @@ use Rattle.rbac_admin.proofs.Accepted.{passed, accepted_entry}
 use Rattle.rbac_admin.proofs.Listing.{none_anywhere}
 
 -- the test of a role decides it
-role_unless : (p : Policy) (L : List Entry) → StandsFor p L → (r : NameText) → ((IsRole L r → ⊥) → ⊥) → IsRole L r
+pub role_unless : (p : Policy) (L : List Entry) → StandsFor p L → (r : NameText) → ((IsRole L r → ⊥) → ⊥) → IsRole L r
 role_unless p L st r not_not = by_test (is_some (place_of r p.roles)) (role_test p L st r (is_some (place_of r p.roles)) refl) where
   by_test : (b : Bool) → (IsTrue b ↔ IsRole L r) → IsRole L r
   by_test true test = test.0 (search rules)

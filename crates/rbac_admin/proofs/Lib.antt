@@ -4,3 +4,4 @@ pub mod OneAnswer
 pub mod Accepted
 pub mod Fitting
 pub mod Authorizing
+pub mod Shaping

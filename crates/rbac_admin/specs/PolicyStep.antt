@@ -107,12 +107,8 @@ abbrev pub PolicyStep : List Entry → Option ℕ → AdminCommand → Result En
 PolicyStep entries session command answer =
     Answers (policy_rules entries session command) (λ refusal. answer ≡ Err refusal) (answer ≡ Ok (entry_of session command))
 
--- the commands that `decide` answers at this stage: all but those that ask for separation sets
+-- the commands that `decide` answers at this stage: all but AddActiveRole
 abbrev pub is_decided : AdminCommand → Bool
-is_decided (DeleteRole role) = false
-is_decided (AddInheritance senior junior) = false
-is_decided (CreateDsdSet set count roles) = false
-is_decided (DeleteDsdSet set) = false
 is_decided (AddActiveRole role) = false
 is_decided _ = true
 

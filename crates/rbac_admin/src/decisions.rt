@@ -6,9 +6,10 @@ ghost use Rattle.rbac_admin.specs.PolicyStep.{PolicyStep, is_decided};
 
 use crate::refusals::Refusal;
 use crate::rules::{
-    active_role, administers, authorized_roles, is_assigned, is_granted, known_edge, known_role,
-    known_roles, known_user, living, new_assignment, new_grant, new_role, new_user, number_left,
-    room_for_grant, room_for_role, room_for_session, room_for_user, separated_login,
+    active_role, administers, authorized_roles, in_no_set, is_assigned, is_granted, is_shape,
+    known_edge, known_role, known_roles, known_set, known_user, living, new_assignment, new_edge,
+    new_grant, new_role, new_set, new_user, no_cycle, number_left, room_for_grant, room_for_role,
+    room_for_session, room_for_set, room_for_user, separated_edge, separated_login, separated_set,
     single_roles,
 };
 use rbac_policy::commands::{AdminCommand, Entry, SessionId};
@@ -178,6 +179,86 @@ fn decide_remove_edge(
     })
 }
 
+fn decide_delete_role(
+    policy: &Policy,
+    session: Option<SessionId>,
+    role: Name,
+) -> Result<Entry, Refusal>
+    ensures { (entries : List Entry) → StandsFor policy.now entries
+        → PolicyStep entries session (AdminCommand.DeleteRole role) result }
+{
+    let session = living(policy, session)?;
+    administers(policy, session)?;
+    known_role(policy, &role)?;
+    in_no_set(policy, &role)?;
+    Ok(Entry {
+        session: Some(session),
+        command: AdminCommand::DeleteRole { role },
+    })
+}
+
+fn decide_delete_set(
+    policy: &Policy,
+    session: Option<SessionId>,
+    set: Name,
+) -> Result<Entry, Refusal>
+    ensures { (entries : List Entry) → StandsFor policy.now entries
+        → PolicyStep entries session (AdminCommand.DeleteDsdSet set) result }
+{
+    let session = living(policy, session)?;
+    administers(policy, session)?;
+    known_set(policy, &set)?;
+    Ok(Entry {
+        session: Some(session),
+        command: AdminCommand::DeleteDsdSet { set },
+    })
+}
+
+fn decide_add_edge(
+    policy: &Policy,
+    session: Option<SessionId>,
+    senior: Name,
+    junior: Name,
+) -> Result<Entry, Refusal>
+    ensures { (entries : List Entry) → StandsFor policy.now entries
+        → PolicyStep entries session (AdminCommand.AddInheritance senior junior) result }
+{
+    let session = living(policy, session)?;
+    administers(policy, session)?;
+    known_role(policy, &senior)?;
+    known_role(policy, &junior)?;
+    no_cycle(policy, &senior, &junior)?;
+    new_edge(policy, &senior, &junior)?;
+    separated_edge(policy, &senior, &junior)?;
+    Ok(Entry {
+        session: Some(session),
+        command: AdminCommand::AddInheritance { senior, junior },
+    })
+}
+
+fn decide_create_set(
+    policy: &Policy,
+    session: Option<SessionId>,
+    set: Name,
+    count: u64,
+    roles: RoleNames,
+) -> Result<Entry, Refusal>
+    ensures { (entries : List Entry) → StandsFor policy.now entries
+        → PolicyStep entries session (AdminCommand.CreateDsdSet set count roles) result }
+{
+    let session = living(policy, session)?;
+    administers(policy, session)?;
+    new_set(policy, &set)?;
+    known_roles(policy, &roles)?;
+    is_shape(count, &roles)?;
+    separated_set(policy, &set, count, &roles)?;
+    room_for_set(policy)?;
+    Ok(Entry {
+        session: Some(session),
+        command: AdminCommand::CreateDsdSet { set, count, roles },
+    })
+}
+
 fn decide_drop(policy: &Policy, session: Option<SessionId>, role: Name) -> Result<Entry, Refusal>
     ensures { (entries : List Entry) → StandsFor policy.now entries
         → PolicyStep entries session (AdminCommand.DropActiveRole role) result }
@@ -222,14 +303,7 @@ fn decide_login(policy: &Policy, user: Name, roles: RoleNames) -> Result<Entry, 
 pub fn is_decided(command: &AdminCommand) -> bool
     ensures { result ≡ is_decided command.now }
 {
-    !matches!(
-        command,
-        AdminCommand::DeleteRole { .. }
-            | AdminCommand::AddInheritance { .. }
-            | AdminCommand::CreateDsdSet { .. }
-            | AdminCommand::DeleteDsdSet { .. }
-            | AdminCommand::AddActiveRole { .. }
-    )
+    !matches!(command, AdminCommand::AddActiveRole { .. })
 }
 
 /// The entry of the command that this session gives, which is for one of the commands that `is_decided` knows. It takes no memory.
@@ -249,7 +323,11 @@ pub fn is_decided(command: &AdminCommand) -> bool
 /// - of DeassignUser: NoSession, Permission, UnknownUser, UnknownRole, NotAssigned;
 /// - of RevokePermission: NoSession, Permission, UnknownRole, NotGranted;
 /// - of DeleteInheritance: NoSession, Permission, UnknownRole (the senior, then the junior), NoEdge;
-/// - of DropActiveRole: NoSession, UnknownRole, NotActive.
+/// - of DropActiveRole: NoSession, UnknownRole, NotActive;
+/// - of DeleteRole: NoSession, Permission, UnknownRole, RoleInDsd (the set that was made first);
+/// - of AddInheritance: NoSession, Permission, UnknownRole (the senior, then the junior), Cycle, EdgeExists, DsdViolated;
+/// - of CreateDsdSet: NoSession, Permission, DsdExists, UnknownRole (the first listed), DsdShape, DsdViolated, Full of sets;
+/// - of DeleteDsdSet: NoSession, Permission, NoDsd.
 pub fn decide(
     policy: &Policy,
     session: Option<SessionId>,
@@ -280,10 +358,14 @@ pub fn decide(
             policy, session, senior, junior,
         ),
         AdminCommand::DropActiveRole { role } => decide_drop(policy, session, role),
-        AdminCommand::DeleteRole { .. }
-        | AdminCommand::AddInheritance { .. }
-        | AdminCommand::CreateDsdSet { .. }
-        | AdminCommand::DeleteDsdSet { .. }
-        | AdminCommand::AddActiveRole { .. } => unreachable!(),
+        AdminCommand::DeleteRole { role } => decide_delete_role(policy, session, role),
+        AdminCommand::DeleteDsdSet { set } => decide_delete_set(policy, session, set),
+        AdminCommand::AddInheritance { senior, junior } => decide_add_edge(
+            policy, session, senior, junior,
+        ),
+        AdminCommand::CreateDsdSet { set, count, roles } => decide_create_set(
+            policy, session, set, count, roles,
+        ),
+        AdminCommand::AddActiveRole { .. } => unreachable!(),
     }
 }

@@ -1,13 +1,14 @@
 //! The rules of refusal, each asked of a policy: a test passes where the rule gives no refusal, and else answers the one that it gives.
-ghost use Rattle.std.specs.Prelude.{◌≡◌, ◌↔◌, List, Option, None, IsTrue, MatchOption, Contains, take};
+ghost use Rattle.std.specs.Prelude.{◌≡◌, ◌↔◌, ℕ, List, Option, None, IsTrue, MatchOption, Contains, take};
 ghost use Rattle.std.specs.Result.{MatchResult};
 ghost use Rattle.rbac_policy.specs.declared.commands.Entry.{Entry};
 ghost use Rattle.rbac_policy.specs.StandsFor.{StandsFor};
 ghost use Rattle.rbac_policy.specs.Names.{NameText};
-ghost use Rattle.rbac_policy.specs.Facts.{IsUser, IsRole, IsAssigned, IsAuthorized, IsGranted, IsEdge, IsActive, IsLive, May};
-ghost use Rattle.rbac_policy.specs.Fits.{NumbersExhausted, UsersFull, RolesFull, SessionsFull};
-ghost use Rattle.refusal_rules.specs.Rules.{Says, Unless, Tests};
-ghost use Rattle.rbac_admin.specs.Conditions.{IsGivenBy, HasNoRoomFor, FirstListed};
+ghost use Rattle.rbac_policy.specs.Facts.{IsUser, IsRole, IsSetName, IsAssigned, IsAuthorized, IsGranted, IsEdge, IsAtOrBelow, IsActive, IsLive, May};
+ghost use Rattle.rbac_policy.specs.Fits.{NumbersExhausted, UsersFull, RolesFull, SetsFull, SessionsFull};
+ghost use Rattle.rbac_policy.specs.Separation.{IsFirstSetOf};
+ghost use Rattle.refusal_rules.specs.Rules.{Says, Unless, Naming, Tests};
+ghost use Rattle.rbac_admin.specs.Conditions.{IsGivenBy, HasNoRoomFor, IsNoShape, FirstListed};
 ghost use Rattle.rbac_admin.specs.PolicyStep.{no_session, unknown_user, unknown_role, unknown_listed, unauthorized_listed, repeated_listed, violation};
 
 use crate::refusals::Refusal;
@@ -208,6 +209,125 @@ pub fn active_role(policy: &Policy, session: SessionId, role: &Name) -> Result<(
         Ok(())
     } else {
         Err(Refusal::NotActive { role: *role })
+    }
+}
+
+/// There is no such separation set yet.
+pub fn new_set(policy: &Policy, set: &Name) -> Result<(), Refusal>
+    ensures { (entries : List Entry) → StandsFor policy.now entries
+        → Tests (Says (Refusal.DsdExists set.now) (IsSetName entries set.now)) result }
+{
+    if policy.is_set(set) {
+        Err(Refusal::DsdExists { set: *set })
+    } else {
+        Ok(())
+    }
+}
+
+/// There is such a separation set.
+pub fn known_set(policy: &Policy, set: &Name) -> Result<(), Refusal>
+    ensures { (entries : List Entry) → StandsFor policy.now entries
+        → Tests (Unless (IsSetName entries set.now) (Refusal.NoDsd set.now)) result }
+{
+    if policy.is_set(set) {
+        Ok(())
+    } else {
+        Err(Refusal::NoDsd { set: *set })
+    }
+}
+
+/// There is room for another separation set.
+pub fn room_for_set(policy: &Policy) -> Result<(), Refusal>
+    ensures { (entries : List Entry) → StandsFor policy.now entries
+        → Tests (Says (Refusal.Full Table.Sets) (SetsFull entries)) result }
+{
+    if policy.are_sets_full() {
+        Err(Refusal::Full { table: Table::Sets })
+    } else {
+        Ok(())
+    }
+}
+
+/// The senior is not the junior, and doesn't lie below it.
+pub fn no_cycle(policy: &Policy, senior: &Name, junior: &Name) -> Result<(), Refusal>
+    ensures { (entries : List Entry) → StandsFor policy.now entries
+        → Tests (Says Refusal.Cycle (IsAtOrBelow entries senior.now junior.now)) result }
+{
+    if policy.lies_below(senior, junior) {
+        Err(Refusal::Cycle)
+    } else {
+        Ok(())
+    }
+}
+
+/// The edge itself isn't there yet.
+pub fn new_edge(policy: &Policy, senior: &Name, junior: &Name) -> Result<(), Refusal>
+    ensures { (entries : List Entry) → StandsFor policy.now entries
+        → Tests (Says Refusal.EdgeExists (IsEdge entries senior.now junior.now)) result }
+{
+    if policy.has_edge(senior, junior) {
+        Err(Refusal::EdgeExists)
+    } else {
+        Ok(())
+    }
+}
+
+/// The role is a member of no separation set.
+pub fn in_no_set(policy: &Policy, role: &Name) -> Result<(), Refusal>
+    ensures { (entries : List Entry) → StandsFor policy.now entries
+        → Tests (Naming Refusal.RoleInDsd (IsFirstSetOf entries role.now)) result }
+{
+    match policy.first_set_of(role) {
+        Some(set) => Err(Refusal::RoleInDsd { set }),
+        None => Ok(()),
+    }
+}
+
+/// No session violates a separation set once an edge leads from the senior to the junior.
+pub fn separated_edge(policy: &Policy, senior: &Name, junior: &Name) -> Result<(), Refusal>
+    ensures { (entries : List Entry) (session : Option ℕ) → StandsFor policy.now entries
+        → IsRole entries senior.now → IsRole entries junior.now
+        → Tests (violation entries session (AdminCommand.AddInheritance senior.now junior.now)) result }
+{
+    match policy.first_violated_by_edge(senior, junior) {
+        Some(violation) => Err(Refusal::DsdViolated {
+            set: violation.set,
+            session: violation.session,
+        }),
+        None => Ok(()),
+    }
+}
+
+/// No session violates a separation set once there is one more of this name, number and roles.
+pub fn separated_set(
+    policy: &Policy,
+    set: &Name,
+    count: u64,
+    roles: &RoleNames,
+) -> Result<(), Refusal>
+    ensures { (entries : List Entry) (session : Option ℕ) → StandsFor policy.now entries
+        → ((role : NameText) → Contains roles.now role → IsRole entries role)
+        → Tests (violation entries session (AdminCommand.CreateDsdSet set.now count roles.now)) result }
+{
+    match policy.first_violated_by_set(set, count, roles) {
+        Some(violation) => Err(Refusal::DsdViolated {
+            set: violation.set,
+            session: violation.session,
+        }),
+        None => Ok(()),
+    }
+}
+
+/// The number is two or more and no more than that of the roles, and no role is listed twice.
+pub fn is_shape(count: u64, roles: &RoleNames) -> Result<(), Refusal>
+    ensures { Tests (Says Refusal.DsdShape (IsNoShape count roles.now)) result }
+{
+    if count < 2 || (roles.len() as u64) < count {
+        return Err(Refusal::DsdShape);
+    }
+    match first_repeated(roles) {
+        Some(_) => Err(Refusal::DsdShape),
+        None => Ok(()),
     }
 }
 

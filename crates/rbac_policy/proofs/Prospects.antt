@@ -1,6 +1,6 @@
 -- The first violation after an edge or a separation set more.
-use Rattle.std.proofs.Common.{◌≡◌, ℕ, ◌<◌, ◌≤◌, ◌⊎◌, ◌↔◌, List, [], ◌∷◌, ◌++◌, length, map, take, arith, sym, ◌∙◌, ap, subst, refl, inl, inr}
-use Rattle.std.specs.Prelude.{Option, Some, None, MatchOption, Contains, slice_get}
+use Rattle.std.proofs.Common.{◌≡◌, ℕ, ◌⊎◌, ◌↔◌, List, [], ◌∷◌, ◌++◌, length, arith, ◌∙◌, ap, subst, refl, inl, inr}
+use Rattle.std.specs.Prelude.{Option, Some, None, MatchOption, Contains}
 use Rattle.std.proofs.Math.Seq.{take-length}
 use Rattle.std.proofs.lemmas.Option.{slice_get_within, same_Some}
 use Rattle.rbac_closure.specs.Edges.{edge_added}
@@ -8,25 +8,20 @@ use Rattle.rbac_closure.proofs.ChainLemmas.{widened}
 use Rattle.rbac_policy.specs.declared.policy.Policy.{Policy}
 use Rattle.rbac_policy.specs.declared.commands.AdminCommand.TheVariants.{DeleteRole, AddInheritance, CreateSession, AddActiveRole, DropActiveRole, CreateDsdSet, DeleteDsdSet}
 use Rattle.rbac_policy.specs.declared.commands.Entry.{Entry}
-use Rattle.rbac_policy.specs.declared.rows.Session.{Session}
 use Rattle.rbac_policy.specs.declared.rows.DsdSet.{DsdSet}
 use Rattle.rbac_policy.specs.declared.separation.Violation.{Violation}
-use Rattle.rbac_policy.specs.declared.sizes.TheConstants.{ROLES}
 use Rattle.rbac_policy.specs.Names.{NameText}
-use Rattle.rbac_policy.specs.Entries.{logins}
-use Rattle.rbac_policy.specs.Facts.{IsSet, IsActive, IsAuthorized, IsLive, Lives, HasOnlyAuthorized, CreatesWith, TakesUp, LaysDown, Ends, Unassigns, Disinherits}
+use Rattle.rbac_policy.specs.Facts.{IsSet, IsActive, IsAuthorized, Lives, HasOnlyAuthorized, CreatesWith, TakesUp, LaysDown, Ends, Unassigns, Disinherits}
 use Rattle.rbac_policy.specs.Separation.{IsFirstViolated}
 use Rattle.rbac_policy.specs.Violations.{first_violation}
-use Rattle.rbac_policy.specs.Tables.{At, place_of, mask_of, session_kept, session_given}
-use Rattle.rbac_policy.specs.StandsFor.{InMask, IsRowOf, RolesStand, SessionsStand, SetsStand, StandsFor}
+use Rattle.rbac_policy.specs.Tables.{At, place_of, mask_of}
+use Rattle.rbac_policy.specs.StandsFor.{InMask, IsRowOf, SetsStand, StandsFor}
 use Rattle.rbac_policy.proofs.Steps.{in_force_push, get_push, get_last}
 use Rattle.rbac_policy.proofs.Lives.{lives_after, lives_before}
 use Rattle.rbac_policy.proofs.Asking.{role_at}
 use Rattle.rbac_policy.proofs.Listed.{in_mask_of}
-use Rattle.rbac_policy.proofs.Ended.{swept_stand}
 use Rattle.rbac_policy.proofs.Inheriting.{inheriting}
-use Rattle.rbac_policy.proofs.Activating.{take_unswept}
-use Rattle.rbac_policy.proofs.Untouched.{untouched, untouched_users, untouched_roles, untouched_sessions, untouched_sets, logins_other, through}
+use Rattle.rbac_policy.proofs.Untouched.{untouched, untouched_roles, untouched_sets, through}
 use Rattle.rbac_policy.proofs.Violating.{SessionRows, SetRows}
 use Rattle.rbac_policy.proofs.Separated.{front_slot, before_none, shown_violation}
 

@@ -1,5 +1,5 @@
 -- What the readers of separation sets say of the list of entries.
-use Rattle.std.proofs.Common.{◌≡◌, ℕ, ◌<◌, ◌↔◌, List, cond, sym, ◌∙◌, ap, refl, subst, true, false, Bool, IsTrue, arith}
+use Rattle.std.proofs.Common.{◌≡◌, ℕ, ◌↔◌, List, cond, sym, ◌∙◌, ap, refl, subst, true, false, Bool, IsTrue, arith}
 use Rattle.std.specs.Prelude.{slice_get, Option, Some, None, Contains, ◌==◌}
 use Rattle.std.specs.List.{list_any}
 use Rattle.std.specs.Int.{bit_at}
@@ -16,11 +16,11 @@ use Rattle.rbac_policy.specs.Facts.{IsSet, IsSetName}
 use Rattle.rbac_policy.specs.Separation.{IsFirstSetOf}
 use Rattle.rbac_policy.specs.SetTables.{set_is, set_with, place_of_row, first_set_with}
 use Rattle.rbac_policy.specs.Tables.{At, place_of}
-use Rattle.rbac_policy.specs.StandsFor.{Holds, StandsFor}
+use Rattle.rbac_policy.specs.StandsFor.{StandsFor}
 use Rattle.rbac_policy.proofs.Asking.{reflects, no_role}
 use Rattle.rbac_policy.proofs.Granting.{some_passes, passes_any}
 use Rattle.rbac_policy.proofs.ReadingRoles.{in_mask, mask_role}
-use Rattle.rbac_policy.proofs.Least.{LeastOf, Judged, Stands, judged}
+use Rattle.rbac_policy.proofs.Least.{Judged, Stands, judged}
 
 -- the slot of a set that has the role
 record Member (sets : List (Option DsdSet)) (place : ℕ) (row : DsdSet) : Type 0 where

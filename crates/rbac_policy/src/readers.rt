@@ -14,8 +14,8 @@ use crate::names::{Name, RoleNames};
 use crate::objects::{Object, Operation};
 use crate::policy::Policy;
 use crate::rows::{DsdSet, Session};
-use crate::sets::{first_set_with, has_set};
 use crate::separation::{Violation, first_violation, first_violation_with};
+use crate::sets::{first_set_with, has_set};
 use crate::sizes::LAST_SESSION;
 use crate::tables::{free, grant_of, has_user, mask_of, place_of, roles_of, session_of};
 
@@ -188,7 +188,12 @@ impl Policy {
 
     /// The first separation set, in order of creation, that some session violates once there is one more of this name, number and roles,
     /// and the least session that does.
-    pub fn first_violated_by_set(&self, set: &Name, count: u64, roles: &RoleNames) -> Option<Violation>
+    pub fn first_violated_by_set(
+        &self,
+        set: &Name,
+        count: u64,
+        roles: &RoleNames,
+    ) -> Option<Violation>
         ensures { (entries : List Entry) (by : Option ℕ) → StandsFor self.now entries
             → ((role : NameText) → Contains roles.now role → IsRole entries role)
             → MatchOption result

@@ -29,3 +29,15 @@ returns-in-DeleteInheritance c = λ L st. rw c.in-DeleteInheritance.is (c.decide
 
 pub returns-in-DropActiveRole : goal.returns-in-DropActiveRole
 returns-in-DropActiveRole c = λ L st. rw c.in-DropActiveRole.is (c.decide_drop.ensures L st)
+
+pub returns-in-DeleteRole : goal.returns-in-DeleteRole
+returns-in-DeleteRole c = λ L st. rw c.in-DeleteRole.is (c.decide_delete_role.ensures L st)
+
+pub returns-in-DeleteDsdSet : goal.returns-in-DeleteDsdSet
+returns-in-DeleteDsdSet c = λ L st. rw c.in-DeleteDsdSet.is (c.decide_delete_set.ensures L st)
+
+pub returns-in-AddInheritance : goal.returns-in-AddInheritance
+returns-in-AddInheritance c = λ L st. rw c.in-AddInheritance.is (c.decide_add_edge.ensures L st)
+
+pub returns-in-CreateDsdSet : goal.returns-in-CreateDsdSet
+returns-in-CreateDsdSet c = λ L st. rw c.in-CreateDsdSet.is (c.decide_create_set.ensures L st)
