@@ -1,3 +1,4 @@
+pub mod PartLemmas
 pub mod OrderLemmas
 pub mod SearchLemmas
 pub mod SolutionLemmas
