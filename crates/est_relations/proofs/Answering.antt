@@ -16,7 +16,7 @@ use Rattle.est_kernel.specs.declared.interface.Kind.TheVariants.{Input, Output}
 use Rattle.est_kernel.proofs.Interfaces.{declares_beyond}
 use Rattle.est_kernel.proofs.Masks.{bits_zero}
 use Rattle.est_relations.specs.Inner.Names.{IsNewInput, RefusesName}
-use Rattle.est_relations.specs.Keeping.{keeps, keeps_exclusion, has_one_at_most, is_over_inputs, AreOverInputs}
+use Rattle.est_relations.specs.Keeping.{keeps, keeps_exclusion, has_one_at_most, is_within, AreOverInputs}
 use Rattle.est_relations.specs.Offers.{PendingInputs, place_of, with_place, KeepsExclusions, IsSignalName, IsOutputName, IsPendingName, IsFirstBroken, IsFirstLacking, OfferAnswer, ReadyAnswer}
 use Rattle.est_relations.specs.declared.refusal.Refusal.{Refusal}
 use Rattle.est_relations.specs.declared.refusal.Refusal.TheVariants.{UnknownSignal, NotInput, AlreadyOffered, Excluded, Implied}
@@ -115,7 +115,7 @@ pub missing_within : (i : List Declaration) (rs : List Relation) (mask number m 
     → IsFirstLacking rs mask number m → m < length i
 missing_within i rs mask number m h l =
     let over : (inputs_of i l.condition.index && inputs_of i l.missing.index) ≡ true =
-    all_there (is_over_inputs i) rs l.index (Implication l.condition l.missing) h l.is in
+    all_there (is_within (inputs_of i)) rs l.index (Implication l.condition l.missing) h l.is in
     input_within i m (ap (inputs_of i) l.place ∙ and_second (inputs_of i l.condition.index) (inputs_of i l.missing.index) over)
 
 -- ---- the answers

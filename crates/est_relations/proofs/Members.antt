@@ -24,6 +24,11 @@ pub any_place : (p : ℕ → Bool) (xs : List InterfaceSignal) → list_any (λ 
 any_place p [] = refl
 any_place p (x ∷ xs) = ap (λ b. p x.index || b) (any_place p xs)
 
+-- so for all
+pub all_places : (p : ℕ → Bool) (xs : List InterfaceSignal) → list_all (λ s. p s.index) xs ≡ list_all p (map (λ s. s.index) xs)
+all_places p [] = refl
+all_places p (x ∷ xs) = ap (λ b. p x.index && b) (all_places p xs)
+
 -- ---- all and any, by members
 
 or_first : (a b : Bool) → a ≡ true → (a || b) ≡ true

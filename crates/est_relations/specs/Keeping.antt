@@ -28,11 +28,11 @@ keeps present (Implication condition implied) = has_implied present condition.in
 abbrev pub AreLawful : List Relation → (present : ℕ → Bool) → Type 0
 AreLawful relations present = list_all (keeps present) relations ≡ true
 
--- whether each signal of the relation is an input
-abbrev pub is_over_inputs : List Declaration → Relation → Bool
-is_over_inputs interface (Exclusion members) = list_all (inputs_of interface) members
-is_over_inputs interface (Implication condition implied) = inputs_of interface condition.index && inputs_of interface implied.index
+-- whether each signal of the relation is among these
+abbrev pub is_within : (signals : ℕ → Bool) → Relation → Bool
+is_within signals (Exclusion members) = list_all signals members
+is_within signals (Implication condition implied) = signals condition.index && signals implied.index
 
 -- each signal of each relation is an input
 abbrev pub AreOverInputs : List Declaration → List Relation → Type 0
-AreOverInputs interface relations = list_all (is_over_inputs interface) relations ≡ true
+AreOverInputs interface relations = list_all (is_within (inputs_of interface)) relations ≡ true

@@ -2,9 +2,11 @@
 
 ghost use Rattle.std.specs.Prelude.{◌≡◌, ◌++◌, ◌∷◌, [], ◌≤◌, ◌<◌, length, map, IfOk, OnErr, IsTrue, ◌↔◌};
 ghost use Rattle.std.specs.Prelude.{option_map, nat_eq};
-ghost use Rattle.std.specs.List.{find, list_any};
+ghost use Rattle.std.specs.List.{find, list_all, list_any};
+ghost use Rattle.est_relations.specs.Keeping.{is_within};
 ghost use Rattle.est_kernel.specs.Bits.{bits};
 
+use est_kernel::interface::Interface;
 use est_kernel::mask;
 use est_kernel::statement::InterfaceSignal;
 use std::alloc::{AllocError, Global};
@@ -47,6 +49,13 @@ impl Members {
         Ok(())
     }
 
+    /// Whether each member is in the mask.
+    pub fn are_in(&self, signals: u64) -> bool
+        ensures { result ≡ list_all (bits signals) self.now }
+    {
+        are_all_in(&self.signals, signals)
+    }
+
     /// Whether the signal is a member.
     #[tactic(auto, using(crate::proofs::Members::any_place))]
     pub fn has(&self, signal: InterfaceSignal) -> bool
@@ -65,6 +74,15 @@ impl Members {
             None => None,
         }
     }
+}
+
+/// Whether each of these is in the mask.
+fn are_all_in(members: &[InterfaceSignal], signals: u64) -> bool
+    ensures { result ≡ list_all (λ s. bits signals s.index) members.now }
+{
+    members
+        .iter()
+        .all(|member| mask::has(signals, member.index))
 }
 
 /// Whether the signal is one of these.
@@ -92,6 +110,29 @@ pub enum Relation {
     Implication(InterfaceSignal, InterfaceSignal),
 }
 
+impl Relation {
+    ghost use Rattle.est_relations.specs.Keeping.{is_within};
+
+    /// Whether each signal of the relation is in the mask.
+    pub fn is_within(&self, signals: u64) -> bool
+        ensures { result ≡ is_within (bits signals) self.now }
+    {
+        match self {
+            Relation::Exclusion(members) => members.are_in(signals),
+            Relation::Implication(condition, implied) => {
+                mask::has(signals, condition.index) && mask::has(signals, implied.index)
+            }
+        }
+    }
+}
+
+/// Whether each signal of each of these is in the mask.
+fn are_within(relations: &[Relation], signals: u64) -> bool
+    ensures { result ≡ list_all (is_within (bits signals)) relations.now }
+{
+    relations.iter().all(|relation| relation.is_within(signals))
+}
+
 /// At most `MOST_RELATIONS` relations. A contract sees the list of them; the first has the number 1.
 #[derive(Drop)]
 pub struct Relations {
@@ -111,6 +152,8 @@ impl Model for Relations {
 }
 
 impl Relations {
+    ghost use Rattle.est_relations.specs.Keeping.{AreOverInputs};
+
     /// No relation. It takes no memory.
     pub fn new(alloc: Global) -> Relations
         ensures { result ≡ [] }
@@ -135,6 +178,13 @@ impl Relations {
     {
         self.relations.push(relation)?;
         Ok(())
+    }
+
+    /// Whether each signal of each relation is an input.
+    pub fn are_over_inputs(&self, interface: &Interface) -> bool
+        ensures { IsTrue result ↔ AreOverInputs interface.now self.now }
+    {
+        are_within(&self.relations, interface.inputs())
     }
 
     /// The relations, in order.

@@ -11,7 +11,11 @@ mod kernels;
 #[cfg(test)]
 mod modules;
 #[cfg(test)]
+mod pending;
+#[cfg(test)]
 mod reactions;
+#[cfg(test)]
+mod reductions;
 #[cfg(test)]
 mod texts;
 #[cfg(test)]
