@@ -51,14 +51,14 @@ and_second true b h = h
 and_second false b h = absurd (false≢true h)
 
 -- what holds of all holds at a place
-all_there : {X : Type 0} (test : X → Bool) (xs : List X) (n : ℕ) (x : X) → list_all test xs ≡ true → slice_get xs n ≡ Some x → test x ≡ true
+pub all_there : {X : Type 0} (test : X → Bool) (xs : List X) (n : ℕ) (x : X) → list_all test xs ≡ true → slice_get xs n ≡ Some x → test x ≡ true
 all_there test [] n x h s = cc
 all_there test (y ∷ ys) zero x h s = let same : y ≡ x = cc in rw (← same) (and_first (test y) (list_all test ys) h)
 all_there test (y ∷ ys) (suc n) x h s = all_there test ys n x (and_second (test y) (list_all test ys) h) s
 
 -- ---- signals
 
-input_within : (i : List Declaration) (n : ℕ) → inputs_of i n ≡ true → n < length i
+pub input_within : (i : List Declaration) (n : ℕ) → inputs_of i n ≡ true → n < length i
 input_within i n h = elim (cases_lt n (length i)) [
   | inl lt ↦ lt
   | inr le ↦ absurd (false≢true (sym (declares_beyond Input i n le) ∙ h))

@@ -1,3 +1,4 @@
 pub mod Answering
 pub mod Members
 pub mod FirstBroken
+pub mod OffersKeep
