@@ -3,3 +3,4 @@ pub mod Closing
 pub mod Counting
 pub mod Interfaces
 pub mod Reduced
+pub mod Lifts

@@ -3,6 +3,7 @@ pub mod Bound
 pub mod Facts
 pub mod Faults
 pub mod Inner
+pub mod Lifting
 pub mod Reducing
 pub mod Reductions
 pub mod Views

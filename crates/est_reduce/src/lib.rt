@@ -10,6 +10,7 @@ pub mod bound;
 mod builder;
 pub mod fault;
 pub mod flat;
+pub mod laws;
 mod pieces;
 pub mod reduce;
 mod size;

@@ -42,6 +42,7 @@ fn write_test(test: Test, text: &mut String) -> Result<(), AllocError> {
 }
 
 /// Two statements with a word between them, in brackets.
+#[cycle(writing)]
 fn write_both(
     p: &Statement,
     between: &str,
@@ -56,6 +57,7 @@ fn write_both(
 }
 
 /// A statement as it is written; a trap's exits are told by how many traps lie between.
+#[cycle(writing)]
 fn write(statement: &Statement, text: &mut String) -> Result<(), AllocError> {
     match statement {
         Statement::Nothing => text.push_str("nothing"),
