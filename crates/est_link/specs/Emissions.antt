@@ -22,9 +22,13 @@ emits_by ps emitted s (emits n) = bytes_eq n s
 emits_by ps emitted s (runs m rs) = emits_in_run emitted s rs (program_named ps m)
 emits_by ps emitted s _ = false
 
--- what a module emits of the signals that its callers see: what an act of its body emits where no local signal hides it
+-- an act emits the name where no local signal hides it
+abbrev pub emits_here : List Program → (List ℕ → List ℕ → Bool) → List ℕ → Occurrence → Bool
+emits_here ps emitted s o = not (is_local o.round s) && emits_by ps emitted s o.act
+
+-- what a module emits of the signals that its callers see: what an act of its body emits so
 abbrev pub IsEmitted : List Program → (List ℕ → List ℕ → Bool) → Program → Type 0
-IsEmitted ps emitted p = (s : List ℕ) → emitted p.name s ≡ list_any (λ (o : Occurrence). not (is_local o.round s) && emits_by ps emitted s o.act) (occurrences [] p.body)
+IsEmitted ps emitted p = (s : List ℕ) → emitted p.name s ≡ list_any (emits_here ps emitted s) (occurrences [] p.body)
 
 -- the name means an input or `tick` in p
 unfoldable pub is_refused : Program → List Binder → List ℕ → Bool

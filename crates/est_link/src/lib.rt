@@ -12,6 +12,7 @@ pub mod checks;
 pub mod count;
 pub mod duplicates;
 pub mod emission;
+pub mod emissions;
 pub mod fault;
 mod flatten;
 pub mod head;

@@ -1,0 +1,134 @@
+//! What a module emits of the signals that its callers see.
+ghost use Rattle.std.specs.Prelude.{◌≡◌, ℕ, List, [], map, option_map, not, ◌||◌, ◌&&◌, OnOk, IfOk};
+ghost use Rattle.std.specs.List.{list_any};
+ghost use Rattle.std.specs.Str.{bytes_eq};
+ghost use Rattle.est_syntax.specs.Views.{renaming_view};
+ghost use Rattle.est_link.specs.Scopes.{binders_of};
+ghost use Rattle.est_link.specs.Modules.{program_of};
+ghost use Rattle.est_link.specs.Occurrences.{occurrences};
+ghost use Rattle.est_link.specs.Visible.{is_local};
+ghost use Rattle.est_link.specs.Renamings.{renamed};
+ghost use Rattle.est_link.specs.Duplicates.{stands_in};
+ghost use Rattle.est_link.specs.Emissions.{emitted_of, emits_here, emits_in_run};
+
+use crate::emission::{Emission, is_emitted};
+use crate::head::{Declared, Head, head_named};
+use crate::names::{is_local, stands_in};
+use crate::renamings::callers_name;
+use crate::scope::{Act, Scope};
+use crate::visit::Visitor;
+use crate::walk::walk_body;
+use est_syntax::tree::Renaming;
+use est_text::identifier::Identifier;
+use std::alloc::{AllocError, Global};
+
+/// Adds the signal, unless it is local.
+fn add_outer(
+    seen: &mut Vec<Identifier>,
+    scope: &Scope<'_>,
+    signal: &Identifier,
+) -> Result<(), AllocError>
+    ensures { OnOk result ((s : List ℕ) → stands_in seen.new.items s ≡ (stands_in seen.old.items s || (not (is_local (binders_of scope.now) s) && bytes_eq signal.now s))) }
+{
+    if is_local(scope, signal) || stands_in(seen, signal) {
+        return Ok(());
+    }
+    seen.push(*signal)?;
+    Ok(())
+}
+
+/// Adds the caller's names for what the module that is run emits.
+fn add_sent(
+    seen: &mut Vec<Identifier>,
+    table: &[Emission],
+    scope: &Scope<'_>,
+    name: &Identifier,
+    renamings: &[Renaming],
+    interface: &[Declared],
+) -> Result<(), AllocError>
+    ensures { OnOk result ((s : List ℕ) → stands_in seen.new.items s ≡ (stands_in seen.old.items s || (not (is_local (binders_of scope.now) s) && list_any (λ d. emitted_of table.now name.now d.name && bytes_eq (renamed (map renaming_view renamings.now) d.name) s) interface.now))) }
+{
+    for declared in interface {
+        if is_emitted(table, name, &declared.name) {
+            add_outer(seen, scope, &callers_name(renamings, &declared.name))?;
+        }
+    }
+    Ok(())
+}
+
+/// Adds what a run emits: the caller's names for what the module that is run emits, if it is there.
+fn add_run(
+    seen: &mut Vec<Identifier>,
+    table: &[Emission],
+    scope: &Scope<'_>,
+    renamings: &[Renaming],
+    run: Option<&Head<'_>>,
+) -> Result<(), AllocError>
+    ensures { OnOk result ((s : List ℕ) → stands_in seen.new.items s ≡ (stands_in seen.old.items s || (not (is_local (binders_of scope.now) s) && emits_in_run (emitted_of table.now) s (map renaming_view renamings.now) (option_map (λ h. program_of h.now) run.entry)))) }
+{
+    match run {
+        Some(run) => add_sent(seen, table, scope, &run.name, renamings, &run.interface),
+        None => Ok(()),
+    }
+}
+
+/// Notes what a module emits.
+#[derive(Clone, Copy)]
+struct Sent<'a> {
+    heads: &'a [Head<'a>],
+    table: &'a [Emission],
+}
+
+impl Visitor for Sent<'_> {
+    ghost use Rattle.std.specs.Prelude.{ℕ, List, Bool, map, ◌||◌};
+    ghost use Rattle.est_link.specs.Modules.{program_of};
+    ghost use Rattle.est_link.specs.Duplicates.{stands_in};
+    ghost use Rattle.est_link.specs.Emissions.{emitted_of, emits_here};
+
+    type Seen = Vec<Identifier>;
+
+    type Fault = AllocError;
+
+    ghost State = { List ℕ → Bool };
+
+    ghost state = { λ seen. stands_in seen.items };
+
+    ghost after = { λ v k o s. k s || emits_here (map program_of v.heads.now) (emitted_of v.table.now) s o };
+
+    fn visit(
+        &self,
+        seen: &mut Vec<Identifier>,
+        act: &Act<'_>,
+        scope: &Scope<'_>,
+    ) -> Result<(), AllocError> {
+        match act {
+            Act::Emits(signal) => add_outer(seen, scope, signal),
+            Act::Tests(_) | Act::Exits(_) | Act::Binds(_) => Ok(()),
+            Act::Runs(name, renamings) => {
+                add_run(seen, self.table, scope, renamings, head_named(self.heads, name))
+            }
+        }
+    }
+}
+
+/// What a module emits of the signals that its callers see, where the table says what those that it runs emit.
+///
+/// # Errors
+///
+/// `AllocError` where memory is refused for the list.
+pub fn emissions_of<'a>(
+    alloc: Global,
+    heads: &'a [Head<'a>],
+    table: &'a [Emission],
+    home: &Head<'_>,
+) -> Result<Vec<Identifier>, AllocError>
+    ensures { IfOk result (λ v. (s : List ℕ) → stands_in v.items s ≡ list_any (emits_here (map program_of heads.now) (emitted_of table.now) s) (occurrences [] (program_of home.now).body)) }
+{
+    let mut seen = Vec::new(alloc);
+    let sent = Sent {
+        heads: &*heads,
+        table: &*table,
+    };
+    walk_body(&sent, &mut seen, home.body)?;
+    Ok(seen)
+}
