@@ -1,7 +1,9 @@
-//! The worked examples of linking: texts, and the first fault of their checks, through public calls alone.
+//! The worked examples of linking: texts, the first fault of their checks, and the flat body of their main module, through public calls alone.
 //!
 //! This crate has no function but tests, and stands above the crates that it calls, so that each of those is proved once.
 #![tactic(auto)]
 
+#[cfg(test)]
+mod bodies;
 #[cfg(test)]
 mod faults;
