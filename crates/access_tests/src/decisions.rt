@@ -230,3 +230,112 @@ fn full_of_permissions(rt: HostRuntime) {
     let granted = grant_pair(&rt, "driver", 0);
     assert!(rt; give(&rt, &mut policy, Some(first), &granted).is_none());
 }
+
+fn separation(
+    rt: &impl Abort,
+    alloc: Global,
+    set: &str,
+    count: u64,
+    roles: &[&str],
+) -> AdminCommand {
+    AdminCommand::CreateDsdSet {
+        set: name(rt, set),
+        count,
+        roles: names(rt, alloc, roles),
+    }
+}
+
+/// Root is logged in twice, with its own role alone and with two roles more; a third role lies below the first of those.
+fn with_roles(rt: &impl Abort, alloc: Global) -> Policy {
+    let mut policy = Policy::opening();
+    let first = SessionId::new(1);
+    let root = name(rt, "root");
+    let administer = login(rt, alloc, "root", &["root"]);
+    assert!(rt; give(rt, &mut policy, None, &administer).is_none());
+    for text in ["driver", "watcher", "helper"] {
+        let role = name(rt, text);
+        assert!(rt;
+            give(
+                rt,
+                &mut policy,
+                Some(first),
+                &AdminCommand::AddRole { role }
+            )
+            .is_none()
+        );
+        let assign = AdminCommand::AssignUser { user: root, role };
+        assert!(rt; give(rt, &mut policy, Some(first), &assign).is_none());
+    }
+    let edge = AdminCommand::AddInheritance {
+        senior: name(rt, "driver"),
+        junior: name(rt, "helper"),
+    };
+    assert!(rt; give(rt, &mut policy, Some(first), &edge).is_none());
+    let second = login(rt, alloc, "root", &["driver", "watcher"]);
+    assert!(rt; give(rt, &mut policy, None, &second).is_none());
+    policy
+}
+
+#[test]
+fn separations(rt: HostRuntime) {
+    let mut policy = with_roles(&rt, rt.alloc());
+    let first = SessionId::new(1);
+    let helper = name(&rt, "helper");
+    let cases = [
+        (
+            separation(&rt, rt.alloc(), "apart", 2, &["driver", "helper"]),
+            Refusal::DsdViolated {
+                set: name(&rt, "apart"),
+                session: SessionId::new(2),
+            },
+        ),
+        (
+            separation(&rt, rt.alloc(), "apart", 3, &["driver", "helper"]),
+            Refusal::DsdShape,
+        ),
+        (
+            AdminCommand::AddInheritance {
+                senior: helper,
+                junior: name(&rt, "driver"),
+            },
+            Refusal::Cycle,
+        ),
+        (
+            AdminCommand::DeleteDsdSet {
+                set: name(&rt, "apart"),
+            },
+            Refusal::NoDsd {
+                set: name(&rt, "apart"),
+            },
+        ),
+    ];
+    for (command, want) in cases {
+        assert_eq!(rt; give(&rt, &mut policy, Some(first), &command), Some(want));
+    }
+    let set = separation(&rt, rt.alloc(), "roots", 2, &["root", "helper"]);
+    assert!(rt; give(&rt, &mut policy, Some(first), &set).is_none());
+    let roots = name(&rt, "roots");
+    let violating = [
+        login(&rt, rt.alloc(), "root", &["root", "driver"]),
+        login(&rt, rt.alloc(), "root", &["helper", "root"]),
+    ];
+    for command in violating {
+        let want = Refusal::DsdViolated {
+            set: roots,
+            session: SessionId::new(3),
+        };
+        assert_eq!(rt; give(&rt, &mut policy, None, &command), Some(want));
+    }
+    let edge = AdminCommand::AddInheritance {
+        senior: name(&rt, "root"),
+        junior: helper,
+    };
+    let want = Refusal::DsdViolated {
+        set: roots,
+        session: SessionId::new(1),
+    };
+    assert_eq!(rt; give(&rt, &mut policy, Some(first), &edge), Some(want));
+    let delete = AdminCommand::DeleteRole { role: helper };
+    let member = Refusal::RoleInDsd { set: roots };
+    assert_eq!(rt; give(&rt, &mut policy, Some(first), &delete), Some(member));
+}
