@@ -1,7 +1,9 @@
 //! Libraries and the first fault of their checks.
 use est_link::checks::{fault_before_order, fault_behind_order};
 use est_link::emission::Emission;
+use est_link::emissions::emissions_of;
 use est_link::fault::LinkFault;
+use est_link::head::Head;
 use est_link::heads::heads_of;
 use est_syntax::parse::parse;
 use est_text::identifier::Identifier;
@@ -321,4 +323,45 @@ fn libraries_without_a_fault_pass(rt: HostRuntime) -> Result<(), Fail> {
         }
     }
     Ok(())
+}
+
+/// Fails where a module emits other names.
+fn expect_emissions(
+    alloc: Global,
+    heads: &[Head<'_>],
+    table: &[Emission],
+    home: &Head<'_>,
+    names: &[&str],
+) -> Result<(), Fail> {
+    let found = emissions_of(alloc, &*heads, &*table, home)?;
+    if found.len() != names.len()
+        || !found
+            .iter()
+            .zip(names)
+            .all(|(one, other)| one.as_str() == *other)
+    {
+        return Err(Fail::from(format!(in alloc; "{found:?} in place of {names:?}")?));
+    }
+    Ok(())
+}
+
+/// N emits A and P. Told that N emits A, M emits A by one run, and by the other the O that stands for it.
+#[test]
+fn callers_see_what_is_emitted(rt: HostRuntime) -> Result<(), Fail> {
+    let text =
+        "module N: output A, B, P; emit A; sustain P || present B then emit A end end module \
+        module M: output A, B, O, P; signal P in run N end; run N [signal O/A, A/P] end module";
+    let tokens = lex(rt.alloc(), text)?;
+    let library = parse(rt.alloc(), &tokens)?;
+    let heads = heads_of(rt.alloc(), &library)?;
+    let Some(table) = table() else {
+        return Err(Fail::from("no name"));
+    };
+    match heads.as_slice() {
+        [run, home] => {
+            expect_emissions(rt.alloc(), &heads, &[], run, &["A", "P"])?;
+            expect_emissions(rt.alloc(), &heads, &table, home, &["A", "O"])
+        }
+        _ => Err(Fail::from("not two modules")),
+    }
 }
