@@ -1,6 +1,6 @@
 //! Offers under relations. The interface is `input A, B, C; output O`.
 
-use est_kernel::interface::{Declaration, Interface, Kind};
+use est_kernel::interface::{Declaration, Interface, Kind, MOST_SIGNALS};
 use est_kernel::statement::InterfaceSignal;
 use est_relations::pending::Pending;
 use est_relations::refusal::Refusal;
@@ -29,7 +29,7 @@ fn interface(rt: &impl Abort, alloc: Global) -> Result<Interface, Fail> {
         ("O", Kind::Output),
     ] {
         let name = name(rt, text);
-        if interface.is_full() || interface.has(&name) {
+        if interface.len() >= MOST_SIGNALS || interface.has(&name) {
             return Err(Fail::from("no room for the name"));
         }
         interface.declare(Declaration { name, kind })?;

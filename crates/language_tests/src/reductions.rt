@@ -1,6 +1,6 @@
 //! Each derived statement against its kernel statement, written out. The interface is `input S; output O`.
 
-use est_kernel::interface::{Declaration, Interface, Kind};
+use est_kernel::interface::{Declaration, Interface, Kind, MOST_SIGNALS};
 use est_kernel::limits::Limit;
 use est_kernel::statement::{Signal, Statement, Test};
 use est_reduce::body::{Body, BoundSignal, BoundTest, Wait};
@@ -110,7 +110,7 @@ fn declare(interface: &mut Interface, name: &str, kind: Kind) -> Result<(), Fail
     let Some(name) = Identifier::from_text(name) else {
         return Err(Fail::from("no identifier"));
     };
-    if interface.is_full() || interface.has(&name) {
+    if interface.len() >= MOST_SIGNALS || interface.has(&name) {
         return Err(Fail::from("no room for the name"));
     }
     Ok(interface.declare(Declaration { name, kind })?)
