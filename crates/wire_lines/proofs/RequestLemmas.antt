@@ -17,7 +17,7 @@ use Rattle.rbac_policy.specs.declared.objects.Object.{Object}
 use Rattle.rbac_policy.proofs.ObjectTexts.{operation_of-exact, object_of-exact}
 use Rattle.wire_lines.proofs.KeyLemmas.{list_back}
 use Rattle.wire_lines.specs.Requests.{members_of, Fits}
-use Rattle.wire_lines.specs.Inner.Reading.{text_at, name_at, identifier_at, operation_at, object_at, number_at, keys_are, has_keys, command_of, names_from, with_front, list_of, roles_from, roles_at, login_of, logout_of, grant_of, load_of, offer_of, step_of, look_of, fields_of, request_of}
+use Rattle.wire_lines.specs.Inner.Reading.{text_at, name_at, identifier_at, operation_at, object_at, number_at, keys_are, has_keys, command_of, names_from, with_front, list_of, roles_from, roles_at, login_of, logout_of, grant_of, add_user_of, delete_user_of, add_role_of, assign_of, deassign_of, revoke_of, disinherit_of, drop_role_of, load_of, offer_of, step_of, look_of, fields_of, request_of}
 use Rattle.wire_lines.specs.declared.request.Command.{Command}
 use Rattle.wire_lines.specs.declared.request.Command.TheVariants as command
 use Rattle.wire_lines.specs.declared.request.Request.{Request}
@@ -221,6 +221,112 @@ grant_is d r named h =
     let n = tested is_name k.3 m.0 (subst (λ (x : Data). name_at (codes "role") x ≡ Some m.0) whole m.1) in
     subst (Is d) m.2 (record { value = whole ∙ rw (e, i.0, s, n.0) refl; fits = (i.1, n.1) })
 
+add_user_is : (d : Data) (r : Request) → HasCommand (codes "adduser") d → add_user_of d ≡ Some r → Is d r
+unfolding add_user_of name_at text_at
+add_user_is d r named h =
+    let p = guard (has_keys d (codes "cmd" ∷ codes "user" ∷ [])) _ r h in
+    let o = object_with d _ p.0 in
+    let k = two_members o.0 (codes "cmd") (codes "user") o.2 in
+    let whole : d ≡ object (member (codes "cmd") k.0 (member (codes "user") k.1 no_members)) = o.1 ∙ ap object k.2 in
+    let e : k.0 ≡ string (codes "adduser") = as_str_is k.0 _ (subst (HasCommand (codes "adduser")) whole named) in
+    let m = mapped request.AddUser _ r p.1 in
+    let u = tested is_name k.1 m.0 (subst (λ (x : Data). name_at (codes "user") x ≡ Some m.0) whole m.1) in
+    subst (Is d) m.2 (record { value = whole ∙ rw (e, u.0) refl; fits = u.1 })
+
+delete_user_is : (d : Data) (r : Request) → HasCommand (codes "deluser") d → delete_user_of d ≡ Some r → Is d r
+unfolding delete_user_of name_at text_at
+delete_user_is d r named h =
+    let p = guard (has_keys d (codes "cmd" ∷ codes "user" ∷ [])) _ r h in
+    let o = object_with d _ p.0 in
+    let k = two_members o.0 (codes "cmd") (codes "user") o.2 in
+    let whole : d ≡ object (member (codes "cmd") k.0 (member (codes "user") k.1 no_members)) = o.1 ∙ ap object k.2 in
+    let e : k.0 ≡ string (codes "deluser") = as_str_is k.0 _ (subst (HasCommand (codes "deluser")) whole named) in
+    let m = mapped request.DeleteUser _ r p.1 in
+    let u = tested is_name k.1 m.0 (subst (λ (x : Data). name_at (codes "user") x ≡ Some m.0) whole m.1) in
+    subst (Is d) m.2 (record { value = whole ∙ rw (e, u.0) refl; fits = u.1 })
+
+add_role_is : (d : Data) (r : Request) → HasCommand (codes "addrole") d → add_role_of d ≡ Some r → Is d r
+unfolding add_role_of name_at text_at
+add_role_is d r named h =
+    let p = guard (has_keys d (codes "cmd" ∷ codes "role" ∷ [])) _ r h in
+    let o = object_with d _ p.0 in
+    let k = two_members o.0 (codes "cmd") (codes "role") o.2 in
+    let whole : d ≡ object (member (codes "cmd") k.0 (member (codes "role") k.1 no_members)) = o.1 ∙ ap object k.2 in
+    let e : k.0 ≡ string (codes "addrole") = as_str_is k.0 _ (subst (HasCommand (codes "addrole")) whole named) in
+    let m = mapped request.AddRole _ r p.1 in
+    let u = tested is_name k.1 m.0 (subst (λ (x : Data). name_at (codes "role") x ≡ Some m.0) whole m.1) in
+    subst (Is d) m.2 (record { value = whole ∙ rw (e, u.0) refl; fits = u.1 })
+
+assign_is : (d : Data) (r : Request) → HasCommand (codes "assign") d → assign_of d ≡ Some r → Is d r
+unfolding assign_of name_at text_at
+assign_is d r named h =
+    let p = guard (has_keys d (codes "cmd" ∷ codes "role" ∷ codes "user" ∷ [])) _ r h in
+    let o = object_with d _ p.0 in
+    let k = three_members o.0 (codes "cmd") (codes "role") (codes "user") o.2 in
+    let whole : d ≡ object (member (codes "cmd") k.0 (member (codes "role") k.1 (member (codes "user") k.2 no_members))) = o.1 ∙ ap object k.3 in
+    let e : k.0 ≡ string (codes "assign") = as_str_is k.0 _ (subst (HasCommand (codes "assign")) whole named) in
+    let a = chained (λ (role : List ℕ). option_map (request.Assign role) (name_at (codes "user") d)) _ r p.1 in
+    let m = mapped (request.Assign a.0) _ r a.2 in
+    let u = tested is_name k.1 a.0 (subst (λ (x : Data). name_at (codes "role") x ≡ Some a.0) whole a.1) in
+    let v = tested is_name k.2 m.0 (subst (λ (x : Data). name_at (codes "user") x ≡ Some m.0) whole m.1) in
+    subst (Is d) m.2 (record { value = whole ∙ rw (e, u.0, v.0) refl; fits = (u.1, v.1) })
+
+deassign_is : (d : Data) (r : Request) → HasCommand (codes "deassign") d → deassign_of d ≡ Some r → Is d r
+unfolding deassign_of name_at text_at
+deassign_is d r named h =
+    let p = guard (has_keys d (codes "cmd" ∷ codes "role" ∷ codes "user" ∷ [])) _ r h in
+    let o = object_with d _ p.0 in
+    let k = three_members o.0 (codes "cmd") (codes "role") (codes "user") o.2 in
+    let whole : d ≡ object (member (codes "cmd") k.0 (member (codes "role") k.1 (member (codes "user") k.2 no_members))) = o.1 ∙ ap object k.3 in
+    let e : k.0 ≡ string (codes "deassign") = as_str_is k.0 _ (subst (HasCommand (codes "deassign")) whole named) in
+    let a = chained (λ (role : List ℕ). option_map (request.Deassign role) (name_at (codes "user") d)) _ r p.1 in
+    let m = mapped (request.Deassign a.0) _ r a.2 in
+    let u = tested is_name k.1 a.0 (subst (λ (x : Data). name_at (codes "role") x ≡ Some a.0) whole a.1) in
+    let v = tested is_name k.2 m.0 (subst (λ (x : Data). name_at (codes "user") x ≡ Some m.0) whole m.1) in
+    subst (Is d) m.2 (record { value = whole ∙ rw (e, u.0, v.0) refl; fits = (u.1, v.1) })
+
+revoke_is : (d : Data) (r : Request) → HasCommand (codes "revoke") d → revoke_of d ≡ Some r → Is d r
+unfolding revoke_of object_at operation_at name_at text_at
+revoke_is d r named h =
+    let p = guard (has_keys d (codes "cmd" ∷ codes "object" ∷ codes "op" ∷ codes "role" ∷ [])) _ r h in
+    let o = object_with d _ p.0 in
+    let k = four_members o.0 (codes "cmd") (codes "object") (codes "op") (codes "role") o.2 in
+    let whole : d ≡ object (member (codes "cmd") k.0 (member (codes "object") k.1 (member (codes "op") k.2 (member (codes "role") k.3 no_members)))) = o.1 ∙ ap object k.4 in
+    let e : k.0 ≡ string (codes "revoke") = as_str_is k.0 _ (subst (HasCommand (codes "revoke")) whole named) in
+    let a = chained (λ (on : Object). option_and_then (λ (operation : Operation). option_map (request.Revoke on operation) (name_at (codes "role") d)) (operation_at (codes "op") d)) _ r p.1 in
+    let b = chained (λ (operation : Operation). option_map (request.Revoke a.0 operation) (name_at (codes "role") d)) _ r a.2 in
+    let m = mapped (request.Revoke a.0 b.0) _ r b.2 in
+    let u = object_is k.1 a.0 (subst (λ (x : Data). object_at (codes "object") x ≡ Some a.0) whole a.1) in
+    let v = operation_is k.2 b.0 (subst (λ (x : Data). operation_at (codes "op") x ≡ Some b.0) whole b.1) in
+    let w = tested is_name k.3 m.0 (subst (λ (x : Data). name_at (codes "role") x ≡ Some m.0) whole m.1) in
+    subst (Is d) m.2 (record { value = whole ∙ rw (e, u.0, v, w.0) refl; fits = (u.1, w.1) })
+
+disinherit_is : (d : Data) (r : Request) → HasCommand (codes "disinherit") d → disinherit_of d ≡ Some r → Is d r
+unfolding disinherit_of name_at text_at
+disinherit_is d r named h =
+    let p = guard (has_keys d (codes "cmd" ∷ codes "junior" ∷ codes "senior" ∷ [])) _ r h in
+    let o = object_with d _ p.0 in
+    let k = three_members o.0 (codes "cmd") (codes "junior") (codes "senior") o.2 in
+    let whole : d ≡ object (member (codes "cmd") k.0 (member (codes "junior") k.1 (member (codes "senior") k.2 no_members))) = o.1 ∙ ap object k.3 in
+    let e : k.0 ≡ string (codes "disinherit") = as_str_is k.0 _ (subst (HasCommand (codes "disinherit")) whole named) in
+    let a = chained (λ (junior : List ℕ). option_map (request.Disinherit junior) (name_at (codes "senior") d)) _ r p.1 in
+    let m = mapped (request.Disinherit a.0) _ r a.2 in
+    let u = tested is_name k.1 a.0 (subst (λ (x : Data). name_at (codes "junior") x ≡ Some a.0) whole a.1) in
+    let v = tested is_name k.2 m.0 (subst (λ (x : Data). name_at (codes "senior") x ≡ Some m.0) whole m.1) in
+    subst (Is d) m.2 (record { value = whole ∙ rw (e, u.0, v.0) refl; fits = (u.1, v.1) })
+
+drop_role_is : (d : Data) (r : Request) → HasCommand (codes "drop") d → drop_role_of d ≡ Some r → Is d r
+unfolding drop_role_of name_at text_at
+drop_role_is d r named h =
+    let p = guard (has_keys d (codes "cmd" ∷ codes "role" ∷ [])) _ r h in
+    let o = object_with d _ p.0 in
+    let k = two_members o.0 (codes "cmd") (codes "role") o.2 in
+    let whole : d ≡ object (member (codes "cmd") k.0 (member (codes "role") k.1 no_members)) = o.1 ∙ ap object k.2 in
+    let e : k.0 ≡ string (codes "drop") = as_str_is k.0 _ (subst (HasCommand (codes "drop")) whole named) in
+    let m = mapped request.Drop _ r p.1 in
+    let u = tested is_name k.1 m.0 (subst (λ (x : Data). name_at (codes "role") x ≡ Some m.0) whole m.1) in
+    subst (Is d) m.2 (record { value = whole ∙ rw (e, u.0) refl; fits = u.1 })
+
 items_back : (is : Items) → items_of (list_of is) ≡ is
 items_back no_items = refl
 items_back (item d ds) = ap (item d) (items_back ds)
@@ -264,7 +370,7 @@ texts_are_names [] h = refl
 texts_are_names (n ∷ ns) h = rw (h.0, texts_are_names ns h.1) refl
 
 pub from_request : (r : Request) → Fits r → request_of (object (members_of r)) ≡ Some r
-unfolding request_of command_of login_of logout_of grant_of load_of offer_of step_of look_of has_keys text_at name_at identifier_at operation_at object_at number_at roles_at roles_from
+unfolding request_of command_of login_of logout_of grant_of add_user_of delete_user_of add_role_of assign_of deassign_of revoke_of disinherit_of drop_role_of load_of offer_of step_of look_of has_keys text_at name_at identifier_at operation_at object_at number_at roles_at roles_from
 from_request request.Logout f = refl
 from_request (request.Step slot) f = refl
 from_request (request.Look instant slot) f = refl
@@ -272,6 +378,15 @@ from_request (request.Offer signal slot) f = rw f refl
 from_request (request.Load main slot text) f = rw f refl
 from_request (request.Grant on operation role) f =
     rw ((object_of-exact (object_text on) on).1 (f.0, refl), (operation_of-exact (operation_text operation) operation).1 refl, f.1) refl
+from_request (request.AddUser user) f = rw f refl
+from_request (request.DeleteUser user) f = rw f refl
+from_request (request.AddRole role) f = rw f refl
+from_request (request.Assign role user) f = rw (f.0, f.1) refl
+from_request (request.Deassign role user) f = rw (f.0, f.1) refl
+from_request (request.Revoke on operation role) f =
+    rw ((object_of-exact (object_text on) on).1 (f.0, refl), (operation_of-exact (operation_text operation) operation).1 refl, f.1) refl
+from_request (request.Disinherit junior senior) f = rw (f.0, f.1) refl
+from_request (request.Drop role) f = rw f refl
 from_request (request.Login roles user) f =
     let short : nat_le (length (map string roles)) LISTED_ROLES ≡ true = rw (length-map roles string) (le-leb _ _ f.0) in
     rw (list_back (map string roles), short, texts_are_names roles f.1, f.2) refl
@@ -282,6 +397,14 @@ abbrev command_text : Command → List ℕ
 command_text command.Login = codes "login"
 command_text command.Logout = codes "logout"
 command_text command.Grant = codes "grant"
+command_text command.AddUser = codes "adduser"
+command_text command.DeleteUser = codes "deluser"
+command_text command.AddRole = codes "addrole"
+command_text command.Assign = codes "assign"
+command_text command.Deassign = codes "deassign"
+command_text command.Revoke = codes "revoke"
+command_text command.Disinherit = codes "disinherit"
+command_text command.Drop = codes "drop"
 command_text command.Load = codes "load"
 command_text command.Offer = codes "offer"
 command_text command.Step = codes "step"
@@ -298,13 +421,20 @@ pick s one others c h later =
 command_is : (s : List ℕ) (c : Command) → command_of s ≡ Some c → s ≡ command_text c
 unfolding command_of
 command_is s c h =
-    pick s command.Login _ c h (λ h. pick s command.Logout _ c h (λ h. pick s command.Grant _ c h (λ h. pick s command.Load _ c h (λ h.
-    pick s command.Offer _ c h (λ h. pick s command.Step _ c h (λ h. pick s command.Look _ c h (λ h. cc)))))))
+    pick s command.Login _ c h (λ h. pick s command.Logout _ c h (λ h. pick s command.Grant _ c h (λ h. pick s command.AddUser _ c h (λ h. pick s command.DeleteUser _ c h (λ h. pick s command.AddRole _ c h (λ h. pick s command.Assign _ c h (λ h. pick s command.Deassign _ c h (λ h. pick s command.Revoke _ c h (λ h. pick s command.Disinherit _ c h (λ h. pick s command.Drop _ c h (λ h. pick s command.Load _ c h (λ h. pick s command.Offer _ c h (λ h. pick s command.Step _ c h (λ h. pick s command.Look _ c h (λ h. cc)))))))))))))))
 
 fields_are : (c : Command) (d : Data) (r : Request) → HasCommand (command_text c) d → fields_of c d ≡ Some r → Is d r
 fields_are command.Login d r named h = login_is d r named h
 fields_are command.Logout d r named h = logout_is d r named h
 fields_are command.Grant d r named h = grant_is d r named h
+fields_are command.AddUser d r named h = add_user_is d r named h
+fields_are command.DeleteUser d r named h = delete_user_is d r named h
+fields_are command.AddRole d r named h = add_role_is d r named h
+fields_are command.Assign d r named h = assign_is d r named h
+fields_are command.Deassign d r named h = deassign_is d r named h
+fields_are command.Revoke d r named h = revoke_is d r named h
+fields_are command.Disinherit d r named h = disinherit_is d r named h
+fields_are command.Drop d r named h = drop_role_is d r named h
 fields_are command.Load d r named h = load_is d r named h
 fields_are command.Offer d r named h = offer_is d r named h
 fields_are command.Step d r named h = step_is d r named h

@@ -11,7 +11,7 @@ use Rattle.rbac_policy.specs.Texts.{operation_text, object_text, IsObject}
 use Rattle.access_core.specs.declared.refusal.Refusal.{Refusal}
 use Rattle.access_core.specs.declared.refusal.Refusal.TheVariants as refusal
 use Rattle.wire_lines.specs.declared.request.Request.{Request}
-use Rattle.wire_lines.specs.declared.request.Request.TheVariants.{Login, Logout, Grant, Load, Offer, Step, Look}
+use Rattle.wire_lines.specs.declared.request.Request.TheVariants.{Login, Logout, Grant, AddUser, DeleteUser, AddRole, Assign, Deassign, Revoke, Disinherit, Drop, Load, Offer, Step, Look}
 
 -- a member whose value is a text
 abbrev pub text_member : List ℕ → List ℕ → Members → Members
@@ -32,6 +32,22 @@ members_of Logout = text_member (codes "cmd") (codes "logout") no_members
 members_of (Grant on operation role) =
     text_member (codes "cmd") (codes "grant")
     (text_member (codes "object") (object_text on) (text_member (codes "op") (operation_text operation) (text_member (codes "role") role no_members)))
+members_of (AddUser user) =
+    text_member (codes "cmd") (codes "adduser") (text_member (codes "user") user no_members)
+members_of (DeleteUser user) =
+    text_member (codes "cmd") (codes "deluser") (text_member (codes "user") user no_members)
+members_of (AddRole role) =
+    text_member (codes "cmd") (codes "addrole") (text_member (codes "role") role no_members)
+members_of (Assign role user) =
+    text_member (codes "cmd") (codes "assign") (text_member (codes "role") role (text_member (codes "user") user no_members))
+members_of (Deassign role user) =
+    text_member (codes "cmd") (codes "deassign") (text_member (codes "role") role (text_member (codes "user") user no_members))
+members_of (Revoke on operation role) =
+    text_member (codes "cmd") (codes "revoke") (text_member (codes "object") (object_text on) (text_member (codes "op") (operation_text operation) (text_member (codes "role") role no_members)))
+members_of (Disinherit junior senior) =
+    text_member (codes "cmd") (codes "disinherit") (text_member (codes "junior") junior (text_member (codes "senior") senior no_members))
+members_of (Drop role) =
+    text_member (codes "cmd") (codes "drop") (text_member (codes "role") role no_members)
 members_of (Load main slot text) =
     text_member (codes "cmd") (codes "load") (text_member (codes "main") main (number_member (codes "slot") slot (text_member (codes "text") text no_members)))
 members_of (Offer signal slot) = text_member (codes "cmd") (codes "offer") (text_member (codes "signal") signal (number_member (codes "slot") slot no_members))
@@ -43,6 +59,14 @@ abbrev pub Fits : Request → Type 0
 Fits (Login roles user) = (length roles ≤ LISTED_ROLES) × AllByRecursion (λ role. IsTrue (is_name role)) roles × IsTrue (is_name user)
 Fits Logout = Unit {0}
 Fits (Grant on operation role) = IsObject on × IsTrue (is_name role)
+Fits (AddUser user) = IsTrue (is_name user)
+Fits (DeleteUser user) = IsTrue (is_name user)
+Fits (AddRole role) = IsTrue (is_name role)
+Fits (Assign role user) = IsTrue (is_name role) × IsTrue (is_name user)
+Fits (Deassign role user) = IsTrue (is_name role) × IsTrue (is_name user)
+Fits (Revoke on operation role) = IsObject on × IsTrue (is_name role)
+Fits (Disinherit junior senior) = IsTrue (is_name junior) × IsTrue (is_name senior)
+Fits (Drop role) = IsTrue (is_name role)
 Fits (Load main slot text) = IsTrue (is_identifier main)
 Fits (Offer signal slot) = IsTrue (is_identifier signal)
 Fits (Step slot) = Unit {0}

@@ -3,7 +3,7 @@ ghost use Rattle.std.specs.Prelude.{◌≡◌, ◌≤◌, length, map, option_ma
 ghost use Rattle.serde_json.specs.Data.{object};
 ghost use Rattle.serde_json.specs.View.{view};
 ghost use Rattle.wire_lines.specs.Requests.{IsReadAs, IsRequest, Fits, members_of};
-ghost use Rattle.wire_lines.specs.Inner.Reading.{text_at, name_at, identifier_at, operation_at, object_at, number_at, has_keys, names_are, command_of, login_of, logout_of, grant_of, load_of, offer_of, step_of, look_of, names_from, roles_from, roles_at, request_of};
+ghost use Rattle.wire_lines.specs.Inner.Reading.{text_at, name_at, identifier_at, operation_at, object_at, number_at, has_keys, names_are, command_of, login_of, logout_of, grant_of, add_user_of, delete_user_of, add_role_of, assign_of, deassign_of, revoke_of, disinherit_of, drop_role_of, load_of, offer_of, step_of, look_of, names_from, roles_from, roles_at, request_of};
 ghost use Rattle.wire_lines.specs.declared.request.Request.{Request};
 
 use crate::request::{Command, Request};
@@ -138,6 +138,14 @@ fn command_of(word: &str) -> Option<Command>
         "login" => Some(Command::Login),
         "logout" => Some(Command::Logout),
         "grant" => Some(Command::Grant),
+        "adduser" => Some(Command::AddUser),
+        "deluser" => Some(Command::DeleteUser),
+        "addrole" => Some(Command::AddRole),
+        "assign" => Some(Command::Assign),
+        "deassign" => Some(Command::Deassign),
+        "revoke" => Some(Command::Revoke),
+        "disinherit" => Some(Command::Disinherit),
+        "drop" => Some(Command::Drop),
         "load" => Some(Command::Load),
         "offer" => Some(Command::Offer),
         "step" => Some(Command::Step),
@@ -188,6 +196,103 @@ fn grant_of(value: &Value) -> Option<Request>
         operation,
         role,
     })
+}
+
+#[tactic(auto, unfolding(crate::specs::Inner::Reading::add_user_of))]
+fn add_user_of(value: &Value) -> Option<Request>
+    ensures { result ≡ add_user_of (view value.now) }
+{
+    if !has_keys(value, &["cmd", "user"]) {
+        return None;
+    }
+    let user = name_at(value, "user")?;
+    Some(Request::AddUser { user })
+}
+
+#[tactic(auto, unfolding(crate::specs::Inner::Reading::delete_user_of))]
+fn delete_user_of(value: &Value) -> Option<Request>
+    ensures { result ≡ delete_user_of (view value.now) }
+{
+    if !has_keys(value, &["cmd", "user"]) {
+        return None;
+    }
+    let user = name_at(value, "user")?;
+    Some(Request::DeleteUser { user })
+}
+
+#[tactic(auto, unfolding(crate::specs::Inner::Reading::add_role_of))]
+fn add_role_of(value: &Value) -> Option<Request>
+    ensures { result ≡ add_role_of (view value.now) }
+{
+    if !has_keys(value, &["cmd", "role"]) {
+        return None;
+    }
+    let role = name_at(value, "role")?;
+    Some(Request::AddRole { role })
+}
+
+#[tactic(auto, unfolding(crate::specs::Inner::Reading::assign_of))]
+fn assign_of(value: &Value) -> Option<Request>
+    ensures { result ≡ assign_of (view value.now) }
+{
+    if !has_keys(value, &["cmd", "role", "user"]) {
+        return None;
+    }
+    let role = name_at(value, "role")?;
+    let user = name_at(value, "user")?;
+    Some(Request::Assign { role, user })
+}
+
+#[tactic(auto, unfolding(crate::specs::Inner::Reading::deassign_of))]
+fn deassign_of(value: &Value) -> Option<Request>
+    ensures { result ≡ deassign_of (view value.now) }
+{
+    if !has_keys(value, &["cmd", "role", "user"]) {
+        return None;
+    }
+    let role = name_at(value, "role")?;
+    let user = name_at(value, "user")?;
+    Some(Request::Deassign { role, user })
+}
+
+#[tactic(auto, unfolding(crate::specs::Inner::Reading::revoke_of))]
+fn revoke_of(value: &Value) -> Option<Request>
+    ensures { result ≡ revoke_of (view value.now) }
+{
+    if !has_keys(value, &["cmd", "object", "op", "role"]) {
+        return None;
+    }
+    let object = object_at(value, "object")?;
+    let operation = operation_at(value, "op")?;
+    let role = name_at(value, "role")?;
+    Some(Request::Revoke {
+        object,
+        operation,
+        role,
+    })
+}
+
+#[tactic(auto, unfolding(crate::specs::Inner::Reading::disinherit_of))]
+fn disinherit_of(value: &Value) -> Option<Request>
+    ensures { result ≡ disinherit_of (view value.now) }
+{
+    if !has_keys(value, &["cmd", "junior", "senior"]) {
+        return None;
+    }
+    let junior = name_at(value, "junior")?;
+    let senior = name_at(value, "senior")?;
+    Some(Request::Disinherit { junior, senior })
+}
+
+#[tactic(auto, unfolding(crate::specs::Inner::Reading::drop_role_of))]
+fn drop_role_of(value: &Value) -> Option<Request>
+    ensures { result ≡ drop_role_of (view value.now) }
+{
+    if !has_keys(value, &["cmd", "role"]) {
+        return None;
+    }
+    let role = name_at(value, "role")?;
+    Some(Request::Drop { role })
 }
 
 #[tactic(auto, unfolding(crate::specs::Inner::Reading::load_of))]
@@ -257,6 +362,14 @@ fn request_of(alloc: Global, value: &Value) -> Result<Option<Request>, AllocErro
         Command::Login => login_of(alloc, value),
         Command::Logout => Ok(logout_of(value)),
         Command::Grant => Ok(grant_of(value)),
+        Command::AddUser => Ok(add_user_of(value)),
+        Command::DeleteUser => Ok(delete_user_of(value)),
+        Command::AddRole => Ok(add_role_of(value)),
+        Command::Assign => Ok(assign_of(value)),
+        Command::Deassign => Ok(deassign_of(value)),
+        Command::Revoke => Ok(revoke_of(value)),
+        Command::Disinherit => Ok(disinherit_of(value)),
+        Command::Drop => Ok(drop_role_of(value)),
         Command::Load => load_of(alloc, value),
         Command::Offer => Ok(offer_of(value)),
         Command::Step => Ok(step_of(value)),

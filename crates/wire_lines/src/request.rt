@@ -20,6 +20,43 @@ pub enum Request {
         operation: Operation,
         role: Name,
     },
+    /// A new user.
+    AddUser {
+        user: Name,
+    },
+    /// The user's end, with its assignments and sessions.
+    DeleteUser {
+        user: Name,
+    },
+    /// A new role.
+    AddRole {
+        role: Name,
+    },
+    /// The role, for the user.
+    Assign {
+        role: Name,
+        user: Name,
+    },
+    /// The role, taken from the user.
+    Deassign {
+        role: Name,
+        user: Name,
+    },
+    /// That permission, taken from the role.
+    Revoke {
+        object: Object,
+        operation: Operation,
+        role: Name,
+    },
+    /// The edge from the senior to the junior, taken away.
+    Disinherit {
+        junior: Name,
+        senior: Name,
+    },
+    /// The role, no more active in the connection's session.
+    Drop {
+        role: Name,
+    },
     /// The module `main` of the text, for the slot.
     Load {
         main: Identifier,
@@ -48,6 +85,14 @@ pub enum Command {
     Login,
     Logout,
     Grant,
+    AddUser,
+    DeleteUser,
+    AddRole,
+    Assign,
+    Deassign,
+    Revoke,
+    Disinherit,
+    Drop,
     Load,
     Offer,
     Step,

@@ -95,11 +95,19 @@ command_of s =
     if bytes_eq s (codes "login") then Some command.Login
     else (if bytes_eq s (codes "logout") then Some command.Logout
     else (if bytes_eq s (codes "grant") then Some command.Grant
+    else (if bytes_eq s (codes "adduser") then Some command.AddUser
+    else (if bytes_eq s (codes "deluser") then Some command.DeleteUser
+    else (if bytes_eq s (codes "addrole") then Some command.AddRole
+    else (if bytes_eq s (codes "assign") then Some command.Assign
+    else (if bytes_eq s (codes "deassign") then Some command.Deassign
+    else (if bytes_eq s (codes "revoke") then Some command.Revoke
+    else (if bytes_eq s (codes "disinherit") then Some command.Disinherit
+    else (if bytes_eq s (codes "drop") then Some command.Drop
     else (if bytes_eq s (codes "load") then Some command.Load
     else (if bytes_eq s (codes "offer") then Some command.Offer
     else (if bytes_eq s (codes "step") then Some command.Step
     else (if bytes_eq s (codes "look") then Some command.Look
-    else None))))))
+    else None))))))))))))))
 
 -- the value as a login
 unfoldable pub login_of : Data → Option Request
@@ -117,6 +125,54 @@ grant_of d =
     if has_keys d (codes "cmd" ∷ codes "object" ∷ codes "op" ∷ codes "role" ∷ [])
     then option_and_then (λ object. option_and_then (λ operation. option_map (request.Grant object operation) (name_at (codes "role") d)) (operation_at (codes "op") d)) (object_at (codes "object") d)
     else None
+
+-- the value as the command `adduser`
+unfoldable pub add_user_of : Data → Option Request
+add_user_of d =
+    if has_keys d (codes "cmd" ∷ codes "user" ∷ [])
+    then option_map request.AddUser (name_at (codes "user") d) else None
+
+-- the value as the command `deluser`
+unfoldable pub delete_user_of : Data → Option Request
+delete_user_of d =
+    if has_keys d (codes "cmd" ∷ codes "user" ∷ [])
+    then option_map request.DeleteUser (name_at (codes "user") d) else None
+
+-- the value as the command `addrole`
+unfoldable pub add_role_of : Data → Option Request
+add_role_of d =
+    if has_keys d (codes "cmd" ∷ codes "role" ∷ [])
+    then option_map request.AddRole (name_at (codes "role") d) else None
+
+-- the value as the command `assign`
+unfoldable pub assign_of : Data → Option Request
+assign_of d =
+    if has_keys d (codes "cmd" ∷ codes "role" ∷ codes "user" ∷ [])
+    then option_and_then (λ role. option_map (request.Assign role) (name_at (codes "user") d)) (name_at (codes "role") d) else None
+
+-- the value as the command `deassign`
+unfoldable pub deassign_of : Data → Option Request
+deassign_of d =
+    if has_keys d (codes "cmd" ∷ codes "role" ∷ codes "user" ∷ [])
+    then option_and_then (λ role. option_map (request.Deassign role) (name_at (codes "user") d)) (name_at (codes "role") d) else None
+
+-- the value as the command `revoke`
+unfoldable pub revoke_of : Data → Option Request
+revoke_of d =
+    if has_keys d (codes "cmd" ∷ codes "object" ∷ codes "op" ∷ codes "role" ∷ [])
+    then option_and_then (λ object. option_and_then (λ operation. option_map (request.Revoke object operation) (name_at (codes "role") d)) (operation_at (codes "op") d)) (object_at (codes "object") d) else None
+
+-- the value as the command `disinherit`
+unfoldable pub disinherit_of : Data → Option Request
+disinherit_of d =
+    if has_keys d (codes "cmd" ∷ codes "junior" ∷ codes "senior" ∷ [])
+    then option_and_then (λ junior. option_map (request.Disinherit junior) (name_at (codes "senior") d)) (name_at (codes "junior") d) else None
+
+-- the value as the command `drop`
+unfoldable pub drop_role_of : Data → Option Request
+drop_role_of d =
+    if has_keys d (codes "cmd" ∷ codes "role" ∷ [])
+    then option_map request.Drop (name_at (codes "role") d) else None
 
 -- the value as a load
 unfoldable pub load_of : Data → Option Request
@@ -146,6 +202,14 @@ abbrev pub fields_of : Command → Data → Option Request
 fields_of command.Login d = login_of d
 fields_of command.Logout d = logout_of d
 fields_of command.Grant d = grant_of d
+fields_of command.AddUser d = add_user_of d
+fields_of command.DeleteUser d = delete_user_of d
+fields_of command.AddRole d = add_role_of d
+fields_of command.Assign d = assign_of d
+fields_of command.Deassign d = deassign_of d
+fields_of command.Revoke d = revoke_of d
+fields_of command.Disinherit d = disinherit_of d
+fields_of command.Drop d = drop_role_of d
 fields_of command.Load d = load_of d
 fields_of command.Offer d = offer_of d
 fields_of command.Step d = step_of d
