@@ -1,6 +1,6 @@
 -- One line of a connection: what it is answered, and the desk and the connection's login afterwards (this project's own form).
 use Rattle.std.specs.Prelude.{◌≡◌, ℕ, ◌<◌, ◌≤◌, ◌⊎◌, List, Option, Some, None, Err, length}
-use Rattle.rbac_policy.specs.declared.commands.AdminCommand.TheVariants.{CreateSession, DeleteSession, GrantPermission}
+use Rattle.rbac_policy.specs.declared.commands.AdminCommand.TheVariants.{AddUser, DeleteUser, AddRole, AssignUser, DeassignUser, GrantPermission, RevokePermission, DeleteInheritance, CreateSession, DeleteSession, DropActiveRole}
 use Rattle.access_core.specs.declared.command.SlotCommand.TheVariants as slot
 use Rattle.access_core.specs.declared.refusal.Refusal.{Refusal}
 use Rattle.access_core.specs.declared.refusal.Refusal.TheVariants.{TooLong, NoSession, AlreadyLoggedIn}
@@ -11,7 +11,8 @@ use Rattle.access_core.specs.Desk.{DeskState, AdminStep, DeskStep}
 use Rattle.access_core.specs.Needs.{IsAccepted}
 use Rattle.line_reader.specs.declared.lines.TheConstants.{LINE_BYTES}
 use Rattle.wire_lines.specs.declared.request.Request.{Request}
-use Rattle.wire_lines.specs.declared.request.Request.TheVariants.{Login, Logout, Grant, Load, Offer, Step, Look}
+use Rattle.wire_lines.specs.declared.request.Request.TheVariants as wire
+use Rattle.wire_lines.specs.declared.request.Request.TheVariants.{Login, Logout, Load, Offer, Step, Look}
 use Rattle.wire_lines.specs.Requests.{IsReadAs, IsRequest}
 use Rattle.wire_lines.specs.Replies.{line_of}
 
@@ -29,7 +30,18 @@ Held (Some session) asked = asked session
 abbrev pub Asks : Request → (login : Option ℕ) → (before : DeskState) → Reply → (after : DeskState) → Type 0
 Asks (Login roles user) login = Unheld login (AdminStep None (CreateSession user roles))
 Asks Logout login = Held login (λ session. AdminStep (Some session) DeleteSession)
-Asks (Grant object operation role) login = Held login (λ session. AdminStep (Some session) (GrantPermission role operation object))
+Asks (wire.AddUser user) login = Held login (λ session. AdminStep (Some session) (AddUser user))
+Asks (wire.DeleteUser user) login = Held login (λ session. AdminStep (Some session) (DeleteUser user))
+Asks (wire.AddRole role) login = Held login (λ session. AdminStep (Some session) (AddRole role))
+Asks (wire.Assign role user) login = Held login (λ session. AdminStep (Some session) (AssignUser user role))
+Asks (wire.Deassign role user) login = Held login (λ session. AdminStep (Some session) (DeassignUser user role))
+Asks (wire.Grant object operation role) login =
+    Held login (λ session. AdminStep (Some session) (GrantPermission role operation object))
+Asks (wire.Revoke object operation role) login =
+    Held login (λ session. AdminStep (Some session) (RevokePermission role operation object))
+Asks (wire.Disinherit junior senior) login =
+    Held login (λ session. AdminStep (Some session) (DeleteInheritance senior junior))
+Asks (wire.Drop role) login = Held login (λ session. AdminStep (Some session) (DropActiveRole role))
 Asks (Load main number text) login = Held login (λ session. DeskStep number session (slot.Load main text))
 Asks (Offer signal number) login = Held login (λ session. DeskStep number session (slot.Offer signal))
 Asks (Step number) login = Held login (λ session. DeskStep number session slot.Step)

@@ -106,6 +106,15 @@ fn ask(desk: &mut Single, held: &Option<SessionId>, request: Request) -> Turn
             let login = hold_after_logout(&reply, held);
             return Turn { reply, login };
         }
+        Request::AddUser { user } => administer(desk, held, AdminCommand::AddUser { user }),
+        Request::DeleteUser { user } => administer(desk, held, AdminCommand::DeleteUser { user }),
+        Request::AddRole { role } => administer(desk, held, AdminCommand::AddRole { role }),
+        Request::Assign { role, user } => {
+            administer(desk, held, AdminCommand::AssignUser { user, role })
+        }
+        Request::Deassign { role, user } => {
+            administer(desk, held, AdminCommand::DeassignUser { user, role })
+        }
         Request::Grant {
             object,
             operation,
@@ -118,6 +127,26 @@ fn ask(desk: &mut Single, held: &Option<SessionId>, request: Request) -> Turn
             };
             administer(desk, held, command)
         }
+        Request::Revoke {
+            object,
+            operation,
+            role,
+        } => {
+            let command = AdminCommand::RevokePermission {
+                role,
+                operation,
+                object,
+            };
+            administer(desk, held, command)
+        }
+        Request::Disinherit { junior, senior } => {
+            administer(
+                desk,
+                held,
+                AdminCommand::DeleteInheritance { senior, junior },
+            )
+        }
+        Request::Drop { role } => administer(desk, held, AdminCommand::DropActiveRole { role }),
         Request::Load { main, slot, text } => {
             command_slot(desk, held, slot, SlotCommand::Load { main, text })
         }
