@@ -1,7 +1,7 @@
 -- A line that is refused leaves the desk.
 use Rattle.std.proofs.Common.{◌≡◌, ℕ, List, sym, ◌∙◌, ap, subst, inl, inr}
 use Rattle.std.specs.Prelude.{◌⊎◌, Option, Some, None}
-use Rattle.rbac_policy.specs.declared.commands.AdminCommand.TheVariants.{CreateSession, DeleteSession, GrantPermission}
+use Rattle.rbac_policy.specs.declared.commands.AdminCommand.TheVariants.{AddUser, DeleteUser, AddRole, DeleteRole, AssignUser, DeassignUser, GrantPermission, RevokePermission, AddInheritance, DeleteInheritance, DeleteDsdSet, CreateSession, DeleteSession, DropActiveRole}
 use Rattle.access_core.specs.declared.command.SlotCommand.TheVariants as slot
 use Rattle.access_core.specs.declared.refusal.Refusal.{Refusal}
 use Rattle.access_core.specs.declared.reply.Reply.{Reply}
@@ -10,6 +10,7 @@ use Rattle.access_core.specs.Desk.{DeskState}
 use Rattle.access_core.specs.Needs.{IsAccepted}
 use Rattle.access_core.proofs.Unchanged.{admin_refused, slot_refused}
 use Rattle.wire_lines.specs.declared.request.Request.{Request}
+use Rattle.wire_lines.specs.declared.request.Request.TheVariants as wire
 use Rattle.wire_lines.specs.declared.request.Request.TheVariants.{Login, Logout, Grant, Load, Offer, Step, Look}
 use Rattle.client_loop.specs.LineSteps.{Asks, with_login, LineStep, TellsNothing}
 
@@ -21,6 +22,28 @@ asked_stays Logout None before refusal after h = h.stays
 asked_stays Logout (Some session) before refusal after h = admin_refused (Some session) DeleteSession before refusal after h
 asked_stays (Grant object operation role) None before refusal after h = h.stays
 asked_stays (Grant object operation role) (Some session) before refusal after h = admin_refused (Some session) (GrantPermission role operation object) before refusal after h
+asked_stays (wire.AddUser user) None before refusal after h = h.stays
+asked_stays (wire.AddUser user) (Some session) before refusal after h = admin_refused (Some session) (AddUser user) before refusal after h
+asked_stays (wire.DeleteUser user) None before refusal after h = h.stays
+asked_stays (wire.DeleteUser user) (Some session) before refusal after h = admin_refused (Some session) (DeleteUser user) before refusal after h
+asked_stays (wire.AddRole role) None before refusal after h = h.stays
+asked_stays (wire.AddRole role) (Some session) before refusal after h = admin_refused (Some session) (AddRole role) before refusal after h
+asked_stays (wire.DeleteRole role) None before refusal after h = h.stays
+asked_stays (wire.DeleteRole role) (Some session) before refusal after h = admin_refused (Some session) (DeleteRole role) before refusal after h
+asked_stays (wire.Assign role user) None before refusal after h = h.stays
+asked_stays (wire.Assign role user) (Some session) before refusal after h = admin_refused (Some session) (AssignUser user role) before refusal after h
+asked_stays (wire.Deassign role user) None before refusal after h = h.stays
+asked_stays (wire.Deassign role user) (Some session) before refusal after h = admin_refused (Some session) (DeassignUser user role) before refusal after h
+asked_stays (wire.Revoke object operation role) None before refusal after h = h.stays
+asked_stays (wire.Revoke object operation role) (Some session) before refusal after h = admin_refused (Some session) (RevokePermission role operation object) before refusal after h
+asked_stays (wire.Inherit junior senior) None before refusal after h = h.stays
+asked_stays (wire.Inherit junior senior) (Some session) before refusal after h = admin_refused (Some session) (AddInheritance senior junior) before refusal after h
+asked_stays (wire.Disinherit junior senior) None before refusal after h = h.stays
+asked_stays (wire.Disinherit junior senior) (Some session) before refusal after h = admin_refused (Some session) (DeleteInheritance senior junior) before refusal after h
+asked_stays (wire.DeleteSet name) None before refusal after h = h.stays
+asked_stays (wire.DeleteSet name) (Some session) before refusal after h = admin_refused (Some session) (DeleteDsdSet name) before refusal after h
+asked_stays (wire.Drop role) None before refusal after h = h.stays
+asked_stays (wire.Drop role) (Some session) before refusal after h = admin_refused (Some session) (DropActiveRole role) before refusal after h
 asked_stays (Load main number text) None before refusal after h = h.stays
 asked_stays (Load main number text) (Some session) before refusal after h = slot_refused number session (slot.Load main text) before refusal after h
 asked_stays (Offer signal number) None before refusal after h = h.stays

@@ -1,6 +1,6 @@
 -- One line of a connection: what it is answered, and the desk and the connection's login afterwards (this project's own form).
 use Rattle.std.specs.Prelude.{◌≡◌, ℕ, ◌<◌, ◌≤◌, ◌⊎◌, List, Option, Some, None, Err, length}
-use Rattle.rbac_policy.specs.declared.commands.AdminCommand.TheVariants.{AddUser, DeleteUser, AddRole, AssignUser, DeassignUser, GrantPermission, RevokePermission, DeleteInheritance, CreateSession, DeleteSession, DropActiveRole}
+use Rattle.rbac_policy.specs.declared.commands.AdminCommand.TheVariants.{AddUser, DeleteUser, AddRole, DeleteRole, AssignUser, DeassignUser, GrantPermission, RevokePermission, AddInheritance, DeleteInheritance, DeleteDsdSet, CreateSession, DeleteSession, DropActiveRole}
 use Rattle.access_core.specs.declared.command.SlotCommand.TheVariants as slot
 use Rattle.access_core.specs.declared.refusal.Refusal.{Refusal}
 use Rattle.access_core.specs.declared.refusal.Refusal.TheVariants.{TooLong, NoSession, AlreadyLoggedIn}
@@ -33,14 +33,18 @@ Asks Logout login = Held login (λ session. AdminStep (Some session) DeleteSessi
 Asks (wire.AddUser user) login = Held login (λ session. AdminStep (Some session) (AddUser user))
 Asks (wire.DeleteUser user) login = Held login (λ session. AdminStep (Some session) (DeleteUser user))
 Asks (wire.AddRole role) login = Held login (λ session. AdminStep (Some session) (AddRole role))
+Asks (wire.DeleteRole role) login = Held login (λ session. AdminStep (Some session) (DeleteRole role))
 Asks (wire.Assign role user) login = Held login (λ session. AdminStep (Some session) (AssignUser user role))
 Asks (wire.Deassign role user) login = Held login (λ session. AdminStep (Some session) (DeassignUser user role))
 Asks (wire.Grant object operation role) login =
     Held login (λ session. AdminStep (Some session) (GrantPermission role operation object))
 Asks (wire.Revoke object operation role) login =
     Held login (λ session. AdminStep (Some session) (RevokePermission role operation object))
+Asks (wire.Inherit junior senior) login =
+    Held login (λ session. AdminStep (Some session) (AddInheritance senior junior))
 Asks (wire.Disinherit junior senior) login =
     Held login (λ session. AdminStep (Some session) (DeleteInheritance senior junior))
+Asks (wire.DeleteSet name) login = Held login (λ session. AdminStep (Some session) (DeleteDsdSet name))
 Asks (wire.Drop role) login = Held login (λ session. AdminStep (Some session) (DropActiveRole role))
 Asks (Load main number text) login = Held login (λ session. DeskStep number session (slot.Load main text))
 Asks (Offer signal number) login = Held login (λ session. DeskStep number session (slot.Offer signal))

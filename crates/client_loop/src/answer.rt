@@ -109,6 +109,7 @@ fn ask(desk: &mut Single, held: &Option<SessionId>, request: Request) -> Turn
         Request::AddUser { user } => administer(desk, held, AdminCommand::AddUser { user }),
         Request::DeleteUser { user } => administer(desk, held, AdminCommand::DeleteUser { user }),
         Request::AddRole { role } => administer(desk, held, AdminCommand::AddRole { role }),
+        Request::DeleteRole { role } => administer(desk, held, AdminCommand::DeleteRole { role }),
         Request::Assign { role, user } => {
             administer(desk, held, AdminCommand::AssignUser { user, role })
         }
@@ -139,12 +140,18 @@ fn ask(desk: &mut Single, held: &Option<SessionId>, request: Request) -> Turn
             };
             administer(desk, held, command)
         }
+        Request::Inherit { junior, senior } => {
+            administer(desk, held, AdminCommand::AddInheritance { senior, junior })
+        }
         Request::Disinherit { junior, senior } => {
             administer(
                 desk,
                 held,
                 AdminCommand::DeleteInheritance { senior, junior },
             )
+        }
+        Request::DeleteSet { name } => {
+            administer(desk, held, AdminCommand::DeleteDsdSet { set: name })
         }
         Request::Drop { role } => administer(desk, held, AdminCommand::DropActiveRole { role }),
         Request::Load { main, slot, text } => {

@@ -17,7 +17,7 @@ use Rattle.rbac_policy.specs.declared.objects.Object.{Object}
 use Rattle.rbac_policy.proofs.ObjectTexts.{operation_of-exact, object_of-exact}
 use Rattle.wire_lines.proofs.KeyLemmas.{list_back}
 use Rattle.wire_lines.specs.Requests.{members_of, Fits}
-use Rattle.wire_lines.specs.Inner.Reading.{text_at, name_at, identifier_at, operation_at, object_at, number_at, keys_are, has_keys, command_of, names_from, with_front, list_of, roles_from, roles_at, login_of, logout_of, grant_of, add_user_of, delete_user_of, add_role_of, assign_of, deassign_of, revoke_of, disinherit_of, drop_role_of, load_of, offer_of, step_of, look_of, fields_of, request_of}
+use Rattle.wire_lines.specs.Inner.Reading.{text_at, name_at, identifier_at, operation_at, object_at, number_at, keys_are, has_keys, command_of, names_from, with_front, list_of, roles_from, roles_at, login_of, logout_of, grant_of, add_user_of, delete_user_of, add_role_of, assign_of, deassign_of, revoke_of, disinherit_of, drop_role_of, delete_role_of, inherit_of, delete_set_of, load_of, offer_of, step_of, look_of, fields_of, request_of}
 use Rattle.wire_lines.specs.declared.request.Command.{Command}
 use Rattle.wire_lines.specs.declared.request.Command.TheVariants as command
 use Rattle.wire_lines.specs.declared.request.Request.{Request}
@@ -327,6 +327,44 @@ drop_role_is d r named h =
     let u = tested is_name k.1 m.0 (subst (λ (x : Data). name_at (codes "role") x ≡ Some m.0) whole m.1) in
     subst (Is d) m.2 (record { value = whole ∙ rw (e, u.0) refl; fits = u.1 })
 
+delete_role_is : (d : Data) (r : Request) → HasCommand (codes "delrole") d → delete_role_of d ≡ Some r → Is d r
+unfolding delete_role_of name_at text_at
+delete_role_is d r named h =
+    let p = guard (has_keys d (codes "cmd" ∷ codes "role" ∷ [])) _ r h in
+    let o = object_with d _ p.0 in
+    let k = two_members o.0 (codes "cmd") (codes "role") o.2 in
+    let whole : d ≡ object (member (codes "cmd") k.0 (member (codes "role") k.1 no_members)) = o.1 ∙ ap object k.2 in
+    let e : k.0 ≡ string (codes "delrole") = as_str_is k.0 _ (subst (HasCommand (codes "delrole")) whole named) in
+    let m = mapped request.DeleteRole _ r p.1 in
+    let u = tested is_name k.1 m.0 (subst (λ (x : Data). name_at (codes "role") x ≡ Some m.0) whole m.1) in
+    subst (Is d) m.2 (record { value = whole ∙ rw (e, u.0) refl; fits = u.1 })
+
+inherit_is : (d : Data) (r : Request) → HasCommand (codes "inherit") d → inherit_of d ≡ Some r → Is d r
+unfolding inherit_of name_at text_at
+inherit_is d r named h =
+    let p = guard (has_keys d (codes "cmd" ∷ codes "junior" ∷ codes "senior" ∷ [])) _ r h in
+    let o = object_with d _ p.0 in
+    let k = three_members o.0 (codes "cmd") (codes "junior") (codes "senior") o.2 in
+    let whole : d ≡ object (member (codes "cmd") k.0 (member (codes "junior") k.1 (member (codes "senior") k.2 no_members))) = o.1 ∙ ap object k.3 in
+    let e : k.0 ≡ string (codes "inherit") = as_str_is k.0 _ (subst (HasCommand (codes "inherit")) whole named) in
+    let a = chained (λ (junior : List ℕ). option_map (request.Inherit junior) (name_at (codes "senior") d)) _ r p.1 in
+    let m = mapped (request.Inherit a.0) _ r a.2 in
+    let u = tested is_name k.1 a.0 (subst (λ (x : Data). name_at (codes "junior") x ≡ Some a.0) whole a.1) in
+    let v = tested is_name k.2 m.0 (subst (λ (x : Data). name_at (codes "senior") x ≡ Some m.0) whole m.1) in
+    subst (Is d) m.2 (record { value = whole ∙ rw (e, u.0, v.0) refl; fits = (u.1, v.1) })
+
+delete_set_is : (d : Data) (r : Request) → HasCommand (codes "undsd") d → delete_set_of d ≡ Some r → Is d r
+unfolding delete_set_of name_at text_at
+delete_set_is d r named h =
+    let p = guard (has_keys d (codes "cmd" ∷ codes "name" ∷ [])) _ r h in
+    let o = object_with d _ p.0 in
+    let k = two_members o.0 (codes "cmd") (codes "name") o.2 in
+    let whole : d ≡ object (member (codes "cmd") k.0 (member (codes "name") k.1 no_members)) = o.1 ∙ ap object k.2 in
+    let e : k.0 ≡ string (codes "undsd") = as_str_is k.0 _ (subst (HasCommand (codes "undsd")) whole named) in
+    let m = mapped request.DeleteSet _ r p.1 in
+    let u = tested is_name k.1 m.0 (subst (λ (x : Data). name_at (codes "name") x ≡ Some m.0) whole m.1) in
+    subst (Is d) m.2 (record { value = whole ∙ rw (e, u.0) refl; fits = u.1 })
+
 items_back : (is : Items) → items_of (list_of is) ≡ is
 items_back no_items = refl
 items_back (item d ds) = ap (item d) (items_back ds)
@@ -370,7 +408,7 @@ texts_are_names [] h = refl
 texts_are_names (n ∷ ns) h = rw (h.0, texts_are_names ns h.1) refl
 
 pub from_request : (r : Request) → Fits r → request_of (object (members_of r)) ≡ Some r
-unfolding request_of command_of login_of logout_of grant_of add_user_of delete_user_of add_role_of assign_of deassign_of revoke_of disinherit_of drop_role_of load_of offer_of step_of look_of has_keys text_at name_at identifier_at operation_at object_at number_at roles_at roles_from
+unfolding request_of command_of login_of logout_of grant_of add_user_of delete_user_of add_role_of assign_of deassign_of revoke_of disinherit_of drop_role_of delete_role_of inherit_of delete_set_of load_of offer_of step_of look_of has_keys text_at name_at identifier_at operation_at object_at number_at roles_at roles_from
 from_request request.Logout f = refl
 from_request (request.Step slot) f = refl
 from_request (request.Look instant slot) f = refl
@@ -387,6 +425,9 @@ from_request (request.Revoke on operation role) f =
     rw ((object_of-exact (object_text on) on).1 (f.0, refl), (operation_of-exact (operation_text operation) operation).1 refl, f.1) refl
 from_request (request.Disinherit junior senior) f = rw (f.0, f.1) refl
 from_request (request.Drop role) f = rw f refl
+from_request (request.DeleteRole role) f = rw f refl
+from_request (request.Inherit junior senior) f = rw (f.0, f.1) refl
+from_request (request.DeleteSet name) f = rw f refl
 from_request (request.Login roles user) f =
     let short : nat_le (length (map string roles)) LISTED_ROLES ≡ true = rw (length-map roles string) (le-leb _ _ f.0) in
     rw (list_back (map string roles), short, texts_are_names roles f.1, f.2) refl
@@ -405,6 +446,9 @@ command_text command.Deassign = codes "deassign"
 command_text command.Revoke = codes "revoke"
 command_text command.Disinherit = codes "disinherit"
 command_text command.Drop = codes "drop"
+command_text command.DeleteRole = codes "delrole"
+command_text command.Inherit = codes "inherit"
+command_text command.DeleteSet = codes "undsd"
 command_text command.Load = codes "load"
 command_text command.Offer = codes "offer"
 command_text command.Step = codes "step"
@@ -421,7 +465,7 @@ pick s one others c h later =
 command_is : (s : List ℕ) (c : Command) → command_of s ≡ Some c → s ≡ command_text c
 unfolding command_of
 command_is s c h =
-    pick s command.Login _ c h (λ h. pick s command.Logout _ c h (λ h. pick s command.Grant _ c h (λ h. pick s command.AddUser _ c h (λ h. pick s command.DeleteUser _ c h (λ h. pick s command.AddRole _ c h (λ h. pick s command.Assign _ c h (λ h. pick s command.Deassign _ c h (λ h. pick s command.Revoke _ c h (λ h. pick s command.Disinherit _ c h (λ h. pick s command.Drop _ c h (λ h. pick s command.Load _ c h (λ h. pick s command.Offer _ c h (λ h. pick s command.Step _ c h (λ h. pick s command.Look _ c h (λ h. cc)))))))))))))))
+    pick s command.Login _ c h (λ h. pick s command.Logout _ c h (λ h. pick s command.Grant _ c h (λ h. pick s command.AddUser _ c h (λ h. pick s command.DeleteUser _ c h (λ h. pick s command.AddRole _ c h (λ h. pick s command.DeleteRole _ c h (λ h. pick s command.Assign _ c h (λ h. pick s command.Deassign _ c h (λ h. pick s command.Revoke _ c h (λ h. pick s command.Inherit _ c h (λ h. pick s command.Disinherit _ c h (λ h. pick s command.DeleteSet _ c h (λ h. pick s command.Drop _ c h (λ h. pick s command.Load _ c h (λ h. pick s command.Offer _ c h (λ h. pick s command.Step _ c h (λ h. pick s command.Look _ c h (λ h. cc))))))))))))))))))
 
 fields_are : (c : Command) (d : Data) (r : Request) → HasCommand (command_text c) d → fields_of c d ≡ Some r → Is d r
 fields_are command.Login d r named h = login_is d r named h
@@ -435,6 +479,9 @@ fields_are command.Deassign d r named h = deassign_is d r named h
 fields_are command.Revoke d r named h = revoke_is d r named h
 fields_are command.Disinherit d r named h = disinherit_is d r named h
 fields_are command.Drop d r named h = drop_role_is d r named h
+fields_are command.DeleteRole d r named h = delete_role_is d r named h
+fields_are command.Inherit d r named h = inherit_is d r named h
+fields_are command.DeleteSet d r named h = delete_set_is d r named h
 fields_are command.Load d r named h = load_is d r named h
 fields_are command.Offer d r named h = offer_is d r named h
 fields_are command.Step d r named h = step_is d r named h

@@ -11,7 +11,7 @@ use Rattle.rbac_policy.specs.Texts.{operation_text, object_text, IsObject}
 use Rattle.access_core.specs.declared.refusal.Refusal.{Refusal}
 use Rattle.access_core.specs.declared.refusal.Refusal.TheVariants as refusal
 use Rattle.wire_lines.specs.declared.request.Request.{Request}
-use Rattle.wire_lines.specs.declared.request.Request.TheVariants.{Login, Logout, Grant, AddUser, DeleteUser, AddRole, Assign, Deassign, Revoke, Disinherit, Drop, Load, Offer, Step, Look}
+use Rattle.wire_lines.specs.declared.request.Request.TheVariants.{Login, Logout, Grant, AddUser, DeleteUser, AddRole, Assign, Deassign, Revoke, Disinherit, Drop, DeleteRole, Inherit, DeleteSet, Load, Offer, Step, Look}
 
 -- a member whose value is a text
 abbrev pub text_member : List ℕ → List ℕ → Members → Members
@@ -48,6 +48,12 @@ members_of (Disinherit junior senior) =
     text_member (codes "cmd") (codes "disinherit") (text_member (codes "junior") junior (text_member (codes "senior") senior no_members))
 members_of (Drop role) =
     text_member (codes "cmd") (codes "drop") (text_member (codes "role") role no_members)
+members_of (DeleteRole role) =
+    text_member (codes "cmd") (codes "delrole") (text_member (codes "role") role no_members)
+members_of (Inherit junior senior) =
+    text_member (codes "cmd") (codes "inherit") (text_member (codes "junior") junior (text_member (codes "senior") senior no_members))
+members_of (DeleteSet name) =
+    text_member (codes "cmd") (codes "undsd") (text_member (codes "name") name no_members)
 members_of (Load main slot text) =
     text_member (codes "cmd") (codes "load") (text_member (codes "main") main (number_member (codes "slot") slot (text_member (codes "text") text no_members)))
 members_of (Offer signal slot) = text_member (codes "cmd") (codes "offer") (text_member (codes "signal") signal (number_member (codes "slot") slot no_members))
@@ -67,6 +73,9 @@ Fits (Deassign role user) = IsTrue (is_name role) × IsTrue (is_name user)
 Fits (Revoke on operation role) = IsObject on × IsTrue (is_name role)
 Fits (Disinherit junior senior) = IsTrue (is_name junior) × IsTrue (is_name senior)
 Fits (Drop role) = IsTrue (is_name role)
+Fits (DeleteRole role) = IsTrue (is_name role)
+Fits (Inherit junior senior) = IsTrue (is_name junior) × IsTrue (is_name senior)
+Fits (DeleteSet name) = IsTrue (is_name name)
 Fits (Load main slot text) = IsTrue (is_identifier main)
 Fits (Offer signal slot) = IsTrue (is_identifier signal)
 Fits (Step slot) = Unit {0}

@@ -3,7 +3,7 @@ ghost use Rattle.std.specs.Prelude.{◌≡◌, ◌≤◌, length, map, option_ma
 ghost use Rattle.serde_json.specs.Data.{object};
 ghost use Rattle.serde_json.specs.View.{view};
 ghost use Rattle.wire_lines.specs.Requests.{IsReadAs, IsRequest, Fits, members_of};
-ghost use Rattle.wire_lines.specs.Inner.Reading.{text_at, name_at, identifier_at, operation_at, object_at, number_at, has_keys, names_are, command_of, login_of, logout_of, grant_of, add_user_of, delete_user_of, add_role_of, assign_of, deassign_of, revoke_of, disinherit_of, drop_role_of, load_of, offer_of, step_of, look_of, names_from, roles_from, roles_at, request_of};
+ghost use Rattle.wire_lines.specs.Inner.Reading.{text_at, name_at, identifier_at, operation_at, object_at, number_at, has_keys, names_are, command_of, login_of, logout_of, grant_of, add_user_of, delete_user_of, add_role_of, assign_of, deassign_of, revoke_of, disinherit_of, drop_role_of, delete_role_of, inherit_of, delete_set_of, load_of, offer_of, step_of, look_of, names_from, roles_from, roles_at, request_of};
 ghost use Rattle.wire_lines.specs.declared.request.Request.{Request};
 
 use crate::request::{Command, Request};
@@ -141,10 +141,13 @@ fn command_of(word: &str) -> Option<Command>
         "adduser" => Some(Command::AddUser),
         "deluser" => Some(Command::DeleteUser),
         "addrole" => Some(Command::AddRole),
+        "delrole" => Some(Command::DeleteRole),
         "assign" => Some(Command::Assign),
         "deassign" => Some(Command::Deassign),
         "revoke" => Some(Command::Revoke),
+        "inherit" => Some(Command::Inherit),
         "disinherit" => Some(Command::Disinherit),
+        "undsd" => Some(Command::DeleteSet),
         "drop" => Some(Command::Drop),
         "load" => Some(Command::Load),
         "offer" => Some(Command::Offer),
@@ -295,6 +298,40 @@ fn drop_role_of(value: &Value) -> Option<Request>
     Some(Request::Drop { role })
 }
 
+#[tactic(auto, unfolding(crate::specs::Inner::Reading::delete_role_of))]
+fn delete_role_of(value: &Value) -> Option<Request>
+    ensures { result ≡ delete_role_of (view value.now) }
+{
+    if !has_keys(value, &["cmd", "role"]) {
+        return None;
+    }
+    let role = name_at(value, "role")?;
+    Some(Request::DeleteRole { role })
+}
+
+#[tactic(auto, unfolding(crate::specs::Inner::Reading::inherit_of))]
+fn inherit_of(value: &Value) -> Option<Request>
+    ensures { result ≡ inherit_of (view value.now) }
+{
+    if !has_keys(value, &["cmd", "junior", "senior"]) {
+        return None;
+    }
+    let junior = name_at(value, "junior")?;
+    let senior = name_at(value, "senior")?;
+    Some(Request::Inherit { junior, senior })
+}
+
+#[tactic(auto, unfolding(crate::specs::Inner::Reading::delete_set_of))]
+fn delete_set_of(value: &Value) -> Option<Request>
+    ensures { result ≡ delete_set_of (view value.now) }
+{
+    if !has_keys(value, &["cmd", "name"]) {
+        return None;
+    }
+    let name = name_at(value, "name")?;
+    Some(Request::DeleteSet { name })
+}
+
 #[tactic(auto, unfolding(crate::specs::Inner::Reading::load_of))]
 fn load_of(alloc: Global, value: &Value) -> Result<Option<Request>, AllocError>
     ensures { IfOk result (λ request. request ≡ load_of (view value.now)) }
@@ -370,6 +407,9 @@ fn request_of(alloc: Global, value: &Value) -> Result<Option<Request>, AllocErro
         Command::Revoke => Ok(revoke_of(value)),
         Command::Disinherit => Ok(disinherit_of(value)),
         Command::Drop => Ok(drop_role_of(value)),
+        Command::DeleteRole => Ok(delete_role_of(value)),
+        Command::Inherit => Ok(inherit_of(value)),
+        Command::DeleteSet => Ok(delete_set_of(value)),
         Command::Load => load_of(alloc, value),
         Command::Offer => Ok(offer_of(value)),
         Command::Step => Ok(step_of(value)),

@@ -57,6 +57,19 @@ pub enum Request {
     Drop {
         role: Name,
     },
+    /// The role's end, with its assignments, permissions and edges.
+    DeleteRole {
+        role: Name,
+    },
+    /// What the junior has, for the senior.
+    Inherit {
+        junior: Name,
+        senior: Name,
+    },
+    /// The separation set's end.
+    DeleteSet {
+        name: Name,
+    },
     /// The module `main` of the text, for the slot.
     Load {
         main: Identifier,
@@ -88,10 +101,13 @@ pub enum Command {
     AddUser,
     DeleteUser,
     AddRole,
+    DeleteRole,
     Assign,
     Deassign,
     Revoke,
+    Inherit,
     Disinherit,
+    DeleteSet,
     Drop,
     Load,
     Offer,

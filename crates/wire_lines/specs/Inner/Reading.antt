@@ -98,16 +98,19 @@ command_of s =
     else (if bytes_eq s (codes "adduser") then Some command.AddUser
     else (if bytes_eq s (codes "deluser") then Some command.DeleteUser
     else (if bytes_eq s (codes "addrole") then Some command.AddRole
+    else (if bytes_eq s (codes "delrole") then Some command.DeleteRole
     else (if bytes_eq s (codes "assign") then Some command.Assign
     else (if bytes_eq s (codes "deassign") then Some command.Deassign
     else (if bytes_eq s (codes "revoke") then Some command.Revoke
+    else (if bytes_eq s (codes "inherit") then Some command.Inherit
     else (if bytes_eq s (codes "disinherit") then Some command.Disinherit
+    else (if bytes_eq s (codes "undsd") then Some command.DeleteSet
     else (if bytes_eq s (codes "drop") then Some command.Drop
     else (if bytes_eq s (codes "load") then Some command.Load
     else (if bytes_eq s (codes "offer") then Some command.Offer
     else (if bytes_eq s (codes "step") then Some command.Step
     else (if bytes_eq s (codes "look") then Some command.Look
-    else None))))))))))))))
+    else None)))))))))))))))))
 
 -- the value as a login
 unfoldable pub login_of : Data → Option Request
@@ -174,6 +177,24 @@ drop_role_of d =
     if has_keys d (codes "cmd" ∷ codes "role" ∷ [])
     then option_map request.Drop (name_at (codes "role") d) else None
 
+-- the value as the command `delrole`
+unfoldable pub delete_role_of : Data → Option Request
+delete_role_of d =
+    if has_keys d (codes "cmd" ∷ codes "role" ∷ [])
+    then option_map request.DeleteRole (name_at (codes "role") d) else None
+
+-- the value as the command `inherit`
+unfoldable pub inherit_of : Data → Option Request
+inherit_of d =
+    if has_keys d (codes "cmd" ∷ codes "junior" ∷ codes "senior" ∷ [])
+    then option_and_then (λ junior. option_map (request.Inherit junior) (name_at (codes "senior") d)) (name_at (codes "junior") d) else None
+
+-- the value as the command `undsd`
+unfoldable pub delete_set_of : Data → Option Request
+delete_set_of d =
+    if has_keys d (codes "cmd" ∷ codes "name" ∷ [])
+    then option_map request.DeleteSet (name_at (codes "name") d) else None
+
 -- the value as a load
 unfoldable pub load_of : Data → Option Request
 load_of d =
@@ -210,6 +231,9 @@ fields_of command.Deassign d = deassign_of d
 fields_of command.Revoke d = revoke_of d
 fields_of command.Disinherit d = disinherit_of d
 fields_of command.Drop d = drop_role_of d
+fields_of command.DeleteRole d = delete_role_of d
+fields_of command.Inherit d = inherit_of d
+fields_of command.DeleteSet d = delete_set_of d
 fields_of command.Load d = load_of d
 fields_of command.Offer d = offer_of d
 fields_of command.Step d = step_of d
