@@ -150,6 +150,14 @@ fn ask(desk: &mut Single, held: &Option<SessionId>, request: Request) -> Turn
                 AdminCommand::DeleteInheritance { senior, junior },
             )
         }
+        Request::CreateSet { count, name, roles } => {
+            let command = AdminCommand::CreateDsdSet {
+                set: name,
+                count,
+                roles,
+            };
+            administer(desk, held, command)
+        }
         Request::DeleteSet { name } => {
             administer(desk, held, AdminCommand::DeleteDsdSet { set: name })
         }

@@ -17,7 +17,7 @@ use Rattle.rbac_policy.specs.declared.objects.Object.{Object}
 use Rattle.rbac_policy.proofs.ObjectTexts.{operation_of-exact, object_of-exact}
 use Rattle.wire_lines.proofs.KeyLemmas.{list_back}
 use Rattle.wire_lines.specs.Requests.{members_of, Fits}
-use Rattle.wire_lines.specs.Inner.Reading.{text_at, name_at, identifier_at, operation_at, object_at, number_at, keys_are, has_keys, command_of, names_from, with_front, list_of, roles_from, roles_at, login_of, logout_of, grant_of, add_user_of, delete_user_of, add_role_of, assign_of, deassign_of, revoke_of, disinherit_of, drop_role_of, delete_role_of, inherit_of, delete_set_of, load_of, offer_of, step_of, look_of, fields_of, request_of}
+use Rattle.wire_lines.specs.Inner.Reading.{text_at, name_at, identifier_at, operation_at, object_at, number_at, keys_are, has_keys, command_of, names_from, with_front, list_of, roles_from, roles_at, login_of, logout_of, grant_of, add_user_of, delete_user_of, add_role_of, assign_of, deassign_of, revoke_of, disinherit_of, drop_role_of, delete_role_of, inherit_of, create_set_of, delete_set_of, load_of, offer_of, step_of, look_of, fields_of, request_of}
 use Rattle.wire_lines.specs.declared.request.Command.{Command}
 use Rattle.wire_lines.specs.declared.request.Command.TheVariants as command
 use Rattle.wire_lines.specs.declared.request.Request.{Request}
@@ -400,6 +400,26 @@ login_is d r named h =
     let is : k.1 ≡ array (items_of (map string a.0)) = as_array_is k.1 b.0 b.1 ∙ ap array (sym (items_back b.0) ∙ ap items_of t.0) in
     subst (Is d) m.2 (record { value = whole ∙ rw (e, is, n.0) refl; fits = (l, t.1, n.1) })
 
+create_set_is : (d : Data) (r : Request) → HasCommand (codes "dsd") d → create_set_of d ≡ Some r → Is d r
+unfolding create_set_of number_at name_at roles_at roles_from text_at
+create_set_is d r named h =
+    let p = guard (has_keys d (codes "cmd" ∷ codes "count" ∷ codes "name" ∷ codes "roles" ∷ [])) _ r h in
+    let o = object_with d _ p.0 in
+    let k = four_members o.0 (codes "cmd") (codes "count") (codes "name") (codes "roles") o.2 in
+    let whole : d ≡ object (member (codes "cmd") k.0 (member (codes "count") k.1 (member (codes "name") k.2 (member (codes "roles") k.3 no_members)))) = o.1 ∙ ap object k.4 in
+    let e : k.0 ≡ string (codes "dsd") = as_str_is k.0 _ (subst (HasCommand (codes "dsd")) whole named) in
+    let a = chained (λ (count : ℕ). option_and_then (λ (name : List ℕ). option_map (request.CreateSet count name) (roles_at (codes "roles") d)) (name_at (codes "name") d)) _ r p.1 in
+    let q = chained (λ (name : List ℕ). option_map (request.CreateSet a.0 name) (roles_at (codes "roles") d)) _ r a.2 in
+    let m = mapped (request.CreateSet a.0 q.0) _ r q.2 in
+    let s : k.1 ≡ number (unsigned a.0) = whole_is k.1 a.0 (subst (λ (x : Data). number_at (codes "count") x ≡ Some a.0) whole a.1) in
+    let n = tested is_name k.2 q.0 (subst (λ (x : Data). name_at (codes "name") x ≡ Some q.0) whole q.1) in
+    let b = chained (λ (is : Items). roles_from (list_of is)) _ m.0 (subst (λ (x : Data). roles_at (codes "roles") x ≡ Some m.0) whole m.1) in
+    let g = guard (nat_le (length (list_of b.0)) LISTED_ROLES) (names_from (list_of b.0)) m.0 b.2 in
+    let t = names_are_texts (list_of b.0) m.0 g.1 in
+    let l : length m.0 ≤ LISTED_ROLES = omega (arith, leb-true (length (list_of b.0)) LISTED_ROLES g.0, ap length t.0, length-map m.0 string) in
+    let is : k.3 ≡ array (items_of (map string m.0)) = as_array_is k.3 b.0 b.1 ∙ ap array (sym (items_back b.0) ∙ ap items_of t.0) in
+    subst (Is d) m.2 (record { value = whole ∙ rw (e, s, n.0, is) refl; fits = (l, t.1, n.1) })
+
 -- ---- the commands, to the value
 
 texts_are_names : (ns : List (List ℕ)) → AreNames ns → names_from (map string ns) ≡ Some ns
@@ -408,7 +428,7 @@ texts_are_names [] h = refl
 texts_are_names (n ∷ ns) h = rw (h.0, texts_are_names ns h.1) refl
 
 pub from_request : (r : Request) → Fits r → request_of (object (members_of r)) ≡ Some r
-unfolding request_of command_of login_of logout_of grant_of add_user_of delete_user_of add_role_of assign_of deassign_of revoke_of disinherit_of drop_role_of delete_role_of inherit_of delete_set_of load_of offer_of step_of look_of has_keys text_at name_at identifier_at operation_at object_at number_at roles_at roles_from
+unfolding request_of command_of login_of logout_of grant_of add_user_of delete_user_of add_role_of assign_of deassign_of revoke_of disinherit_of drop_role_of delete_role_of inherit_of create_set_of delete_set_of load_of offer_of step_of look_of has_keys text_at name_at identifier_at operation_at object_at number_at roles_at roles_from
 from_request request.Logout f = refl
 from_request (request.Step slot) f = refl
 from_request (request.Look instant slot) f = refl
@@ -428,6 +448,9 @@ from_request (request.Drop role) f = rw f refl
 from_request (request.DeleteRole role) f = rw f refl
 from_request (request.Inherit junior senior) f = rw (f.0, f.1) refl
 from_request (request.DeleteSet name) f = rw f refl
+from_request (request.CreateSet count name roles) f =
+    let short : nat_le (length (map string roles)) LISTED_ROLES ≡ true = rw (length-map roles string) (le-leb _ _ f.0) in
+    rw (list_back (map string roles), short, texts_are_names roles f.1, f.2) refl
 from_request (request.Login roles user) f =
     let short : nat_le (length (map string roles)) LISTED_ROLES ≡ true = rw (length-map roles string) (le-leb _ _ f.0) in
     rw (list_back (map string roles), short, texts_are_names roles f.1, f.2) refl
@@ -448,6 +471,7 @@ command_text command.Disinherit = codes "disinherit"
 command_text command.Drop = codes "drop"
 command_text command.DeleteRole = codes "delrole"
 command_text command.Inherit = codes "inherit"
+command_text command.CreateSet = codes "dsd"
 command_text command.DeleteSet = codes "undsd"
 command_text command.Load = codes "load"
 command_text command.Offer = codes "offer"
@@ -465,7 +489,7 @@ pick s one others c h later =
 command_is : (s : List ℕ) (c : Command) → command_of s ≡ Some c → s ≡ command_text c
 unfolding command_of
 command_is s c h =
-    pick s command.Login _ c h (λ h. pick s command.Logout _ c h (λ h. pick s command.Grant _ c h (λ h. pick s command.AddUser _ c h (λ h. pick s command.DeleteUser _ c h (λ h. pick s command.AddRole _ c h (λ h. pick s command.DeleteRole _ c h (λ h. pick s command.Assign _ c h (λ h. pick s command.Deassign _ c h (λ h. pick s command.Revoke _ c h (λ h. pick s command.Inherit _ c h (λ h. pick s command.Disinherit _ c h (λ h. pick s command.DeleteSet _ c h (λ h. pick s command.Drop _ c h (λ h. pick s command.Load _ c h (λ h. pick s command.Offer _ c h (λ h. pick s command.Step _ c h (λ h. pick s command.Look _ c h (λ h. cc))))))))))))))))))
+    pick s command.Login _ c h (λ h. pick s command.Logout _ c h (λ h. pick s command.Grant _ c h (λ h. pick s command.AddUser _ c h (λ h. pick s command.DeleteUser _ c h (λ h. pick s command.AddRole _ c h (λ h. pick s command.DeleteRole _ c h (λ h. pick s command.Assign _ c h (λ h. pick s command.Deassign _ c h (λ h. pick s command.Revoke _ c h (λ h. pick s command.Inherit _ c h (λ h. pick s command.Disinherit _ c h (λ h. pick s command.CreateSet _ c h (λ h. pick s command.DeleteSet _ c h (λ h. pick s command.Drop _ c h (λ h. pick s command.Load _ c h (λ h. pick s command.Offer _ c h (λ h. pick s command.Step _ c h (λ h. pick s command.Look _ c h (λ h. cc)))))))))))))))))))
 
 fields_are : (c : Command) (d : Data) (r : Request) → HasCommand (command_text c) d → fields_of c d ≡ Some r → Is d r
 fields_are command.Login d r named h = login_is d r named h
@@ -481,6 +505,7 @@ fields_are command.Disinherit d r named h = disinherit_is d r named h
 fields_are command.Drop d r named h = drop_role_is d r named h
 fields_are command.DeleteRole d r named h = delete_role_is d r named h
 fields_are command.Inherit d r named h = inherit_is d r named h
+fields_are command.CreateSet d r named h = create_set_is d r named h
 fields_are command.DeleteSet d r named h = delete_set_is d r named h
 fields_are command.Load d r named h = load_is d r named h
 fields_are command.Offer d r named h = offer_is d r named h

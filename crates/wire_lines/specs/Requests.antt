@@ -11,7 +11,7 @@ use Rattle.rbac_policy.specs.Texts.{operation_text, object_text, IsObject}
 use Rattle.access_core.specs.declared.refusal.Refusal.{Refusal}
 use Rattle.access_core.specs.declared.refusal.Refusal.TheVariants as refusal
 use Rattle.wire_lines.specs.declared.request.Request.{Request}
-use Rattle.wire_lines.specs.declared.request.Request.TheVariants.{Login, Logout, Grant, AddUser, DeleteUser, AddRole, Assign, Deassign, Revoke, Disinherit, Drop, DeleteRole, Inherit, DeleteSet, Load, Offer, Step, Look}
+use Rattle.wire_lines.specs.declared.request.Request.TheVariants.{Login, Logout, Grant, AddUser, DeleteUser, AddRole, Assign, Deassign, Revoke, Disinherit, Drop, DeleteRole, Inherit, CreateSet, DeleteSet, Load, Offer, Step, Look}
 
 -- a member whose value is a text
 abbrev pub text_member : List ℕ → List ℕ → Members → Members
@@ -52,6 +52,9 @@ members_of (DeleteRole role) =
     text_member (codes "cmd") (codes "delrole") (text_member (codes "role") role no_members)
 members_of (Inherit junior senior) =
     text_member (codes "cmd") (codes "inherit") (text_member (codes "junior") junior (text_member (codes "senior") senior no_members))
+members_of (CreateSet count name roles) =
+    text_member (codes "cmd") (codes "dsd")
+    (number_member (codes "count") count (text_member (codes "name") name (texts_member (codes "roles") roles no_members)))
 members_of (DeleteSet name) =
     text_member (codes "cmd") (codes "undsd") (text_member (codes "name") name no_members)
 members_of (Load main slot text) =
@@ -75,6 +78,7 @@ Fits (Disinherit junior senior) = IsTrue (is_name junior) × IsTrue (is_name sen
 Fits (Drop role) = IsTrue (is_name role)
 Fits (DeleteRole role) = IsTrue (is_name role)
 Fits (Inherit junior senior) = IsTrue (is_name junior) × IsTrue (is_name senior)
+Fits (CreateSet count name roles) = (length roles ≤ LISTED_ROLES) × AllByRecursion (λ role. IsTrue (is_name role)) roles × IsTrue (is_name name)
 Fits (DeleteSet name) = IsTrue (is_name name)
 Fits (Load main slot text) = IsTrue (is_identifier main)
 Fits (Offer signal slot) = IsTrue (is_identifier signal)

@@ -3,7 +3,7 @@ ghost use Rattle.std.specs.Prelude.{◌≡◌, ◌≤◌, length, map, option_ma
 ghost use Rattle.serde_json.specs.Data.{object};
 ghost use Rattle.serde_json.specs.View.{view};
 ghost use Rattle.wire_lines.specs.Requests.{IsReadAs, IsRequest, Fits, members_of};
-ghost use Rattle.wire_lines.specs.Inner.Reading.{text_at, name_at, identifier_at, operation_at, object_at, number_at, has_keys, names_are, command_of, login_of, logout_of, grant_of, add_user_of, delete_user_of, add_role_of, assign_of, deassign_of, revoke_of, disinherit_of, drop_role_of, delete_role_of, inherit_of, delete_set_of, load_of, offer_of, step_of, look_of, names_from, roles_from, roles_at, request_of};
+ghost use Rattle.wire_lines.specs.Inner.Reading.{text_at, name_at, identifier_at, operation_at, object_at, number_at, has_keys, names_are, command_of, login_of, logout_of, grant_of, add_user_of, delete_user_of, add_role_of, assign_of, deassign_of, revoke_of, disinherit_of, drop_role_of, delete_role_of, inherit_of, create_set_of, delete_set_of, load_of, offer_of, step_of, look_of, names_from, roles_from, roles_at, request_of};
 ghost use Rattle.wire_lines.specs.declared.request.Request.{Request};
 
 use crate::request::{Command, Request};
@@ -147,6 +147,7 @@ fn command_of(word: &str) -> Option<Command>
         "revoke" => Some(Command::Revoke),
         "inherit" => Some(Command::Inherit),
         "disinherit" => Some(Command::Disinherit),
+        "dsd" => Some(Command::CreateSet),
         "undsd" => Some(Command::DeleteSet),
         "drop" => Some(Command::Drop),
         "load" => Some(Command::Load),
@@ -332,6 +333,25 @@ fn delete_set_of(value: &Value) -> Option<Request>
     Some(Request::DeleteSet { name })
 }
 
+#[tactic(auto, unfolding(crate::specs::Inner::Reading::create_set_of))]
+fn create_set_of(alloc: Global, value: &Value) -> Result<Option<Request>, AllocError>
+    ensures { IfOk result (λ request. request ≡ create_set_of (view value.now)) }
+{
+    if !has_keys(value, &["cmd", "count", "name", "roles"]) {
+        return Ok(None);
+    }
+    let Some(count) = number_at(value, "count") else {
+        return Ok(None);
+    };
+    let Some(name) = name_at(value, "name") else {
+        return Ok(None);
+    };
+    let Some(roles) = roles_at(alloc, value, "roles")? else {
+        return Ok(None);
+    };
+    Ok(Some(Request::CreateSet { count, name, roles }))
+}
+
 #[tactic(auto, unfolding(crate::specs::Inner::Reading::load_of))]
 fn load_of(alloc: Global, value: &Value) -> Result<Option<Request>, AllocError>
     ensures { IfOk result (λ request. request ≡ load_of (view value.now)) }
@@ -409,6 +429,7 @@ fn request_of(alloc: Global, value: &Value) -> Result<Option<Request>, AllocErro
         Command::Drop => Ok(drop_role_of(value)),
         Command::DeleteRole => Ok(delete_role_of(value)),
         Command::Inherit => Ok(inherit_of(value)),
+        Command::CreateSet => create_set_of(alloc, value),
         Command::DeleteSet => Ok(delete_set_of(value)),
         Command::Load => load_of(alloc, value),
         Command::Offer => Ok(offer_of(value)),

@@ -66,6 +66,12 @@ pub enum Request {
         junior: Name,
         senior: Name,
     },
+    /// A separation set of this name: no session may hold so many of these roles at once.
+    CreateSet {
+        count: u64,
+        name: Name,
+        roles: RoleNames,
+    },
     /// The separation set's end.
     DeleteSet {
         name: Name,
@@ -107,6 +113,7 @@ pub enum Command {
     Revoke,
     Inherit,
     Disinherit,
+    CreateSet,
     DeleteSet,
     Drop,
     Load,

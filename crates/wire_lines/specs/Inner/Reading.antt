@@ -104,13 +104,14 @@ command_of s =
     else (if bytes_eq s (codes "revoke") then Some command.Revoke
     else (if bytes_eq s (codes "inherit") then Some command.Inherit
     else (if bytes_eq s (codes "disinherit") then Some command.Disinherit
+    else (if bytes_eq s (codes "dsd") then Some command.CreateSet
     else (if bytes_eq s (codes "undsd") then Some command.DeleteSet
     else (if bytes_eq s (codes "drop") then Some command.Drop
     else (if bytes_eq s (codes "load") then Some command.Load
     else (if bytes_eq s (codes "offer") then Some command.Offer
     else (if bytes_eq s (codes "step") then Some command.Step
     else (if bytes_eq s (codes "look") then Some command.Look
-    else None)))))))))))))))))
+    else None))))))))))))))))))
 
 -- the value as a login
 unfoldable pub login_of : Data → Option Request
@@ -195,6 +196,13 @@ delete_set_of d =
     if has_keys d (codes "cmd" ∷ codes "name" ∷ [])
     then option_map request.DeleteSet (name_at (codes "name") d) else None
 
+-- the value as the command `dsd`
+unfoldable pub create_set_of : Data → Option Request
+create_set_of d =
+    if has_keys d (codes "cmd" ∷ codes "count" ∷ codes "name" ∷ codes "roles" ∷ [])
+    then option_and_then (λ count. option_and_then (λ name. option_map (request.CreateSet count name) (roles_at (codes "roles") d)) (name_at (codes "name") d)) (number_at (codes "count") d)
+    else None
+
 -- the value as a load
 unfoldable pub load_of : Data → Option Request
 load_of d =
@@ -233,6 +241,7 @@ fields_of command.Disinherit d = disinherit_of d
 fields_of command.Drop d = drop_role_of d
 fields_of command.DeleteRole d = delete_role_of d
 fields_of command.Inherit d = inherit_of d
+fields_of command.CreateSet d = create_set_of d
 fields_of command.DeleteSet d = delete_set_of d
 fields_of command.Load d = load_of d
 fields_of command.Offer d = offer_of d
