@@ -105,7 +105,13 @@ impl Visitor for Sent<'_> {
             Act::Emits(signal) => add_outer(seen, scope, signal),
             Act::Tests(_) | Act::Exits(_) | Act::Binds(_) => Ok(()),
             Act::Runs(name, renamings) => {
-                add_run(seen, self.table, scope, renamings, head_named(self.heads, name))
+                add_run(
+                    seen,
+                    self.table,
+                    scope,
+                    renamings,
+                    head_named(self.heads, name),
+                )
             }
         }
     }
