@@ -41,23 +41,7 @@ fn write_test(test: Test, text: &mut String) -> Result<(), AllocError> {
     }
 }
 
-/// Two statements with a word between them, in brackets.
-#[cycle(writing)]
-fn write_both(
-    p: &Statement,
-    between: &str,
-    q: &Statement,
-    text: &mut String,
-) -> Result<(), AllocError> {
-    text.push_str("[")?;
-    write(p, text)?;
-    text.push_str(between)?;
-    write(q, text)?;
-    text.push_str("]")
-}
-
 /// A statement as it is written; a trap's exits are told by how many traps lie between.
-#[cycle(writing)]
 fn write(statement: &Statement, text: &mut String) -> Result<(), AllocError> {
     match statement {
         Statement::Nothing => text.push_str("nothing"),
@@ -81,8 +65,20 @@ fn write(statement: &Statement, text: &mut String) -> Result<(), AllocError> {
             text.push_str(" when ")?;
             write_test(*test, text)
         }
-        Statement::Seq(p, q) => write_both(p, "; ", q, text),
-        Statement::Par(p, q) => write_both(p, " || ", q, text),
+        Statement::Seq(p, q) => {
+            text.push_str("[")?;
+            write(p, text)?;
+            text.push_str("; ")?;
+            write(q, text)?;
+            text.push_str("]")
+        }
+        Statement::Par(p, q) => {
+            text.push_str("[")?;
+            write(p, text)?;
+            text.push_str(" || ")?;
+            write(q, text)?;
+            text.push_str("]")
+        }
         Statement::Loop(p) => {
             text.push_str("loop ")?;
             write(p, text)?;
