@@ -12,7 +12,7 @@ use Rattle.est_link.specs.declared.head.Declared.{Declared}
 use Rattle.est_link.proofs.Lists.{any_map}
 
 -- a list of which i were taken goes on with the next
-more : {X Y : Type 0} (f : X → Y) (xs : List X) (i j : ℕ) (d : X) → i < length xs → j ≡ suc i → map f (take i xs) ++ f (get_or xs i d) ∷ [] ≡ map f (take j xs)
+pub more : {X Y : Type 0} (f : X → Y) (xs : List X) (i j : ℕ) (d : X) → i < length xs → j ≡ suc i → map f (take i xs) ++ f (get_or xs i d) ∷ [] ≡ map f (take j xs)
 more f xs i j d lt next = sym (ap (λ k. map f (take k xs)) next ∙ ap (map f) (take-suc xs i d lt) ∙ map-append f (take i xs) (get_or xs i d ∷ []))
 
 -- ---- signals of an interface

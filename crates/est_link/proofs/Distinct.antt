@@ -11,7 +11,7 @@ use Rattle.est_link.specs.Visible.{is_tick}
 use Rattle.est_link.specs.declared.head.Declared.{Declared}
 use Rattle.est_link.proofs.Testing.{or_parts}
 
-kept_name : (b : Bool) (n : List ℕ) (o : Option (List ℕ)) → (if b then Some n else o) ≡ None → (b ≡ false) × (o ≡ None)
+pub kept_name : (b : Bool) (n : List ℕ) (o : Option (List ℕ)) → (if b then Some n else o) ≡ None → (b ≡ false) × (o ≡ None)
 kept_name true n o h = absurd (none-some n (sym h))
 kept_name false n o h = (refl, h)
 

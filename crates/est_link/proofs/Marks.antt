@@ -1,5 +1,5 @@
 -- Names that are marked along a list.
-use Rattle.std.proofs.Common.{◌≡◌, ◌||◌, ℕ, List, [], ◌∷◌, Bool, true, false, refl, ap, sym, ◌∙◌}
+use Rattle.std.proofs.Common.{◌≡◌, ◌||◌, ℕ, List, [], ◌∷◌, Bool, true, false, refl, ◌∙◌}
 use Rattle.std.specs.List.{list_any, fold}
 use Rattle.est_link.specs.Occurrences.{Occurrence}
 

@@ -62,7 +62,7 @@ unseen : (b : Bool) (n : List ℕ) (o : Option (List ℕ)) → (if b then Some n
 unseen true n o h = absurd (none-some n (sym h))
 unseen false n o h = refl
 
-not_seen : (seen : List (List ℕ)) (ps : List Program) → duplicate_after seen ps ≡ None → (i : ℕ) (p : Program) → slice_get ps i ≡ Some p → stands_in seen p.name ≡ false
+pub not_seen : (seen : List (List ℕ)) (ps : List Program) → duplicate_after seen ps ≡ None → (i : ℕ) (p : Program) → slice_get ps i ≡ Some p → stands_in seen p.name ≡ false
 not_seen seen [] h i p at = absurd (none-some p at)
 not_seen seen (q ∷ qs) h zero p at =
     ap (λ (r : Program). stands_in seen r.name) (sym (some_same q p at)) ∙ unseen (stands_in seen q.name) q.name (redeclared_in q) (or_none_parts (duplicate_of seen q) (duplicate_after (seen ++ q.name ∷ []) qs) h).0
@@ -128,7 +128,7 @@ closed_whole ps order set up closed runner to has is = elim (cases_lt runner (le
 
 -- ---- names in the order
 
-first_none : {X A : Type 0} (f : X → Option A) (xs : List X) (i : ℕ) (x : X) → first_of f xs ≡ None → slice_get xs i ≡ Some x → f x ≡ None
+pub first_none : {X A : Type 0} (f : X → Option A) (xs : List X) (i : ℕ) (x : X) → first_of f xs ≡ None → slice_get xs i ≡ Some x → f x ≡ None
 first_none f [] i x h at = absurd (none-some x at)
 first_none f (y ∷ ys) zero x h at = ap f (sym (some_same y x at)) ∙ (or_none_parts (f y) (first_of f ys) h).0
 first_none f (y ∷ ys) (suc i) x h at = first_none f ys i x (or_none_parts (f y) (first_of f ys) h).1 at
@@ -151,7 +151,7 @@ place_here p y ys x false t e rest =
     (suc later.0, position_cons p y ys ∙ ap (λ b. cond b (Some 0) (option_map (λ i. i + 1) (position p ys))) t ∙ ap (option_map (λ i. i + 1)) later.1 ∙ ap Some (omega arith), later.2)
 
 -- the place of what is found
-found_place : {X : Type 0} (p : X → Bool) (xs : List X) (x : X) → find p xs ≡ Some x → (j : ℕ) × (position p xs ≡ Some j) × (slice_get xs j ≡ Some x)
+pub found_place : {X : Type 0} (p : X → Bool) (xs : List X) (x : X) → find p xs ≡ Some x → (j : ℕ) × (position p xs ≡ Some j) × (slice_get xs j ≡ Some x)
 found_place p [] x e = absurd (none-some x e)
 found_place p (y ∷ ys) x e = place_here p y ys x (p y) refl e (found_place p ys x)
 

@@ -65,7 +65,7 @@ no_missing ps main (Some q) h = h
 pub none_missing : (ps : List Program) (main : List ℕ) → first_missing ps main ≡ None → first_in_bodies (missing_at ps) ps ≡ None
 none_missing ps main h = no_missing ps main (program_named ps main) h
 
-no_main : (ps : List Program) (main : List ℕ) (o : Option Program) → missing_from ps main o ≡ None → o ≡ None → ⊥
+pub no_main : (ps : List Program) (main : List ℕ) (o : Option Program) → missing_from ps main o ≡ None → o ≡ None → ⊥
 no_main ps main None h e = none-some main (sym h)
 no_main ps main (Some q) h e = none-some q (sym e)
 

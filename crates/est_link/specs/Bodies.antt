@@ -7,7 +7,7 @@ use Rattle.est_kernel.specs.Term.{Name, outer, inner, Query, tick, of}
 use Rattle.est_link.specs.Derived as derived
 use Rattle.est_link.specs.Derived.{Derived}
 use Rattle.est_link.specs.Modules.{Program, program_named, is_input_kind}
-use Rattle.est_link.specs.Emissions.{IsEmitted, refused_at}
+use Rattle.est_link.specs.Emissions.{AreEmissions, refused_at}
 use Rattle.est_link.specs.Linking.{IsLinking, emitted}
 use Rattle.est_link.specs.Occurrences.{occurrences, first_of}
 use Rattle.est_link.specs.Visible.{unknown_at}
@@ -101,7 +101,7 @@ IsSent emitted p i =
 -- a library has no fault that a name in one of its bodies can have: each is visible, no input or `tick` is emitted, by what each
 -- module emits
 pub record HasSoundNames (ps : List Program) (emitted : List ℕ → List ℕ → Bool) : Type 0 where
-  pub emissions : (m : List ℕ) (p : Program) → program_named ps m ≡ Some p → IsEmitted ps emitted p
+  pub emissions : AreEmissions ps emitted
   pub known : (m : List ℕ) (p : Program) → program_named ps m ≡ Some p → first_of (unknown_at ps p) (occurrences [] p.body) ≡ None
   pub accepted : (m : List ℕ) (p : Program) → program_named ps m ≡ Some p → first_of (refused_at ps emitted p) (occurrences [] p.body) ≡ None
 

@@ -30,6 +30,10 @@ emits_here ps emitted s o = not (is_local o.round s) && emits_by ps emitted s o.
 abbrev pub IsEmitted : List Program → (List ℕ → List ℕ → Bool) → Program → Type 0
 IsEmitted ps emitted p = (s : List ℕ) → emitted p.name s ≡ list_any (emits_here ps emitted s) (occurrences [] p.body)
 
+-- what each module of a library emits
+abbrev pub AreEmissions : List Program → (List ℕ → List ℕ → Bool) → Type 0
+AreEmissions ps emitted = (m : List ℕ) (p : Program) → program_named ps m ≡ Some p → IsEmitted ps emitted p
+
 -- the name means an input or `tick` in p
 unfoldable pub is_refused : Program → List Binder → List ℕ → Bool
 is_refused p bs s = not (is_local bs s) && (is_input p.interface s || is_tick s)

@@ -3,3 +3,6 @@ pub mod Tables
 pub mod Numbers
 pub mod Binds
 pub mod Needs
+pub mod Sent
+pub mod Recursion
+pub mod Checked

@@ -1,15 +1,16 @@
 //! What a module emits of the signals that its callers see.
-ghost use Rattle.std.specs.Prelude.{◌≡◌, ℕ, List, [], map, option_map, not, ◌||◌, ◌&&◌, OnOk, IfOk};
+ghost use Rattle.std.specs.Prelude.{◌≡◌, ℕ, ◌<◌, List, [], length, map, slice_get, Some, None, option_map, not, ◌||◌, ◌&&◌, OnOk, IfOk};
 ghost use Rattle.std.specs.List.{list_any};
 ghost use Rattle.std.specs.Str.{bytes_eq};
 ghost use Rattle.est_syntax.specs.Views.{renaming_view};
 ghost use Rattle.est_link.specs.Scopes.{binders_of};
-ghost use Rattle.est_link.specs.Modules.{program_of};
+ghost use Rattle.est_link.specs.Modules.{Program, program_of};
 ghost use Rattle.est_link.specs.Occurrences.{occurrences};
 ghost use Rattle.est_link.specs.Visible.{is_local};
 ghost use Rattle.est_link.specs.Renamings.{renamed};
-ghost use Rattle.est_link.specs.Duplicates.{stands_in};
-ghost use Rattle.est_link.specs.Emissions.{emitted_of, emits_here, emits_in_run};
+ghost use Rattle.est_link.specs.Duplicates.{stands_in, first_duplicate};
+ghost use Rattle.est_link.specs.Emissions.{emitted_of, emits_here, emits_in_run, AreEmissions};
+ghost use Rattle.est_link.specs.Orders.{IsOrderOf};
 
 use crate::emission::{Emission, is_emitted};
 use crate::head::{Declared, Head, head_named};
@@ -137,4 +138,57 @@ pub fn emissions_of<'a>(
     };
     walk_body(&sent, &mut seen, home.body)?;
     Ok(seen)
+}
+
+/// Adds what a module emits to a table.
+fn add_emissions(
+    table: &mut Vec<Emission>,
+    module_name: &Identifier,
+    signals: &[Identifier],
+) -> Result<(), AllocError>
+    ensures { OnOk result ((m s : List ℕ) → emitted_of table.new.items m s ≡ (emitted_of table.old.items m s || (bytes_eq module_name.now m && stands_in signals.now s))) }
+{
+    for signal in signals {
+        table.push(Emission {
+            module_name: *module_name,
+            signal: *signal,
+        })?;
+    }
+    Ok(())
+}
+
+/// Adds what the module at a place emits, where the table says what those that it runs emit.
+fn add_module<'a>(
+    alloc: Global,
+    heads: &'a [Head<'a>],
+    table: &mut Vec<Emission>,
+    place: usize,
+) -> Result<(), AllocError>
+    requires { place < length heads.now }
+    ensures { OnOk result ((p : Program) → slice_get (map program_of heads.now) place ≡ Some p → (m s : List ℕ) → emitted_of table.new.items m s ≡ (emitted_of table.old.items m s || (bytes_eq p.name m && list_any (emits_here (map program_of heads.now) (emitted_of table.old.items) s) (occurrences [] p.body)))) }
+{
+    let home = &heads[place];
+    let signals = emissions_of(alloc, &*heads, &**table, home)?;
+    add_emissions(table, &home.name, &signals)
+}
+
+/// What each module emits, worked out along an order in which each stands after those that it runs.
+///
+/// # Errors
+///
+/// `AllocError` where memory is refused for the table.
+pub fn emissions_along<'a>(
+    alloc: Global,
+    heads: &'a [Head<'a>],
+    order: &[usize],
+) -> Result<Vec<Emission>, AllocError>
+    requires order { IsOrderOf (map program_of heads.now) order.now }
+    requires distinct { first_duplicate (map program_of heads.now) ≡ None }
+    ensures { IfOk result (λ table. AreEmissions (map program_of heads.now) (emitted_of table.items)) }
+{
+    let mut table = Vec::new(alloc);
+    for place in order {
+        add_module(alloc, &*heads, &mut table, *place)?;
+    }
+    Ok(table)
 }

@@ -1,5 +1,17 @@
-//! Why a library can't be loaded, by its checks before any run is replaced.
+//! Why a library can't be loaded, by its checks, all of which come before any run is replaced.
 use est_text::identifier::Identifier;
+use std::alloc::AllocError;
+
+/// What a main module has too many of.
+#[derive(Clone, Copy, PartialEq, Eq, Debug)]
+pub enum Limit {
+    /// Interface signals, over 64.
+    Signals,
+    /// Relations, over 32.
+    Relations,
+    /// Statements once its runs are replaced, over `MOST_STATEMENTS`.
+    Statements,
+}
 
 /// The first fault of a library. A name is that of the signal, trap or module that is at fault.
 #[derive(Clone, Copy, PartialEq, Eq, Debug)]
@@ -18,4 +30,19 @@ pub enum LinkFault {
     EmitInput(Identifier),
     /// The relation of this number, from 1 in the order of the text, has a member that is no input of the main module.
     Semantics(usize),
+    /// The main module passes this limit, the first of those that it passes.
+    TooLarge(Limit),
+    /// Memory was refused.
+    Memory,
+}
+
+impl From<AllocError> for LinkFault {
+    ghost use Rattle.std.specs.Prelude.{◌≡◌};
+    ghost use Rattle.est_link.specs.declared.fault.LinkFault.TheVariants.{Memory};
+
+    ghost from_gives = { λ _ fault. fault ≡ Memory };
+
+    fn from(_error: AllocError) -> LinkFault {
+        LinkFault::Memory
+    }
 }

@@ -1,14 +1,22 @@
-//! The interface and the relations of the main module, as the kernel has them.
+//! The main module as a flat module: its interface and its relations, as the kernel has them, and its body.
 ghost use Rattle.std.specs.Prelude.{◌≡◌, ◌≤◌, ◌∷◌, [], None, IfOk, length, map};
+ghost use Rattle.est_reduce.specs.Bound.{IsBound};
+ghost use Rattle.est_reduce.specs.Views.{body_of};
 ghost use Rattle.est_syntax.specs.Views.{relation_view};
 ghost use Rattle.est_kernel.specs.declared.interface.TheConstants.{MOST_SIGNALS};
-ghost use Rattle.est_link.specs.MainModule.{kernel_kind, declaration_of, place_of, IsRelation};
+ghost use Rattle.est_relations.specs.declared.relations.TheConstants.{MOST_RELATIONS};
+ghost use Rattle.est_link.specs.MainModule.{kernel_kind, declaration_of, declarations_of, place_of, IsRelation, AreRelations};
+ghost use Rattle.est_link.specs.MainRelations.{first_lawless};
+ghost use Rattle.est_link.specs.Modules.{program_of};
 ghost use Rattle.est_link.specs.Duplicates.{redeclared};
 
-use crate::head::{Declared, Kind};
+use crate::head::{Declared, Head, Kind};
+use crate::relations::relations_of;
 use est_kernel::interface::{Declaration, Interface, Kind as KernelKind};
 use est_kernel::statement::InterfaceSignal;
-use est_relations::relations::{Members, Relation};
+use est_reduce::body::Body;
+use est_reduce::flat::Flat;
+use est_relations::relations::{Members, Relation, Relations};
 use est_syntax::tree;
 use est_text::identifier::Identifier;
 use std::alloc::{AllocError, Global};
@@ -84,4 +92,45 @@ fn kernel_relation(
             Ok(Relation::Implication(member(interface, first), member(interface, second)))
         }
     }
+}
+
+/// The relations that are written.
+fn kernel_relations(
+    alloc: Global,
+    interface: &Interface,
+    relations: &[&tree::Relation],
+) -> Result<Relations, AllocError>
+    requires { length relations.now ≤ MOST_RELATIONS }
+    ensures { IfOk result (λ rs. AreRelations interface.now (map (λ r. relation_view r.now) relations.now) rs) }
+{
+    let mut made = Relations::new(alloc);
+    for relation in relations {
+        made.push(kernel_relation(alloc, interface, relation)?)?;
+    }
+    Ok(made)
+}
+
+/// The flat module of a module whose body is flat, which passes no limit and is not at fault.
+///
+/// # Errors
+///
+/// `AllocError` where memory is refused.
+pub fn main_module(alloc: Global, home: &Head<'_>, body: Body) -> Result<Flat, AllocError>
+    requires signals { length (program_of home.now).interface ≤ MOST_SIGNALS }
+    requires relations { length (program_of home.now).relations ≤ MOST_RELATIONS }
+    requires distinct { redeclared [] (map (λ d. d.name) (program_of home.now).interface) ≡ None }
+    requires lawful { first_lawless (program_of home.now) ≡ None }
+    requires bound { IsBound (declarations_of (program_of home.now)) 0 0 (body_of body) }
+    ensures interface { IfOk result (λ f. f.interface ≡ declarations_of (program_of home.now)) }
+    ensures relations { IfOk result (λ f. AreRelations (declarations_of (program_of home.now)) (program_of home.now).relations f.relations) }
+    ensures body { IfOk result (λ f. body_of f.body ≡ body_of body) }
+{
+    let interface = kernel_interface(alloc, &home.interface)?;
+    let listed = relations_of(alloc, home.declarations)?;
+    let relations = kernel_relations(alloc, &interface, &listed)?;
+    Ok(Flat {
+        interface,
+        relations,
+        body,
+    })
 }

@@ -34,7 +34,7 @@ fn places_at<'a>(
 }
 
 /// The name of the module at a place.
-fn name_at(heads: &[Head<'_>], place: usize) -> Identifier
+pub(crate) fn name_at(heads: &[Head<'_>], place: usize) -> Identifier
     requires { place < length heads.now }
     ensures { (p : Program) → slice_get (map program_of heads.now) place ≡ Some p → result ≡ p.name }
 {

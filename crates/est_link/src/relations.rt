@@ -78,7 +78,7 @@ fn add_relations<'a>(
 }
 
 /// The relations of declarations, in the order of the text.
-fn relations_of<'a>(
+pub(crate) fn relations_of<'a>(
     alloc: Global,
     declarations: &'a [Declaration],
 ) -> Result<Vec<&'a Relation>, AllocError>

@@ -1,7 +1,7 @@
 use Rattle.std.proofs.Common.{◌||◌, ℕ, List, [], ◌∙◌, ap, map}
 use Rattle.std.specs.List.{list_any}
 use Rattle.est_link.specs.Modules.{program_of}
-use Rattle.est_link.specs.Occurrences.{Occurrence, occurrences}
+use Rattle.est_link.specs.Occurrences.{occurrences}
 use Rattle.est_link.specs.Duplicates.{stands_in}
 use Rattle.est_link.specs.Emissions.{emitted_of, emits_here}
 use Rattle.est_link.proofs.Marks.{marked}

@@ -1,0 +1,130 @@
+-- A library of which no check has a fault.
+use Rattle.std.proofs.Common.{◌≡◌, ℕ, zero, suc, ◌≤◌, List, [], ◌∷◌, ◌++◌, length, map, nat_lt, Bool, true, false, if◌then◌else◌, Option, Some, None, option_map, refl, ap, sym, ◌∙◌}
+use Rattle.std.proofs.lemmas.Bool.{ltb-false}
+use Rattle.std.proofs.lemmas.Option.{none-some}
+use Rattle.std.specs.List.{slice_get}
+use Rattle.std.specs.Option.{option_or}
+use Rattle.std.specs.Str.{bytes_eq}
+use Rattle.est_kernel.specs.declared.interface.TheConstants.{MOST_SIGNALS}
+use Rattle.est_link.specs.Bodies.{HasSoundNames}
+use Rattle.est_link.specs.Duplicates.{redeclared, redeclared_in, redeclared_at, duplicate_of, duplicate_after, first_duplicate, stands_in}
+use Rattle.est_link.specs.Emissions.{AreEmissions, first_refused, refused_at}
+use Rattle.est_link.specs.FirstFaults.{Else, ByLimits, ByNames, ByRuns, IsFirstFault, recursive_run, limit_passed, limit_passed_by}
+use Rattle.est_link.specs.declared.count.TheConstants.{MOST_STATEMENTS}
+use Rattle.est_link.specs.Inner.Checked.{IsChecked, IsSoundMain}
+use Rattle.est_link.specs.LinkFaults.{fault_before_order, fault_behind_order, lawless_number}
+use Rattle.est_link.specs.Modules.{Program, program_named, first_in_bodies}
+use Rattle.est_link.specs.Occurrences.{Occurrence, occurrences, first_of}
+use Rattle.est_link.specs.Renamings.{bad_renaming_at}
+use Rattle.est_link.specs.Runs.{first_missing}
+use Rattle.est_link.specs.Visible.{unknown_at}
+use Rattle.est_link.specs.declared.fault.Limit.{Limit}
+use Rattle.est_link.specs.declared.fault.Limit.TheVariants.{Signals, Relations, Statements}
+use Rattle.est_link.specs.declared.fault.LinkFault.{LinkFault}
+use Rattle.est_link.specs.declared.fault.LinkFault.TheVariants.{DuplicateName, UnknownModule, BadRename, UnknownName, EmitInput, Semantics, TooLarge}
+use Rattle.est_link.specs.declared.head.Declared.{Declared}
+use Rattle.est_link.proofs.Distinct.{kept_name}
+use Rattle.est_link.proofs.Needing.{first_none, found_place}
+use Rattle.est_link.proofs.Taking.{no_main}
+use Rattle.est_link.proofs.Testing.{some_same, map_none, or_none_parts}
+use Rattle.est_relations.specs.declared.relations.TheConstants.{MOST_RELATIONS}
+
+-- where nothing is found, this check has no fault, and the next finds nothing
+else_none : (o : Option LinkFault) (next : Option LinkFault → Type 0) → Else o next None → (o ≡ None) × next None
+else_none None next h = (refl, h)
+else_none (Some fault) next h = absurd (none-some fault h)
+
+-- ---- names
+
+four_none : (a b c d : Option LinkFault) → option_or a (option_or b (option_or c d)) ≡ None → (b ≡ None) × (c ≡ None) × (d ≡ None)
+four_none a b c d h =
+    let one = or_none_parts a (option_or b (option_or c d)) h in
+    let two = or_none_parts b (option_or c d) one.1 in
+    let three = or_none_parts c d two.1 in
+    (two.0, three.0, three.1)
+
+-- a check without a fault in all bodies has none in a module that is named
+none_in : (f : Program → Occurrence → Option (List ℕ)) (ps : List Program) → first_in_bodies f ps ≡ None → (m : List ℕ) (p : Program) → program_named ps m ≡ Some p → first_of (f p) (occurrences [] p.body) ≡ None
+none_in f ps h m p found =
+    let place = found_place (λ (q : Program). bytes_eq q.name m) ps p found in
+    first_none (λ (q : Program). first_of (f q) (occurrences [] q.body)) ps place.0 p h place.2
+
+sound_names : (ps : List Program) (em : List ℕ → List ℕ → Bool) → AreEmissions ps em → first_in_bodies (unknown_at ps) ps ≡ None → first_refused ps em ≡ None → HasSoundNames ps em
+sound_names ps em are known accepted = record {
+  emissions = are;
+  known = none_in (unknown_at ps) ps known;
+  accepted = none_in (refused_at ps em) ps accepted;
+}
+
+-- ---- the main module
+
+kept_limit : (b : Bool) (l : Limit) (o : Option Limit) → (if b then Some l else o) ≡ None → (b ≡ false) × (o ≡ None)
+kept_limit true l o h = absurd (none-some l (sym h))
+kept_limit false l o h = (refl, h)
+
+within : (s r n : ℕ) → limit_passed s r n ≡ None → (s ≤ MOST_SIGNALS) × (r ≤ MOST_RELATIONS)
+within s r n h =
+    let statements : Option Limit = if nat_lt MOST_STATEMENTS n then Some Statements else None in
+    let one = kept_limit (nat_lt MOST_SIGNALS s) Signals (if nat_lt MOST_RELATIONS r then Some Relations else statements) h in
+    let two = kept_limit (nat_lt MOST_RELATIONS r) Relations statements one.1 in
+    (ltb-false MOST_SIGNALS s one.0, ltb-false MOST_RELATIONS r two.0)
+
+-- no signal of a module is declared twice
+none_redeclared : (seen : List (List ℕ)) (ps : List Program) → duplicate_after seen ps ≡ None → (i : ℕ) (p : Program) → slice_get ps i ≡ Some p → redeclared [] (map (λ (d : Declared). d.name) p.interface) ≡ None
+none_redeclared seen [] h i p at = absurd (none-some p at)
+none_redeclared seen (q ∷ qs) h zero p at =
+    let here = (or_none_parts (duplicate_of seen q) (duplicate_after (seen ++ q.name ∷ []) qs) h).0 in
+    let inside = (kept_name (stands_in seen q.name) q.name (redeclared_in q) here).1 in
+    ap (λ (r : Program). redeclared [] (map (λ (d : Declared). d.name) r.interface)) (sym (some_same q p at))
+    ∙ (or_none_parts (redeclared [] (map (λ (d : Declared). d.name) q.interface)) (first_of (redeclared_at q) (occurrences [] q.body)) inside).0
+none_redeclared seen (q ∷ qs) h (suc i) p at =
+    none_redeclared (seen ++ q.name ∷ []) qs (or_none_parts (duplicate_of seen q) (duplicate_after (seen ++ q.name ∷ []) qs) h).1 i p at
+
+sound_main : (ps : List Program) (main : List ℕ) (n : ℕ) → first_duplicate ps ≡ None → lawless_number (program_named ps main) ≡ None → limit_passed_by (program_named ps main) n ≡ None → (p : Program) → program_named ps main ≡ Some p → IsSoundMain p
+sound_main ps main n distinct lawful small p found =
+    let place = found_place (λ (q : Program). bytes_eq q.name main) ps p found in
+    let limits = within (length p.interface) (length p.relations) n (ap (λ o. limit_passed_by o n) (sym found) ∙ small) in
+    record {
+      signals = limits.0;
+      relations = limits.1;
+      distinct = none_redeclared [] ps distinct place.0 p place.2;
+      lawful = ap lawless_number (sym found) ∙ lawful;
+    }
+
+-- ---- all checks
+
+by_limits : (ps : List Program) (main : List ℕ) → first_duplicate ps ≡ None → first_missing ps main ≡ None → (em : List ℕ → List ℕ → Bool) → AreEmissions ps em → fault_behind_order ps main em ≡ None → ByLimits ps main None → IsChecked ps main
+by_limits ps main distinct there em are behind limits =
+    let none = four_none
+    (option_map BadRename (first_in_bodies (bad_renaming_at ps) ps))
+    (option_map UnknownName (first_in_bodies (unknown_at ps) ps))
+    (option_map EmitInput (first_refused ps em))
+    (option_map Semantics (lawless_number (program_named ps main))) behind in
+    let small = map_none TooLarge (limit_passed_by (program_named ps main) (limits.counts main)) (sym limits.is) in
+    record {
+      distinct = distinct;
+      there = there;
+      emitted = em;
+      names = sound_names ps em are (map_none UnknownName (first_in_bodies (unknown_at ps) ps) none.0) (map_none EmitInput (first_refused ps em) none.1);
+      home = sound_main ps main (limits.counts main) distinct (map_none Semantics (lawless_number (program_named ps main)) none.2) small;
+    }
+
+by_names : (ps : List Program) (main : List ℕ) → first_duplicate ps ≡ None → first_missing ps main ≡ None → ByNames ps main None → IsChecked ps main
+by_names ps main distinct there h =
+    let parts = else_none (fault_behind_order ps main h.emitted) (ByLimits ps main) h.is in
+    by_limits ps main distinct there h.emitted h.emissions parts.0 parts.1
+
+by_runs : (ps : List Program) (main : List ℕ) → first_duplicate ps ≡ None → first_missing ps main ≡ None → ByRuns ps main None → IsChecked ps main
+by_runs ps main distinct there h =
+    by_names ps main distinct there (else_none (option_map (recursive_run ps) h.place) (ByNames ps main) h.is).1
+
+-- a library without a fault is sound
+pub is_checked : (ps : List Program) (main : List ℕ) → IsFirstFault ps main None → IsChecked ps main
+is_checked ps main h =
+    let parts = else_none (fault_before_order ps main) (ByRuns ps main) h in
+    let none = or_none_parts (option_map DuplicateName (first_duplicate ps)) (option_map UnknownModule (first_missing ps main)) parts.0 in
+    by_runs ps main (map_none DuplicateName (first_duplicate ps) none.0) (map_none UnknownModule (first_missing ps main) none.1) parts.1
+
+-- the main module of such a library is there
+pub main_stands : (ps : List Program) (main : List ℕ) → IsFirstFault ps main None → program_named ps main ≡ None → ⊥
+main_stands ps main h = no_main ps main (program_named ps main) (is_checked ps main h).there

@@ -1,0 +1,69 @@
+//! Linking: a library of modules and the name of its main module give one flat module, or their first fault.
+ghost use Rattle.std.specs.Prelude.{◌≡◌, None, IsTrue, IfOk, map};
+ghost use Rattle.est_link.specs.FirstFaults.{Finds, IsFirstFault, IsFlatOf, IsLinkOf};
+ghost use Rattle.est_link.specs.Modules.{program_of};
+ghost use Rattle.est_link.specs.Orders.{IsOrderOf};
+ghost use Rattle.est_syntax.specs.Views.{library_view};
+ghost use Rattle.est_text.specs.Identifiers.{is_identifier};
+
+use crate::fault::LinkFault;
+use crate::head::{Head, head_named};
+use crate::heads::heads_of;
+use crate::library::check_library;
+use crate::linked_module::linked_body;
+use crate::main_module::main_module;
+use est_reduce::flat::Flat;
+use est_syntax::tree::Library;
+use est_text::identifier::Identifier;
+use module_order::order::Order;
+use std::alloc::{AllocError, Global};
+
+/// The flat main module of modules of which no check has a fault, by an order of them.
+fn flat_module<'a>(
+    alloc: Global,
+    heads: &'a [Head<'a>],
+    order: &Order,
+    main: &Identifier,
+) -> Result<Flat, AllocError>
+    requires order { IsOrderOf (map program_of heads.now) order.now }
+    requires checked { IsFirstFault (map program_of heads.now) main.now None }
+    ensures { IfOk result (IsFlatOf (map program_of heads.now) main.now) }
+{
+    let body = linked_body(alloc, &*heads, order, main)?;
+    let Some(home) = head_named(&*heads, main) else {
+        unreachable!();
+    };
+    main_module(alloc, home, body)
+}
+
+/// The flat main module of modules, or their first fault.
+fn link_heads<'a>(
+    alloc: Global,
+    heads: &'a [Head<'a>],
+    main: &Identifier,
+) -> Result<Flat, LinkFault>
+    ensures first { Finds (IsFirstFault (map program_of heads.now) main.now) result }
+    ensures flat { IfOk result (IsFlatOf (map program_of heads.now) main.now) }
+{
+    let order = check_library(alloc, &*heads, main)?;
+    Ok(flat_module(alloc, &*heads, &order, main)?)
+}
+
+/// Links a library: its main module, each `run` replaced by the body of the module that it runs, and each name bound.
+/// Every check is asked before anything is built, so a library whose modules run each other without end, or one whose
+/// runs double at each step, costs no more than its text.
+///
+/// # Errors
+///
+/// The first fault of the checks in their order: names declared twice, modules that aren't there, recursive runs,
+/// renamings, names that aren't visible, emissions of inputs, relations of the main module, its limits; or `Memory`.
+pub fn link(alloc: Global, library: &Library, main: &str) -> Result<Flat, LinkFault>
+    requires { IsTrue (is_identifier main.now) }
+    ensures { IsLinkOf (library_view library.now) main.now result }
+{
+    let Some(main) = Identifier::from_text(main) else {
+        unreachable!();
+    };
+    let heads = heads_of(alloc, library)?;
+    link_heads(alloc, &heads, &main)
+}
