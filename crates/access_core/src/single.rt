@@ -5,7 +5,6 @@ ghost use Rattle.rbac_policy.specs.Change.{absorbed};
 ghost use Rattle.rbac_policy.specs.Facts.{May};
 ghost use Rattle.rbac_policy.specs.Fits.{Fits};
 ghost use Rattle.rbac_policy.specs.StandsFor.{StandsFor};
-ghost use Rattle.rbac_admin.specs.PolicyStep.{is_decided};
 ghost use Rattle.refusal_rules.specs.Rules.{accept, ◌▸◌};
 ghost use Rattle.access_core.specs.Answering.{ByRules, no_memory};
 ghost use Rattle.access_core.specs.Inner.Ending.{EndsLiving};
@@ -224,10 +223,7 @@ impl Single {
     }
 
     /// Answers a policy command, which this session gives. An accepted command adds its one entry to the policy list.
-    ///
-    /// At this stage the command is any but AddActiveRole.
     pub fn admin(&mut self, session: Option<SessionId>, command: AdminCommand) -> Reply
-        requires { IsTrue (is_decided command) }
         ensures { AdminStep session command self.old result self.new }
     {
         match decide(&self.policy, session, command) {

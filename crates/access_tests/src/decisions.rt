@@ -2,7 +2,7 @@
 ghost use Rattle.std.specs.Prelude.{◌<◌};
 
 use est_text::identifier::Identifier;
-use rbac_admin::decisions::{decide, is_decided};
+use rbac_admin::decisions::decide;
 use rbac_admin::refusals::Refusal;
 use rbac_policy::commands::{AdminCommand, Entry, SessionId, Table};
 use rbac_policy::names::{LISTED_ROLES, Name, RoleNames};
@@ -48,7 +48,6 @@ fn give(
     command: &AdminCommand,
 ) -> Option<Refusal> {
     let given = command.clone().expect(rt, "room");
-    assert!(rt; is_decided(&given));
     match decide(policy, session, given) {
         Ok(entry) => {
             let is_login = matches!(command, AdminCommand::CreateSession { .. });
@@ -338,4 +337,54 @@ fn separations(rt: HostRuntime) {
     let delete = AdminCommand::DeleteRole { role: helper };
     let member = Refusal::RoleInDsd { set: roots };
     assert_eq!(rt; give(&rt, &mut policy, Some(first), &delete), Some(member));
+}
+
+#[test]
+fn activations(rt: HostRuntime) {
+    let mut policy = with_roles(&rt, rt.alloc());
+    let first = SessionId::new(1);
+    let guest = name(&rt, "guest");
+    let set = separation(&rt, rt.alloc(), "roots", 2, &["root", "helper"]);
+    assert!(rt; give(&rt, &mut policy, Some(first), &set).is_none());
+    let add = AdminCommand::AddRole { role: guest };
+    assert!(rt; give(&rt, &mut policy, Some(first), &add).is_none());
+    let violated = Refusal::DsdViolated {
+        set: name(&rt, "roots"),
+        session: first,
+    };
+    let nobody = name(&rt, "nobody");
+    let root = name(&rt, "root");
+    let watcher = name(&rt, "watcher");
+    let cases = [
+        (None, "watcher", Some(Refusal::NoSession)),
+        (
+            Some(first),
+            "nobody",
+            Some(Refusal::UnknownRole { role: nobody }),
+        ),
+        (
+            Some(first),
+            "guest",
+            Some(Refusal::NotAuthorized { role: guest }),
+        ),
+        (
+            Some(first),
+            "root",
+            Some(Refusal::AlreadyActive { role: root }),
+        ),
+        (Some(first), "helper", Some(violated)),
+        (Some(first), "driver", Some(violated)),
+        (Some(first), "watcher", None),
+        (
+            Some(first),
+            "watcher",
+            Some(Refusal::AlreadyActive { role: watcher }),
+        ),
+    ];
+    for (session, role, want) in cases {
+        let command = AdminCommand::AddActiveRole {
+            role: name(&rt, role),
+        };
+        assert_eq!(rt; give(&rt, &mut policy, session, &command), want);
+    }
 }

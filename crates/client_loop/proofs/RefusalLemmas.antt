@@ -1,7 +1,7 @@
 -- A line that is refused leaves the desk.
 use Rattle.std.proofs.Common.{◌≡◌, ℕ, List, sym, ◌∙◌, ap, subst, inl, inr}
 use Rattle.std.specs.Prelude.{◌⊎◌, Option, Some, None}
-use Rattle.rbac_policy.specs.declared.commands.AdminCommand.TheVariants.{AddUser, DeleteUser, AddRole, DeleteRole, AssignUser, DeassignUser, GrantPermission, RevokePermission, AddInheritance, DeleteInheritance, CreateDsdSet, DeleteDsdSet, CreateSession, DeleteSession, DropActiveRole}
+use Rattle.rbac_policy.specs.declared.commands.AdminCommand.TheVariants.{AddUser, DeleteUser, AddRole, DeleteRole, AssignUser, DeassignUser, GrantPermission, RevokePermission, AddInheritance, DeleteInheritance, CreateDsdSet, DeleteDsdSet, CreateSession, DeleteSession, AddActiveRole, DropActiveRole}
 use Rattle.access_core.specs.declared.command.SlotCommand.TheVariants as slot
 use Rattle.access_core.specs.declared.refusal.Refusal.{Refusal}
 use Rattle.access_core.specs.declared.reply.Reply.{Reply}
@@ -44,6 +44,8 @@ asked_stays (wire.CreateSet count name roles) None before refusal after h = h.st
 asked_stays (wire.CreateSet count name roles) (Some session) before refusal after h = admin_refused (Some session) (CreateDsdSet name count roles) before refusal after h
 asked_stays (wire.DeleteSet name) None before refusal after h = h.stays
 asked_stays (wire.DeleteSet name) (Some session) before refusal after h = admin_refused (Some session) (DeleteDsdSet name) before refusal after h
+asked_stays (wire.Activate role) None before refusal after h = h.stays
+asked_stays (wire.Activate role) (Some session) before refusal after h = admin_refused (Some session) (AddActiveRole role) before refusal after h
 asked_stays (wire.Drop role) None before refusal after h = h.stays
 asked_stays (wire.Drop role) (Some session) before refusal after h = admin_refused (Some session) (DropActiveRole role) before refusal after h
 asked_stays (Load main number text) None before refusal after h = h.stays

@@ -1,6 +1,6 @@
 -- One line of a connection: what it is answered, and the desk and the connection's login afterwards (this project's own form).
 use Rattle.std.specs.Prelude.{◌≡◌, ℕ, ◌<◌, ◌≤◌, ◌⊎◌, List, Option, Some, None, Err, length}
-use Rattle.rbac_policy.specs.declared.commands.AdminCommand.TheVariants.{AddUser, DeleteUser, AddRole, DeleteRole, AssignUser, DeassignUser, GrantPermission, RevokePermission, AddInheritance, DeleteInheritance, CreateDsdSet, DeleteDsdSet, CreateSession, DeleteSession, DropActiveRole}
+use Rattle.rbac_policy.specs.declared.commands.AdminCommand.TheVariants.{AddUser, DeleteUser, AddRole, DeleteRole, AssignUser, DeassignUser, GrantPermission, RevokePermission, AddInheritance, DeleteInheritance, CreateDsdSet, DeleteDsdSet, CreateSession, DeleteSession, AddActiveRole, DropActiveRole}
 use Rattle.access_core.specs.declared.command.SlotCommand.TheVariants as slot
 use Rattle.access_core.specs.declared.refusal.Refusal.{Refusal}
 use Rattle.access_core.specs.declared.refusal.Refusal.TheVariants.{TooLong, NoSession, AlreadyLoggedIn}
@@ -47,6 +47,7 @@ Asks (wire.Disinherit junior senior) login =
 Asks (wire.CreateSet count name roles) login =
     Held login (λ session. AdminStep (Some session) (CreateDsdSet name count roles))
 Asks (wire.DeleteSet name) login = Held login (λ session. AdminStep (Some session) (DeleteDsdSet name))
+Asks (wire.Activate role) login = Held login (λ session. AdminStep (Some session) (AddActiveRole role))
 Asks (wire.Drop role) login = Held login (λ session. AdminStep (Some session) (DropActiveRole role))
 Asks (Load main number text) login = Held login (λ session. DeskStep number session (slot.Load main text))
 Asks (Offer signal number) login = Held login (λ session. DeskStep number session (slot.Offer signal))

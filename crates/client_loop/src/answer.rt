@@ -1,7 +1,6 @@
 //! From the bytes of a line to the bytes of its answer: the connection's rules, over one desk.
-ghost use Rattle.std.specs.Prelude.{◌≡◌, IsTrue, MatchResult, Some, None};
+ghost use Rattle.std.specs.Prelude.{◌≡◌, MatchResult, Some, None};
 ghost use Rattle.rbac_policy.specs.declared.commands.AdminCommand.TheVariants.{DeleteSession};
-ghost use Rattle.rbac_admin.specs.PolicyStep.{is_decided};
 ghost use Rattle.access_core.specs.Desk.{AdminStep, DeskStep};
 ghost use Rattle.wire_lines.specs.declared.request.Request.TheVariants.{Login};
 ghost use Rattle.client_loop.specs.LineSteps.{Unheld, Held, Asks, after_login, after_logout, login_after, with_login, LineStep, Tells, TellsNothing, HangsUp};
@@ -28,7 +27,6 @@ struct Turn {
 
 /// A login, for a connection that holds none.
 fn log_in(desk: &mut Single, login: &Option<SessionId>, command: AdminCommand) -> Reply
-    requires { IsTrue (is_decided command) }
     ensures { Unheld login.now (AdminStep None command) desk.old result desk.new }
 {
     match login {
@@ -39,7 +37,6 @@ fn log_in(desk: &mut Single, login: &Option<SessionId>, command: AdminCommand) -
 
 /// A policy command of the session that the connection holds.
 fn administer(desk: &mut Single, login: &Option<SessionId>, command: AdminCommand) -> Reply
-    requires { IsTrue (is_decided command) }
     ensures { Held login.now (λ session. AdminStep (Some session) command)
         desk.old result desk.new }
 {
@@ -160,6 +157,9 @@ fn ask(desk: &mut Single, held: &Option<SessionId>, request: Request) -> Turn
         }
         Request::DeleteSet { name } => {
             administer(desk, held, AdminCommand::DeleteDsdSet { set: name })
+        }
+        Request::Activate { role } => {
+            administer(desk, held, AdminCommand::AddActiveRole { role })
         }
         Request::Drop { role } => administer(desk, held, AdminCommand::DropActiveRole { role }),
         Request::Load { main, slot, text } => {

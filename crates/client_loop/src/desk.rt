@@ -4,7 +4,6 @@ ghost use Rattle.rbac_policy.specs.declared.commands.AdminCommand.{AdminCommand}
 ghost use Rattle.rbac_policy.specs.declared.objects.Operation.{Operation};
 ghost use Rattle.rbac_policy.specs.declared.objects.Object.{Object};
 ghost use Rattle.rbac_policy.specs.Facts.{May};
-ghost use Rattle.rbac_admin.specs.PolicyStep.{is_decided};
 ghost use Rattle.access_core.specs.declared.command.SlotCommand.{SlotCommand};
 ghost use Rattle.access_core.specs.declared.reply.Reply.{Reply};
 ghost use Rattle.access_core.specs.Desk.{AdminStep, DeskStep};
@@ -28,7 +27,6 @@ pub trait Desk {
 
     /// Answers a policy command, which this session gives; a login is given by none.
     fn admin(&mut self, session: Option<SessionId>, command: AdminCommand) -> Reply
-        requires { IsTrue (is_decided command) }
         ensures { admins self.old session command result self.new };
 
     /// Answers a command of this session on the slot of this number.

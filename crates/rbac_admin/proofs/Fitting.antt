@@ -18,7 +18,7 @@ use Rattle.rbac_policy.specs.Change.{absorbed}
 use Rattle.rbac_policy.proofs.Asking.{role_test}
 use Rattle.rbac_policy.proofs.Absorbing.{stands_after}
 use Rattle.rbac_policy.specs.Separation.{IsFirstSetOf}
-use Rattle.rbac_admin.specs.PolicyStep.{PolicyStep, entry_of, is_decided}
+use Rattle.rbac_admin.specs.PolicyStep.{PolicyStep, entry_of}
 use Rattle.rbac_admin.proofs.Accepted.{passed, accepted_entry}
 use Rattle.rbac_admin.proofs.Listing.{none_anywhere}
 
@@ -106,10 +106,6 @@ module _ (p : Policy) (L : List Entry) (st : StandsFor p L) where
       let is = accepted_entry L session command e h in
       let Fitting : Entry → Type 0 = λ x. FitsCommand x.command x.session L in
       record { few = few; command = subst Fitting (sym is) (fits_command session command e h) }
-
-  -- so does that of a command that is decided
-  pub accepted_fits : (session : Option ℕ) (command : AdminCommand) (e : Entry) → length L < LAST_VERSION → is_decided command ≡ true → PolicyStep L session command (Ok e) → Fits L e
-  accepted_fits session command e few decided h = step_fits session command e few h
 
   -- the policy that has taken it in stands for the longer list
   pub accepted_stands : (session : Option ℕ) (command : AdminCommand) (e : Entry) → length L < LAST_VERSION → PolicyStep L session command (Ok e)

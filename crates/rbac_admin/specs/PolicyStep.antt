@@ -107,11 +107,6 @@ abbrev pub PolicyStep : List Entry → Option ℕ → AdminCommand → Result En
 PolicyStep entries session command answer =
     Answers (policy_rules entries session command) (λ refusal. answer ≡ Err refusal) (answer ≡ Ok (entry_of session command))
 
--- the commands that `decide` answers at this stage: all but AddActiveRole
-abbrev pub is_decided : AdminCommand → Bool
-is_decided (AddActiveRole role) = false
-is_decided _ = true
-
 -- the commands that only a session may give which has the right to administer the policy
 abbrev pub is_administrative : AdminCommand → Bool
 is_administrative (CreateSession user roles) = false

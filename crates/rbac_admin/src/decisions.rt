@@ -1,16 +1,16 @@
 //! The answer to a policy command.
-ghost use Rattle.std.specs.Prelude.{◌≡◌, ℕ, List, Option, IsTrue};
+ghost use Rattle.std.specs.Prelude.{◌≡◌, ℕ, List, Option};
 ghost use Rattle.rbac_policy.specs.declared.commands.Entry.{Entry};
 ghost use Rattle.rbac_policy.specs.StandsFor.{StandsFor};
-ghost use Rattle.rbac_admin.specs.PolicyStep.{PolicyStep, is_decided};
+ghost use Rattle.rbac_admin.specs.PolicyStep.{PolicyStep};
 
 use crate::refusals::Refusal;
 use crate::rules::{
-    active_role, administers, authorized_roles, in_no_set, is_assigned, is_granted, is_shape,
-    known_edge, known_role, known_roles, known_set, known_user, living, new_assignment, new_edge,
-    new_grant, new_role, new_set, new_user, no_cycle, number_left, room_for_grant, room_for_role,
-    room_for_session, room_for_set, room_for_user, separated_edge, separated_login, separated_set,
-    single_roles,
+    active_role, administers, authorized_role, authorized_roles, in_no_set, inactive_role,
+    is_assigned, is_granted, is_shape, known_edge, known_role, known_roles, known_set, known_user,
+    living, new_assignment, new_edge, new_grant, new_role, new_set, new_user, no_cycle,
+    number_left, room_for_grant, room_for_role, room_for_session, room_for_set, room_for_user,
+    separated_edge, separated_login, separated_role, separated_set, single_roles,
 };
 use rbac_policy::commands::{AdminCommand, Entry, SessionId};
 use rbac_policy::names::{Name, RoleNames};
@@ -259,6 +259,25 @@ fn decide_create_set(
     })
 }
 
+fn decide_activate(
+    policy: &Policy,
+    session: Option<SessionId>,
+    role: Name,
+) -> Result<Entry, Refusal>
+    ensures { (entries : List Entry) → StandsFor policy.now entries
+        → PolicyStep entries session (AdminCommand.AddActiveRole role) result }
+{
+    let session = living(policy, session)?;
+    known_role(policy, &role)?;
+    authorized_role(policy, session, &role)?;
+    inactive_role(policy, session, &role)?;
+    separated_role(policy, session, &role)?;
+    Ok(Entry {
+        session: Some(session),
+        command: AdminCommand::AddActiveRole { role },
+    })
+}
+
 fn decide_drop(policy: &Policy, session: Option<SessionId>, role: Name) -> Result<Entry, Refusal>
     ensures { (entries : List Entry) → StandsFor policy.now entries
         → PolicyStep entries session (AdminCommand.DropActiveRole role) result }
@@ -299,14 +318,7 @@ fn decide_login(policy: &Policy, user: Name, roles: RoleNames) -> Result<Entry, 
     })
 }
 
-/// Whether `decide` answers this command.
-pub fn is_decided(command: &AdminCommand) -> bool
-    ensures { result ≡ is_decided command.now }
-{
-    !matches!(command, AdminCommand::AddActiveRole { .. })
-}
-
-/// The entry of the command that this session gives, which is for one of the commands that `is_decided` knows. It takes no memory.
+/// The entry of the command that this session gives. It takes no memory.
 ///
 /// # Errors
 ///
@@ -323,6 +335,7 @@ pub fn is_decided(command: &AdminCommand) -> bool
 /// - of DeassignUser: NoSession, Permission, UnknownUser, UnknownRole, NotAssigned;
 /// - of RevokePermission: NoSession, Permission, UnknownRole, NotGranted;
 /// - of DeleteInheritance: NoSession, Permission, UnknownRole (the senior, then the junior), NoEdge;
+/// - of AddActiveRole: NoSession, UnknownRole, NotAuthorized, AlreadyActive, DsdViolated;
 /// - of DropActiveRole: NoSession, UnknownRole, NotActive;
 /// - of DeleteRole: NoSession, Permission, UnknownRole, RoleInDsd (the set that was made first);
 /// - of AddInheritance: NoSession, Permission, UnknownRole (the senior, then the junior), Cycle, EdgeExists, DsdViolated;
@@ -333,7 +346,6 @@ pub fn decide(
     session: Option<SessionId>,
     command: AdminCommand,
 ) -> Result<Entry, Refusal>
-    requires { IsTrue (is_decided command) }
     ensures { (entries : List Entry) → StandsFor policy.now entries → PolicyStep entries session command result }
 {
     match command {
@@ -366,6 +378,6 @@ pub fn decide(
         AdminCommand::CreateDsdSet { set, count, roles } => decide_create_set(
             policy, session, set, count, roles,
         ),
-        AdminCommand::AddActiveRole { .. } => unreachable!(),
+        AdminCommand::AddActiveRole { role } => decide_activate(policy, session, role),
     }
 }

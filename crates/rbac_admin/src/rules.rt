@@ -1,10 +1,10 @@
 //! The rules of refusal, each asked of a policy: a test passes where the rule gives no refusal, and else answers the one that it gives.
-ghost use Rattle.std.specs.Prelude.{◌≡◌, ◌↔◌, ℕ, List, Option, None, IsTrue, MatchOption, Contains, take};
+ghost use Rattle.std.specs.Prelude.{◌≡◌, ◌↔◌, ℕ, List, Option, Some, None, IsTrue, MatchOption, Contains, take};
 ghost use Rattle.std.specs.Result.{MatchResult};
 ghost use Rattle.rbac_policy.specs.declared.commands.Entry.{Entry};
 ghost use Rattle.rbac_policy.specs.StandsFor.{StandsFor};
 ghost use Rattle.rbac_policy.specs.Names.{NameText};
-ghost use Rattle.rbac_policy.specs.Facts.{IsUser, IsRole, IsSetName, IsAssigned, IsAuthorized, IsGranted, IsEdge, IsAtOrBelow, IsActive, IsLive, May};
+ghost use Rattle.rbac_policy.specs.Facts.{IsUser, IsRole, IsSetName, IsAssigned, IsAuthorized, IsGranted, IsEdge, IsAtOrBelow, IsActive, Lives, IsLive, May};
 ghost use Rattle.rbac_policy.specs.Fits.{NumbersExhausted, UsersFull, RolesFull, SetsFull, SessionsFull};
 ghost use Rattle.rbac_policy.specs.Separation.{IsFirstSetOf};
 ghost use Rattle.refusal_rules.specs.Rules.{Says, Unless, Naming, Tests};
@@ -212,6 +212,29 @@ pub fn active_role(policy: &Policy, session: SessionId, role: &Name) -> Result<(
     }
 }
 
+/// The role is not active in the session yet, which lives.
+pub fn inactive_role(policy: &Policy, session: SessionId, role: &Name) -> Result<(), Refusal>
+    ensures { (entries : List Entry) → StandsFor policy.now entries → IsLive entries session
+        → Tests (Says (Refusal.AlreadyActive role.now) (IsActive entries session role.now)) result }
+{
+    if policy.is_active(session, role) {
+        Err(Refusal::AlreadyActive { role: *role })
+    } else {
+        Ok(())
+    }
+}
+
+/// The user of the session, which lives, is authorized for the role.
+pub fn authorized_role(policy: &Policy, session: SessionId, role: &Name) -> Result<(), Refusal>
+    ensures { (entries : List Entry) (user : NameText) → StandsFor policy.now entries → Lives entries session user
+        → Tests (Unless (IsAuthorized entries user role.now) (Refusal.NotAuthorized role.now)) result }
+{
+    match policy.user_of(session) {
+        Some(user) if policy.is_authorized(&user, role) => Ok(()),
+        _ => Err(Refusal::NotAuthorized { role: *role }),
+    }
+}
+
 /// There is no such separation set yet.
 pub fn new_set(policy: &Policy, set: &Name) -> Result<(), Refusal>
     ensures { (entries : List Entry) → StandsFor policy.now entries
@@ -310,6 +333,21 @@ pub fn separated_set(
         → Tests (violation entries session (AdminCommand.CreateDsdSet set.now count roles.now)) result }
 {
     match policy.first_violated_by_set(set, count, roles) {
+        Some(violation) => Err(Refusal::DsdViolated {
+            set: violation.set,
+            session: violation.session,
+        }),
+        None => Ok(()),
+    }
+}
+
+/// No session violates a separation set once the role, for which its user is authorized, is active in this one too.
+pub fn separated_role(policy: &Policy, session: SessionId, role: &Name) -> Result<(), Refusal>
+    ensures { (entries : List Entry) (user : NameText) → StandsFor policy.now entries
+        → Lives entries session user → IsAuthorized entries user role.now
+        → Tests (violation entries (Some session) (AdminCommand.AddActiveRole role.now)) result }
+{
+    match policy.first_violated_by_role(session, role) {
         Some(violation) => Err(Refusal::DsdViolated {
             set: violation.set,
             session: violation.session,

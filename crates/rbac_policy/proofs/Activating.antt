@@ -18,7 +18,7 @@ use Rattle.rbac_policy.proofs.Steps.{in_force_push}
 use Rattle.rbac_policy.proofs.Ended.{Unswept}
 use Rattle.rbac_policy.proofs.Untouched.{through}
 use Rattle.rbac_policy.proofs.Granting.{flip, sums}
-use Rattle.rbac_policy.proofs.Mapping.{SessionSlot, sessions_mapped}
+use Rattle.rbac_policy.proofs.Mapping.{SessionSlot, SessionBecomes, sessions_mapped}
 use Rattle.rbac_policy.proofs.Slots.{in_with_bit, named_with_bit, in_without_bit, named_without_bit}
 
 module _ (roles : List (Option NameText)) (unique : (p q : ℕ) (r : NameText) → At roles p r → At roles q r → p ≡ q) (many : length roles ≡ ROLES)
@@ -83,7 +83,7 @@ module _ (roles : List (Option NameText)) (unique : (p q : ℕ) (r : NameText) �
   abbrev pub the_take : Entry
   the_take = record { session = Some k; command = AddActiveRole r0 }
 
-  taken : (n : ℕ) (r : NameText) → IsActive (L ++ the_take ∷ []) n r ↔ (((k ≡ n) × (r0 ≡ r)) ⊎ IsActive L n r)
+  pub taken : (n : ℕ) (r : NameText) → IsActive (L ++ the_take ∷ []) n r ↔ (((k ≡ n) × (r0 ≡ r)) ⊎ IsActive L n r)
   taken n r =
       let M : List Entry → Entry → Type 0 = λ before e. CreatesWith n r before e ⊎ TakesUp n r e in
       let U : Entry → Type 0 = LaysDown n r in (
@@ -97,33 +97,31 @@ module _ (roles : List (Option NameText)) (unique : (p q : ℕ) (r : NameText) �
         ]),
       )
 
-  take_stays : (n : ℕ) (u : NameText) → Ends n u the_take → ⊥
+  pub take_stays : (n : ℕ) (u : NameText) → Ends n u the_take → ⊥
   take_stays n u ends = elim ends [ inl a ↦ (let h = a.1 in cc) | inr b ↦ cc ]
+
+  -- the row of the session that takes the role up
+  abbrev pub with_role : Session → Session
+  with_role x = record { number = x.number; user = x.user; active = with_bit x.active p0 }
+
+  pub taken_here : (at : ℕ) (x : Session) → At sessions at x → x.number ≡ k → SessionBecomes roles L the_take x (with_role x)
+  taken_here at x there same = record {
+    number = refl;
+    user = refl;
+    stays = take_stays x.number x.user;
+    active = λ r. through (taken x.number r) (through
+        (sums {A = (k ≡ x.number) × (r0 ≡ r)} {C = r0 ≡ r} (λ p. p.1, λ q. (sym same, q)) (ss.active at x there r))
+        (flip (in_with_bit roles unique p0 r0 there0 low x.active r)));
+    named = named_with_bit roles unique p0 r0 there0 low x.active (ss.named at x there);
+  }
 
   take_slot : (at : ℕ) (x : Session) → At sessions at x → SessionSlot roles L the_take (session_given k p0) x
   take_slot at x there = by_test (x.number == k) refl where
-    new : Session
-    new = record { number = x.number; user = x.user; active = with_bit x.active p0 }
-
     by_test : (b : Bool) → (x.number == k) ≡ b → SessionSlot roles L the_take (session_given k p0) x
-    by_test true e =
-        let same = (Decides-eqb x.number k).0 e in
-        inr (
-          new,
-          ap (λ b. cond b (Some new) (Some x)) e,
-          record {
-            number = refl;
-            user = refl;
-            stays = take_stays x.number x.user;
-            active = λ r. through (taken x.number r) (through
-                (sums {A = (k ≡ x.number) × (r0 ≡ r)} {C = r0 ≡ r} (λ p. p.1, λ q. (sym same, q)) (ss.active at x there r))
-                (flip (in_with_bit roles unique p0 r0 there0 low x.active r)));
-            named = named_with_bit roles unique p0 r0 there0 low x.active (ss.named at x there);
-          },
-        )
+    by_test true e = inr (with_role x, ap (λ b. cond b (Some (with_role x)) (Some x)) e, taken_here at x there ((Decides-eqb x.number k).0 e))
     by_test false e = inr (
       x,
-      ap (λ b. cond b (Some new) (Some x)) e,
+      ap (λ b. cond b (Some (with_role x)) (Some x)) e,
       record {
         number = refl;
         user = refl;

@@ -42,3 +42,4 @@ pub mod Separated
 pub mod LoggingIn
 pub mod ReadingSets
 pub mod Prospects
+pub mod TakingUp

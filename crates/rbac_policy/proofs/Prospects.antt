@@ -29,19 +29,31 @@ use Rattle.rbac_policy.proofs.Separated.{front_slot, before_none, shown_violatio
 abbrev pub Tells : List Entry → Option Violation → Type 0
 Tells L o = MatchOption o ((set : NameText) (session : ℕ) → IsFirstViolated L set session → ⊥) (λ v. IsFirstViolated L v.set v.session)
 
-sets_of : (roles : List (Option NameText)) (sets : List (Option DsdSet)) (L : List Entry) → SetsStand roles sets L → SetRows roles sets L
+pub sets_of : (roles : List (Option NameText)) (sets : List (Option DsdSet)) (L : List Entry) → SetsStand roles sets L → SetRows roles sets L
 sets_of roles sets L s = record { listed = s.listed; made = s.made }
 
 module _ (p : Policy) (L : List Entry) (st : StandsFor p L) where
+  -- the entry takes nobody's authorization away
+  pub record Lossless (e : Entry) : Type 0 where
+    pub no_loss : (r : NameText) → e.command ≡ DeleteRole r → ⊥
+    pub no_unassign : (u r : NameText) → Unassigns u r e → ⊥
+    pub no_disinherit : (a b : NameText) → Disinherits a b e → ⊥
+
+  pub still_authorized : (e : Entry) → Lossless e → (u r : NameText) → IsAuthorized L u r → IsAuthorized (L ++ e ∷ []) u r
+  still_authorized e keeps u r a = record {
+    exists = (in_force_push _ _ L e).1 (inr (a.exists, keeps.no_loss r));
+    by = a.by;
+    assigned = (in_force_push _ _ L e).1 (inr (a.assigned, keeps.no_unassign u a.by));
+    order = widened (λ x y edge. (in_force_push _ _ L e).1 (inr (edge, keeps.no_disinherit x y))) a.order;
+  }
+
   -- sessions as they were, after an entry that gives and takes no active role, and takes nobody's authorization away
   record Quiet (e : Entry) : Type 0 where
     no_login : (u : NameText) (roles : List NameText) → e.command ≡ CreateSession u roles → ⊥
     no_take : (r : NameText) → e.command ≡ AddActiveRole r → ⊥
     no_drop : (r : NameText) → e.command ≡ DropActiveRole r → ⊥
     no_end : (n : ℕ) (u : NameText) → Ends n u e → ⊥
-    no_loss : (r : NameText) → e.command ≡ DeleteRole r → ⊥
-    no_unassign : (u r : NameText) → Unassigns u r e → ⊥
-    no_disinherit : (a b : NameText) → Disinherits a b e → ⊥
+    keeps : Lossless e
 
   module _ (e : Entry) (quiet : Quiet e) where
     same_active : (n : ℕ) (r : NameText) → IsActive (L ++ e ∷ []) n r ↔ IsActive L n r
@@ -49,18 +61,10 @@ module _ (p : Policy) (L : List Entry) (st : StandsFor p L) where
         (λ m. elim m [ inl a ↦ quiet.no_login a.user a.roles a.creates.login | inr b ↦ quiet.no_take r b.1 ])
         (λ u. quiet.no_drop r u.1)
 
-    still_authorized : (u r : NameText) → IsAuthorized L u r → IsAuthorized (L ++ e ∷ []) u r
-    still_authorized u r a = record {
-      exists = (in_force_push _ _ L e).1 (inr (a.exists, quiet.no_loss r));
-      by = a.by;
-      assigned = (in_force_push _ _ L e).1 (inr (a.assigned, quiet.no_unassign u a.by));
-      order = widened (λ x y edge. (in_force_push _ _ L e).1 (inr (edge, quiet.no_disinherit x y))) a.order;
-    }
-
     still_lives : (n : ℕ) (u : NameText) → Lives L n u → Lives (L ++ e ∷ []) n u
     still_lives n u l = lives_before L e n u (inr (l, quiet.no_end n u)) (λ r a.
         let whole : HasOnlyAuthorized L n u = subst (λ xs. HasOnlyAuthorized xs n u) (take-length L) (l.authorized (length L) (slice_get_within L l.at l.entry l.there) (omega arith)) in
-        still_authorized u r (whole r ((same_active n r).0 a)))
+        still_authorized e quiet.keeps u r (whole r ((same_active n r).0 a)))
 
     rows_after : SessionRows p.roles (p.sessions ++ None ∷ []) (L ++ e ∷ [])
     rows_after = record {
@@ -79,9 +83,11 @@ module _ (p : Policy) (L : List Entry) (st : StandsFor p L) where
     no_take = λ r h. cc;
     no_drop = λ r h. cc;
     no_end = λ n u h. elim h [ inl x ↦ (let k = x.1 in cc) | inr y ↦ cc ];
-    no_loss = λ r h. cc;
-    no_unassign = λ u r h. elim h [ inl x ↦ cc | inr y ↦ elim y [ inl x ↦ cc | inr z ↦ cc ] ];
-    no_disinherit = λ a b h. elim h [ inl x ↦ cc | inr y ↦ elim y [ inl x ↦ cc | inr z ↦ cc ] ];
+    keeps = record {
+      no_loss = λ r h. cc;
+      no_unassign = λ u r h. elim h [ inl x ↦ cc | inr y ↦ elim y [ inl x ↦ cc | inr z ↦ cc ] ];
+      no_disinherit = λ a b h. elim h [ inl x ↦ cc | inr y ↦ elim y [ inl x ↦ cc | inr z ↦ cc ] ];
+    };
   }
 
   pub after_edge : (by : Option ℕ) (senior junior : NameText) (above place : ℕ) → place_of senior p.roles ≡ Some above → place_of junior p.roles ≡ Some place
@@ -108,9 +114,11 @@ module _ (p : Policy) (L : List Entry) (st : StandsFor p L) where
       no_take = λ r h. cc;
       no_drop = λ r h. cc;
       no_end = λ n u h. elim h [ inl x ↦ (let k = x.1 in cc) | inr y ↦ cc ];
-      no_loss = λ r h. cc;
-      no_unassign = λ u r h. elim h [ inl x ↦ cc | inr y ↦ elim y [ inl x ↦ cc | inr z ↦ cc ] ];
-      no_disinherit = λ a b h. elim h [ inl x ↦ cc | inr y ↦ elim y [ inl x ↦ cc | inr z ↦ cc ] ];
+      keeps = record {
+        no_loss = λ r h. cc;
+        no_unassign = λ u r h. elim h [ inl x ↦ cc | inr y ↦ elim y [ inl x ↦ cc | inr z ↦ cc ] ];
+        no_disinherit = λ a b h. elim h [ inl x ↦ cc | inr y ↦ elim y [ inl x ↦ cc | inr z ↦ cc ] ];
+      };
     }
 
     set_push : (place : ℕ) (name : NameText) (many : ℕ) (members : List NameText)

@@ -1,5 +1,5 @@
 -- What the readers of assignments and active roles say of the list of entries.
-use Rattle.std.proofs.Common.{inl, inr, ◌≡◌, ℕ, ◌↔◌, List, sym, ◌∙◌, refl, subst, Bool, IsTrue, arith}
+use Rattle.std.proofs.Common.{inl, inr, ◌≡◌, ℕ, ◌↔◌, List, sym, ◌∙◌, ap, refl, subst, Bool, IsTrue, arith}
 use Rattle.std.specs.Prelude.{Some, None, ◌==◌}
 use Rattle.std.proofs.lemmas.Bool.Decides.{Decides-eqb}
 use Rattle.std.proofs.lemmas.Nat.Bits.{bit_at-zero}
@@ -68,6 +68,15 @@ module _ (p : Policy) (L : List Entry) (st : StandsFor p L) where
   -- its user
   pub live_user : (n : ℕ) (x : Session) → session_of n p.sessions ≡ Some x → Lives L n x.user
   live_user n x is = let s = live_slot n x is in (st.sessions.exist n x.user).1 (record { at = s.at; value = x; there = s.there; fact = (s.number, refl) })
+
+  -- it has one user
+  pub one_user : (n : ℕ) (u v : NameText) → Lives L n u → Lives L n v → u ≡ v
+  one_user n u v lives also =
+      let a = (st.sessions.exist n u).0 lives in
+      let b = (st.sessions.exist n v).0 also in
+      let place = st.sessions.unique a.at b.at a.value b.value a.there b.there (a.fact.0 ∙ sym b.fact.0) in
+      let row : a.value ≡ b.value = same_Some a.value b.value (same_Some (Some a.value) (Some b.value) (sym (subst (λ at. At p.sessions at a.value) place a.there) ∙ b.there)) in
+      sym a.fact.1 ∙ ap (λ (z : Session). z.user) row ∙ b.fact.1
 
   -- no slot, no living session
   pub no_live : (n : ℕ) → session_of n p.sessions ≡ None → IsLive L n → ⊥

@@ -13,7 +13,7 @@ use Rattle.rbac_policy.specs.Violations.{first_violation}
 use Rattle.rbac_policy.specs.Tables.{At}
 use Rattle.rbac_policy.specs.StandsFor.{RolesStand, StandsFor}
 use Rattle.rbac_policy.proofs.Steps.{get_push, get_front}
-use Rattle.rbac_policy.proofs.Violating.{SessionRows, SetRows, none_violated, first_violated}
+use Rattle.rbac_policy.proofs.Violating.{SessionRows, SessionParts, SetRows, parts_of, none_violated, first_violated}
 
 -- a filled slot of those before, with one more slot
 pub front_slot : {X : Type 0} (slots : List (Option X)) (more : Option X) (at : ℕ) (x : X) → At slots at x → At (slots ++ more ∷ []) at x
@@ -34,11 +34,16 @@ pub set_rows : (p : Policy) (L : List Entry) → StandsFor p L → SetRows p.rol
 set_rows p L st = record { listed = st.sets.listed; made = st.sets.made }
 
 -- what the tables show is the first violation of the list
+pub shown_in_parts : (roles : List (Option NameText)) (juniors : List ℕ) (sets : List (Option DsdSet)) (sessions : List (Option Session)) (L : List Entry)
+    → RolesStand roles juniors L → SessionParts roles sessions L → SetRows roles sets L → (o : Option Violation) → o ≡ first_violation juniors sessions sets
+    → MatchOption o ((set : NameText) (session : ℕ) → IsFirstViolated L set session → ⊥) (λ v. IsFirstViolated L v.set v.session)
+shown_in_parts roles juniors sets sessions L rs sr tr None is = none_violated roles juniors sets sessions L rs sr tr (sym is)
+shown_in_parts roles juniors sets sessions L rs sr tr (Some v) is = first_violated roles juniors sets sessions L rs sr tr v (sym is)
+
 pub shown_violation : (roles : List (Option NameText)) (juniors : List ℕ) (sets : List (Option DsdSet)) (sessions : List (Option Session)) (L : List Entry)
     → RolesStand roles juniors L → SessionRows roles sessions L → SetRows roles sets L → (o : Option Violation) → o ≡ first_violation juniors sessions sets
     → MatchOption o ((set : NameText) (session : ℕ) → IsFirstViolated L set session → ⊥) (λ v. IsFirstViolated L v.set v.session)
-shown_violation roles juniors sets sessions L rs sr tr None is = none_violated roles juniors sets sessions L rs sr tr (sym is)
-shown_violation roles juniors sets sessions L rs sr tr (Some v) is = first_violated roles juniors sets sessions L rs sr tr v (sym is)
+shown_violation roles juniors sets sessions L rs sr tr o is = shown_in_parts roles juniors sets sessions L rs (parts_of roles sessions L sr) tr o is
 
 pub found_violation : (p : Policy) (L : List Entry) → StandsFor p L → (o : Option Violation) → o ≡ first_violation p.juniors (p.sessions ++ None ∷ []) p.sets
     → MatchOption o ((set : NameText) (session : ℕ) → IsFirstViolated L set session → ⊥) (λ v. IsFirstViolated L v.set v.session)

@@ -32,6 +32,24 @@ pub record SessionRows (roles : List (Option NameText)) (sessions : List (Option
   pub active : (at : ℕ) (x : Session) → At sessions at x → (r : NameText) → IsActive L x.number r ↔ InMask roles x.active r
   pub named : (at : ℕ) (x : Session) → At sessions at x → IsNamed roles x.active
 
+-- the same, where a slot may hold a part of what is active in its session: another of the session then holds all
+pub record SessionParts (roles : List (Option NameText)) (sessions : List (Option Session)) (L : List Entry) : Type 0 where
+  pub whole : (n : ℕ) → IsLive L n → Holds (λ x. (x.number ≡ n) × ((r : NameText) → IsActive L n r → InMask roles x.active r)) sessions
+  pub lives : (at : ℕ) (x : Session) → At sessions at x → IsLive L x.number
+  pub active : (at : ℕ) (x : Session) → At sessions at x → (r : NameText) → InMask roles x.active r → IsActive L x.number r
+  pub named : (at : ℕ) (x : Session) → At sessions at x → IsNamed roles x.active
+
+-- slots that hold all hold a part
+pub parts_of : (roles : List (Option NameText)) (sessions : List (Option Session)) (L : List Entry) → SessionRows roles sessions L → SessionParts roles sessions L
+parts_of roles sessions L sr = record {
+  whole = λ n live.
+      let h = sr.stands n live in
+      record { at = h.at; value = h.value; there = h.there; fact = (h.fact, λ r a. (sr.active h.at h.value h.there r).0 (subst (λ k. IsActive L k r) (sym h.fact) a)) };
+  lives = sr.lives;
+  active = λ at x there r. (sr.active at x there r).1;
+  named = sr.named;
+}
+
 -- the separation sets, in slots of any number
 pub record SetRows (roles : List (Option NameText)) (sets : List (Option DsdSet)) (L : List Entry) : Type 0 where
   pub listed : (place : ℕ) (set : NameText) (count : ℕ) (members : List NameText) → IsSet L place set count members → Holds (IsRowOf roles place set count members) sets
@@ -41,7 +59,7 @@ weaker : {A : Type 0} (P Q : A → Type 0) (n : ℕ) → ((a : A) → P a → Q 
 weaker P Q n f h = record { values = h.values; distinct = h.distinct; have = λ p d within. f _ (h.have p d within); enough = h.enough }
 
 module _ (roles : List (Option NameText)) (juniors : List ℕ) (sets : List (Option DsdSet)) (sessions : List (Option Session)) (L : List Entry)
-    (rs : RolesStand roles juniors L) (sr : SessionRows roles sessions L) (tr : SetRows roles sets L) where
+    (rs : RolesStand roles juniors L) (sr : SessionParts roles sessions L) (tr : SetRows roles sets L) where
   -- one session and one set
   module _ (at : ℕ) (x : Session) (there : At sessions at x) where
     below_named : (q : ℕ) → Has (below juniors x.active) q → (r : NameText) × At roles q r
@@ -61,10 +79,14 @@ module _ (roles : List (Option NameText)) (juniors : List ℕ) (sets : List (Opt
       abbrev Held : NameText → Type 0
       Held role = Contains members role × IsActiveOrBelow L x.number role
 
-      in_held : (role : NameText) → Held role → InMask roles held role
-      in_held role h =
+      -- the slot holds all that is active in its session
+      abbrev HoldsAll : Type 0
+      HoldsAll = (role : NameText) → IsActive L x.number role → InMask roles x.active role
+
+      in_held : HoldsAll → (role : NameText) → Held role → InMask roles held role
+      in_held all role h =
           let b = h.1 in
-          let top = (sr.active at x there b.active).0 b.is_active in
+          let top = all b.active b.is_active in
           let down = chain_down roles juniors L rs b.below top.place top.there in
           let found = below_all juniors x.active fits down.0 (record { top = top.place; within = top.bit; chain = down.2 }) in
           let member = (row.members role).0 h.0 in
@@ -81,7 +103,7 @@ module _ (roles : List (Option NameText)) (juniors : List ℕ) (sets : List (Opt
             (row.members role).1 (record { place = i.place; there = i.there; bit = bits.1 }),
             subst (λ r. IsActiveOrBelow L x.number r) same (record {
               active = top.0;
-              is_active = (sr.active at x there top.0).1 (record { place = b.top; there = top.1; bit = b.within });
+              is_active = sr.active at x there top.0 (record { place = b.top; there = top.1; bit = b.within });
               below = up.2;
             }),
           )
@@ -92,9 +114,9 @@ module _ (roles : List (Option NameText)) (juniors : List ℕ) (sets : List (Opt
           let enough = as_many_roles roles rs.unique rs.places held count (λ p bit. below_named p ((has_common (below juniors x.active) d.roles p).0 bit).0) (omega (arith, few, row.number)) in
           record { lives = sr.lives at x there; many = weaker (InMask roles held) Held count held_in enough }
 
-      shows : Violates L x.number count members → holds_many juniors d x ≡ true
-      shows v =
-          let few = as_many_places roles rs.unique rs.places held count (weaker Held (InMask roles held) count in_held v.many) in
+      shows : HoldsAll → Violates L x.number count members → holds_many juniors d x ≡ true
+      shows all v =
+          let few = as_many_places roles rs.unique rs.places held count (weaker Held (InMask roles held) count (in_held all) v.many) in
           elim (leb_tells d.count (length (places_of held))) [ inl t ↦ t.0 | inr f ↦ absurd (omega (arith, f.1, few, row.number)) ]
 
   -- the session in a slot, if it holds too many roles of the set
@@ -181,13 +203,13 @@ module _ (roles : List (Option NameText)) (juniors : List ℕ) (sets : List (Opt
 
   session_row : (session count : ℕ) (members : List NameText) (d : DsdSet) (place : ℕ) (set : NameText) → IsRowOf roles place set count members d → Violates L session count members → Holder d session
   session_row session count members d place set row v =
-      let s = sr.stands session v.lives in
+      let s = sr.whole session v.lives in
       record {
         at = s.at;
         row = s.value;
         there = s.there;
-        number = s.fact;
-        many = shows s.at s.value s.there d place set count members row (subst (λ n. Violates L n count members) (sym s.fact) v);
+        number = s.fact.0;
+        many = shows s.at s.value s.there d place set count members row (λ r a. s.fact.1 r (subst (λ n. IsActive L n r) s.fact.0 a)) (subst (λ n. Violates L n count members) (sym s.fact.0) v);
       }
 
   shown : (place : ℕ) (set : NameText) (count : ℕ) (members : List NameText) (session : ℕ) → IsSet L place set count members → Violates L session count members → Shown place session

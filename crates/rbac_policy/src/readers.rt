@@ -1,8 +1,8 @@
 //! What a policy says of users, roles, permissions and sessions: what it is asked before a policy command is accepted.
-ghost use Rattle.std.specs.Prelude.{ℕ, Option, ◌↔◌, ◌++◌, ◌∷◌, [], List, IsTrue, MatchOption, Contains};
+ghost use Rattle.std.specs.Prelude.{ℕ, Option, Some, ◌↔◌, ◌++◌, ◌∷◌, [], List, IsTrue, MatchOption, Contains};
 ghost use Rattle.rbac_policy.specs.Names.{NameText};
 ghost use Rattle.rbac_policy.specs.Separation.{IsFirstSetOf, IsFirstViolated, login_entry};
-ghost use Rattle.rbac_policy.specs.declared.commands.AdminCommand.TheVariants.{AddInheritance, CreateDsdSet};
+ghost use Rattle.rbac_policy.specs.declared.commands.AdminCommand.TheVariants.{AddActiveRole, AddInheritance, CreateDsdSet};
 ghost use Rattle.rbac_policy.specs.declared.commands.Entry.{Entry};
 ghost use Rattle.rbac_policy.specs.Facts.{IsUser, IsRole, IsSetName, IsAssigned, IsGranted, IsPairGranted, IsEdge, IsAtOrBelow, IsAuthorized, IsActive, Lives, IsLive};
 ghost use Rattle.rbac_policy.specs.Fits.{NumbersExhausted, UsersFull, RolesFull, SetsFull, SessionsFull, PermissionsFull};
@@ -179,6 +179,32 @@ impl Policy {
                 Some(place) => {
                     let juniors = self.juniors.with_edge(above, place);
                     first_violation(&self.sets, &self.sessions, &None, &juniors)
+                }
+                None => None,
+            },
+            None => None,
+        }
+    }
+
+    /// The first separation set, in order of creation, that some session violates once the role, for which its user is authorized, is
+    /// active in this one too, and the least session that does.
+    pub fn first_violated_by_role(&self, session: SessionId, role: &Name) -> Option<Violation>
+        ensures { (entries : List Entry) (user : NameText) → StandsFor self.now entries
+            → Lives entries session user → IsAuthorized entries user role.now
+            → MatchOption result
+            ((set : NameText) (number : ℕ) → IsFirstViolated (entries ++ record { session = Some session; command = AddActiveRole role.now } ∷ []) set number → ⊥)
+            (λ violation. IsFirstViolated (entries ++ record { session = Some session; command = AddActiveRole role.now } ∷ []) violation.set violation.session) }
+    {
+        match session_of(&self.sessions, session) {
+            Some(found) => match place_of(&self.roles, role) {
+                Some(place) => {
+                    // The session's row in the table violates no set that this one, with a role more, doesn't.
+                    let coming = Some(Session {
+                        number: found.number,
+                        user: found.user,
+                        active: found.active.with(place),
+                    });
+                    first_violation(&self.sets, &self.sessions, &coming, &self.juniors)
                 }
                 None => None,
             },

@@ -17,7 +17,7 @@ use Rattle.rbac_policy.specs.declared.objects.Object.{Object}
 use Rattle.rbac_policy.proofs.ObjectTexts.{operation_of-exact, object_of-exact}
 use Rattle.wire_lines.proofs.KeyLemmas.{list_back}
 use Rattle.wire_lines.specs.Requests.{members_of, Fits}
-use Rattle.wire_lines.specs.Inner.Reading.{text_at, name_at, identifier_at, operation_at, object_at, number_at, keys_are, has_keys, command_of, names_from, with_front, list_of, roles_from, roles_at, login_of, logout_of, grant_of, add_user_of, delete_user_of, add_role_of, assign_of, deassign_of, revoke_of, disinherit_of, drop_role_of, delete_role_of, inherit_of, create_set_of, delete_set_of, load_of, offer_of, step_of, look_of, fields_of, request_of}
+use Rattle.wire_lines.specs.Inner.Reading.{text_at, name_at, identifier_at, operation_at, object_at, number_at, keys_are, has_keys, command_of, names_from, with_front, list_of, roles_from, roles_at, login_of, logout_of, grant_of, add_user_of, delete_user_of, add_role_of, assign_of, deassign_of, revoke_of, disinherit_of, activate_of, drop_role_of, delete_role_of, inherit_of, create_set_of, delete_set_of, load_of, offer_of, step_of, look_of, fields_of, request_of}
 use Rattle.wire_lines.specs.declared.request.Command.{Command}
 use Rattle.wire_lines.specs.declared.request.Command.TheVariants as command
 use Rattle.wire_lines.specs.declared.request.Request.{Request}
@@ -315,6 +315,18 @@ disinherit_is d r named h =
     let v = tested is_name k.2 m.0 (subst (λ (x : Data). name_at (codes "senior") x ≡ Some m.0) whole m.1) in
     subst (Is d) m.2 (record { value = whole ∙ rw (e, u.0, v.0) refl; fits = (u.1, v.1) })
 
+activate_is : (d : Data) (r : Request) → HasCommand (codes "activate") d → activate_of d ≡ Some r → Is d r
+unfolding activate_of name_at text_at
+activate_is d r named h =
+    let p = guard (has_keys d (codes "cmd" ∷ codes "role" ∷ [])) _ r h in
+    let o = object_with d _ p.0 in
+    let k = two_members o.0 (codes "cmd") (codes "role") o.2 in
+    let whole : d ≡ object (member (codes "cmd") k.0 (member (codes "role") k.1 no_members)) = o.1 ∙ ap object k.2 in
+    let e : k.0 ≡ string (codes "activate") = as_str_is k.0 _ (subst (HasCommand (codes "activate")) whole named) in
+    let m = mapped request.Activate _ r p.1 in
+    let u = tested is_name k.1 m.0 (subst (λ (x : Data). name_at (codes "role") x ≡ Some m.0) whole m.1) in
+    subst (Is d) m.2 (record { value = whole ∙ rw (e, u.0) refl; fits = u.1 })
+
 drop_role_is : (d : Data) (r : Request) → HasCommand (codes "drop") d → drop_role_of d ≡ Some r → Is d r
 unfolding drop_role_of name_at text_at
 drop_role_is d r named h =
@@ -428,7 +440,7 @@ texts_are_names [] h = refl
 texts_are_names (n ∷ ns) h = rw (h.0, texts_are_names ns h.1) refl
 
 pub from_request : (r : Request) → Fits r → request_of (object (members_of r)) ≡ Some r
-unfolding request_of command_of login_of logout_of grant_of add_user_of delete_user_of add_role_of assign_of deassign_of revoke_of disinherit_of drop_role_of delete_role_of inherit_of create_set_of delete_set_of load_of offer_of step_of look_of has_keys text_at name_at identifier_at operation_at object_at number_at roles_at roles_from
+unfolding request_of command_of login_of logout_of grant_of add_user_of delete_user_of add_role_of assign_of deassign_of revoke_of disinherit_of activate_of drop_role_of delete_role_of inherit_of create_set_of delete_set_of load_of offer_of step_of look_of has_keys text_at name_at identifier_at operation_at object_at number_at roles_at roles_from
 from_request request.Logout f = refl
 from_request (request.Step slot) f = refl
 from_request (request.Look instant slot) f = refl
@@ -444,6 +456,7 @@ from_request (request.Deassign role user) f = rw (f.0, f.1) refl
 from_request (request.Revoke on operation role) f =
     rw ((object_of-exact (object_text on) on).1 (f.0, refl), (operation_of-exact (operation_text operation) operation).1 refl, f.1) refl
 from_request (request.Disinherit junior senior) f = rw (f.0, f.1) refl
+from_request (request.Activate role) f = rw f refl
 from_request (request.Drop role) f = rw f refl
 from_request (request.DeleteRole role) f = rw f refl
 from_request (request.Inherit junior senior) f = rw (f.0, f.1) refl
@@ -468,6 +481,7 @@ command_text command.Assign = codes "assign"
 command_text command.Deassign = codes "deassign"
 command_text command.Revoke = codes "revoke"
 command_text command.Disinherit = codes "disinherit"
+command_text command.Activate = codes "activate"
 command_text command.Drop = codes "drop"
 command_text command.DeleteRole = codes "delrole"
 command_text command.Inherit = codes "inherit"
@@ -489,7 +503,7 @@ pick s one others c h later =
 command_is : (s : List ℕ) (c : Command) → command_of s ≡ Some c → s ≡ command_text c
 unfolding command_of
 command_is s c h =
-    pick s command.Login _ c h (λ h. pick s command.Logout _ c h (λ h. pick s command.Grant _ c h (λ h. pick s command.AddUser _ c h (λ h. pick s command.DeleteUser _ c h (λ h. pick s command.AddRole _ c h (λ h. pick s command.DeleteRole _ c h (λ h. pick s command.Assign _ c h (λ h. pick s command.Deassign _ c h (λ h. pick s command.Revoke _ c h (λ h. pick s command.Inherit _ c h (λ h. pick s command.Disinherit _ c h (λ h. pick s command.CreateSet _ c h (λ h. pick s command.DeleteSet _ c h (λ h. pick s command.Drop _ c h (λ h. pick s command.Load _ c h (λ h. pick s command.Offer _ c h (λ h. pick s command.Step _ c h (λ h. pick s command.Look _ c h (λ h. cc)))))))))))))))))))
+    pick s command.Login _ c h (λ h. pick s command.Logout _ c h (λ h. pick s command.Grant _ c h (λ h. pick s command.AddUser _ c h (λ h. pick s command.DeleteUser _ c h (λ h. pick s command.AddRole _ c h (λ h. pick s command.DeleteRole _ c h (λ h. pick s command.Assign _ c h (λ h. pick s command.Deassign _ c h (λ h. pick s command.Revoke _ c h (λ h. pick s command.Inherit _ c h (λ h. pick s command.Disinherit _ c h (λ h. pick s command.CreateSet _ c h (λ h. pick s command.DeleteSet _ c h (λ h. pick s command.Activate _ c h (λ h. pick s command.Drop _ c h (λ h. pick s command.Load _ c h (λ h. pick s command.Offer _ c h (λ h. pick s command.Step _ c h (λ h. pick s command.Look _ c h (λ h. cc))))))))))))))))))))
 
 fields_are : (c : Command) (d : Data) (r : Request) → HasCommand (command_text c) d → fields_of c d ≡ Some r → Is d r
 fields_are command.Login d r named h = login_is d r named h
@@ -502,6 +516,7 @@ fields_are command.Assign d r named h = assign_is d r named h
 fields_are command.Deassign d r named h = deassign_is d r named h
 fields_are command.Revoke d r named h = revoke_is d r named h
 fields_are command.Disinherit d r named h = disinherit_is d r named h
+fields_are command.Activate d r named h = activate_is d r named h
 fields_are command.Drop d r named h = drop_role_is d r named h
 fields_are command.DeleteRole d r named h = delete_role_is d r named h
 fields_are command.Inherit d r named h = inherit_is d r named h

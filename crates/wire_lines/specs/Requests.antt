@@ -11,7 +11,7 @@ use Rattle.rbac_policy.specs.Texts.{operation_text, object_text, IsObject}
 use Rattle.access_core.specs.declared.refusal.Refusal.{Refusal}
 use Rattle.access_core.specs.declared.refusal.Refusal.TheVariants as refusal
 use Rattle.wire_lines.specs.declared.request.Request.{Request}
-use Rattle.wire_lines.specs.declared.request.Request.TheVariants.{Login, Logout, Grant, AddUser, DeleteUser, AddRole, Assign, Deassign, Revoke, Disinherit, Drop, DeleteRole, Inherit, CreateSet, DeleteSet, Load, Offer, Step, Look}
+use Rattle.wire_lines.specs.declared.request.Request.TheVariants.{Login, Logout, Grant, AddUser, DeleteUser, AddRole, Assign, Deassign, Revoke, Disinherit, Activate, Drop, DeleteRole, Inherit, CreateSet, DeleteSet, Load, Offer, Step, Look}
 
 -- a member whose value is a text
 abbrev pub text_member : List ℕ → List ℕ → Members → Members
@@ -46,6 +46,8 @@ members_of (Revoke on operation role) =
     text_member (codes "cmd") (codes "revoke") (text_member (codes "object") (object_text on) (text_member (codes "op") (operation_text operation) (text_member (codes "role") role no_members)))
 members_of (Disinherit junior senior) =
     text_member (codes "cmd") (codes "disinherit") (text_member (codes "junior") junior (text_member (codes "senior") senior no_members))
+members_of (Activate role) =
+    text_member (codes "cmd") (codes "activate") (text_member (codes "role") role no_members)
 members_of (Drop role) =
     text_member (codes "cmd") (codes "drop") (text_member (codes "role") role no_members)
 members_of (DeleteRole role) =
@@ -75,6 +77,7 @@ Fits (Assign role user) = IsTrue (is_name role) × IsTrue (is_name user)
 Fits (Deassign role user) = IsTrue (is_name role) × IsTrue (is_name user)
 Fits (Revoke on operation role) = IsObject on × IsTrue (is_name role)
 Fits (Disinherit junior senior) = IsTrue (is_name junior) × IsTrue (is_name senior)
+Fits (Activate role) = IsTrue (is_name role)
 Fits (Drop role) = IsTrue (is_name role)
 Fits (DeleteRole role) = IsTrue (is_name role)
 Fits (Inherit junior senior) = IsTrue (is_name junior) × IsTrue (is_name senior)

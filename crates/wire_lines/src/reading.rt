@@ -3,7 +3,7 @@ ghost use Rattle.std.specs.Prelude.{◌≡◌, ◌≤◌, length, map, option_ma
 ghost use Rattle.serde_json.specs.Data.{object};
 ghost use Rattle.serde_json.specs.View.{view};
 ghost use Rattle.wire_lines.specs.Requests.{IsReadAs, IsRequest, Fits, members_of};
-ghost use Rattle.wire_lines.specs.Inner.Reading.{text_at, name_at, identifier_at, operation_at, object_at, number_at, has_keys, names_are, command_of, login_of, logout_of, grant_of, add_user_of, delete_user_of, add_role_of, assign_of, deassign_of, revoke_of, disinherit_of, drop_role_of, delete_role_of, inherit_of, create_set_of, delete_set_of, load_of, offer_of, step_of, look_of, names_from, roles_from, roles_at, request_of};
+ghost use Rattle.wire_lines.specs.Inner.Reading.{text_at, name_at, identifier_at, operation_at, object_at, number_at, has_keys, names_are, command_of, login_of, logout_of, grant_of, add_user_of, delete_user_of, add_role_of, assign_of, deassign_of, revoke_of, disinherit_of, activate_of, drop_role_of, delete_role_of, inherit_of, create_set_of, delete_set_of, load_of, offer_of, step_of, look_of, names_from, roles_from, roles_at, request_of};
 ghost use Rattle.wire_lines.specs.declared.request.Request.{Request};
 
 use crate::request::{Command, Request};
@@ -149,6 +149,7 @@ fn command_of(word: &str) -> Option<Command>
         "disinherit" => Some(Command::Disinherit),
         "dsd" => Some(Command::CreateSet),
         "undsd" => Some(Command::DeleteSet),
+        "activate" => Some(Command::Activate),
         "drop" => Some(Command::Drop),
         "load" => Some(Command::Load),
         "offer" => Some(Command::Offer),
@@ -286,6 +287,17 @@ fn disinherit_of(value: &Value) -> Option<Request>
     let junior = name_at(value, "junior")?;
     let senior = name_at(value, "senior")?;
     Some(Request::Disinherit { junior, senior })
+}
+
+#[tactic(auto, unfolding(crate::specs::Inner::Reading::activate_of))]
+fn activate_of(value: &Value) -> Option<Request>
+    ensures { result ≡ activate_of (view value.now) }
+{
+    if !has_keys(value, &["cmd", "role"]) {
+        return None;
+    }
+    let role = name_at(value, "role")?;
+    Some(Request::Activate { role })
 }
 
 #[tactic(auto, unfolding(crate::specs::Inner::Reading::drop_role_of))]
@@ -426,6 +438,7 @@ fn request_of(alloc: Global, value: &Value) -> Result<Option<Request>, AllocErro
         Command::Deassign => Ok(deassign_of(value)),
         Command::Revoke => Ok(revoke_of(value)),
         Command::Disinherit => Ok(disinherit_of(value)),
+        Command::Activate => Ok(activate_of(value)),
         Command::Drop => Ok(drop_role_of(value)),
         Command::DeleteRole => Ok(delete_role_of(value)),
         Command::Inherit => Ok(inherit_of(value)),

@@ -53,6 +53,10 @@ pub enum Request {
         junior: Name,
         senior: Name,
     },
+    /// The role, active in the connection's session from now on.
+    Activate {
+        role: Name,
+    },
     /// The role, no more active in the connection's session.
     Drop {
         role: Name,
@@ -115,6 +119,7 @@ pub enum Command {
     Disinherit,
     CreateSet,
     DeleteSet,
+    Activate,
     Drop,
     Load,
     Offer,

@@ -106,12 +106,13 @@ command_of s =
     else (if bytes_eq s (codes "disinherit") then Some command.Disinherit
     else (if bytes_eq s (codes "dsd") then Some command.CreateSet
     else (if bytes_eq s (codes "undsd") then Some command.DeleteSet
+    else (if bytes_eq s (codes "activate") then Some command.Activate
     else (if bytes_eq s (codes "drop") then Some command.Drop
     else (if bytes_eq s (codes "load") then Some command.Load
     else (if bytes_eq s (codes "offer") then Some command.Offer
     else (if bytes_eq s (codes "step") then Some command.Step
     else (if bytes_eq s (codes "look") then Some command.Look
-    else None))))))))))))))))))
+    else None)))))))))))))))))))
 
 -- the value as a login
 unfoldable pub login_of : Data → Option Request
@@ -171,6 +172,12 @@ unfoldable pub disinherit_of : Data → Option Request
 disinherit_of d =
     if has_keys d (codes "cmd" ∷ codes "junior" ∷ codes "senior" ∷ [])
     then option_and_then (λ junior. option_map (request.Disinherit junior) (name_at (codes "senior") d)) (name_at (codes "junior") d) else None
+
+-- the value as the command `activate`
+unfoldable pub activate_of : Data → Option Request
+activate_of d =
+    if has_keys d (codes "cmd" ∷ codes "role" ∷ [])
+    then option_map request.Activate (name_at (codes "role") d) else None
 
 -- the value as the command `drop`
 unfoldable pub drop_role_of : Data → Option Request
@@ -238,6 +245,7 @@ fields_of command.Assign d = assign_of d
 fields_of command.Deassign d = deassign_of d
 fields_of command.Revoke d = revoke_of d
 fields_of command.Disinherit d = disinherit_of d
+fields_of command.Activate d = activate_of d
 fields_of command.Drop d = drop_role_of d
 fields_of command.DeleteRole d = delete_role_of d
 fields_of command.Inherit d = inherit_of d

@@ -41,3 +41,6 @@ returns-in-AddInheritance c = λ L st. rw c.in-AddInheritance.is (c.decide_add_e
 
 pub returns-in-CreateDsdSet : goal.returns-in-CreateDsdSet
 returns-in-CreateDsdSet c = λ L st. rw c.in-CreateDsdSet.is (c.decide_create_set.ensures L st)
+
+pub returns-in-AddActiveRole : goal.returns-in-AddActiveRole
+returns-in-AddActiveRole c = λ L st. rw c.in-AddActiveRole.is (c.decide_activate.ensures L st)
