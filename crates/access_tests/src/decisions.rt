@@ -348,10 +348,7 @@ fn activations(rt: HostRuntime) {
     assert!(rt; give(&rt, &mut policy, Some(first), &set).is_none());
     let add = AdminCommand::AddRole { role: guest };
     assert!(rt; give(&rt, &mut policy, Some(first), &add).is_none());
-    let violated = Refusal::DsdViolated {
-        set: name(&rt, "roots"),
-        session: first,
-    };
+    let roots = name(&rt, "roots");
     let nobody = name(&rt, "nobody");
     let root = name(&rt, "root");
     let watcher = name(&rt, "watcher");
@@ -372,8 +369,22 @@ fn activations(rt: HostRuntime) {
             "root",
             Some(Refusal::AlreadyActive { role: root }),
         ),
-        (Some(first), "helper", Some(violated)),
-        (Some(first), "driver", Some(violated)),
+        (
+            Some(first),
+            "helper",
+            Some(Refusal::DsdViolated {
+                set: roots,
+                session: first,
+            }),
+        ),
+        (
+            Some(first),
+            "driver",
+            Some(Refusal::DsdViolated {
+                set: roots,
+                session: first,
+            }),
+        ),
         (Some(first), "watcher", None),
         (
             Some(first),
