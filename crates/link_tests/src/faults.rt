@@ -241,7 +241,10 @@ fn told(fault: LinkFault) -> Option<(Kind, Identifier)> {
         LinkFault::BadRename(name) => Some((Kind::Rename, name)),
         LinkFault::UnknownName(name) => Some((Kind::Unknown, name)),
         LinkFault::EmitInput(name) => Some((Kind::Emit, name)),
-        LinkFault::RecursiveRun(_) | LinkFault::Semantics(_) => None,
+        LinkFault::RecursiveRun(_)
+        | LinkFault::Semantics(_)
+        | LinkFault::TooLarge(_)
+        | LinkFault::Memory => None,
     }
 }
 
