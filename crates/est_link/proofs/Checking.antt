@@ -30,7 +30,7 @@ use Rattle.est_link.proofs.Testing.{some_same, map_none, or_none_parts}
 use Rattle.est_relations.specs.declared.relations.TheConstants.{MOST_RELATIONS}
 
 -- where nothing is found, this check has no fault, and the next finds nothing
-else_none : (o : Option LinkFault) (next : Option LinkFault → Type 0) → Else o next None → (o ≡ None) × next None
+pub else_none : (o : Option LinkFault) (next : Option LinkFault → Type 0) → Else o next None → (o ≡ None) × next None
 else_none None next h = (refl, h)
 else_none (Some fault) next h = absurd (none-some fault h)
 

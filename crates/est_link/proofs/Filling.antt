@@ -70,7 +70,7 @@ one_more : (a x : ℕ) → a ≡ x → a + 1 ≡ x + 1
 one_more a x e = ap (λ n. n + 1) e
 
 -- functions that agree on what is run give the same count
-counted_same : (f g : List ℕ → ℕ) (bs : List Binder) (d : Derived) → Agree f g (occurrences bs d) → counted f d ≡ counted g d
+pub counted_same : (f g : List ℕ → ℕ) (bs : List Binder) (d : Derived) → Agree f g (occurrences bs d) → counted f d ≡ counted g d
 counted_same f g bs missing h = refl
 counted_same f g bs nothing h = refl
 counted_same f g bs pause h = refl

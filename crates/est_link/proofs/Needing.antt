@@ -137,7 +137,7 @@ there_is : (m : List ℕ) (o : Option Program) → unless_there m o ≡ None →
 there_is m None h = absurd (none-some m (sym h))
 there_is m (Some q) h = (q, refl)
 
-run_is_there : (ps : List Program) (act : Act) (m : List ℕ) → IsRunOf act m → missing_act ps act ≡ None → (q : Program) × (program_named ps m ≡ Some q)
+pub run_is_there : (ps : List Program) (act : Act) (m : List ℕ) → IsRunOf act m → missing_act ps act ≡ None → (q : Program) × (program_named ps m ≡ Some q)
 run_is_there ps (emits s) m r h = absurd r
 run_is_there ps (tests s) m r h = absurd r
 run_is_there ps (exits t) m r h = absurd r

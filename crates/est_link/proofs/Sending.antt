@@ -41,10 +41,10 @@ same_by ps f g s (exits t) h = refl
 same_by ps f g s (binds ns) h = refl
 same_by ps f g s (runs m rs) h = same_in_run f g s rs (program_named ps m) (h m refl)
 
-same_here : (ps : List Program) (f g : List ℕ → List ℕ → Bool) (s : List ℕ) (o : Occurrence) → SayTheSame ps f g o.act → emits_here ps f s o ≡ emits_here ps g s o
+pub same_here : (ps : List Program) (f g : List ℕ → List ℕ → Bool) (s : List ℕ) (o : Occurrence) → SayTheSame ps f g o.act → emits_here ps f s o ≡ emits_here ps g s o
 same_here ps f g s o h = ap (λ b. not (is_local o.round s) && b) (same_by ps f g s o.act h)
 
-same_any : {X : Type 0} (f g : X → Bool) (xs : List X) → ((x : X) → Contains xs x → f x ≡ g x) → list_any f xs ≡ list_any g xs
+pub same_any : {X : Type 0} (f g : X → Bool) (xs : List X) → ((x : X) → Contains xs x → f x ≡ g x) → list_any f xs ≡ list_any g xs
 same_any f g [] h = refl
 same_any f g (x ∷ xs) h =
     ap (λ b. b || list_any f xs) (h x (0, omega arith, refl))

@@ -4,3 +4,4 @@ pub mod Counting
 pub mod Interfaces
 pub mod Reduced
 pub mod Lifts
+pub mod Answering
