@@ -123,8 +123,7 @@ fn a_stuck_step_keeps_what_is_pending(rt: HostRuntime) -> Result<(), Fail> {
 fn instant_of(entry: &SlotEntry) -> Option<PastInstant> {
     match &entry.action {
         Action::Step(instant) => Some(*instant),
-        Action::Load(_) => None,
-        Action::Offer(_) => None,
+        Action::Load(_) | Action::Offer(_) | Action::Discard | Action::Unload => None,
     }
 }
 
@@ -288,4 +287,51 @@ fn a_refused_load_keeps_the_journal(rt: HostRuntime) -> Result<(), Fail> {
             Ok(())
         }
     }
+}
+
+/// The most entries that a journal has.
+const FULL: usize = 65_536;
+
+/// A full journal takes no discard, which keeps the offer, and no unload, which hands the module back; it still shows its instants.
+#[test]
+fn a_full_journal_takes_no_discard_and_no_unload(rt: HostRuntime) -> Result<(), Fail> {
+    let text = "module M: input I; output O; emit O end module";
+    let reactor = loaded(rt.alloc(), text)?.ok().ok_or("refused")?;
+    let mut reactor = stepped(reactor, STAMP).ok().ok_or("refused")?;
+    for _ in 3..FULL {
+        assert_eq!(rt; reactor.discard(STAMP), Ok(()));
+    }
+    assert_eq!(rt; reactor.offer(STAMP, &name("I")?), Ok(()));
+    assert_eq!(rt; reactor.journal().len(), FULL);
+    assert_eq!(rt; reactor.discard(STAMP), Err(Refusal::JournalFull));
+    assert_eq!(rt; reactor.pending(), 1);
+    let Err((refusal, reactor)) = reactor.unload(STAMP) else {
+        return Err(Fail::from("unloaded"));
+    };
+    assert_eq!(rt; refusal, Refusal::JournalFull);
+    assert_eq!(rt; reactor.pending(), 1);
+    assert_eq!(rt;
+        reactor.shown(1, 3),
+        Ok(Shown {
+            mask: 3,
+            present: 2
+        })
+    );
+    Ok(())
+}
+
+/// After an unload the journal takes the next load, and no instant of the one before is shown.
+#[test]
+fn an_unloaded_journal_is_loaded_again(rt: HostRuntime) -> Result<(), Fail> {
+    let text = "module M: input I; output O; emit O end module";
+    let mut reactor = loaded(rt.alloc(), text)?.ok().ok_or("refused")?;
+    assert_eq!(rt; reactor.offer(STAMP, &name("I")?), Ok(()));
+    let journal = reactor.unload(STAMP).ok().ok_or("not unloaded")?;
+    assert_eq!(rt; journal.len(), 3);
+    let reactor = Reactor::load(rt.alloc(), journal, STAMP, "M", text);
+    let reactor = reactor.ok().ok_or("refused")?;
+    assert_eq!(rt; reactor.pending(), 0);
+    assert_eq!(rt; reactor.instants(), 0);
+    assert_eq!(rt; reactor.journal().len(), 4);
+    Ok(())
 }

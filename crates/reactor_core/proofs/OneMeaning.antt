@@ -10,10 +10,10 @@ use Rattle.est_meaning.proofs.Uniqueness.{one_reaction}
 use Rattle.reactor_core.specs.declared.entry.Load.{Load as LoadEntry}
 use Rattle.reactor_core.specs.declared.entry.PastInstant.{PastInstant}
 use Rattle.reactor_core.specs.declared.entry.Action.{Action}
-use Rattle.reactor_core.specs.declared.entry.Action.TheVariants.{Load, Offer, Step}
+use Rattle.reactor_core.specs.declared.entry.Action.TheVariants.{Load, Offer, Discard, Step, Unload}
 use Rattle.reactor_core.specs.declared.entry.SlotEntry.{SlotEntry}
 use Rattle.reactor_core.specs.Reacting.{ReactsWith}
-use Rattle.reactor_core.specs.Meaning.{entry, instant, ModuleOf, Running, Runs, Leaves, loaded, offered, stepped, is_loaded, mask_of, offers_of}
+use Rattle.reactor_core.specs.Meaning.{entry, instant, ModuleOf, Running, Runs, Leaves, loaded, offered, discarded, stepped, is_loaded, mask_of, offers_of}
 use Rattle.reactor_core.specs.Instants.{IsOutcome, HasNoOutcome}
 
 -- a load entry is of one module at most
@@ -65,7 +65,9 @@ record StepLeaves (before : List SlotEntry) (inputs : ℕ) (next : Term) : Type 
 abbrev LeavesAfter : List SlotEntry → Action → Term → Type 0
 LeavesAfter before (Load l) t = (i : List Declaration) × ModuleOf l i t
 LeavesAfter before (Offer name) t = Leaves before t
+LeavesAfter before Discard t = Leaves before t
 LeavesAfter before (Step i) t = StepLeaves before i.inputs t
+LeavesAfter before Unload t = ⊥
 
 record IsLast (journal : List SlotEntry) (t : Term) : Type 0 where
   before : List SlotEntry
@@ -77,6 +79,7 @@ last_of : (journal : List SlotEntry) (t : Term) → Leaves journal t → IsLast 
 last_of _ _ (loaded before stamp l interface term is) =
     record { before = before; last = entry stamp (Load l); whole = refl; leaves = (interface, is) }
 last_of _ _ (offered before term h stamp name) = record { before = before; last = entry stamp (Offer name); whole = refl; leaves = h }
+last_of _ _ (discarded before term h stamp) = record { before = before; last = entry stamp Discard; whole = refl; leaves = h }
 last_of _ _ (stepped before term h r running outputs next reacts stamp) =
     record {
       before = before;
@@ -107,6 +110,11 @@ one_term _ _ u (loaded before stamp l interface term is) h =
 one_term _ _ u (offered before term k stamp name) h =
     let g = last_of _ u h in
     let s = snoc_same before g.before (entry stamp (Offer name)) g.last g.whole in
+    let x = subst (λ (e : SlotEntry). LeavesAfter g.before e.action u) (sym s.1) g.leaves in
+    one_term before term u k (subst (λ (b : List SlotEntry). Leaves b u) (sym s.0) x)
+one_term _ _ u (discarded before term k stamp) h =
+    let g = last_of _ u h in
+    let s = snoc_same before g.before (entry stamp Discard) g.last g.whole in
     let x = subst (λ (e : SlotEntry). LeavesAfter g.before e.action u) (sym s.1) g.leaves in
     one_term before term u k (subst (λ (b : List SlotEntry). Leaves b u) (sym s.0) x)
 one_term _ _ u (stepped before term k r running outputs next reacts stamp) h =

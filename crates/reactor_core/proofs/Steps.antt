@@ -3,7 +3,7 @@ use Rattle.std.proofs.Common.{◌≡◌, ℕ, zero, suc, ◌<◌, ◌^◌, List,
 use Rattle.std.proofs.lemmas.Bool.Decides.{nat_tests}
 use Rattle.std.proofs.lemmas.Option.{same_Some}
 use Rattle.est_kernel.proofs.Masks.{bits_zero, bits_or, bits_pow}
-use Rattle.std.specs.Prelude.{slice_get, Some, None, Result, Ok, Err, bit_or, nat_eq, IfOk, IfErr, MatchResult, ◌-◌}
+use Rattle.std.specs.Prelude.{slice_get, Some, None, is_some, Result, Ok, Err, bit_or, nat_eq, IfOk, IfErr, MatchResult, ◌-◌}
 use Rattle.est_kernel.specs.Bits.{bits}
 use Rattle.est_kernel.specs.Interfaces.{inputs_of}
 use Rattle.est_kernel.specs.declared.interface.Kind.TheVariants.{Input}
@@ -22,12 +22,12 @@ use Rattle.reactor_core.specs.declared.entry.Stamp.{Stamp}
 use Rattle.reactor_core.specs.declared.entry.PastInstant.{PastInstant}
 use Rattle.reactor_core.specs.declared.entry.Load.{Load as LoadEntry}
 use Rattle.reactor_core.specs.declared.entry.Action.{Action}
-use Rattle.reactor_core.specs.declared.entry.Action.TheVariants.{Load, Offer, Step}
+use Rattle.reactor_core.specs.declared.entry.Action.TheVariants.{Load, Offer, Discard, Step, Unload}
 use Rattle.reactor_core.specs.declared.entry.SlotEntry.{SlotEntry}
 use Rattle.reactor_core.specs.declared.refusal.Refusal.{Refusal}
 use Rattle.reactor_core.specs.declared.refusal.Refusal.TheVariants.{NoInstant}
 use Rattle.reactor_core.specs.Reacting.{ReactsWith}
-use Rattle.reactor_core.specs.Meaning.{entry, instant, after_all, load_after, instants_after, offers_after, offers_of, with_place, mask_of, ModuleOf, Running, Runs, Leaves, loaded, offered, stepped}
+use Rattle.reactor_core.specs.Meaning.{entry, instant, after_all, load_after, instants_after, offers_after, offers_of, with_place, mask_of, ModuleOf, Running, Runs, Leaves, loaded, offered, discarded, stepped, is_loaded}
 use Rattle.reactor_core.specs.Standing.{IsRunning, IsNextState, RefusesName}
 use Rattle.reactor_core.specs.Instants.{IsOutcome, HasNoOutcome, AddsInstant}
 use Rattle.reactor_core.proofs.OneMeaning.{same_running}
@@ -40,7 +40,7 @@ pub after_snoc : {A : Type 0} (after : A → Action → A) (value : A) (before :
 after_snoc after value [] e = refl
 after_snoc after value (d ∷ before) e = after_snoc after (after value d.action) before e
 
--- what a load and a step leave pending
+-- what an entry that takes all offers away leaves pending
 none_offered : (interface : List Declaration) (before : List SlotEntry) (e : SlotEntry) → offers_after (offers_of before) e.action ≡ []
     → 0 ≡ mask_of interface (offers_of (before ++ e ∷ []))
 none_offered interface before e none = sym (ap (mask_of interface) (after_snoc offers_after [] before e ∙ none))
@@ -59,14 +59,15 @@ pub slice_get_end : {A : Type 0} (xs : List A) (x : A) → slice_get (xs ++ x �
 slice_get_end [] x = refl
 slice_get_end (y ∷ xs) x = slice_get_end xs x
 
-no_bits : {A : Type 0} (n : ℕ) → bits 0 n ≡ true → A
+-- the empty mask has no signal
+pub no_bits : {A : Type 0} (n : ℕ) → bits 0 n ≡ true → A
 no_bits n h = absurd (no (sym (bits_zero n) ∙ h))
   where
     no : false ≡ true → ⊥
     no e = cc
 
 -- the mask with the signal at a place has that one and those of before
-with_bits : (pending n k : ℕ) → bits (bit_or pending (2 ^ n)) k ≡ true → (bits pending k ≡ true) ⊎ (n ≡ k)
+pub with_bits : (pending n k : ℕ) → bits (bit_or pending (2 ^ n)) k ≡ true → (bits pending k ≡ true) ⊎ (n ≡ k)
 with_bits pending n k h = split (bits pending k) (nat_eq n k) refl refl (sym (bits_or pending (2 ^ n) k ∙ ap (λ b. bits pending k || b) (bits_pow n k)) ∙ h)
   where
     split : (a b : Bool) → bits pending k ≡ a → nat_eq n k ≡ b → (a || b) ≡ true → (a ≡ true) ⊎ (n ≡ k)
@@ -176,6 +177,26 @@ module _ {journal : List SlotEntry} {place : ℕ} {state : State} {pending : ℕ
         fits = i.fits;
         inputs = λ k b. ⊎_elim (λ h. i.inputs k h) (λ e. subst (λ m. inputs_of i.load.kernel.interface m ≡ true) e s.kind_is) (with_bits pending n k b);
       }
+
+  -- a discard's entry keeps what a reactor is, with nothing pending
+  pub discards : (i : IsRunning journal place state pending instants) (stamp : Stamp)
+      → IsRunning (journal ++ entry stamp Discard ∷ []) place state 0 instants
+  discards i stamp =
+      let e : SlotEntry = entry stamp Discard in
+      record {
+        load = i.load;
+        there = (i.there.0, slice_get_append journal _ place _ i.there.1);
+        last = after_snoc load_after None journal e ∙ i.last;
+        offered = none_offered i.load.kernel.interface journal e refl;
+        past = i.past ∙ sym (after_snoc instants_after [] journal e);
+        leaves = discarded journal (state_term i.load.kernel.root state) i.leaves stamp;
+        fits = i.fits;
+        inputs = λ n b. no_bits n b;
+      }
+
+-- after an unload's entry no module runs
+pub nothing_runs : (journal : List SlotEntry) (stamp : Stamp) → is_loaded (journal ++ entry stamp Unload ∷ []) ≡ false
+nothing_runs journal stamp = ap is_some (after_snoc load_after None journal (entry stamp Unload))
 
 -- a load's entry makes a reactor that has not begun
 pub begins : (journal : List SlotEntry) (stamp : Stamp) (l : LoadEntry)

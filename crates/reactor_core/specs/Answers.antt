@@ -9,7 +9,7 @@ use Rattle.refusal_rules.specs.Rules.{Rule, Rules, Unless, MayRefuse, accept, �
 use Rattle.reactor_core.specs.declared.entry.Stamp.{Stamp}
 use Rattle.reactor_core.specs.declared.entry.Load.{Load as LoadEntry}
 use Rattle.reactor_core.specs.declared.entry.PastInstant.{PastInstant}
-use Rattle.reactor_core.specs.declared.entry.Action.TheVariants.{Load, Offer}
+use Rattle.reactor_core.specs.declared.entry.Action.TheVariants.{Load, Offer, Discard, Unload}
 use Rattle.reactor_core.specs.declared.entry.SlotEntry.{SlotEntry}
 use Rattle.reactor_core.specs.declared.refusal.Refusal.{Refusal}
 use Rattle.reactor_core.specs.declared.refusal.Refusal.TheVariants.{UnknownSignal, NotInput, AlreadyOffered, NoInstant, JournalFull, Memory}
@@ -77,6 +77,21 @@ pub record OfferAnswer (before : List SlotEntry) (stamp : Stamp) (name : List �
   pub given : Answers (offer_rules before running name)
       (λ refusal. (answer ≡ Err refusal) × (after ≡ before))
       ((answer ≡ Ok (record {})) × (after ≡ before ++ entry stamp (Offer name) ∷ []))
+
+-- the answer to a discard, and the journal afterwards: by the rules for an entry a refusal, and the journal as it was, or the entry is
+-- added
+abbrev pub DiscardAnswer : (before : List SlotEntry) → Stamp → Result (Unit {0}) Refusal → (after : List SlotEntry) → Type 0
+DiscardAnswer before stamp answer after =
+    Answers (entry_rules before)
+    (λ refusal. (answer ≡ Err refusal) × (after ≡ before))
+    ((answer ≡ Ok (record {})) × (after ≡ before ++ entry stamp Discard ∷ []))
+
+-- the answer to an unload: by the rules for an entry a refusal, and the reactor as it was, or the journal with the entry
+abbrev pub UnloadAnswer : (before : List SlotEntry) → Stamp → Result (List SlotEntry) (Refusal × List SlotEntry) → Type 0
+UnloadAnswer before stamp answer =
+    Answers (entry_rules before)
+    (λ refusal. answer ≡ Err (refusal, before))
+    (answer ≡ Ok (before ++ entry stamp Unload ∷ []))
 
 -- the text has a fault, or it gives the module of this name, and so its load entry, which is handed on
 abbrev pub gives_module : (main text : List ℕ) → Rule Refusal

@@ -1,5 +1,6 @@
 pub mod Reacting
 pub mod Meaning
+pub mod Offers
 pub mod Standing
 pub mod Faults
 pub mod Answers

@@ -9,7 +9,7 @@ use Rattle.reactor_core.specs.declared.entry.Stamp.{Stamp}
 use Rattle.reactor_core.specs.declared.entry.PastInstant.{PastInstant}
 use Rattle.reactor_core.specs.declared.entry.Load.{Load as LoadEntry}
 use Rattle.reactor_core.specs.declared.entry.Action.{Action}
-use Rattle.reactor_core.specs.declared.entry.Action.TheVariants.{Load, Offer, Step}
+use Rattle.reactor_core.specs.declared.entry.Action.TheVariants.{Load, Offer, Discard, Step, Unload}
 use Rattle.reactor_core.specs.declared.entry.SlotEntry.{SlotEntry}
 use Rattle.reactor_core.specs.Reacting.{ReactsWith}
 
@@ -25,23 +25,29 @@ abbrev pub after_all : {A : Type 0} → (A → Action → A) → A → List Slot
 after_all after value [] = value
 after_all after value (e ∷ later) = after_all after (after value e.action) later
 
--- the load whose module runs after an action
+-- the load whose module runs after an action: an unload leaves none
 abbrev pub load_after : Option LoadEntry → Action → Option LoadEntry
 load_after before (Load l) = Some l
 load_after before (Offer name) = before
+load_after before Discard = before
 load_after before (Step i) = before
+load_after before Unload = None
 
--- the instants after an action: a load begins anew, and a step adds its own
+-- the instants after an action: a step adds its own, a load begins anew, and where no module runs there are none
 abbrev pub instants_after : List PastInstant → Action → List PastInstant
 instants_after instants (Load l) = []
 instants_after instants (Offer name) = instants
+instants_after instants Discard = instants
 instants_after instants (Step i) = instants ++ i ∷ []
+instants_after instants Unload = []
 
--- the names that are offered after an action, the last one first: a load and a step take them all away
+-- the names that are offered after an action, the last one first: all other actions take them all away
 abbrev pub offers_after : List (List ℕ) → Action → List (List ℕ)
 offers_after names (Load l) = []
 offers_after names (Offer name) = name ∷ names
+offers_after names Discard = []
 offers_after names (Step i) = []
+offers_after names Unload = []
 
 -- the load whose module runs after these entries; None where the slot is empty
 abbrev pub last_load : List SlotEntry → Option LoadEntry
@@ -55,7 +61,7 @@ is_loaded journal = is_some (last_load journal)
 abbrev pub instants_of : List SlotEntry → List PastInstant
 instants_of journal = after_all instants_after [] journal
 
--- the names that were offered since the load or the last step, the last one first
+-- the names that were offered since the last load, step, discard or unload, the last one first
 abbrev pub offers_of : List SlotEntry → List (List ℕ)
 offers_of journal = after_all offers_after [] journal
 
@@ -78,7 +84,7 @@ pub record ModuleOf (l : LoadEntry) (interface : List Declaration) (term : Term)
   pub declares : interface ≡ l.kernel.interface
   pub begins : term ≡ term_of l.kernel.root
 
--- a loaded module: its interface, the inputs offered since the last step, and the instants since the load, the first one first
+-- a loaded module: its interface, the inputs that are pending, and the instants since the load, the first one first
 pub record Running : Type 0 where
   pub interface : List Declaration
   pub pending : ℕ
@@ -94,14 +100,17 @@ pub record Runs (journal : List SlotEntry) (r : Running) : Type 0 where
   pub offered : r.pending ≡ mask_of r.interface (offers_of journal)
   pub past : r.instants ≡ instants_of journal
 
--- this term is left to run after these entries: a load leaves its module's whole term, an offer what was left, and a step
--- what the constructive reaction to the pending inputs leaves, which also gives the step's inputs and outputs
+-- this term is left to run after these entries: a load leaves its module's whole term, an offer and a discard what was left, and a
+-- step what the constructive reaction to the pending inputs leaves, which also gives the step's inputs and outputs; an unload leaves
+-- none
 pub data Leaves : List SlotEntry → Term → Type 0 where
   loaded : (before : List SlotEntry) → (stamp : Stamp) → (l : LoadEntry)
       → (interface : List Declaration) → (term : Term) → ModuleOf l interface term
       → Leaves (before ++ entry stamp (Load l) ∷ []) term
   offered : (before : List SlotEntry) → (term : Term) → Leaves before term
       → (stamp : Stamp) → (name : List ℕ) → Leaves (before ++ entry stamp (Offer name) ∷ []) term
+  discarded : (before : List SlotEntry) → (term : Term) → Leaves before term
+      → (stamp : Stamp) → Leaves (before ++ entry stamp Discard ∷ []) term
   stepped : (before : List SlotEntry) → (term : Term) → Leaves before term → (r : Running) → Runs before r
       → (outputs : ℕ) → (next : Term) → ReactsWith r.interface term r.pending outputs next
       → (stamp : Stamp) → Leaves (before ++ entry stamp (Step (instant r.pending outputs)) ∷ []) next

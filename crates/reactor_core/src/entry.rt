@@ -30,7 +30,11 @@ pub struct Load {
 pub enum Action {
     Load(Load),
     Offer(Identifier),
+    /// The pending inputs were taken away.
+    Discard,
     Step(PastInstant),
+    /// The module was taken out of the slot, with its pending inputs and its instants.
+    Unload,
 }
 
 /// One entry of a journal.

@@ -1,12 +1,14 @@
 //! The laws of journals. Each function does nothing: its contract is the law.
-ghost use Rattle.std.specs.Prelude.{◌≡◌, ℕ, List};
+ghost use Rattle.std.specs.Prelude.{◌≡◌, ◌↔◌, ℕ, true, List};
 ghost use Rattle.est_kernel.specs.Bits.{bits};
 ghost use Rattle.est_kernel.specs.Term.{Term};
 ghost use Rattle.est_kernel.specs.declared.interface.Declaration.{Declaration};
 ghost use Rattle.reactor_core.specs.declared.entry.Load.{Load as LoadEntry};
 ghost use Rattle.reactor_core.specs.declared.entry.SlotEntry.{SlotEntry};
+ghost use Rattle.reactor_core.specs.declared.entry.Stamp.{Stamp};
 ghost use Rattle.reactor_core.specs.Meaning.{ModuleOf, Running, Runs, Leaves};
-ghost use Rattle.reactor_core.specs.Instants.{IsOutcome, HasNoOutcome};
+ghost use Rattle.reactor_core.specs.Instants.{IsOutcome, HasNoOutcome, AddsInstant};
+ghost use Rattle.reactor_core.specs.Offers.{IsOfferedAt, TakesOffers};
 
 /// A load entry is of one module at most: one interface, and one term.
 pub fn one_module()
@@ -33,4 +35,13 @@ pub fn one_outcome()
 pub fn an_outcome_or_none()
     ensures { (journal : List SlotEntry) (outputs : ℕ) (next : Term) (undecided : ℕ)
         → IsOutcome journal outputs next → HasNoOutcome journal undecided → ⊥ }
+{}
+
+/// A signal is pending exactly where an offer of it was accepted and no load, discard, step or unload since; and those are the inputs of
+/// the next step.
+pub fn inputs_are_offered()
+    ensures pending { (journal : List SlotEntry) (r : Running) (place : ℕ) → Runs journal r
+        → (bits r.pending place ≡ true) ↔ IsOfferedAt journal r.interface place }
+    ensures taken { (before : List SlotEntry) (outputs : ℕ) (next : Term) (stamp : Stamp) (after : List SlotEntry)
+        → AddsInstant before outputs next stamp after → TakesOffers before stamp outputs after }
 {}

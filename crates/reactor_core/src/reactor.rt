@@ -11,7 +11,7 @@ ghost use Rattle.reactor_core.specs.Meaning.{Running, Runs, last_load, is_loaded
 ghost use Rattle.reactor_core.specs.Loading.{IsLoadOf, IsLoadFault};
 ghost use Rattle.reactor_core.specs.Standing.{LoadsAt, IsRunning, IsNextState, RefusesName};
 ghost use Rattle.reactor_core.specs.Instants.{HasNoOutcome, AddsInstant, OpenAnswer};
-ghost use Rattle.reactor_core.specs.Answers.{LoadAnswer, OfferAnswer, ShownAnswer, HasRoom, RefusesEntry, IsSignal};
+ghost use Rattle.reactor_core.specs.Answers.{LoadAnswer, OfferAnswer, DiscardAnswer, UnloadAnswer, ShownAnswer, HasRoom, RefusesEntry, IsSignal};
 
 use crate::entry::{Action, Load, PastInstant, SlotEntry, Stamp};
 use crate::journal::{JOURNAL_ENTRIES, Journal};
@@ -276,6 +276,37 @@ impl Reactor {
         self.journal.append(entry)?;
         self.pending = with_signal(self.pending, signal);
         Ok(())
+    }
+
+    /// Takes the pending inputs away; the module runs on. A refusal, JournalFull or Memory, leaves the reactor as it was.
+    pub fn discard(&mut self, stamp: Stamp) -> Result<(), Refusal>
+        ensures answer { DiscardAnswer self.old stamp result self.new }
+        ensures loaded { is_loaded self.new ≡ true }
+    {
+        let entry = SlotEntry {
+            stamp,
+            action: Action::Discard,
+        };
+        self.journal.append(entry)?;
+        self.pending = 0;
+        Ok(())
+    }
+
+    /// Ends the module, with its pending inputs: the journal, after which none runs. A refusal, JournalFull or Memory, gives the
+    /// reactor back as it was.
+    pub fn unload(self, stamp: Stamp) -> Result<Journal, (Refusal, Reactor)>
+        ensures answer { UnloadAnswer self stamp result }
+        ensures empty { IfOk result (λ journal. is_loaded journal ≡ false) }
+    {
+        let mut reactor = self;
+        let entry = SlotEntry {
+            stamp,
+            action: Action::Unload,
+        };
+        match reactor.journal.append(entry) {
+            Ok(()) => Ok(reactor.journal),
+            Err(refusal) => Err((refusal, reactor)),
+        }
     }
 
     /// Opens the next instant, which takes the pending inputs. It adds no entry and takes no memory, and nothing is refused,
