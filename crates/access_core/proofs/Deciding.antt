@@ -5,7 +5,7 @@ use Rattle.refusal_rules.proofs.RuleLemmas.{append, split, accepted, refused, al
 use Rattle.rbac_policy.specs.declared.commands.Entry.{Entry}
 use Rattle.reactor_core.specs.declared.entry.SlotEntry.{SlotEntry}
 use Rattle.access_core.specs.declared.command.SlotCommand.{SlotCommand}
-use Rattle.access_core.specs.declared.command.SlotCommand.TheVariants.{Load, Offer, Step, Look}
+use Rattle.access_core.specs.declared.command.SlotCommand.TheVariants.{Load, Offer, Discard, Step, Unload, Look, Audit}
 use Rattle.access_core.specs.declared.refusal.Refusal.{Refusal}
 use Rattle.access_core.specs.declared.reply.Reply.{Reply}
 use Rattle.access_core.specs.declared.reply.Reply.TheVariants.{Refused}
@@ -59,5 +59,8 @@ pub has_needed : (entries : List Entry) (slot session : ℕ) (command : SlotComm
     → AllPass (access_rules entries session (permission_of slot command)) → Needs entries slot session command
 has_needed entries slot session (Load main text) may = may.1.0
 has_needed entries slot session (Offer signal) may = may.1.0
+has_needed entries slot session Discard may = may.1.0
 has_needed entries slot session Step may = may.1.0
+has_needed entries slot session Unload may = may.1.0
 has_needed entries slot session (Look n) may = may.0
+has_needed entries slot session Audit may = may.1.0

@@ -2,6 +2,7 @@ pub mod Places
 pub mod Running
 pub mod Deciding
 pub mod Stepping
+mod Entries
 pub mod Desks
 pub mod Unchanged
 pub mod Leaving

@@ -9,7 +9,7 @@ use Rattle.rbac_admin.specs.declared.refusals.Refusal.{Refusal as PolicyRefusal}
 use Rattle.reactor_core.specs.declared.entry.SlotEntry.{SlotEntry}
 use Rattle.reactor_core.specs.declared.refusal.Refusal.{Refusal as ReactorRefusal}
 use Rattle.access_core.specs.declared.command.SlotCommand.{SlotCommand}
-use Rattle.access_core.specs.declared.command.SlotCommand.TheVariants.{Load, Offer, Step, Look}
+use Rattle.access_core.specs.declared.command.SlotCommand.TheVariants.{Load, Offer, Discard, Step, Unload, Look, Audit}
 use Rattle.access_core.specs.declared.refusal.Refusal.{Refusal}
 use Rattle.access_core.specs.declared.reply.Change.{Change}
 use Rattle.access_core.specs.declared.reply.Reply.{Reply}
@@ -73,8 +73,11 @@ does_nothing : (entries : List Entry) (slot session : ℕ) (command : SlotComman
     → Does entries slot session command before (Refused refusal) after → after ≡ before
 does_nothing entries slot session (Load main text) before refusal after h = loaded before h.answer (length entries) before refusal after h.replied
 does_nothing entries slot session (Offer signal) before refusal after h = offered h.answer (length entries) before refusal after h.replied
+does_nothing entries slot session Discard before refusal after h = let e = h.replied in absurd (cc)
 does_nothing entries slot session Step before refusal after h = let e = h.replied in absurd (cc)
+does_nothing entries slot session Unload before refusal after h = let e = h.replied in absurd (cc)
 does_nothing entries slot session (Look n) before refusal after h = h.stays
+does_nothing entries slot session Audit before refusal after h = h.stays
 
 -- a refused slot command leaves the journal
 journal_stays : (entries : List Entry) (slot session : ℕ) (command : SlotCommand) (before : List SlotEntry) (refusal : Refusal) (after : List SlotEntry)

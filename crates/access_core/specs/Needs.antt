@@ -1,31 +1,37 @@
 -- What a command on a slot needs of the session that gives it.
 use Rattle.std.specs.Prelude.{ℕ, List, Option, Some, None}
 use Rattle.rbac_policy.specs.declared.commands.Entry.{Entry}
-use Rattle.rbac_policy.specs.declared.objects.Operation.TheVariants.{Offer as ToOffer, Step as ToStep, Load as ToLoad}
+use Rattle.rbac_policy.specs.declared.objects.Operation.TheVariants.{Offer as ToOffer, Step as ToStep, Load as ToLoad, Audit as ToAudit}
 use Rattle.rbac_policy.specs.declared.objects.Operation.{Operation}
 use Rattle.rbac_policy.specs.declared.objects.Object.{Object}
-use Rattle.rbac_policy.specs.declared.objects.Object.TheVariants.{Slot, Signal}
+use Rattle.rbac_policy.specs.declared.objects.Object.TheVariants.{Policy, Slot, Signal}
 use Rattle.rbac_policy.specs.Facts.{IsLive, May}
 use Rattle.access_core.specs.declared.command.SlotCommand.{SlotCommand}
-use Rattle.access_core.specs.declared.command.SlotCommand.TheVariants.{Load, Offer, Step, Look}
+use Rattle.access_core.specs.declared.command.SlotCommand.TheVariants.{Load, Offer, Discard, Step, Unload, Look, Audit}
 use Rattle.access_core.specs.declared.reply.Reply.{Reply}
 use Rattle.access_core.specs.declared.reply.Reply.TheVariants.{Refused, Login, Changed, Check}
-use Rattle.access_core.specs.declared.reply.Reply.TheVariants.{Load as Loaded, Offer as Offered, Step as Stepped, Look as Shown}
+use Rattle.access_core.specs.declared.reply.Reply.TheVariants.{Load as Loaded, Offer as Offered, Discard as Discarded, Step as Stepped, Unload as Unloaded, Look as Shown, Audit as Audited}
 
--- the permission that a command on the slot needs: a load and a step need the operation on the slot, an offer needs it on the signal,
--- and a look needs none (this project's own form)
+-- the permission that a command on the slot needs: `load` on the slot for a load and an unload, `step` on it for a step and a discard,
+-- `offer` on the signal for an offer, `audit` on the policy for an audit, and none for a look (this project's own form)
 abbrev pub permission_of : (slot : ℕ) → SlotCommand → Option (Operation × Object)
 permission_of slot (Load main text) = Some (ToLoad, Slot slot)
 permission_of slot (Offer signal) = Some (ToOffer, Signal slot signal)
+permission_of slot Discard = Some (ToStep, Slot slot)
 permission_of slot Step = Some (ToStep, Slot slot)
+permission_of slot Unload = Some (ToLoad, Slot slot)
 permission_of slot (Look n) = None
+permission_of slot Audit = Some (ToAudit, Policy)
 
 -- what a command on a slot needs: its permission, or, where it needs none, that the session lives
 abbrev pub Needs : List Entry → (slot session : ℕ) → SlotCommand → Type 0
 Needs entries slot session (Load main text) = May entries session ToLoad (Slot slot)
 Needs entries slot session (Offer signal) = May entries session ToOffer (Signal slot signal)
+Needs entries slot session Discard = May entries session ToStep (Slot slot)
 Needs entries slot session Step = May entries session ToStep (Slot slot)
+Needs entries slot session Unload = May entries session ToLoad (Slot slot)
 Needs entries slot session (Look n) = IsLive entries session
+Needs entries slot session Audit = May entries session ToAudit Policy
 
 -- the reply is no refusal
 abbrev pub IsAccepted : Reply → Type 0
@@ -34,6 +40,9 @@ IsAccepted (Login session version) = Unit {0}
 IsAccepted (Changed change version) = Unit {0}
 IsAccepted (Loaded place version) = Unit {0}
 IsAccepted (Offered place version) = Unit {0}
+IsAccepted (Discarded place version) = Unit {0}
 IsAccepted (Stepped instant place version) = Unit {0}
+IsAccepted (Unloaded place version) = Unit {0}
 IsAccepted (Shown instant signals version) = Unit {0}
+IsAccepted (Audited entries instants version) = Unit {0}
 IsAccepted (Check allowed) = Unit {0}

@@ -1,6 +1,6 @@
 -- The slot step: what a command on a slot is answered, on a policy list and the slot's journal, and the journal afterwards
 -- (this project's own form).
-use Rattle.std.specs.Prelude.{◌≡◌, ℕ, Bool, true, List, Option, Some, None, Result, MatchResult, length}
+use Rattle.std.specs.Prelude.{◌≡◌, ℕ, Bool, true, List, [], ◌∷◌, ◌++◌, Option, Some, None, Result, MatchResult, length, if◌then◌else◌}
 use Rattle.refusal_rules.specs.Rules.{Rule, Rules, Says, Unless, accept, ◌▸◌, ◌▸▸◌}
 use Rattle.est_kernel.specs.Term.{Term}
 use Rattle.rbac_policy.specs.declared.commands.Entry.{Entry}
@@ -9,17 +9,19 @@ use Rattle.rbac_policy.specs.declared.objects.Object.{Object}
 use Rattle.rbac_policy.specs.Facts.{IsLive, May}
 use Rattle.reactor_core.specs.declared.entry.Stamp.{Stamp}
 use Rattle.reactor_core.specs.declared.entry.PastInstant.{PastInstant}
+use Rattle.reactor_core.specs.declared.entry.Action.{Action}
+use Rattle.reactor_core.specs.declared.entry.Action.TheVariants as action
 use Rattle.reactor_core.specs.declared.entry.SlotEntry.{SlotEntry}
 use Rattle.reactor_core.specs.declared.refusal.Refusal.{Refusal as ReactorRefusal}
-use Rattle.reactor_core.specs.Meaning.{is_loaded, instants_of, Running, Runs}
+use Rattle.reactor_core.specs.Meaning.{entry, is_loaded, instants_of, Running, Runs}
 use Rattle.reactor_core.specs.Answers.{LoadAnswer, OfferAnswer, HasRoom, IsInstant, HasNoInstant}
 use Rattle.reactor_core.specs.Instants.{IsOutcome, HasNoOutcome, AddsInstant}
 use Rattle.access_core.specs.declared.command.SlotCommand.{SlotCommand}
-use Rattle.access_core.specs.declared.command.SlotCommand.TheVariants.{Load, Offer, Step, Look}
+use Rattle.access_core.specs.declared.command.SlotCommand.TheVariants.{Load, Offer, Discard, Step, Unload, Look, Audit}
 use Rattle.access_core.specs.declared.refusal.Refusal.{Refusal}
 use Rattle.access_core.specs.declared.refusal.Refusal.TheVariants.{NoSession, Permission, Stuck, Occupied, Empty, NoInstant, JournalFull}
 use Rattle.access_core.specs.declared.reply.Reply.{Reply}
-use Rattle.access_core.specs.declared.reply.Reply.TheVariants.{Load as Loaded, Offer as Offered, Step as Stepped, Look as Shown}
+use Rattle.access_core.specs.declared.reply.Reply.TheVariants.{Load as Loaded, Offer as Offered, Discard as Discarded, Step as Stepped, Unload as Unloaded, Look as Shown, Audit as Audited}
 use Rattle.access_core.specs.Answering.{IsRefused, ByRules, no_memory}
 use Rattle.access_core.specs.Needs.{permission_of}
 use Rattle.access_core.specs.Conversions.{of_reactor}
@@ -65,6 +67,11 @@ pub record Offers (stamp : Stamp) (signal : List ℕ) (before : List SlotEntry) 
       (λ _. reply ≡ Offered (length after) stamp.version)
       (λ refusal. IsRefused (of_reactor refusal) before reply after)
 
+-- the entry of the action is appended, and the reply tells its place and the version
+pub record AddsEntry (action : Action) (told : (place version : ℕ) → Reply) (stamp : Stamp) (before : List SlotEntry) (reply : Reply) (after : List SlotEntry) : Type 0 where
+  pub added : after ≡ before ++ entry stamp action ∷ []
+  pub replied : reply ≡ told (length after) stamp.version
+
 -- the next instant has no outcome: its pending inputs have no constructive reaction, and the refusal names those of the undecided
 -- outputs that the session may observe
 pub record NamesUndecided (entries : List Entry) (slot session : ℕ) (journal : List SlotEntry) (refusal : Refusal) : Type 0 where
@@ -103,11 +110,24 @@ pub record Looks (entries : List Entry) (slot session n : ℕ) (before : List Sl
   pub replied : reply ≡ Shown n (shown_of running.interface sees instant) (length entries)
   pub stays : after ≡ before
 
+-- how many instants there were since the load; none where no module runs
+abbrev pub instants_run : List SlotEntry → ℕ
+instants_run journal = if is_loaded journal then length (instants_of journal) else 0
+
+-- the reply tells how many entries the journal has, and how many instants there were since the load; nothing is changed
+pub record Audits (entries : List Entry) (before : List SlotEntry) (reply : Reply) (after : List SlotEntry) : Type 0 where
+  pub replied : reply ≡ Audited (length before) (instants_run before) (length entries)
+  pub stays : after ≡ before
+
 -- the rules of who may give a command: the session lives, and has the permission that is needed, if any
 abbrev pub access_rules : List Entry → (session : ℕ) → (needed : Option (Operation × Object)) → Rules Refusal
 access_rules entries session None = no_session entries session ▸ accept
 access_rules entries session (Some permission) =
     no_session entries session ▸ no_permission entries session permission.0 permission.1 ▸ accept
+
+-- the rules of an entry where a module runs: the journal has room, and memory may be refused
+abbrev pub entry_rules : List SlotEntry → Rules Refusal
+entry_rules journal = journal_full journal ▸ no_memory ▸ accept
 
 -- the rules of a step where a module runs
 abbrev pub step_rules : List Entry → (slot session : ℕ) → List SlotEntry → Rules Refusal
@@ -117,8 +137,11 @@ step_rules entries slot session journal = no_memory ▸ no_reaction entries slot
 abbrev pub journal_rules : List Entry → (slot session : ℕ) → SlotCommand → List SlotEntry → Rules Refusal
 journal_rules entries slot session (Load main text) journal = occupied journal ▸ accept
 journal_rules entries slot session (Offer signal) journal = empty journal ▸ accept
+journal_rules entries slot session Discard journal = empty journal ▸ entry_rules journal
 journal_rules entries slot session Step journal = empty journal ▸ step_rules entries slot session journal
+journal_rules entries slot session Unload journal = empty journal ▸ entry_rules journal
 journal_rules entries slot session (Look n) journal = empty journal ▸ no_instant journal n ▸ no_memory ▸ accept
+journal_rules entries slot session Audit journal = accept
 
 -- the rules of refusal of the command, in their order
 abbrev pub slot_rules : List Entry → (slot session : ℕ) → SlotCommand → List SlotEntry → Rules Refusal
@@ -129,8 +152,11 @@ slot_rules entries slot session command journal =
 abbrev pub Does : List Entry → (slot session : ℕ) → SlotCommand → (before : List SlotEntry) → Reply → (after : List SlotEntry) → Type 0
 Does entries slot session (Load main text) = Loads (stamp_of entries session) main text
 Does entries slot session (Offer signal) = Offers (stamp_of entries session) signal
+Does entries slot session Discard = AddsEntry action.Discard Discarded (stamp_of entries session)
 Does entries slot session Step = Steps (stamp_of entries session)
+Does entries slot session Unload = AddsEntry action.Unload Unloaded (stamp_of entries session)
 Does entries slot session (Look n) = Looks entries slot session n
+Does entries slot session Audit = Audits entries
 
 -- the reply to the command, which this session gives to this slot, on a policy list and a journal, and the journal afterwards
 abbrev pub SlotStep : List Entry → (slot session : ℕ) → SlotCommand → (before : List SlotEntry) → Reply → (after : List SlotEntry) → Type 0

@@ -9,8 +9,14 @@ pub enum SlotCommand {
     Load { main: Identifier, text: Text },
     /// Makes an input present in the next instant.
     Offer { signal: Identifier },
+    /// Takes the pending inputs away.
+    Discard,
     /// Runs the next instant.
     Step,
+    /// Takes the module out of the slot, which keeps its journal.
+    Unload,
     /// Shows the signals of an instant, which is numbered from 1 since the load.
     Look { instant: u64 },
+    /// Tells how many entries the journal has, and how many instants there were since the load.
+    Audit,
 }

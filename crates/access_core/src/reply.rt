@@ -168,9 +168,19 @@ pub enum Reply {
         place: u64,
         version: u64,
     },
+    /// The pending inputs were taken away, at this place of the slot's journal, judged at this version.
+    Discard {
+        place: u64,
+        version: u64,
+    },
     /// This instant was run, at this place of the slot's journal, judged at this version.
     Step {
         instant: u64,
+        place: u64,
+        version: u64,
+    },
+    /// The module was taken out, at this place of the slot's journal, judged at this version.
+    Unload {
         place: u64,
         version: u64,
     },
@@ -178,6 +188,13 @@ pub enum Reply {
     Look {
         instant: u64,
         signals: ShownSignals,
+        version: u64,
+    },
+    /// How many entries the slot's journal has, and how many instants there were since the load, none where no module runs; judged at
+    /// this version.
+    Audit {
+        entries: u64,
+        instants: u64,
         version: u64,
     },
     /// Whether the session may do what was asked.

@@ -6,10 +6,13 @@ ghost use Rattle.rbac_policy.specs.declared.commands.Entry.{Entry};
 ghost use Rattle.rbac_policy.specs.StandsFor.{StandsFor};
 ghost use Rattle.refusal_rules.specs.Rules.{accept, ◌▸◌, TestsAll};
 ghost use Rattle.access_core.specs.Answering.{ByRules, no_memory};
-ghost use Rattle.access_core.specs.SlotStep.{SlotStep, access_rules, no_instant, NamesUndecided, step_rules, journal_full, stamp_of, Offers, Steps, Looks};
+ghost use Rattle.access_core.specs.SlotStep.{SlotStep, access_rules, no_instant, NamesUndecided, step_rules, entry_rules, journal_full, stamp_of, Offers, AddsEntry, Steps, Looks, Audits};
 ghost use Rattle.reactor_core.specs.Meaning.{is_loaded};
+ghost use Rattle.reactor_core.specs.declared.entry.Action.TheVariants as action;
 ghost use Rattle.reactor_core.specs.Instants.{IsOutcome, HasNoOutcome};
 ghost use Rattle.access_core.specs.Needs.{permission_of};
+ghost use Rattle.access_core.specs.Holding.{journal_of, IsHeldRight};
+ghost use Rattle.access_core.specs.declared.reply.Reply.TheVariants.{Discard as Discarded, Unload as Unloaded};
 
 use crate::command::SlotCommand;
 use crate::conversions::of_reactor;
@@ -132,6 +135,41 @@ fn offer_signal(reactor: &mut Reactor, stamp: Stamp, signal: &Identifier) -> Rep
             version: stamp.version,
         },
         Err(refusal) => Reply::Refused(of_reactor(refusal)),
+    }
+}
+
+/// Takes the reactor's pending inputs away.
+fn discard_inputs(reactor: &mut Reactor, stamp: Stamp) -> Reply
+    ensures loaded { is_loaded reactor.new ≡ true }
+    ensures step { ByRules (entry_rules reactor.old) (AddsEntry action.Discard Discarded stamp) reactor.old result reactor.new }
+{
+    match reactor.discard(stamp) {
+        Ok(()) => Reply::Discard {
+            place: reactor.journal().len() as u64,
+            version: stamp.version,
+        },
+        Err(refusal) => Reply::Refused(of_reactor(refusal)),
+    }
+}
+
+/// Takes the module out: the reply, and what the slot holds afterwards.
+fn unload_module(reactor: Reactor, stamp: Stamp) -> (Reply, Content)
+    requires { is_loaded reactor ≡ true }
+    ensures held { IsHeldRight result.1 }
+    ensures step { ByRules (entry_rules reactor) (AddsEntry action.Unload Unloaded stamp) reactor result.0 (journal_of result.1) }
+{
+    match reactor.unload(stamp) {
+        Ok(journal) => {
+            let reply = Reply::Unload {
+                place: journal.len() as u64,
+                version: stamp.version,
+            };
+            (reply, Content::Empty(journal))
+        }
+        Err((refusal, reactor)) => (
+            Reply::Refused(of_reactor(refusal)),
+            Content::Loaded(reactor),
+        ),
     }
 }
 
@@ -291,6 +329,50 @@ impl Slot {
         }
     }
 
+    fn discard(&mut self, stamp: Stamp) -> Reply
+        ensures number { self.new.number ≡ self.old.number }
+        ensures step { ByRules (empty self.old.journal ▸ entry_rules self.old.journal) (AddsEntry action.Discard Discarded stamp)
+            self.old.journal result self.new.journal }
+    {
+        if let Content::Loaded(reactor) = &mut self.content {
+            return discard_inputs(reactor, stamp);
+        }
+        Reply::Refused(Refusal::Empty)
+    }
+
+    fn unload(&mut self, stamp: Stamp) -> Reply
+        ensures number { self.new.number ≡ self.old.number }
+        ensures step { ByRules (empty self.old.journal ▸ entry_rules self.old.journal) (AddsEntry action.Unload Unloaded stamp)
+            self.old.journal result self.new.journal }
+    {
+        let empty = Content::Empty(Journal::new(self.alloc));
+        match mem::replace(&mut self.content, empty) {
+            Content::Empty(journal) => {
+                self.content = Content::Empty(journal);
+                Reply::Refused(Refusal::Empty)
+            }
+            Content::Loaded(reactor) => {
+                let (reply, content) = unload_module(reactor, stamp);
+                self.content = content;
+                reply
+            }
+        }
+    }
+
+    fn audit(&self, policy: &Policy) -> Reply
+        ensures { (entries : List Entry) → StandsFor policy.now entries → Audits entries self.now.journal result self.now.journal }
+    {
+        let instants = match &self.content {
+            Content::Empty(_) => 0,
+            Content::Loaded(reactor) => reactor.instants(),
+        };
+        Reply::Audit {
+            entries: self.journal().len() as u64,
+            instants,
+            version: policy.version(),
+        }
+    }
+
     fn look(&self, policy: &Policy, session: SessionId, instant: u64) -> Reply
         ensures { (entries : List Entry) → StandsFor policy.now entries
             → ByRules (empty self.now.journal ▸ no_instant self.now.journal instant ▸ no_memory ▸ accept)
@@ -317,8 +399,11 @@ fn permission_of(slot: SlotNumber, command: &SlotCommand) -> Option<(Operation, 
     match command {
         SlotCommand::Load { .. } => Some((Operation::Load, Object::Slot(slot))),
         SlotCommand::Offer { signal } => Some((Operation::Offer, Object::Signal(slot, *signal))),
+        SlotCommand::Discard => Some((Operation::Step, Object::Slot(slot))),
         SlotCommand::Step => Some((Operation::Step, Object::Slot(slot))),
+        SlotCommand::Unload => Some((Operation::Load, Object::Slot(slot))),
         SlotCommand::Look { .. } => None,
+        SlotCommand::Audit => Some((Operation::Audit, Object::Policy)),
     }
 }
 
@@ -346,9 +431,9 @@ fn check_access(
 
 /// Answers a command, which this session gives to the slot, at the policy as it is.
 ///
-/// The session is to live, and to have the command's permission: `load` and `step` on the slot, `offer` on the signal; a look needs
-/// none and shows what the session may observe. A refusal leaves the slot, and a command that is accepted adds its one entry, but
-/// for a look, which adds none.
+/// The session is to live, and to have the command's permission: `load` on the slot for a load and an unload, `step` on it for a step
+/// and a discard, `offer` on the signal, `audit` on the policy; a look needs none and shows what the session may observe. A refusal
+/// leaves the slot, and a command that is accepted adds its one entry, but for a look and an audit, which add none.
 pub fn decide_slot(
     policy: &Policy,
     slot: &mut Slot,
@@ -367,7 +452,10 @@ pub fn decide_slot(
             slot.load(stamp(policy, session), main.as_str(), text.as_str())
         }
         SlotCommand::Offer { signal } => slot.offer(stamp(policy, session), &signal),
+        SlotCommand::Discard => slot.discard(stamp(policy, session)),
         SlotCommand::Step => slot.step(policy, session),
+        SlotCommand::Unload => slot.unload(stamp(policy, session)),
         SlotCommand::Look { instant } => slot.look(policy, session, instant),
+        SlotCommand::Audit => slot.audit(policy),
     }
 }

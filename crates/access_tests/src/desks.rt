@@ -32,7 +32,7 @@ fn logs_in(reply: &Reply, wanted: SessionId) -> bool {
 }
 
 /// A desk on which root is logged in, with session 1.
-fn opened(alloc: Global) -> Result<Single, Fail> {
+pub fn opened(alloc: Global) -> Result<Single, Fail> {
     let mut desk = Single::new(alloc)?;
     let roles = RoleNames::from_vec(vec![in alloc; Name::root()]?)?;
     let command = AdminCommand::CreateSession {
@@ -46,7 +46,7 @@ fn opened(alloc: Global) -> Result<Single, Fail> {
 }
 
 /// The version with the permission granted to the role root.
-fn grant(
+pub fn grant(
     desk: &mut Single,
     session: SessionId,
     operation: Operation,
@@ -67,14 +67,14 @@ fn grant(
 }
 
 /// A load of module M of the text.
-fn load(alloc: Global, text: &str) -> Result<SlotCommand, Fail> {
+pub fn load(alloc: Global, text: &str) -> Result<SlotCommand, Fail> {
     Ok(SlotCommand::Load {
         main: Identifier::from_text("M").ok_or("no identifier")?,
         text: Text::copied(alloc, text)?,
     })
 }
 
-fn offer(signal: &str) -> Result<SlotCommand, Fail> {
+pub fn offer(signal: &str) -> Result<SlotCommand, Fail> {
     Ok(SlotCommand::Offer {
         signal: Identifier::from_text(signal).ok_or("no identifier")?,
     })
@@ -99,7 +99,7 @@ fn are(signals: &ShownSignals, wanted: &[(&str, bool)]) -> bool {
 }
 
 /// Whether a look at the instant shows these signals, with these statuses.
-fn shows(desk: &mut Single, session: SessionId, instant: u64, wanted: &[(&str, bool)]) -> bool {
+pub fn shows(desk: &mut Single, session: SessionId, instant: u64, wanted: &[(&str, bool)]) -> bool {
     match desk.slot(session, 0, SlotCommand::Look { instant }) {
         Reply::Look { signals, .. } => are(&signals, wanted),
         _ => false,

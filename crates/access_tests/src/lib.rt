@@ -12,3 +12,5 @@ mod desks;
 mod instants;
 #[cfg(test)]
 mod loads;
+#[cfg(test)]
+mod slots;

@@ -5,13 +5,13 @@ use Rattle.rbac_policy.specs.declared.commands.AdminCommand.TheVariants.{AddUser
 use Rattle.access_core.specs.declared.command.SlotCommand.TheVariants as slot
 use Rattle.access_core.specs.declared.refusal.Refusal.{Refusal}
 use Rattle.access_core.specs.declared.reply.Reply.{Reply}
-use Rattle.access_core.specs.declared.reply.Reply.TheVariants.{Refused, Login as LoggedIn, Changed, Load as Loaded, Offer as Offered, Step as Stepped, Look as Shown, Check}
+use Rattle.access_core.specs.declared.reply.Reply.TheVariants.{Refused, Login as LoggedIn, Changed, Load as Loaded, Offer as Offered, Discard as Discarded, Step as Stepped, Unload as Unloaded, Look as Shown, Audit as Audited, Check as Checked}
 use Rattle.access_core.specs.Desk.{DeskState}
 use Rattle.access_core.specs.Needs.{IsAccepted}
 use Rattle.access_core.proofs.Unchanged.{admin_refused, slot_refused}
 use Rattle.wire_lines.specs.declared.request.Request.{Request}
 use Rattle.wire_lines.specs.declared.request.Request.TheVariants as wire
-use Rattle.wire_lines.specs.declared.request.Request.TheVariants.{Login, Logout, Grant, Load, Offer, Step, Look}
+use Rattle.wire_lines.specs.declared.request.Request.TheVariants.{Login, Logout, Grant, Load, Offer, Discard, Step, Unload, Look, Audit, Check}
 use Rattle.client_loop.specs.LineSteps.{Asks, with_login, LineStep, TellsNothing}
 
 asked_stays : (request : Request) (login : Option ℕ) (before : DeskState) (refusal : Refusal) (after : DeskState)
@@ -52,10 +52,18 @@ asked_stays (Load main number text) None before refusal after h = h.stays
 asked_stays (Load main number text) (Some session) before refusal after h = slot_refused number session (slot.Load main text) before refusal after h
 asked_stays (Offer signal number) None before refusal after h = h.stays
 asked_stays (Offer signal number) (Some session) before refusal after h = slot_refused number session (slot.Offer signal) before refusal after h
+asked_stays (Discard number) None before refusal after h = h.stays
+asked_stays (Discard number) (Some session) before refusal after h = slot_refused number session slot.Discard before refusal after h
 asked_stays (Step number) None before refusal after h = h.stays
 asked_stays (Step number) (Some session) before refusal after h = slot_refused number session slot.Step before refusal after h
+asked_stays (Unload number) None before refusal after h = h.stays
+asked_stays (Unload number) (Some session) before refusal after h = slot_refused number session slot.Unload before refusal after h
 asked_stays (Look instant number) None before refusal after h = h.stays
 asked_stays (Look instant number) (Some session) before refusal after h = slot_refused number session (slot.Look instant) before refusal after h
+asked_stays (Audit number) None before refusal after h = h.stays
+asked_stays (Audit number) (Some session) before refusal after h = slot_refused number session slot.Audit before refusal after h
+asked_stays (Check object operation) None before refusal after h = h.stays
+asked_stays (Check object operation) (Some session) before refusal after h = h.stays
 
 refused_stays : (line : List ℕ) (before : DeskState) (login : Option ℕ) (refusal : Refusal) (after : DeskState) (later : Option ℕ)
     → LineStep line (with_login before login) (Refused refusal) (with_login after later) → after ≡ before
@@ -69,9 +77,12 @@ accepted_or_not (LoggedIn session version) = inl tt
 accepted_or_not (Changed change version) = inl tt
 accepted_or_not (Loaded place version) = inl tt
 accepted_or_not (Offered place version) = inl tt
+accepted_or_not (Discarded place version) = inl tt
 accepted_or_not (Stepped instant place version) = inl tt
+accepted_or_not (Unloaded place version) = inl tt
 accepted_or_not (Shown instant signals version) = inl tt
-accepted_or_not (Check allowed) = inl tt
+accepted_or_not (Audited entries instants version) = inl tt
+accepted_or_not (Checked allowed) = inl tt
 
 -- a line whose reply isn't accepted leaves the desk
 line_stays : (line : List ℕ) (before : DeskState) (login : Option ℕ) (given : Reply) (after : DeskState) (later : Option ℕ)
@@ -81,9 +92,12 @@ line_stays line before login (LoggedIn session version) after later h refused = 
 line_stays line before login (Changed change version) after later h refused = absurd (refused tt)
 line_stays line before login (Loaded place version) after later h refused = absurd (refused tt)
 line_stays line before login (Offered place version) after later h refused = absurd (refused tt)
+line_stays line before login (Discarded place version) after later h refused = absurd (refused tt)
 line_stays line before login (Stepped instant place version) after later h refused = absurd (refused tt)
+line_stays line before login (Unloaded place version) after later h refused = absurd (refused tt)
 line_stays line before login (Shown instant signals version) after later h refused = absurd (refused tt)
-line_stays line before login (Check allowed) after later h refused = absurd (refused tt)
+line_stays line before login (Audited entries instants version) after later h refused = absurd (refused tt)
+line_stays line before login (Checked allowed) after later h refused = absurd (refused tt)
 
 -- a line of whose reply no text was made: the login is the one that an accepted command leaves, and else the one that was held
 pub nothing_told : (line : List ℕ) (before : DeskState) (login : Option ℕ) (given : Reply) (after : DeskState) (later kept : Option ℕ)

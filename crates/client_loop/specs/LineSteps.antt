@@ -1,6 +1,9 @@
 -- One line of a connection: what it is answered, and the desk and the connection's login afterwards (this project's own form).
-use Rattle.std.specs.Prelude.{◌≡◌, ℕ, ◌<◌, ◌≤◌, ◌⊎◌, List, Option, Some, None, Err, length}
+use Rattle.std.specs.Prelude.{◌≡◌, ◌↔◌, ℕ, Bool, IsTrue, ◌<◌, ◌≤◌, ◌⊎◌, List, Option, Some, None, Err, length}
 use Rattle.rbac_policy.specs.declared.commands.AdminCommand.TheVariants.{AddUser, DeleteUser, AddRole, DeleteRole, AssignUser, DeassignUser, GrantPermission, RevokePermission, AddInheritance, DeleteInheritance, CreateDsdSet, DeleteDsdSet, CreateSession, DeleteSession, AddActiveRole, DropActiveRole}
+use Rattle.rbac_policy.specs.declared.objects.Operation.{Operation}
+use Rattle.rbac_policy.specs.declared.objects.Object.{Object}
+use Rattle.rbac_policy.specs.Facts.{May}
 use Rattle.access_core.specs.declared.command.SlotCommand.TheVariants as slot
 use Rattle.access_core.specs.declared.refusal.Refusal.{Refusal}
 use Rattle.access_core.specs.declared.refusal.Refusal.TheVariants.{TooLong, NoSession, AlreadyLoggedIn}
@@ -12,7 +15,7 @@ use Rattle.access_core.specs.Needs.{IsAccepted}
 use Rattle.line_reader.specs.declared.lines.TheConstants.{LINE_BYTES}
 use Rattle.wire_lines.specs.declared.request.Request.{Request}
 use Rattle.wire_lines.specs.declared.request.Request.TheVariants as wire
-use Rattle.wire_lines.specs.declared.request.Request.TheVariants.{Login, Logout, Load, Offer, Step, Look}
+use Rattle.wire_lines.specs.declared.request.Request.TheVariants.{Login, Logout, Load, Offer, Discard, Step, Unload, Look, Audit, Check}
 use Rattle.wire_lines.specs.Requests.{IsReadAs, IsRequest}
 use Rattle.wire_lines.specs.Replies.{line_of}
 
@@ -25,6 +28,13 @@ Unheld (Some session) asked = IsRefused AlreadyLoggedIn
 abbrev pub Held : (login : Option ℕ) → (ℕ → DeskState → Reply → DeskState → Type 0) → (before : DeskState) → Reply → (after : DeskState) → Type 0
 Held None asked = IsRefused NoSession
 Held (Some session) asked = asked session
+
+-- the reply tells whether the session may do the operation on the object, and nothing is changed
+pub record Checks (operation : Operation) (object : Object) (session : ℕ) (before : DeskState) (given : Reply) (after : DeskState) : Type 0 where
+  pub allowed : Bool
+  pub replied : given ≡ reply.Check allowed
+  pub exactly : IsTrue allowed ↔ May before.entries session operation object
+  pub stays : after ≡ before
 
 -- what the desk answers to a request on a connection with this login, and the desk afterwards
 abbrev pub Asks : Request → (login : Option ℕ) → (before : DeskState) → Reply → (after : DeskState) → Type 0
@@ -51,8 +61,12 @@ Asks (wire.Activate role) login = Held login (λ session. AdminStep (Some sessio
 Asks (wire.Drop role) login = Held login (λ session. AdminStep (Some session) (DropActiveRole role))
 Asks (Load main number text) login = Held login (λ session. DeskStep number session (slot.Load main text))
 Asks (Offer signal number) login = Held login (λ session. DeskStep number session (slot.Offer signal))
+Asks (Discard number) login = Held login (λ session. DeskStep number session slot.Discard)
 Asks (Step number) login = Held login (λ session. DeskStep number session slot.Step)
+Asks (Unload number) login = Held login (λ session. DeskStep number session slot.Unload)
 Asks (Look instant number) login = Held login (λ session. DeskStep number session (slot.Look instant))
+Asks (Audit number) login = Held login (λ session. DeskStep number session slot.Audit)
+Asks (Check object operation) login = Held login (Checks operation object)
 
 -- the login after this reply to a login: an accepted one holds its session
 abbrev pub after_login : Reply → (before : Option ℕ) → Option ℕ

@@ -3,7 +3,7 @@ ghost use Rattle.std.specs.Prelude.{◌≡◌, MatchResult, Some, None};
 ghost use Rattle.rbac_policy.specs.declared.commands.AdminCommand.TheVariants.{DeleteSession};
 ghost use Rattle.access_core.specs.Desk.{AdminStep, DeskStep};
 ghost use Rattle.wire_lines.specs.declared.request.Request.TheVariants.{Login};
-ghost use Rattle.client_loop.specs.LineSteps.{Unheld, Held, Asks, after_login, after_logout, login_after, with_login, LineStep, Tells, TellsNothing, HangsUp};
+ghost use Rattle.client_loop.specs.LineSteps.{Unheld, Held, Checks, Asks, after_login, after_logout, login_after, with_login, LineStep, Tells, TellsNothing, HangsUp};
 ghost use Rattle.access_core.specs.Needs.{IsAccepted};
 
 use access_core::command::SlotCommand;
@@ -13,6 +13,7 @@ use access_core::single::Single;
 use line_reader::lines::LINE_BYTES;
 use rbac_policy::commands::{AdminCommand, SessionId};
 use rbac_policy::names::{Name, RoleNames};
+use rbac_policy::objects::{Object, Operation};
 use std::alloc::{AllocError, Global};
 use wire_lines::reading::request;
 use wire_lines::reply::reply_line;
@@ -57,6 +58,23 @@ fn command_slot(
 {
     match login {
         Some(session) => desk.slot(*session, slot, command),
+        None => Reply::Refused(Refusal::NoSession),
+    }
+}
+
+/// Whether the session that the connection holds may do the operation on the object.
+fn check_permission(
+    desk: &Single,
+    login: &Option<SessionId>,
+    operation: Operation,
+    object: &Object,
+) -> Reply
+    ensures { Held login.now (Checks operation object.now) desk.now result desk.now }
+{
+    match login {
+        Some(session) => Reply::Check {
+            allowed: desk.check(*session, operation, object),
+        },
         None => Reply::Refused(Refusal::NoSession),
     }
 }
@@ -168,10 +186,14 @@ fn ask(desk: &mut Single, held: &Option<SessionId>, request: Request) -> Turn
         Request::Offer { signal, slot } => {
             command_slot(desk, held, slot, SlotCommand::Offer { signal })
         }
+        Request::Discard { slot } => command_slot(desk, held, slot, SlotCommand::Discard),
         Request::Step { slot } => command_slot(desk, held, slot, SlotCommand::Step),
+        Request::Unload { slot } => command_slot(desk, held, slot, SlotCommand::Unload),
         Request::Look { instant, slot } => {
             command_slot(desk, held, slot, SlotCommand::Look { instant })
         }
+        Request::Audit { slot } => command_slot(desk, held, slot, SlotCommand::Audit),
+        Request::Check { object, operation } => check_permission(desk, held, operation, &object),
     };
     let login = *held;
     Turn { reply, login }

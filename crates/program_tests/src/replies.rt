@@ -49,6 +49,32 @@ fn reply_texts(rt: HostRuntime) -> Result<(), Fail> {
             "{\"ok\":\"logout\",\"version\":10}\n",
         ),
         (
+            Reply::Discard {
+                place: 3,
+                version: 9,
+            },
+            "{\"ok\":\"discard\",\"place\":3,\"version\":9}\n",
+        ),
+        (
+            Reply::Unload {
+                place: 4,
+                version: 9,
+            },
+            "{\"ok\":\"unload\",\"place\":4,\"version\":9}\n",
+        ),
+        (
+            Reply::Audit {
+                entries: 4,
+                instants: 0,
+                version: 9,
+            },
+            "{\"entries\":4,\"instants\":0,\"ok\":\"audit\",\"version\":9}\n",
+        ),
+        (
+            Reply::Check { allowed: false },
+            "{\"allowed\":false,\"ok\":\"check\"}\n",
+        ),
+        (
             Reply::Refused(Refusal::Permission { operation, object }),
             "{\"code\":10,\"fault\":\"Permission\",\"object\":\"0.A\",\"op\":\"offer\"}\n",
         ),

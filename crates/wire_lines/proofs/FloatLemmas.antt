@@ -7,7 +7,7 @@ use Rattle.access_core.specs.declared.refusal.Refusal.{Refusal}
 use Rattle.access_core.specs.declared.refusal.Refusal.TheVariants as refusal
 use Rattle.access_core.specs.declared.reply.ShownSignal.{ShownSignal}
 use Rattle.access_core.specs.declared.reply.Reply.{Reply}
-use Rattle.access_core.specs.declared.reply.Reply.TheVariants.{Refused, Login, Changed, Load, Offer, Step, Look, Check}
+use Rattle.access_core.specs.declared.reply.Reply.TheVariants.{Refused, Login, Changed, Load, Offer, Discard, Step, Unload, Look, Audit, Check}
 use Rattle.wire_lines.specs.Replies.{shown_json, refusal_members, reply_json}
 
 shown_has_no_float : (ss : List ShownSignal) → items_have_float (items_of (map shown_json ss)) ≡ false
@@ -28,6 +28,9 @@ reply_has_no_float (Login session version) = refl
 reply_has_no_float (Changed change version) = refl
 reply_has_no_float (Load place version) = refl
 reply_has_no_float (Offer place version) = refl
+reply_has_no_float (Discard place version) = refl
 reply_has_no_float (Step instant place version) = refl
+reply_has_no_float (Unload place version) = refl
 reply_has_no_float (Look instant signals version) = rw (shown_has_no_float signals)
+reply_has_no_float (Audit entries instants version) = refl
 reply_has_no_float (Check allowed) = refl

@@ -17,7 +17,7 @@ use Rattle.rbac_policy.specs.declared.objects.Object.{Object}
 use Rattle.rbac_policy.proofs.ObjectTexts.{operation_of-exact, object_of-exact}
 use Rattle.wire_lines.proofs.KeyLemmas.{list_back}
 use Rattle.wire_lines.specs.Requests.{members_of, Fits}
-use Rattle.wire_lines.specs.Inner.Reading.{text_at, name_at, identifier_at, operation_at, object_at, number_at, keys_are, has_keys, command_of, names_from, with_front, list_of, roles_from, roles_at, login_of, logout_of, grant_of, add_user_of, delete_user_of, add_role_of, assign_of, deassign_of, revoke_of, disinherit_of, activate_of, drop_role_of, delete_role_of, inherit_of, create_set_of, delete_set_of, load_of, offer_of, step_of, look_of, fields_of, request_of}
+use Rattle.wire_lines.specs.Inner.Reading.{text_at, name_at, identifier_at, operation_at, object_at, number_at, keys_are, has_keys, command_of, names_from, with_front, list_of, roles_from, roles_at, login_of, logout_of, grant_of, add_user_of, delete_user_of, add_role_of, assign_of, deassign_of, revoke_of, disinherit_of, activate_of, drop_role_of, delete_role_of, inherit_of, create_set_of, delete_set_of, load_of, offer_of, discard_of, step_of, unload_of, look_of, audit_of, check_of, fields_of, request_of}
 use Rattle.wire_lines.specs.declared.request.Command.{Command}
 use Rattle.wire_lines.specs.declared.request.Command.TheVariants as command
 use Rattle.wire_lines.specs.declared.request.Request.{Request}
@@ -149,6 +149,18 @@ logout_is d r named h =
     let e : k.0 ≡ string (codes "logout") = as_str_is k.0 _ (subst (HasCommand (codes "logout")) whole named) in
     subst (Is d) (same_Some _ _ p.1) (record { value = whole ∙ rw e refl; fits = tt })
 
+discard_is : (d : Data) (r : Request) → HasCommand (codes "discard") d → discard_of d ≡ Some r → Is d r
+unfolding discard_of number_at text_at
+discard_is d r named h =
+    let p = guard (has_keys d (codes "cmd" ∷ codes "slot" ∷ [])) (option_map request.Discard (number_at (codes "slot") d)) r h in
+    let o = object_with d _ p.0 in
+    let k = two_members o.0 (codes "cmd") (codes "slot") o.2 in
+    let whole : d ≡ object (member (codes "cmd") k.0 (member (codes "slot") k.1 no_members)) = o.1 ∙ ap object k.2 in
+    let e : k.0 ≡ string (codes "discard") = as_str_is k.0 _ (subst (HasCommand (codes "discard")) whole named) in
+    let m = mapped request.Discard _ r p.1 in
+    let n : k.1 ≡ number (unsigned m.0) = whole_is k.1 m.0 (subst (λ (x : Data). number_at (codes "slot") x ≡ Some m.0) whole m.1) in
+    subst (Is d) m.2 (record { value = whole ∙ rw (e, n) refl; fits = tt })
+
 step_is : (d : Data) (r : Request) → HasCommand (codes "step") d → step_of d ≡ Some r → Is d r
 unfolding step_of number_at text_at
 step_is d r named h =
@@ -158,6 +170,30 @@ step_is d r named h =
     let whole : d ≡ object (member (codes "cmd") k.0 (member (codes "slot") k.1 no_members)) = o.1 ∙ ap object k.2 in
     let e : k.0 ≡ string (codes "step") = as_str_is k.0 _ (subst (HasCommand (codes "step")) whole named) in
     let m = mapped request.Step _ r p.1 in
+    let n : k.1 ≡ number (unsigned m.0) = whole_is k.1 m.0 (subst (λ (x : Data). number_at (codes "slot") x ≡ Some m.0) whole m.1) in
+    subst (Is d) m.2 (record { value = whole ∙ rw (e, n) refl; fits = tt })
+
+unload_is : (d : Data) (r : Request) → HasCommand (codes "unload") d → unload_of d ≡ Some r → Is d r
+unfolding unload_of number_at text_at
+unload_is d r named h =
+    let p = guard (has_keys d (codes "cmd" ∷ codes "slot" ∷ [])) (option_map request.Unload (number_at (codes "slot") d)) r h in
+    let o = object_with d _ p.0 in
+    let k = two_members o.0 (codes "cmd") (codes "slot") o.2 in
+    let whole : d ≡ object (member (codes "cmd") k.0 (member (codes "slot") k.1 no_members)) = o.1 ∙ ap object k.2 in
+    let e : k.0 ≡ string (codes "unload") = as_str_is k.0 _ (subst (HasCommand (codes "unload")) whole named) in
+    let m = mapped request.Unload _ r p.1 in
+    let n : k.1 ≡ number (unsigned m.0) = whole_is k.1 m.0 (subst (λ (x : Data). number_at (codes "slot") x ≡ Some m.0) whole m.1) in
+    subst (Is d) m.2 (record { value = whole ∙ rw (e, n) refl; fits = tt })
+
+audit_is : (d : Data) (r : Request) → HasCommand (codes "audit") d → audit_of d ≡ Some r → Is d r
+unfolding audit_of number_at text_at
+audit_is d r named h =
+    let p = guard (has_keys d (codes "cmd" ∷ codes "slot" ∷ [])) (option_map request.Audit (number_at (codes "slot") d)) r h in
+    let o = object_with d _ p.0 in
+    let k = two_members o.0 (codes "cmd") (codes "slot") o.2 in
+    let whole : d ≡ object (member (codes "cmd") k.0 (member (codes "slot") k.1 no_members)) = o.1 ∙ ap object k.2 in
+    let e : k.0 ≡ string (codes "audit") = as_str_is k.0 _ (subst (HasCommand (codes "audit")) whole named) in
+    let m = mapped request.Audit _ r p.1 in
     let n : k.1 ≡ number (unsigned m.0) = whole_is k.1 m.0 (subst (λ (x : Data). number_at (codes "slot") x ≡ Some m.0) whole m.1) in
     subst (Is d) m.2 (record { value = whole ∙ rw (e, n) refl; fits = tt })
 
@@ -204,6 +240,20 @@ load_is d r named h =
     let s : k.2 ≡ number (unsigned b.0) = whole_is k.2 b.0 (subst (λ (x : Data). number_at (codes "slot") x ≡ Some b.0) whole b.1) in
     let t : k.3 ≡ string m.0 = as_str_is k.3 m.0 (subst (λ (x : Data). text_at (codes "text") x ≡ Some m.0) whole m.1) in
     subst (Is d) m.2 (record { value = whole ∙ rw (e, i.0, s, t) refl; fits = i.1 })
+
+check_is : (d : Data) (r : Request) → HasCommand (codes "check") d → check_of d ≡ Some r → Is d r
+unfolding check_of operation_at object_at text_at
+check_is d r named h =
+    let p = guard (has_keys d (codes "cmd" ∷ codes "object" ∷ codes "op" ∷ [])) _ r h in
+    let o = object_with d _ p.0 in
+    let k = three_members o.0 (codes "cmd") (codes "object") (codes "op") o.2 in
+    let whole : d ≡ object (member (codes "cmd") k.0 (member (codes "object") k.1 (member (codes "op") k.2 no_members))) = o.1 ∙ ap object k.3 in
+    let e : k.0 ≡ string (codes "check") = as_str_is k.0 _ (subst (HasCommand (codes "check")) whole named) in
+    let a = chained (λ (on : Object). option_map (request.Check on) (operation_at (codes "op") d)) _ r p.1 in
+    let m = mapped (request.Check a.0) _ r a.2 in
+    let i = object_is k.1 a.0 (subst (λ (x : Data). object_at (codes "object") x ≡ Some a.0) whole a.1) in
+    let s = operation_is k.2 m.0 (subst (λ (x : Data). operation_at (codes "op") x ≡ Some m.0) whole m.1) in
+    subst (Is d) m.2 (record { value = whole ∙ rw (e, i.0, s) refl; fits = i.1 })
 
 grant_is : (d : Data) (r : Request) → HasCommand (codes "grant") d → grant_of d ≡ Some r → Is d r
 unfolding grant_of name_at operation_at object_at text_at
@@ -440,10 +490,15 @@ texts_are_names [] h = refl
 texts_are_names (n ∷ ns) h = rw (h.0, texts_are_names ns h.1) refl
 
 pub from_request : (r : Request) → Fits r → request_of (object (members_of r)) ≡ Some r
-unfolding request_of command_of login_of logout_of grant_of add_user_of delete_user_of add_role_of assign_of deassign_of revoke_of disinherit_of activate_of drop_role_of delete_role_of inherit_of create_set_of delete_set_of load_of offer_of step_of look_of has_keys text_at name_at identifier_at operation_at object_at number_at roles_at roles_from
+unfolding request_of command_of login_of logout_of grant_of add_user_of delete_user_of add_role_of assign_of deassign_of revoke_of disinherit_of activate_of drop_role_of delete_role_of inherit_of create_set_of delete_set_of load_of offer_of discard_of step_of unload_of look_of audit_of check_of has_keys text_at name_at identifier_at operation_at object_at number_at roles_at roles_from
 from_request request.Logout f = refl
+from_request (request.Discard slot) f = refl
 from_request (request.Step slot) f = refl
+from_request (request.Unload slot) f = refl
 from_request (request.Look instant slot) f = refl
+from_request (request.Audit slot) f = refl
+from_request (request.Check on operation) f =
+    rw ((object_of-exact (object_text on) on).1 (f, refl), (operation_of-exact (operation_text operation) operation).1 refl) refl
 from_request (request.Offer signal slot) f = rw f refl
 from_request (request.Load main slot text) f = rw f refl
 from_request (request.Grant on operation role) f =
@@ -489,8 +544,12 @@ command_text command.CreateSet = codes "dsd"
 command_text command.DeleteSet = codes "undsd"
 command_text command.Load = codes "load"
 command_text command.Offer = codes "offer"
+command_text command.Discard = codes "discard"
 command_text command.Step = codes "step"
+command_text command.Unload = codes "unload"
 command_text command.Look = codes "look"
+command_text command.Audit = codes "audit"
+command_text command.Check = codes "check"
 
 -- the word is that of this command, or what the rest of the choice says holds
 pick : (s : List ℕ) (one : Command) (others : Option Command) (c : Command) → cond (bytes_eq s (command_text one)) (Some one) others ≡ Some c → (others ≡ Some c → s ≡ command_text c) → s ≡ command_text c
@@ -503,7 +562,7 @@ pick s one others c h later =
 command_is : (s : List ℕ) (c : Command) → command_of s ≡ Some c → s ≡ command_text c
 unfolding command_of
 command_is s c h =
-    pick s command.Login _ c h (λ h. pick s command.Logout _ c h (λ h. pick s command.Grant _ c h (λ h. pick s command.AddUser _ c h (λ h. pick s command.DeleteUser _ c h (λ h. pick s command.AddRole _ c h (λ h. pick s command.DeleteRole _ c h (λ h. pick s command.Assign _ c h (λ h. pick s command.Deassign _ c h (λ h. pick s command.Revoke _ c h (λ h. pick s command.Inherit _ c h (λ h. pick s command.Disinherit _ c h (λ h. pick s command.CreateSet _ c h (λ h. pick s command.DeleteSet _ c h (λ h. pick s command.Activate _ c h (λ h. pick s command.Drop _ c h (λ h. pick s command.Load _ c h (λ h. pick s command.Offer _ c h (λ h. pick s command.Step _ c h (λ h. pick s command.Look _ c h (λ h. cc))))))))))))))))))))
+    pick s command.Login _ c h (λ h. pick s command.Logout _ c h (λ h. pick s command.Grant _ c h (λ h. pick s command.AddUser _ c h (λ h. pick s command.DeleteUser _ c h (λ h. pick s command.AddRole _ c h (λ h. pick s command.DeleteRole _ c h (λ h. pick s command.Assign _ c h (λ h. pick s command.Deassign _ c h (λ h. pick s command.Revoke _ c h (λ h. pick s command.Inherit _ c h (λ h. pick s command.Disinherit _ c h (λ h. pick s command.CreateSet _ c h (λ h. pick s command.DeleteSet _ c h (λ h. pick s command.Activate _ c h (λ h. pick s command.Drop _ c h (λ h. pick s command.Load _ c h (λ h. pick s command.Offer _ c h (λ h. pick s command.Discard _ c h (λ h. pick s command.Step _ c h (λ h. pick s command.Unload _ c h (λ h. pick s command.Look _ c h (λ h. pick s command.Audit _ c h (λ h. pick s command.Check _ c h (λ h. cc))))))))))))))))))))))))
 
 fields_are : (c : Command) (d : Data) (r : Request) → HasCommand (command_text c) d → fields_of c d ≡ Some r → Is d r
 fields_are command.Login d r named h = login_is d r named h
@@ -524,8 +583,12 @@ fields_are command.CreateSet d r named h = create_set_is d r named h
 fields_are command.DeleteSet d r named h = delete_set_is d r named h
 fields_are command.Load d r named h = load_is d r named h
 fields_are command.Offer d r named h = offer_is d r named h
+fields_are command.Discard d r named h = discard_is d r named h
 fields_are command.Step d r named h = step_is d r named h
+fields_are command.Unload d r named h = unload_is d r named h
 fields_are command.Look d r named h = look_is d r named h
+fields_are command.Audit d r named h = audit_is d r named h
+fields_are command.Check d r named h = check_is d r named h
 
 pub request_is : (d : Data) (r : Request) → request_of d ≡ Some r → Is d r
 unfolding request_of

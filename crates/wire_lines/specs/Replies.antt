@@ -7,7 +7,7 @@ use Rattle.rbac_policy.specs.Texts.{operation_text, object_text}
 use Rattle.access_core.specs.declared.refusal.Refusal.{Refusal}
 use Rattle.access_core.specs.declared.refusal.Refusal.TheVariants as refusal
 use Rattle.access_core.specs.declared.reply.Reply.{Reply}
-use Rattle.access_core.specs.declared.reply.Reply.TheVariants.{Refused, Login, Changed, Load, Offer, Step, Look, Check}
+use Rattle.access_core.specs.declared.reply.Reply.TheVariants.{Refused, Login, Changed, Load, Offer, Discard, Step, Unload, Look, Audit, Check}
 use Rattle.access_core.specs.declared.reply.ShownSignal.{ShownSignal}
 use Rattle.access_core.specs.Refusals.{code_of, name_of, limit_text, table_text}
 use Rattle.access_core.specs.Replies.{word_of}
@@ -73,10 +73,14 @@ reply_members (Login session version) = text_member (codes "ok") (codes "login")
 reply_members (Changed change version) = text_member (codes "ok") (word_of change) (number_member (codes "version") version no_members)
 reply_members (Load place version) = text_member (codes "ok") (codes "load") (number_member (codes "place") place (number_member (codes "version") version no_members))
 reply_members (Offer place version) = text_member (codes "ok") (codes "offer") (number_member (codes "place") place (number_member (codes "version") version no_members))
+reply_members (Discard place version) = text_member (codes "ok") (codes "discard") (number_member (codes "place") place (number_member (codes "version") version no_members))
+reply_members (Unload place version) = text_member (codes "ok") (codes "unload") (number_member (codes "place") place (number_member (codes "version") version no_members))
 reply_members (Step instant place version) =
     number_member (codes "instant") instant (text_member (codes "ok") (codes "step") (number_member (codes "place") place (number_member (codes "version") version no_members)))
 reply_members (Look instant signals version) =
     number_member (codes "instant") instant (text_member (codes "ok") (codes "look") (member (codes "signals") (signals_json signals) (number_member (codes "version") version no_members)))
+reply_members (Audit entries instants version) =
+    number_member (codes "entries") entries (number_member (codes "instants") instants (text_member (codes "ok") (codes "audit") (number_member (codes "version") version no_members)))
 reply_members (Check allowed) = member (codes "allowed") (boolean allowed) (text_member (codes "ok") (codes "check") no_members)
 
 -- what a reply says

@@ -11,7 +11,7 @@ use Rattle.rbac_policy.specs.Texts.{operation_text, object_text, IsObject}
 use Rattle.access_core.specs.declared.refusal.Refusal.{Refusal}
 use Rattle.access_core.specs.declared.refusal.Refusal.TheVariants as refusal
 use Rattle.wire_lines.specs.declared.request.Request.{Request}
-use Rattle.wire_lines.specs.declared.request.Request.TheVariants.{Login, Logout, Grant, AddUser, DeleteUser, AddRole, Assign, Deassign, Revoke, Disinherit, Activate, Drop, DeleteRole, Inherit, CreateSet, DeleteSet, Load, Offer, Step, Look}
+use Rattle.wire_lines.specs.declared.request.Request.TheVariants.{Login, Logout, Grant, AddUser, DeleteUser, AddRole, Assign, Deassign, Revoke, Disinherit, Activate, Drop, DeleteRole, Inherit, CreateSet, DeleteSet, Load, Offer, Discard, Step, Unload, Look, Audit, Check}
 
 -- a member whose value is a text
 abbrev pub text_member : List ℕ → List ℕ → Members → Members
@@ -62,8 +62,13 @@ members_of (DeleteSet name) =
 members_of (Load main slot text) =
     text_member (codes "cmd") (codes "load") (text_member (codes "main") main (number_member (codes "slot") slot (text_member (codes "text") text no_members)))
 members_of (Offer signal slot) = text_member (codes "cmd") (codes "offer") (text_member (codes "signal") signal (number_member (codes "slot") slot no_members))
+members_of (Discard slot) = text_member (codes "cmd") (codes "discard") (number_member (codes "slot") slot no_members)
 members_of (Step slot) = text_member (codes "cmd") (codes "step") (number_member (codes "slot") slot no_members)
+members_of (Unload slot) = text_member (codes "cmd") (codes "unload") (number_member (codes "slot") slot no_members)
 members_of (Look instant slot) = text_member (codes "cmd") (codes "look") (number_member (codes "instant") instant (number_member (codes "slot") slot no_members))
+members_of (Audit slot) = text_member (codes "cmd") (codes "audit") (number_member (codes "slot") slot no_members)
+members_of (Check on operation) =
+    text_member (codes "cmd") (codes "check") (text_member (codes "object") (object_text on) (text_member (codes "op") (operation_text operation) no_members))
 
 -- names and identifiers are of their form, slots in objects are among the sixteen, and no more roles are listed than a command may list
 abbrev pub Fits : Request → Type 0
@@ -85,8 +90,12 @@ Fits (CreateSet count name roles) = (length roles ≤ LISTED_ROLES) × AllByRecu
 Fits (DeleteSet name) = IsTrue (is_name name)
 Fits (Load main slot text) = IsTrue (is_identifier main)
 Fits (Offer signal slot) = IsTrue (is_identifier signal)
+Fits (Discard slot) = Unit {0}
 Fits (Step slot) = Unit {0}
+Fits (Unload slot) = Unit {0}
 Fits (Look instant slot) = Unit {0}
+Fits (Audit slot) = Unit {0}
+Fits (Check on operation) = IsObject on
 
 -- the line is text that reads as this JSON value
 pub record IsValue (line : List ℕ) (d : Data) : Type 0 where

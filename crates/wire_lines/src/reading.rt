@@ -3,7 +3,7 @@ ghost use Rattle.std.specs.Prelude.{◌≡◌, ◌≤◌, length, map, option_ma
 ghost use Rattle.serde_json.specs.Data.{object};
 ghost use Rattle.serde_json.specs.View.{view};
 ghost use Rattle.wire_lines.specs.Requests.{IsReadAs, IsRequest, Fits, members_of};
-ghost use Rattle.wire_lines.specs.Inner.Reading.{text_at, name_at, identifier_at, operation_at, object_at, number_at, has_keys, names_are, command_of, login_of, logout_of, grant_of, add_user_of, delete_user_of, add_role_of, assign_of, deassign_of, revoke_of, disinherit_of, activate_of, drop_role_of, delete_role_of, inherit_of, create_set_of, delete_set_of, load_of, offer_of, step_of, look_of, names_from, roles_from, roles_at, request_of};
+ghost use Rattle.wire_lines.specs.Inner.Reading.{text_at, name_at, identifier_at, operation_at, object_at, number_at, has_keys, names_are, command_of, login_of, logout_of, grant_of, add_user_of, delete_user_of, add_role_of, assign_of, deassign_of, revoke_of, disinherit_of, activate_of, drop_role_of, delete_role_of, inherit_of, create_set_of, delete_set_of, load_of, offer_of, discard_of, step_of, unload_of, look_of, audit_of, check_of, names_from, roles_from, roles_at, request_of};
 ghost use Rattle.wire_lines.specs.declared.request.Request.{Request};
 
 use crate::request::{Command, Request};
@@ -153,8 +153,12 @@ fn command_of(word: &str) -> Option<Command>
         "drop" => Some(Command::Drop),
         "load" => Some(Command::Load),
         "offer" => Some(Command::Offer),
+        "discard" => Some(Command::Discard),
         "step" => Some(Command::Step),
+        "unload" => Some(Command::Unload),
         "look" => Some(Command::Look),
+        "audit" => Some(Command::Audit),
+        "check" => Some(Command::Check),
         _ => None,
     }
 }
@@ -396,6 +400,17 @@ fn offer_of(value: &Value) -> Option<Request>
     Some(Request::Offer { signal, slot })
 }
 
+#[tactic(auto, unfolding(crate::specs::Inner::Reading::discard_of))]
+fn discard_of(value: &Value) -> Option<Request>
+    ensures { result ≡ discard_of (view value.now) }
+{
+    if !has_keys(value, &["cmd", "slot"]) {
+        return None;
+    }
+    let slot = number_at(value, "slot")?;
+    Some(Request::Discard { slot })
+}
+
 #[tactic(auto, unfolding(crate::specs::Inner::Reading::step_of))]
 fn step_of(value: &Value) -> Option<Request>
     ensures { result ≡ step_of (view value.now) }
@@ -405,6 +420,17 @@ fn step_of(value: &Value) -> Option<Request>
     }
     let slot = number_at(value, "slot")?;
     Some(Request::Step { slot })
+}
+
+#[tactic(auto, unfolding(crate::specs::Inner::Reading::unload_of))]
+fn unload_of(value: &Value) -> Option<Request>
+    ensures { result ≡ unload_of (view value.now) }
+{
+    if !has_keys(value, &["cmd", "slot"]) {
+        return None;
+    }
+    let slot = number_at(value, "slot")?;
+    Some(Request::Unload { slot })
 }
 
 #[tactic(auto, unfolding(crate::specs::Inner::Reading::look_of))]
@@ -417,6 +443,29 @@ fn look_of(value: &Value) -> Option<Request>
     let instant = number_at(value, "instant")?;
     let slot = number_at(value, "slot")?;
     Some(Request::Look { instant, slot })
+}
+
+#[tactic(auto, unfolding(crate::specs::Inner::Reading::audit_of))]
+fn audit_of(value: &Value) -> Option<Request>
+    ensures { result ≡ audit_of (view value.now) }
+{
+    if !has_keys(value, &["cmd", "slot"]) {
+        return None;
+    }
+    let slot = number_at(value, "slot")?;
+    Some(Request::Audit { slot })
+}
+
+#[tactic(auto, unfolding(crate::specs::Inner::Reading::check_of))]
+fn check_of(value: &Value) -> Option<Request>
+    ensures { result ≡ check_of (view value.now) }
+{
+    if !has_keys(value, &["cmd", "object", "op"]) {
+        return None;
+    }
+    let object = object_at(value, "object")?;
+    let operation = operation_at(value, "op")?;
+    Some(Request::Check { object, operation })
 }
 
 /// The request of a value.
@@ -446,8 +495,12 @@ fn request_of(alloc: Global, value: &Value) -> Result<Option<Request>, AllocErro
         Command::DeleteSet => Ok(delete_set_of(value)),
         Command::Load => load_of(alloc, value),
         Command::Offer => Ok(offer_of(value)),
+        Command::Discard => Ok(discard_of(value)),
         Command::Step => Ok(step_of(value)),
+        Command::Unload => Ok(unload_of(value)),
         Command::Look => Ok(look_of(value)),
+        Command::Audit => Ok(audit_of(value)),
+        Command::Check => Ok(check_of(value)),
     }
 }
 

@@ -10,7 +10,7 @@ ghost use Rattle.rbac_policy.specs.Texts.{operation_text, object_text};
 ghost use Rattle.access_core.specs.Refusals.{code_of, name_of};
 ghost use Rattle.wire_lines.specs.Requests.{text_member, number_member, texts_member};
 ghost use Rattle.wire_lines.specs.Replies.{refusal_members, refused_with, signals_json, shown_json, reply_json, line_of};
-ghost use Rattle.access_core.specs.declared.reply.Reply.TheVariants.{Refused, Login, Changed, Load, Step, Check};
+ghost use Rattle.access_core.specs.declared.reply.Reply.TheVariants.{Refused, Login, Changed, Load, Discard, Step, Unload, Audit, Check};
 ghost use Rattle.access_core.specs.declared.reply.Change.TheVariants as change;
 ghost use Rattle.access_core.specs.declared.refusal.Refusal.TheVariants as refusal;
 ghost use Rattle.reactor_core.specs.declared.refusal.Place.{Place};
@@ -220,6 +220,14 @@ fn placed(alloc: Global, done: &str, place: u64, version: u64) -> Result<Value, 
     json!(in alloc; {"ok": done, "place": place, "version": version})
 }
 
+/// The reply to an audit: how many entries and instants there are.
+fn audited(alloc: Global, entries: u64, instants: u64, version: u64) -> Result<Value, AllocError>
+    ensures { IfOk result (λ v. view v ≡ object (number_member (codes "entries") entries (number_member (codes "instants") instants
+        (text_member (codes "ok") (codes "audit") (number_member (codes "version") version no_members))))) }
+{
+    json!(in alloc; {"entries": entries, "instants": instants, "ok": "audit", "version": version})
+}
+
 /// What a reply says.
 fn value(alloc: Global, reply: &Reply) -> Result<Value, AllocError>
     ensures { IfOk result (λ v. view v ≡ reply_json reply.now) }
@@ -234,6 +242,8 @@ fn value(alloc: Global, reply: &Reply) -> Result<Value, AllocError>
         }
         Reply::Load { place, version } => placed(alloc, "load", *place, *version),
         Reply::Offer { place, version } => placed(alloc, "offer", *place, *version),
+        Reply::Discard { place, version } => placed(alloc, "discard", *place, *version),
+        Reply::Unload { place, version } => placed(alloc, "unload", *place, *version),
         Reply::Step {
             instant,
             place,
@@ -249,6 +259,11 @@ fn value(alloc: Global, reply: &Reply) -> Result<Value, AllocError>
             let signals = shown(alloc, signals.as_slice())?;
             json!(in alloc; {"instant": *instant, "ok": "look", "signals": signals, "version": *version})
         }
+        Reply::Audit {
+            entries,
+            instants,
+            version,
+        } => audited(alloc, *entries, *instants, *version),
         Reply::Check { allowed } => json!(in alloc; {"allowed": *allowed, "ok": "check"}),
     }
 }
@@ -286,6 +301,13 @@ pub fn reply_lines_are_these()
     ensures step { (instant place version : ℕ) → line_of (Step instant place version)
         ≡ codes "{\"instant\":" ++ (decimal instant ++ (codes ",\"ok\":\"step\",\"place\":" ++ (decimal place
         ++ (codes ",\"version\":" ++ (decimal version ++ codes "}\n"))))) }
+    ensures discard { (place version : ℕ) → line_of (Discard place version)
+        ≡ codes "{\"ok\":\"discard\",\"place\":" ++ (decimal place ++ (codes ",\"version\":" ++ (decimal version ++ codes "}\n"))) }
+    ensures unload { (place version : ℕ) → line_of (Unload place version)
+        ≡ codes "{\"ok\":\"unload\",\"place\":" ++ (decimal place ++ (codes ",\"version\":" ++ (decimal version ++ codes "}\n"))) }
+    ensures audit { (entries instants version : ℕ) → line_of (Audit entries instants version)
+        ≡ codes "{\"entries\":" ++ (decimal entries ++ (codes ",\"instants\":" ++ (decimal instants
+        ++ (codes ",\"ok\":\"audit\",\"version\":" ++ (decimal version ++ codes "}\n"))))) }
     ensures check { line_of (Check true) ≡ codes "{\"allowed\":true,\"ok\":\"check\"}\n" }
     ensures not_json { line_of (Refused refusal.NotJson) ≡ codes "{\"code\":2,\"fault\":\"NotJson\"}\n" }
     ensures memory { line_of (Refused refusal.Memory) ≡ codes "{\"code\":90,\"fault\":\"Memory\"}\n" }

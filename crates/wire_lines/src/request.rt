@@ -91,14 +91,31 @@ pub enum Request {
         signal: Identifier,
         slot: u64,
     },
+    /// The slot's pending inputs, taken away.
+    Discard {
+        slot: u64,
+    },
     /// The slot's next instant.
     Step {
+        slot: u64,
+    },
+    /// The slot's module, taken out.
+    Unload {
         slot: u64,
     },
     /// The signals of one of the slot's instants.
     Look {
         instant: u64,
         slot: u64,
+    },
+    /// The numbers of the slot's entries and instants.
+    Audit {
+        slot: u64,
+    },
+    /// Whether the connection's session may do this operation on this object.
+    Check {
+        object: Object,
+        operation: Operation,
     },
 }
 
@@ -123,6 +140,10 @@ pub enum Command {
     Drop,
     Load,
     Offer,
+    Discard,
     Step,
+    Unload,
     Look,
+    Audit,
+    Check,
 }

@@ -65,6 +65,10 @@ const FRESH: Turns<'static> = &[
     ),
     (r#"{"cmd":"fly"}"#, r#"{"code":3,"fault":"NotARequest"}"#),
     ("[]", r#"{"code":3,"fault":"NotARequest"}"#),
+    (
+        r#"{"cmd":"check","object":"policy","op":"administer"}"#,
+        r#"{"code":4,"fault":"NoSession"}"#,
+    ),
     (r#"{"cmd":"logout"}"#, r#"{"code":4,"fault":"NoSession"}"#),
 ];
 
@@ -392,6 +396,10 @@ fn a_session_that_was_ended(rt: HostRuntime) -> Result<(), Fail> {
         (
             r#"{"cmd":"step","slot":0}"#,
             r#"{"code":4,"fault":"NoSession"}"#,
+        ),
+        (
+            r#"{"cmd":"check","object":"policy","op":"administer"}"#,
+            r#"{"allowed":false,"ok":"check"}"#,
         ),
         (ROOT.0, r#"{"code":5,"fault":"AlreadyLoggedIn"}"#),
         (r#"{"cmd":"logout"}"#, r#"{"code":4,"fault":"NoSession"}"#),

@@ -110,9 +110,13 @@ command_of s =
     else (if bytes_eq s (codes "drop") then Some command.Drop
     else (if bytes_eq s (codes "load") then Some command.Load
     else (if bytes_eq s (codes "offer") then Some command.Offer
+    else (if bytes_eq s (codes "discard") then Some command.Discard
     else (if bytes_eq s (codes "step") then Some command.Step
+    else (if bytes_eq s (codes "unload") then Some command.Unload
     else (if bytes_eq s (codes "look") then Some command.Look
-    else None)))))))))))))))))))
+    else (if bytes_eq s (codes "audit") then Some command.Audit
+    else (if bytes_eq s (codes "check") then Some command.Check
+    else None)))))))))))))))))))))))
 
 -- the value as a login
 unfoldable pub login_of : Data → Option Request
@@ -223,15 +227,33 @@ offer_of d =
     if has_keys d (codes "cmd" ∷ codes "signal" ∷ codes "slot" ∷ [])
     then option_and_then (λ signal. option_map (request.Offer signal) (number_at (codes "slot") d)) (identifier_at (codes "signal") d) else None
 
+-- the value as a discard
+unfoldable pub discard_of : Data → Option Request
+discard_of d = if has_keys d (codes "cmd" ∷ codes "slot" ∷ []) then option_map request.Discard (number_at (codes "slot") d) else None
+
 -- the value as a step
 unfoldable pub step_of : Data → Option Request
 step_of d = if has_keys d (codes "cmd" ∷ codes "slot" ∷ []) then option_map request.Step (number_at (codes "slot") d) else None
+
+-- the value as an unload
+unfoldable pub unload_of : Data → Option Request
+unload_of d = if has_keys d (codes "cmd" ∷ codes "slot" ∷ []) then option_map request.Unload (number_at (codes "slot") d) else None
 
 -- the value as a look
 unfoldable pub look_of : Data → Option Request
 look_of d =
     if has_keys d (codes "cmd" ∷ codes "instant" ∷ codes "slot" ∷ [])
     then option_and_then (λ instant. option_map (request.Look instant) (number_at (codes "slot") d)) (number_at (codes "instant") d) else None
+
+-- the value as an audit
+unfoldable pub audit_of : Data → Option Request
+audit_of d = if has_keys d (codes "cmd" ∷ codes "slot" ∷ []) then option_map request.Audit (number_at (codes "slot") d) else None
+
+-- the value as a check
+unfoldable pub check_of : Data → Option Request
+check_of d =
+    if has_keys d (codes "cmd" ∷ codes "object" ∷ codes "op" ∷ [])
+    then option_and_then (λ object. option_map (request.Check object) (operation_at (codes "op") d)) (object_at (codes "object") d) else None
 
 -- the request of a value, once its command is known
 abbrev pub fields_of : Command → Data → Option Request
@@ -253,8 +275,12 @@ fields_of command.CreateSet d = create_set_of d
 fields_of command.DeleteSet d = delete_set_of d
 fields_of command.Load d = load_of d
 fields_of command.Offer d = offer_of d
+fields_of command.Discard d = discard_of d
 fields_of command.Step d = step_of d
+fields_of command.Unload d = unload_of d
 fields_of command.Look d = look_of d
+fields_of command.Audit d = audit_of d
+fields_of command.Check d = check_of d
 
 -- the request of a value
 unfoldable pub request_of : Data → Option Request

@@ -23,6 +23,18 @@ pub returns-clause-step : goal.returns-clause-step
 unfolding serde_json_on_literals digits
 returns-clause-step c = λ instant place version. simp append_assoc
 
+pub returns-clause-discard : goal.returns-clause-discard
+unfolding serde_json_on_literals digits
+returns-clause-discard c = λ place version. simp append_assoc
+
+pub returns-clause-unload : goal.returns-clause-unload
+unfolding serde_json_on_literals digits
+returns-clause-unload c = λ place version. simp append_assoc
+
+pub returns-clause-audit : goal.returns-clause-audit
+unfolding serde_json_on_literals digits
+returns-clause-audit c = λ entries instants version. simp append_assoc
+
 pub returns-clause-check : goal.returns-clause-check
 unfolding serde_json_on_literals digits
 returns-clause-check c = refl

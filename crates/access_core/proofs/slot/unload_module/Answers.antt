@@ -1,0 +1,20 @@
+use Rattle.std.proofs.Common.{◌∙◌, ap, refl}
+use Rattle.std.specs.Prelude.{Ok, Err}
+use Rattle.reactor_core.specs.Meaning.{is_loaded}
+use Rattle.access_core.specs.declared.reply.Reply.TheVariants.{Refused, Unload as Unloaded}
+use Rattle.access_core.proofs.Entries.{unload_answered, unload_stays}
+use Rattle.access_core.proofs.slot.unload_module.Goals as goal
+
+pub returns-in-Ok-clause-step : goal.returns-in-Ok-clause-step
+returns-in-Ok-clause-step c =
+    unload_answered c.args.reactor c.args.stamp (Ok c.in-Ok.journal) _ _ c.in-Ok.ensures.answer
+    (refl, ap (λ n. Unloaded n c.args.stamp.version) c.len.ensures)
+
+pub returns-in-Err-clause-held : goal.returns-in-Err-clause-held
+returns-in-Err-clause-held c =
+    ap is_loaded (unload_stays c.args.reactor c.args.stamp (c.in-Err.refusal, c.in-Err.reactor) c.in-Err.ensures.answer) ∙ c.requires
+
+pub returns-in-Err-clause-step : goal.returns-in-Err-clause-step
+returns-in-Err-clause-step c =
+    unload_answered c.args.reactor c.args.stamp (Err (c.in-Err.refusal, c.in-Err.reactor)) _ _ c.in-Err.ensures.answer
+    (refl, ap Refused c.of_reactor.ensures)
