@@ -7,3 +7,5 @@
 mod bodies;
 #[cfg(test)]
 mod faults;
+#[cfg(test)]
+mod links;
