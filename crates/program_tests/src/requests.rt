@@ -26,11 +26,17 @@ const LINES: &[(&str, u8)] = &[
     ("{\"slot\":16,\"cmd\":\"discard\"}", 0),
     ("{\"cmd\":\"unload\",\"slot\":0}", 0),
     ("{\"cmd\":\"audit\",\"slot\":0}", 0),
-    ("{\"cmd\":\"check\",\"object\":\"policy\",\"op\":\"audit\"}", 0),
+    (
+        "{\"cmd\":\"check\",\"object\":\"policy\",\"op\":\"audit\"}",
+        0,
+    ),
     ("{\"cmd\":\"discard\"}", 3),
     ("{\"cmd\":\"unload\",\"slot\":\"0\"}", 3),
     ("{\"cmd\":\"audit\",\"object\":\"0\"}", 3),
-    ("{\"cmd\":\"check\",\"object\":\"policy\",\"op\":\"fly\"}", 3),
+    (
+        "{\"cmd\":\"check\",\"object\":\"policy\",\"op\":\"fly\"}",
+        3,
+    ),
     (
         "{\"cmd\":\"check\",\"object\":\"0\",\"op\":\"step\",\"slot\":0}",
         3,
