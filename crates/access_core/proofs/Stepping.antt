@@ -13,17 +13,17 @@ use Rattle.reactor_core.specs.declared.entry.SlotEntry.{SlotEntry}
 use Rattle.reactor_core.specs.declared.refusal.Refusal.{Refusal as ReactorRefusal}
 use Rattle.reactor_core.specs.declared.refusal.Refusal.TheVariants as reactor
 use Rattle.reactor_core.specs.Meaning.{is_loaded, instants_of}
-use Rattle.reactor_core.specs.Instants.{IsOutcome, AddsInstant, SettledInstant, CommitAnswer}
-use Rattle.reactor_core.proofs.OneMeaning.{not_both}
+use Rattle.reactor_core.specs.Instants.{IsOutcome, AddsInstant, SettledInstant, CommitAnswer, OpenAnswer, KeepsRelations}
+use Rattle.reactor_core.proofs.OneMeaning.{OneModule, is_loaded_where, not_both, ready_or_lacking}
 use Rattle.access_core.specs.declared.command.SlotCommand.{SlotCommand}
 use Rattle.access_core.specs.declared.command.SlotCommand.TheVariants.{Step}
 use Rattle.access_core.specs.declared.refusal.Refusal.{Refusal}
-use Rattle.access_core.specs.declared.refusal.Refusal.TheVariants.{Stuck, JournalFull, Memory}
+use Rattle.access_core.specs.declared.refusal.Refusal.TheVariants.{Implied, Stuck, JournalFull, Memory}
 use Rattle.access_core.specs.declared.reply.Reply.{Reply}
 use Rattle.access_core.specs.declared.reply.Reply.TheVariants.{Refused, Step as Stepped}
 use Rattle.access_core.specs.Conversions.{of_reactor}
 use Rattle.access_core.specs.Answering.{ByRules, no_memory}
-use Rattle.access_core.specs.SlotStep.{SlotStep, no_permission, empty, NamesUndecided, no_reaction, journal_full, step_rules, Steps, stamp_of}
+use Rattle.access_core.specs.SlotStep.{SlotStep, no_permission, empty, NamesUndecided, no_reaction, journal_full, settle_rules, step_rules, Steps, stamp_of}
 use Rattle.access_core.specs.StuckSteps.{ReachesReactor, IsStuckExactly}
 
 module _ (stamp : Stamp) (settled : SettledInstant) (refused : ReactorRefusal × List SlotEntry) where
@@ -73,31 +73,72 @@ commit_accepted stamp before journal after o t instant place adds counts same co
 -- an instant that is settled
 pub step_settled : (entries : List Entry) (slot session : ℕ) (stamp : Stamp) (before : List SlotEntry) (o : ℕ) (t : Term) (reply : Reply) (after : List SlotEntry)
     → IsOutcome before o t → ByRules (no_memory ▸ journal_full before ▸ accept) (Steps stamp) before reply after
-    → ByRules (step_rules entries slot session before) (Steps stamp) before reply after
+    → ByRules (settle_rules entries slot session before) (Steps stamp) before reply after
 step_settled entries slot session stamp before o t reply after reacts (inl memory) = inl memory
 step_settled entries slot session stamp before o t reply after reacts (inr passes) = pass passes.passed (pass (o, t, reacts) passes.next)
 
 -- an instant that can't be settled
 pub step_stuck : (entries : List Entry) (slot session : ℕ) (stamp : Stamp) (before : List SlotEntry) (refusal : Refusal) (after : List SlotEntry)
     → no_memory.refuses refusal ⊎ NamesUndecided entries slot session before refusal → after ≡ before
-    → ByRules (step_rules entries slot session before) (Steps stamp) before (Refused refusal) after
+    → ByRules (settle_rules entries slot session before) (Steps stamp) before (Refused refusal) after
 step_stuck entries slot session stamp before refusal after (inl memory) same = refuse refusal memory (record { replied = refl; stays = same })
 step_stuck entries slot session stamp before refusal after (inr named) same =
     pass (record {}) (refuse refusal named (record { replied = refl; stays = same }))
 
-module _ (entries : List Entry) (slot session : ℕ) (stamp : Stamp) (before : List SlotEntry) (reply : Reply) (after : List SlotEntry) where
+no_err : {A E : Type 0} (x : A) (e : E) → Ok x ≡ Err e → ⊥
+no_err x e h = cc
+
+no_ok : {A E : Type 0} (x : A) (e : E) → Err e ≡ Ok x → ⊥
+no_ok x e h = cc
+
+same_ok : {A E : Type 0} (a b : A) → ◌≡◌ {A = Result A E} (Ok a) (Ok b) → a ≡ b
+same_ok a b h = cc
+
+same_err : {A E : Type 0} (a b : E) → ◌≡◌ {A = Result A E} (Err a) (Err b) → a ≡ b
+same_err a b h = cc
+
+module _ (entries : List Entry) (slot session : ℕ) (stamp : Stamp) (before : List SlotEntry) where
+  -- an instant that is opened
+  pub step_opened : (opened : List SlotEntry) (reply : Reply) (after : List SlotEntry) → OpenAnswer before (Ok opened)
+      → ByRules (settle_rules entries slot session opened) (Steps stamp) opened reply after
+      → ByRules (step_rules entries slot session before) (Steps stamp) before reply after
+  step_opened opened reply after (inl lacks) h = absurd (no_err opened (lacks.refusal, before) lacks.answered)
+  step_opened opened reply after (inr passes) h =
+      let same : opened ≡ before = same_ok opened before passes.next in
+      pass passes.passed (subst (λ (journal : List SlotEntry). ByRules (settle_rules entries slot session journal) (Steps stamp) journal reply after) same h)
+
+  -- one whose pending inputs lack an implied one
+  pub step_lacking : (refused : ReactorRefusal × List SlotEntry) → OpenAnswer before (Err refused)
+      → ByRules (step_rules entries slot session before) (Steps stamp) before (Refused (of_reactor refused.0)) refused.1
+  step_lacking refused (inl lacks) =
+      let same : refused ≡ (lacks.refusal, before) = same_err refused (lacks.refusal, before) lacks.answered in
+      let why = lacks.given in
+      refuse (Implied why.0 why.1) (why.0, why.1, refl, why.3) (record {
+        replied = ap (λ (r : ReactorRefusal). Refused (of_reactor r)) (ap (λ (r : ReactorRefusal × List SlotEntry). r.0) same ∙ why.2);
+        stays = ap (λ (r : ReactorRefusal × List SlotEntry). r.1) same;
+      })
+  step_lacking refused (inr passes) = absurd (no_ok before refused passes.next)
+
+-- the reactor of an instant that isn't opened is loaded
+pub lacking_loaded : (before : List SlotEntry) (refused : ReactorRefusal × List SlotEntry) → OpenAnswer before (Err refused) → is_loaded refused.1 ≡ true
+lacking_loaded before refused (inl lacks) =
+    ap (λ (r : ReactorRefusal × List SlotEntry). is_loaded r.1) (same_err refused (lacks.refusal, before) lacks.answered)
+    ∙ is_loaded_where before lacks.given.3.running lacks.given.3.runs
+lacking_loaded before refused (inr passes) = absurd (no_ok before refused passes.next)
+
+module _ (modules : OneModule) (entries : List Entry) (slot session : ℕ) (stamp : Stamp) (before : List SlotEntry) (reply : Reply) (after : List SlotEntry) where
   -- where there is an outcome, the step isn't stuck
   not_stuck : (o : ℕ) (t : Term) → IsOutcome before o t → ByRules (journal_full before ▸ accept) (Steps stamp) before reply after
       → IsStuckExactly entries slot session before reply
   not_stuck o t reacts answer = record {
     only = λ names stuck. absurd (told answer names stuck);
-    whenever = λ undecided none. absurd (not_both before o t undecided reacts none);
+    whenever = λ undecided none. absurd (not_both modules before o t undecided reacts none);
   } where
     told : ByRules (journal_full before ▸ accept) (Steps stamp) before reply after → (names : List (List ℕ)) → reply ≡ Refused (Stuck names) → ⊥
     told (inl full) names stuck = let why = full.given.0 in let e = full.answered.replied in cc
     told (inr passes) names stuck = let e = passes.next.replied in cc
 
-  judged : ByRules (step_rules entries slot session before) (Steps stamp) before reply after → IsStuckExactly entries slot session before reply
+  judged : ByRules (settle_rules entries slot session before) (Steps stamp) before reply after → IsStuckExactly entries slot session before reply
   judged (inl memory) =
       let why = memory.given in
       let e = memory.answered.replied in
@@ -115,16 +156,23 @@ module _ (entries : List Entry) (slot session : ℕ) (stamp : Stamp) (before : L
         }
     reacted (inr passes) = not_stuck passes.passed.0 passes.passed.1 passes.passed.2 passes.next
 
+  -- a step whose pending inputs keep each relation is answered by its instant
+  taken : KeepsRelations before → ByRules (step_rules entries slot session before) (Steps stamp) before reply after → IsStuckExactly entries slot session before reply
+  taken keeps (inl lacks) =
+      let why = lacks.given in
+      absurd (ready_or_lacking modules before why.0 why.1 why.3 keeps)
+  taken keeps (inr passes) = judged passes.next
+
 -- a step that reaches the reactor is Stuck exactly where there is no reaction
-at_reactor : (entries : List Entry) (slot session : ℕ) (before : List SlotEntry) (reply : Reply) (after : List SlotEntry)
-    → IsLive entries session → May entries session ToStep (Slot slot) → is_loaded before ≡ true
+at_reactor : OneModule → (entries : List Entry) (slot session : ℕ) (before : List SlotEntry) (reply : Reply) (after : List SlotEntry)
+    → IsLive entries session → May entries session ToStep (Slot slot) → is_loaded before ≡ true → KeepsRelations before
     → SlotStep entries slot session Step before reply after → IsStuckExactly entries slot session before reply
-at_reactor entries slot session before reply after live may runs (inl dead) = absurd (dead.given.1 live)
-at_reactor entries slot session before reply after live may runs (inr passes) = permitted passes.next where
+at_reactor modules entries slot session before reply after live may runs keeps (inl dead) = absurd (dead.given.1 live)
+at_reactor modules entries slot session before reply after live may runs keeps (inr passes) = permitted passes.next where
   loaded : ByRules (empty before ▸ step_rules entries slot session before) (Steps (stamp_of entries session)) before reply after
       → IsStuckExactly entries slot session before reply
   loaded (inl none) = absurd (none.given.1 runs)
-  loaded (inr passes) = judged entries slot session (stamp_of entries session) before reply after passes.next
+  loaded (inr passes) = taken modules entries slot session (stamp_of entries session) before reply after keeps passes.next
 
   permitted : ByRules (no_permission entries session ToStep (Slot slot) ▸ empty before ▸ step_rules entries slot session before)
       (Steps (stamp_of entries session)) before reply after
@@ -132,9 +180,9 @@ at_reactor entries slot session before reply after live may runs (inr passes) = 
   permitted (inl denied) = absurd (denied.given.1 may)
   permitted (inr passes) = loaded passes.next
 
-pub stuck_exactly : (entries : List Entry) (slot session : ℕ) (command : SlotCommand) (before : List SlotEntry) (reply : Reply) (after : List SlotEntry)
+pub stuck_exactly : OneModule → (entries : List Entry) (slot session : ℕ) (command : SlotCommand) (before : List SlotEntry) (reply : Reply) (after : List SlotEntry)
     → SlotStep entries slot session command before reply after → ReachesReactor entries slot session command before
     → IsStuckExactly entries slot session before reply
-stuck_exactly entries slot session command before reply after h reaches =
-    at_reactor entries slot session before reply after reaches.lives reaches.may reaches.loaded
+stuck_exactly modules entries slot session command before reply after h reaches =
+    at_reactor modules entries slot session before reply after reaches.lives reaches.may reaches.loaded reaches.ready
     (subst (λ (command : SlotCommand). SlotStep entries slot session command before reply after) reaches.steps h)

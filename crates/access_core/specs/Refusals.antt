@@ -3,7 +3,7 @@ use Rattle.std.specs.Prelude.{ℕ, List, codes}
 use Rattle.rbac_policy.specs.declared.commands.Table.{Table}
 use Rattle.rbac_policy.specs.declared.commands.Table.TheVariants.{Users, Roles, Permissions, Sessions, Sets}
 use Rattle.reactor_core.specs.declared.refusal.Limit.{Limit}
-use Rattle.reactor_core.specs.declared.refusal.Limit.TheVariants.{Nesting, Signals, Statements, Loops, Traps, Locals}
+use Rattle.reactor_core.specs.declared.refusal.Limit.TheVariants.{Nesting, Signals, Relations, Statements, Loops, Traps, Locals}
 use Rattle.access_core.specs.declared.refusal.Refusal.{Refusal}
 use Rattle.access_core.specs.declared.refusal.Refusal.TheVariants as refusal
 
@@ -119,6 +119,7 @@ name_of refusal.Memory = codes "Memory"
 abbrev pub limit_text : Limit → List ℕ
 limit_text Nesting = codes "nesting"
 limit_text Signals = codes "signals"
+limit_text Relations = codes "relations"
 limit_text Statements = codes "statements"
 limit_text Loops = codes "loops"
 limit_text Traps = codes "traps"

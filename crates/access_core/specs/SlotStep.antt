@@ -15,11 +15,11 @@ use Rattle.reactor_core.specs.declared.entry.SlotEntry.{SlotEntry}
 use Rattle.reactor_core.specs.declared.refusal.Refusal.{Refusal as ReactorRefusal}
 use Rattle.reactor_core.specs.Meaning.{entry, is_loaded, instants_of, Running, Runs}
 use Rattle.reactor_core.specs.Answers.{LoadAnswer, OfferAnswer, HasRoom, IsInstant, HasNoInstant}
-use Rattle.reactor_core.specs.Instants.{IsOutcome, HasNoOutcome, AddsInstant}
+use Rattle.reactor_core.specs.Instants.{IsOutcome, HasNoOutcome, AddsInstant, not_ready}
 use Rattle.access_core.specs.declared.command.SlotCommand.{SlotCommand}
 use Rattle.access_core.specs.declared.command.SlotCommand.TheVariants.{Load, Offer, Discard, Step, Unload, Look, Audit}
 use Rattle.access_core.specs.declared.refusal.Refusal.{Refusal}
-use Rattle.access_core.specs.declared.refusal.Refusal.TheVariants.{NoSession, Permission, Stuck, Occupied, Empty, NoInstant, JournalFull}
+use Rattle.access_core.specs.declared.refusal.Refusal.TheVariants.{NoSession, Permission, Implied, Stuck, Occupied, Empty, NoInstant, JournalFull}
 use Rattle.access_core.specs.declared.reply.Reply.{Reply}
 use Rattle.access_core.specs.declared.reply.Reply.TheVariants.{Load as Loaded, Offer as Offered, Discard as Discarded, Step as Stepped, Unload as Unloaded, Look as Shown, Audit as Audited}
 use Rattle.access_core.specs.Answering.{IsRefused, ByRules, no_memory}
@@ -59,7 +59,8 @@ pub record Loads (stamp : Stamp) (main text : List ℕ) (before : List SlotEntry
       (λ journal. (after ≡ journal) × (reply ≡ Loaded (length after) stamp.version))
       (λ refused. IsRefused (of_reactor refused.0) before reply after)
 
--- the reactor's answer to an offer: its entry is appended, or it is refused by the signal, the journal's limit or for memory
+-- the reactor's answer to an offer: its entry is appended, or it is refused by the signal, a relation, the journal's limit or for
+-- memory
 pub record Offers (stamp : Stamp) (signal : List ℕ) (before : List SlotEntry) (reply : Reply) (after : List SlotEntry) : Type 0 where
   pub answer : Result (Unit {0}) ReactorRefusal
   pub given : OfferAnswer before stamp signal answer after
@@ -77,9 +78,11 @@ pub record AddsEntry (action : Action) (told : (place version : ℕ) → Reply) 
 pub record NamesUndecided (entries : List Entry) (slot session : ℕ) (journal : List SlotEntry) (refusal : Refusal) : Type 0 where
   pub undecided : ℕ
   pub none : HasNoOutcome journal undecided
+  pub running : Running
+  pub runs : Runs journal running
   pub sees : ℕ → Bool
-  pub observes : Sees entries session slot none.running.interface sees
-  pub named : refusal ≡ Stuck (names_of none.running.interface sees undecided)
+  pub observes : Sees entries session slot running.interface sees
+  pub named : refusal ≡ Stuck (names_of running.interface sees undecided)
 
 -- refuses where the next instant has no outcome; and hands on the outcome where it has one
 abbrev pub no_reaction : List Entry → (slot session : ℕ) → List SlotEntry → Rule Refusal
@@ -129,9 +132,13 @@ access_rules entries session (Some permission) =
 abbrev pub entry_rules : List SlotEntry → Rules Refusal
 entry_rules journal = journal_full journal ▸ no_memory ▸ accept
 
--- the rules of a step where a module runs
+-- the rules of an instant that may take the pending inputs
+abbrev pub settle_rules : List Entry → (slot session : ℕ) → List SlotEntry → Rules Refusal
+settle_rules entries slot session journal = no_memory ▸ no_reaction entries slot session journal ▸ journal_full journal ▸ accept
+
+-- the rules of a step where a module runs: its relations hold of the pending inputs, and then those of the instant
 abbrev pub step_rules : List Entry → (slot session : ℕ) → List SlotEntry → Rules Refusal
-step_rules entries slot session journal = no_memory ▸ no_reaction entries slot session journal ▸ journal_full journal ▸ accept
+step_rules entries slot session journal = not_ready Implied journal ▸ settle_rules entries slot session journal
 
 -- the rules of what the command asks of the slot
 abbrev pub journal_rules : List Entry → (slot session : ℕ) → SlotCommand → List SlotEntry → Rules Refusal

@@ -6,7 +6,7 @@ use Rattle.rbac_policy.specs.declared.objects.Object.TheVariants.{Slot}
 use Rattle.rbac_policy.specs.Facts.{IsLive, May}
 use Rattle.reactor_core.specs.declared.entry.SlotEntry.{SlotEntry}
 use Rattle.reactor_core.specs.Meaning.{is_loaded}
-use Rattle.reactor_core.specs.Instants.{HasNoOutcome}
+use Rattle.reactor_core.specs.Instants.{HasNoOutcome, KeepsRelations}
 use Rattle.access_core.specs.declared.command.SlotCommand.{SlotCommand}
 use Rattle.access_core.specs.declared.command.SlotCommand.TheVariants.{Step}
 use Rattle.access_core.specs.declared.refusal.Refusal.TheVariants.{Stuck, Memory}
@@ -14,12 +14,14 @@ use Rattle.access_core.specs.declared.reply.Reply.{Reply}
 use Rattle.access_core.specs.declared.reply.Reply.TheVariants.{Refused}
 use Rattle.access_core.specs.SlotStep.{NamesUndecided}
 
--- the command is a step which reaches the reactor: the session lives and may step the slot, and a module runs there
+-- the command is a step which reaches the reactor: the session lives and may step the slot, a module runs there, and each of its
+-- relations holds of the pending inputs
 pub record ReachesReactor (entries : List Entry) (slot session : ℕ) (command : SlotCommand) (journal : List SlotEntry) : Type 0 where
   pub steps : command ≡ Step
   pub lives : IsLive entries session
   pub may : May entries session ToStep (Slot slot)
   pub loaded : is_loaded journal ≡ true
+  pub ready : KeepsRelations journal
 
 -- the reply is Stuck exactly where the pending inputs have no constructive reaction, but for want of memory: it is Stuck only where
 -- there is none, and names what NamesUndecided says; and where there is none it is Stuck, or memory was refused

@@ -1,4 +1,4 @@
-//! Laws of the desk. Each function does nothing: its contract is the law.
+//! Laws of the desk. Each function does nothing but call the laws that it follows from: its contract is the law.
 ghost use Rattle.std.specs.Prelude.{◌≡◌, ℕ, List, Option};
 ghost use Rattle.rbac_policy.specs.declared.commands.AdminCommand.{AdminCommand};
 ghost use Rattle.rbac_policy.specs.declared.commands.Entry.{Entry};
@@ -11,6 +11,8 @@ ghost use Rattle.access_core.specs.Desk.{DeskState, AdminStep, DeskStep};
 ghost use Rattle.access_core.specs.declared.command.SlotCommand.{SlotCommand};
 ghost use Rattle.access_core.specs.declared.refusal.Refusal.{Refusal};
 ghost use Rattle.access_core.specs.declared.reply.Reply.TheVariants.{Refused};
+
+use reactor_core::laws::one_module;
 
 /// A refused command changes nothing on the desk.
 pub fn refusals_change_nothing()
@@ -26,9 +28,12 @@ pub fn accepted_is_allowed()
         → DeskStep number session command before reply after → IsAccepted reply → Needs before.entries number session command }
 {}
 
-/// A step that reaches the reactor is answered Stuck exactly where there is no reaction, but for want of memory.
+/// A step that reaches the reactor, and whose pending inputs keep each relation, is answered Stuck exactly where there is no
+/// reaction, but for want of memory.
 pub fn stuck_exactly()
     ensures { (entries : List Entry) (slot session : ℕ) (command : SlotCommand) (before : List SlotEntry) (reply : Reply) (after : List SlotEntry)
         → SlotStep entries slot session command before reply after → ReachesReactor entries slot session command before
         → IsStuckExactly entries slot session before reply }
-{}
+{
+    one_module();
+}

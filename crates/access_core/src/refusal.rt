@@ -4,10 +4,11 @@ ghost use Rattle.access_core.specs.Refusals.{code_of, name_of, limit_text, table
 
 use crate::reply::SignalNames;
 use est_text::identifier::Identifier;
+use est_text::place::Place;
 use rbac_policy::commands::{SessionId, Table};
 use rbac_policy::names::Name;
 use rbac_policy::objects::{Object, Operation};
-use reactor_core::refusal::{Limit, Place};
+use reactor_core::refusal::Limit;
 
 /// Why a line was refused. A refusal leaves policy, slots, journals and pending signals as they were.
 #[derive(Drop)]
@@ -82,7 +83,7 @@ pub enum Refusal {
     Full {
         table: Table,
     },
-    /// The signal excludes another one by this relation, counted from 1.
+    /// By this relation, counted from 1, this pending signal excludes the one that is offered.
     Excluded {
         relation: u8,
         signal: Identifier,
@@ -150,7 +151,7 @@ pub enum Refusal {
     },
     /// This relation, counted from 1, is over a signal that is no input.
     Semantics {
-        relation: u8,
+        relation: u64,
     },
     /// Memory was refused.
     Memory,
@@ -239,6 +240,7 @@ pub fn limit_text(limit: &Limit) -> &'static str
     match limit {
         Limit::Nesting => "nesting",
         Limit::Signals => "signals",
+        Limit::Relations => "relations",
         Limit::Statements => "statements",
         Limit::Loops => "loops",
         Limit::Traps => "traps",

@@ -6,7 +6,7 @@ ghost use Rattle.rbac_policy.specs.declared.commands.Entry.{Entry};
 ghost use Rattle.rbac_policy.specs.StandsFor.{StandsFor};
 ghost use Rattle.refusal_rules.specs.Rules.{accept, ◌▸◌, TestsAll};
 ghost use Rattle.access_core.specs.Answering.{ByRules, no_memory};
-ghost use Rattle.access_core.specs.SlotStep.{SlotStep, access_rules, no_instant, NamesUndecided, step_rules, entry_rules, journal_full, stamp_of, Offers, AddsEntry, Steps, Looks, Audits};
+ghost use Rattle.access_core.specs.SlotStep.{SlotStep, access_rules, no_instant, NamesUndecided, settle_rules, step_rules, entry_rules, journal_full, stamp_of, Offers, AddsEntry, Steps, Looks, Audits};
 ghost use Rattle.reactor_core.specs.Meaning.{is_loaded};
 ghost use Rattle.reactor_core.specs.declared.entry.Action.TheVariants as action;
 ghost use Rattle.reactor_core.specs.Instants.{IsOutcome, HasNoOutcome};
@@ -202,7 +202,7 @@ fn settle_step(
 ) -> (Reply, Reactor)
     ensures loaded { is_loaded result.1 ≡ true }
     ensures step { (entries : List Entry) → StandsFor policy.now entries
-        → ByRules (step_rules entries slot session opened) (Steps (stamp_of entries session)) opened result.0 result.1 }
+        → ByRules (settle_rules entries slot session opened) (Steps (stamp_of entries session)) opened result.0 result.1 }
 {
     match opened.settle() {
         Ok(settled) => commit_step(settled, stamp(policy, session)),

@@ -1,10 +1,11 @@
 //! Worked examples: loads, offers, steps and shown instants of small modules.
 use est_kernel::state::Stuck;
 use est_text::identifier::Identifier;
+use est_text::place::Place;
 use reactor_core::entry::{Action, PastInstant, SlotEntry, Stamp};
 use reactor_core::journal::Journal;
 use reactor_core::reactor::{Reactor, Shown};
-use reactor_core::refusal::{Place, Refusal};
+use reactor_core::refusal::Refusal;
 use std::alloc::Global;
 use std::process::Abort;
 use std::test::Fail;
@@ -90,6 +91,60 @@ fn three_steps_of_an_emit_and_a_pause(rt: HostRuntime) -> Result<(), Fail> {
     assert_eq!(rt; reactor.shown(0, 3), Err(Refusal::NoInstant));
     assert_eq!(rt; reactor.shown(4, 3), Err(Refusal::NoInstant));
     assert_eq!(rt; reactor.into_journal().len(), 4);
+    Ok(())
+}
+
+/// Of two inputs that exclude each other the second can't be offered while the first is pending, and can after the step that
+/// takes it. Relations are numbered over all of them, each part between commas by itself.
+#[test]
+fn an_excluded_input_is_refused(rt: HostRuntime) -> Result<(), Fail> {
+    let text =
+        "module M: input A, B, C; relation A => C, A # B; relation C # B # C; halt end module";
+    let mut reactor = loaded(rt.alloc(), text)?.ok().ok_or("refused")?;
+    assert_eq!(rt; reactor.offer(STAMP, &name("A")?), Ok(()));
+    let refusal = Refusal::Excluded {
+        relation: 2,
+        signal: name("A")?,
+    };
+    assert_eq!(rt; reactor.offer(STAMP, &name("B")?), Err(refusal));
+    assert_eq!(rt; reactor.pending(), 1);
+    assert_eq!(rt; reactor.offer(STAMP, &name("C")?), Ok(()));
+    let mut reactor = stepped(reactor, STAMP).ok().ok_or("refused")?;
+    assert_eq!(rt; reactor.offer(STAMP, &name("B")?), Ok(()));
+    let refusal = Refusal::Excluded {
+        relation: 3,
+        signal: name("B")?,
+    };
+    assert_eq!(rt; reactor.offer(STAMP, &name("C")?), Err(refusal));
+    assert_eq!(rt; reactor.into_journal().len(), 5);
+    Ok(())
+}
+
+/// A step whose inputs lack an implied one is refused before the reaction is asked for, and what was offered stays pending.
+#[test]
+fn an_implied_input_is_asked_for(rt: HostRuntime) -> Result<(), Fail> {
+    let text =
+        "module M: input A, C; output O; relation A => C; loop await A; emit O end end module";
+    let mut reactor = loaded(rt.alloc(), text)?.ok().ok_or("refused")?;
+    reactor = stepped(reactor, STAMP).ok().ok_or("refused")?;
+    assert_eq!(rt; reactor.offer(STAMP, &name("A")?), Ok(()));
+    let Err((Refused::Open(refusal), mut reactor)) = stepped(reactor, STAMP) else {
+        return Err(Fail::from("an instant"));
+    };
+    let lacking = Refusal::Implied {
+        relation: 1,
+        missing: name("C")?,
+    };
+    assert_eq!(rt; refusal, lacking);
+    assert_eq!(rt; reactor.pending(), 1);
+    assert_eq!(rt; reactor.instants(), 1);
+    assert_eq!(rt; reactor.offer(STAMP, &name("C")?), Ok(()));
+    let reactor = stepped(reactor, STAMP).ok().ok_or("refused")?;
+    let all = Shown {
+        mask: 7,
+        present: 7,
+    };
+    assert_eq!(rt; reactor.shown(2, 7), Ok(all));
     Ok(())
 }
 

@@ -1,6 +1,7 @@
 //! Texts and their first faults, as a load of the module M answers them.
 use crate::instants::{loaded, name};
-use reactor_core::refusal::{Limit, Place, Refusal};
+use est_text::place::Place;
+use reactor_core::refusal::{Limit, Refusal};
 use std::alloc::{AllocError, Global};
 use std::test::Fail;
 
@@ -17,23 +18,23 @@ const LEXICAL: [(&str, u64, u64); 6] = [
 ];
 
 /// Texts, and line and column of the first token that cannot go on.
-const SYNTAX: [(&str, u64, u64); 8] = [
+const SYNTAX: [(&str, u64, u64); 7] = [
     ("", 1, 1),
     ("module M: emit end module", 1, 16),
     ("module M: output await; pause end module", 1, 18),
     ("module M: present S end module", 1, 21),
     ("module M: input I; pause", 1, 25),
-    ("module M: pause || pause end module", 1, 17),
     ("module M: pause end module M", 1, 28),
     ("module M: % a\r\n\n pause % b", 3, 11),
 ];
 
 /// Texts that are loaded.
-const LOADED: [&str; 4] = [
+const LOADED: [&str; 5] = [
     OPENING,
     "module M: % \u{e9}\u{0}\n %{ \u{e9} }% pause; end module",
     "module M: present tick else [nothing; pause;] end present end module",
     "module M: output Await, await1; emit await1 end module",
+    "module M: pause || pause end module",
 ];
 
 /// Why a text is refused, if it is.
@@ -91,6 +92,41 @@ fn names_are_checked(rt: HostRuntime) -> Result<(), Fail> {
     Ok(())
 }
 
+/// Libraries of several modules, with two faults each, of which the first by the order of the checks counts.
+#[test]
+fn libraries_are_checked(rt: HostRuntime) -> Result<(), Fail> {
+    let rows = [
+        (
+            "module M: run N [signal A/B] end module module N: run M end module",
+            Refusal::RecursiveRun(name("M")?),
+        ),
+        (
+            "module M: input X; run N [signal Q/Z] end module module N: input Y; nothing end module",
+            Refusal::BadRename(name("Z")?),
+        ),
+        (
+            "module M: input X; relation X # O; run N end module module N: output Y; emit Y end module",
+            Refusal::UnknownName(name("Y")?),
+        ),
+        (
+            "module M: input X; relation X # O; run N [signal X/Y] end module module N: output Y; emit Y end module",
+            Refusal::EmitInput(name("X")?),
+        ),
+        (
+            "module M: input A, B; output O; relation A # B, A => O; loop nothing end end module",
+            Refusal::Semantics(2),
+        ),
+        (
+            "module M: loop loop nothing end; pause end end module",
+            Refusal::InstantLoop,
+        ),
+    ];
+    for (text, fault) in rows {
+        assert_eq!(rt; fault_of(rt.alloc(), text)?, Some(fault), "{text}");
+    }
+    Ok(())
+}
+
 /// A text before, the middle so many times, and a text after.
 fn repeated(
     alloc: Global,
@@ -123,6 +159,20 @@ fn sizes_are_limited(rt: HostRuntime) -> Result<(), Fail> {
             1025,
             "end module",
             large(Limit::Statements),
+        ),
+        (
+            "module M: input A; relation A # A",
+            ", A # A",
+            31,
+            "; pause end module",
+            None,
+        ),
+        (
+            "module M: input A; relation A # A",
+            ", A # A",
+            32,
+            "; pause end module",
+            large(Limit::Relations),
         ),
         ("module M", "m", 47, ": pause end module", main),
         ("module M", "m", 48, ": pause end module", lexical(1, 8)),

@@ -2,8 +2,8 @@
 use access_core::refusal::Refusal;
 use access_core::reply::{Change, Reply, ShownSignal, ShownSignals, SignalNames};
 use est_text::identifier::Identifier;
+use est_text::place::Place;
 use rbac_policy::objects::{Object, Operation};
-use reactor_core::refusal::Place;
 use std::test::Fail;
 use wire_lines::reply::reply_line;
 

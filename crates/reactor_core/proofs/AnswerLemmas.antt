@@ -1,74 +1,27 @@
 -- The answers to an offer, a load and a commit, rule by rule.
-use Rattle.std.proofs.Common.{◌≡◌, ◌∙◌, ℕ, zero, suc, true, false, List, [], ◌∷◌, refl, sym, ap, subst, arith}
-use Rattle.std.specs.Prelude.{Ok, Err}
-use Rattle.std.proofs.lemmas.Option.{same_Some}
+use Rattle.std.proofs.Common.{◌≡◌, ◌∙◌, ℕ, List, [], ◌∷◌, ◌++◌, refl, sym, ap, subst, arith}
+use Rattle.std.specs.Prelude.{Result, Ok, Err}
 use Rattle.est_kernel.specs.Bits.{bits}
-use Rattle.est_kernel.specs.Interfaces.{declares, same_kind}
-use Rattle.est_kernel.specs.declared.interface.Declaration.{Declaration}
-use Rattle.est_kernel.specs.declared.interface.Kind.{Kind}
-use Rattle.est_kernel.specs.declared.interface.Kind.TheVariants.{Input, Output}
 use Rattle.est_kernel.specs.Term.{Term}
+use Rattle.est_relations.specs.Keeping.{AreLawful}
+use Rattle.est_relations.specs.Offers.{PendingInputs, Adds, IsFirstImplied, offer_rules as pending_rules}
+use Rattle.est_relations.specs.declared.refusal.Refusal.{Refusal as PendingRefusal}
 use Rattle.refusal_rules.specs.Rules.{Rules, ◌▸▸◌, Answers}
 use Rattle.refusal_rules.proofs.RuleLemmas.{refuse, pass, answered}
 use Rattle.reactor_core.specs.declared.entry.Stamp.{Stamp}
+use Rattle.reactor_core.specs.declared.entry.Action.TheVariants.{Offer}
 use Rattle.reactor_core.specs.declared.entry.SlotEntry.{SlotEntry}
+use Rattle.reactor_core.specs.declared.loaded.Module.{Module}
 use Rattle.reactor_core.specs.declared.refusal.Refusal.{Refusal}
-use Rattle.reactor_core.specs.declared.refusal.Refusal.TheVariants.{UnknownSignal, NotInput, AlreadyOffered, NoInstant, JournalFull, Lexical, Syntax, UnknownModule, UnknownName, DuplicateName, EmitInput, InstantLoop, TooLarge, Memory}
-use Rattle.reactor_core.specs.Answers.{HasRoom, IsFull, RefusesEntry, IsSignal, IsInputName, CanOffer, name_rules, entry_rules, offer_rules, load_rules, OfferAnswer, LoadAnswer}
-use Rattle.reactor_core.specs.Instants.{SettledInstant, AddsInstant, CommitAnswer}
-use Rattle.reactor_core.specs.Standing.{IsOutputName, IsPendingName, RefusesName}
-
--- no kind is both
-one_kind : (kind : Kind) → same_kind kind Input ≡ true → same_kind kind Output ≡ true → ⊥
-one_kind Input input output = absurd cc
-one_kind Output input output = absurd cc
-
--- no signal is both
-one_declared : (ds : List Declaration) (n : ℕ) → declares Input ds n ≡ true → declares Output ds n ≡ true → ⊥
-one_declared [] n input output = absurd cc
-one_declared (d ∷ ds) zero input output = one_kind d.kind input output
-one_declared (d ∷ ds) (suc n) input output = one_declared ds n input output
-
--- an output's name is no input's
-no_input : (d : List Declaration) (name : List ℕ) → IsOutputName d name → IsInputName d name → ⊥
-no_input d name out input =
-    let same : out.place ≡ input.place = same_Some out.place input.place (sym out.output.there ∙ input.input.there) in
-    one_declared d input.place input.input.kind_is (subst (λ n. declares Output d n ≡ true) same out.output.kind_is)
-
--- the name of a pending input can't be offered
-not_again : (d : List Declaration) (pending : ℕ) (name : List ℕ) → IsPendingName d pending name → CanOffer d pending name → ⊥
-not_again d pending name there can =
-    let same : there.place ≡ can.place = same_Some there.place can.place (sym there.input.there ∙ can.input.there) in
-    let on : bits pending can.place ≡ true = subst (λ n. bits pending n ≡ true) same there.offered in
-    let off = can.new in cc
-
--- a name that can't be offered
-pub name_refused : {Refused : Refusal → Type 0} (Accepted : Type 0) (d : List Declaration) (pending : ℕ) (offered : List ℕ) (later : Rules Refusal) (e : Refusal)
-    → RefusesName d pending offered e → Refused e → Answers (name_rules d pending offered ▸▸ later) Refused Accepted
-name_refused Accepted d pending offered later UnknownSignal h told = refuse UnknownSignal (refl, λ some. let there = some.there in absurd cc) told
-name_refused Accepted d pending offered later NotInput h told =
-    pass (record { place = h.place; there = h.output.there }) (refuse NotInput (refl, no_input d offered h) told)
-name_refused Accepted d pending offered later AlreadyOffered h told =
-    pass (record { place = h.place; there = h.input.there })
-    (pass (record { place = h.place; input = h.input }) (refuse AlreadyOffered (refl, not_again d pending offered h) told))
-name_refused Accepted d pending offered later NoInstant h told = absurd h
-name_refused Accepted d pending offered later JournalFull h told = absurd h
-name_refused Accepted d pending offered later (Lexical place) h told = absurd h
-name_refused Accepted d pending offered later (Syntax place) h told = absurd h
-name_refused Accepted d pending offered later (UnknownModule name) h told = absurd h
-name_refused Accepted d pending offered later (UnknownName name) h told = absurd h
-name_refused Accepted d pending offered later (DuplicateName name) h told = absurd h
-name_refused Accepted d pending offered later (EmitInput name) h told = absurd h
-name_refused Accepted d pending offered later InstantLoop h told = absurd h
-name_refused Accepted d pending offered later (TooLarge limit) h told = absurd h
-name_refused Accepted d pending offered later Memory h told = absurd h
-
--- a name that can be offered
-pub name_passes : {Refused : Refusal → Type 0} (Accepted : Type 0) (d : List Declaration) (pending : ℕ) (name : List ℕ) (later : Rules Refusal) (n : ℕ)
-    → IsSignal d name n Input → bits pending n ≡ false → Answers later Refused Accepted
-    → Answers (name_rules d pending name ▸▸ later) Refused Accepted
-name_passes Accepted d pending name later n s new h =
-    pass (record { place = n; there = s.there }) (pass (record { place = n; input = s }) (pass (record { place = n; input = s; new = new }) h))
+use Rattle.reactor_core.specs.declared.refusal.Refusal.TheVariants.{UnknownSignal, NotInput, AlreadyOffered, Excluded, Implied, NoInstant, JournalFull, Lexical, Syntax, UnknownModule, UnknownName, DuplicateName, EmitInput, RecursiveRun, BadRename, Semantics, InstantLoop, TooLarge, Memory}
+use Rattle.reactor_core.specs.Answers.{HasRoom, IsFull, RefusesEntry, entry_rules, offer_rules, load_rules, OfferAnswer, LoadAnswer}
+use Rattle.reactor_core.specs.Converting.{all_converted}
+use Rattle.reactor_core.specs.Faults.{refusal_of_pending}
+use Rattle.reactor_core.specs.Instants.{SettledInstant, AddsInstant, CommitAnswer, OpenAnswer}
+use Rattle.reactor_core.specs.Meaning.{Running, Runs, pending_of, entry}
+use Rattle.reactor_core.specs.Standing.{pending_inputs, JoinsAs, RefusesName, RefusesInstant}
+use Rattle.reactor_core.proofs.Converting.{convert}
+use Rattle.reactor_core.proofs.Joining.{no_err, no_ok, same_err}
 
 full_has_no_room : (journal : List SlotEntry) → IsFull journal → HasRoom journal → ⊥
 full_has_no_room journal full room = omega arith
@@ -81,6 +34,8 @@ entry_refused journal Memory room told = pass room (refuse Memory refl told)
 entry_refused journal UnknownSignal h told = absurd h
 entry_refused journal NotInput h told = absurd h
 entry_refused journal AlreadyOffered h told = absurd h
+entry_refused journal (Excluded relation signal) h told = absurd h
+entry_refused journal (Implied relation missing) h told = absurd h
 entry_refused journal NoInstant h told = absurd h
 entry_refused journal (Lexical place) h told = absurd h
 entry_refused journal (Syntax place) h told = absurd h
@@ -88,6 +43,9 @@ entry_refused journal (UnknownModule name) h told = absurd h
 entry_refused journal (UnknownName name) h told = absurd h
 entry_refused journal (DuplicateName name) h told = absurd h
 entry_refused journal (EmitInput name) h told = absurd h
+entry_refused journal (RecursiveRun name) h told = absurd h
+entry_refused journal (BadRename name) h told = absurd h
+entry_refused journal (Semantics relation) h told = absurd h
 entry_refused journal InstantLoop h told = absurd h
 entry_refused journal (TooLarge limit) h told = absurd h
 
@@ -95,6 +53,60 @@ entry_refused journal (TooLarge limit) h told = absurd h
 pub entry_passes : {Refused : Refusal → Type 0} {Accepted : Type 0} (journal : List SlotEntry) → HasRoom journal → Accepted
     → Answers (entry_rules journal) Refused Accepted
 entry_passes journal room h = pass room (pass (record {}) h)
+
+module _ (journal : List SlotEntry) (m : Module) (r : Running) (runs : Runs journal r) (is : pending_of r ≡ pending_inputs m r.pending) where
+  -- what is answered to an offer, and the journal afterwards
+  abbrev Told : Result (Unit {0}) Refusal → List SlotEntry → Refusal → Type 0
+  Told answer w refusal = (answer ≡ Err refusal) × (w ≡ journal)
+
+  abbrev Done : Stamp → List ℕ → Result (Unit {0}) Refusal → List SlotEntry → Type 0
+  Done stamp name answer w = (answer ≡ Ok (record {})) × (w ≡ journal ++ entry stamp (Offer name) ∷ [])
+
+  -- the same of the pending inputs
+  abbrev Refused : Result (Unit {0}) PendingRefusal → PendingInputs → PendingRefusal → Type 0
+  Refused answer after refusal = (answer ≡ Err refusal) × (after ≡ pending_inputs m r.pending)
+
+  abbrev Accepted : List ℕ → Result (Unit {0}) PendingRefusal → PendingInputs → Type 0
+  Accepted name answer after = (answer ≡ Ok (record {})) × Adds (pending_inputs m r.pending) name after
+
+  -- the rules of an offer to them
+  same_rules : (name : List ℕ) (Known : Rules PendingRefusal → Type 0) → Known (pending_rules (pending_inputs m r.pending) name) → Known (pending_rules (pending_of r) name)
+  same_rules name Known h = subst (λ (p : PendingInputs). Known (pending_rules p name)) (sym is) h
+
+  -- an offer that the pending inputs refuse
+  pub offer_refused : (stamp : Stamp) (name : List ℕ) (e : Refusal) (w : List SlotEntry)
+      → RefusesName m r.pending name e → w ≡ journal → OfferAnswer journal stamp name (Err e) w
+  offer_refused stamp name e w h same = record {
+    running = r;
+    runs = runs;
+    given = same_rules name (λ rules. Answers (all_converted refusal_of_pending rules ▸▸ entry_rules journal) (Told (Err e) w) (Done stamp name (Err e) w))
+        (convert refusal_of_pending (pending_rules (pending_inputs m r.pending) name) (entry_rules journal)
+        (Refused (Err h.given) (pending_inputs m r.pending)) (Accepted name (Err h.given) (pending_inputs m r.pending)) (Told (Err e) w) (Done stamp name (Err e) w)
+        (λ refusal told. (ap Err (h.told ∙ ap refusal_of_pending (same_err h.given refusal told.0)), same))
+        (λ accepted. absurd (no_ok (record {}) h.given accepted.0)) h.answer);
+  }
+
+  -- an offer that joins the pending inputs, by what its entry is answered
+  pub offer_joins : (stamp : Stamp) (name : List ℕ) (after : ℕ) (answer : Result (Unit {0}) Refusal) (w : List SlotEntry) → JoinsAs m r.pending name after
+      → Answers (entry_rules journal) (λ refusal. (answer ≡ Err refusal) × (w ≡ journal)) ((answer ≡ Ok (record {})) × (w ≡ journal ++ entry stamp (Offer name) ∷ []))
+      → OfferAnswer journal stamp name answer w
+  offer_joins stamp name after answer w h goes = record {
+    running = r;
+    runs = runs;
+    given = same_rules name (λ rules. Answers (all_converted refusal_of_pending rules ▸▸ entry_rules journal) (Told answer w) (Done stamp name answer w))
+        (convert refusal_of_pending (pending_rules (pending_inputs m r.pending) name) (entry_rules journal)
+        (Refused (Ok (record {})) (pending_inputs m after)) (Accepted name (Ok (record {})) (pending_inputs m after)) (Told answer w) (Done stamp name answer w)
+        (λ refusal told. absurd (no_err (record {}) refusal told.0))
+        (λ accepted. goes) h.answer);
+  }
+
+  -- an instant may not take the pending inputs
+  pub open_refused : (e : Refusal) → RefusesInstant m r.pending e → OpenAnswer journal (Err (e, journal))
+  open_refused e h = refuse e (h.number, h.missing, h.told, record { running = r; runs = runs; first = subst (λ (p : PendingInputs). IsFirstImplied p h.number h.missing) (sym is) h.first }) refl
+
+  -- an instant may take them
+  pub open_passes : AreLawful r.relations (bits r.pending) → OpenAnswer journal (Ok journal)
+  open_passes h = pass (record { running = r; runs = runs; lawful = h }) refl
 
 -- a refused offer leaves the journal
 pub offer_stays : (before : List SlotEntry) (stamp : Stamp) (name : List ℕ) (e : Refusal) (after : List SlotEntry)

@@ -6,11 +6,12 @@ use Rattle.est_kernel.specs.Bits.{bits}
 use Rattle.est_kernel.specs.declared.interface.Declaration.{Declaration}
 use Rattle.est_kernel.proofs.Masks.{bits_or, bits_pow}
 use Rattle.est_kernel.specs.Term.{Term}
+use Rattle.est_relations.specs.Offers.{place_of}
 use Rattle.reactor_core.specs.declared.entry.Stamp.{Stamp}
 use Rattle.reactor_core.specs.declared.entry.Action.{Action}
 use Rattle.reactor_core.specs.declared.entry.Action.TheVariants.{Load, Offer, Discard, Step, Unload}
 use Rattle.reactor_core.specs.declared.entry.SlotEntry.{SlotEntry}
-use Rattle.reactor_core.specs.Meaning.{entry, after_all, offers_after, offers_of, with_place, mask_of, place_of, Running, Runs}
+use Rattle.reactor_core.specs.Meaning.{entry, after_all, offers_after, offers_of, with_signal, mask_of, Running, Runs}
 use Rattle.reactor_core.specs.Instants.{AddsInstant}
 use Rattle.reactor_core.specs.Offers.{KeepsOffers, IsOffered, IsOfferedAt, TakesOffers}
 use Rattle.reactor_core.proofs.Steps.{no_bits, with_bits}
@@ -118,7 +119,7 @@ one_more interface n names place h = record { name = h.name; signal = h.signal; 
 
 named_by : (interface : List Declaration) (n : List ℕ) (names : List (List ℕ)) (place : ℕ) (at : Option ℕ) → place_of interface n ≡ at
     → (bits (mask_of interface names) place ≡ true → IsNamed interface names place)
-    → bits (with_place (mask_of interface names) at) place ≡ true → IsNamed interface (n ∷ names) place
+    → bits (with_signal (mask_of interface names) at) place ≡ true → IsNamed interface (n ∷ names) place
 named_by interface n names place None is later h = one_more interface n names place (later h)
 named_by interface n names place (Some k) is later h = elim (with_bits (mask_of interface names) k place h) [
   | inl before ↦ one_more interface n names place (later before)
@@ -129,7 +130,7 @@ named : (interface : List Declaration) (names : List (List ℕ)) (place : ℕ) �
 named interface [] place h = no_bits place h
 named interface (n ∷ names) place h = named_by interface n names place (place_of interface n) refl (named interface names place) h
 
-still_there : (mask place : ℕ) (at : Option ℕ) → bits mask place ≡ true → bits (with_place mask at) place ≡ true
+still_there : (mask place : ℕ) (at : Option ℕ) → bits mask place ≡ true → bits (with_signal mask at) place ≡ true
 still_there mask place None h = h
 still_there mask place (Some k) h = bits_or mask (2 ^ k) place ∙ rw h refl
 
@@ -137,7 +138,7 @@ or_true : (a b : Bool) → b ≡ true → (a || b) ≡ true
 or_true true b h = refl
 or_true false b h = h
 
-now_there : (mask place : ℕ) → bits (with_place mask (Some place)) place ≡ true
+now_there : (mask place : ℕ) → bits (with_signal mask (Some place)) place ≡ true
 now_there mask place = bits_or mask (2 ^ place) place ∙ or_true (bits mask place) _ (bits_pow place place ∙ eq-eqb place place refl)
 
 in_mask : (interface : List Declaration) (names : List (List ℕ)) (place : ℕ) (name : List ℕ) → place_of interface name ≡ Some place

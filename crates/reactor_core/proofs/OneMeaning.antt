@@ -1,10 +1,14 @@
 -- After a journal one module runs at most, and it leaves one term at most.
-use Rattle.std.proofs.Common.{◌≡◌, ℕ, Bool, true, List, [], ◌∷◌, ◌++◌, refl, ap, sym, ◌∙◌, subst}
-use Rattle.std.specs.Prelude.{is_some}
+use Rattle.std.proofs.Common.{◌≡◌, ℕ, Bool, true, List, [], ◌∷◌, ◌++◌, refl, ap, sym, ◌∙◌, subst, inl, inr}
+use Rattle.std.specs.Prelude.{is_some, Ok}
 use Rattle.std.proofs.lemmas.Option.{same_Some}
 use Rattle.est_kernel.specs.Bits.{bits}
 use Rattle.est_kernel.specs.Term.{Term}
 use Rattle.est_kernel.specs.declared.interface.Declaration.{Declaration}
+use Rattle.est_relations.specs.Keeping.{AreLawful}
+use Rattle.est_relations.specs.Offers.{PendingInputs, IsFirstImplied, ReadyAnswer}
+use Rattle.est_relations.specs.declared.relations.Relation.{Relation}
+use Rattle.est_relations.proofs.Answering.{all_hold}
 use Rattle.est_meaning.specs.Rounds.{judged_outputs}
 use Rattle.est_meaning.proofs.Uniqueness.{one_reaction}
 use Rattle.reactor_core.specs.declared.entry.Load.{Load as LoadEntry}
@@ -12,30 +16,37 @@ use Rattle.reactor_core.specs.declared.entry.PastInstant.{PastInstant}
 use Rattle.reactor_core.specs.declared.entry.Action.{Action}
 use Rattle.reactor_core.specs.declared.entry.Action.TheVariants.{Load, Offer, Discard, Step, Unload}
 use Rattle.reactor_core.specs.declared.entry.SlotEntry.{SlotEntry}
+use Rattle.reactor_core.specs.Loading.{GivenModule}
 use Rattle.reactor_core.specs.Reacting.{ReactsWith}
-use Rattle.reactor_core.specs.Meaning.{entry, instant, ModuleOf, Running, Runs, Leaves, loaded, offered, discarded, stepped, is_loaded, mask_of, offers_of}
-use Rattle.reactor_core.specs.Instants.{IsOutcome, HasNoOutcome}
+use Rattle.reactor_core.specs.Meaning.{entry, instant, ModuleOf, Running, Runs, Leaves, loaded, offered, discarded, stepped, is_loaded, mask_of, offers_of, pending_of}
+use Rattle.reactor_core.specs.Instants.{IsOutcome, HasNoOutcome, LacksImplied, KeepsRelations}
 
--- a load entry is of one module at most
-pub same_module : (load : LoadEntry) (i j : List Declaration) (t u : Term) → ModuleOf load i t → ModuleOf load j u → (i ≡ j) × (t ≡ u)
-same_module load i j t u one other = (one.declares ∙ sym other.declares, one.begins ∙ sym other.begins)
+-- a load entry is of one module at most (the law one_module)
+abbrev pub OneModule : Type 0
+OneModule = (load : LoadEntry) (m n : GivenModule) → ModuleOf load m → ModuleOf load n → m ≡ n
 
 -- what runs with the same parts is the same
-same_parts : (r s : Running) → r.interface ≡ s.interface → r.pending ≡ s.pending → r.instants ≡ s.instants → r ≡ s
-same_parts r s interface pending instants =
-    ap (λ (i : List Declaration). let x : Running = record { interface = i; pending = r.pending; instants = r.instants } in x) interface
-    ∙ ap (λ (p : ℕ). let x : Running = record { interface = s.interface; pending = p; instants = r.instants } in x) pending
-    ∙ ap (λ (past : List PastInstant). let x : Running = record { interface = s.interface; pending = s.pending; instants = past } in x) instants
+same_parts : (r s : Running) → r.interface ≡ s.interface → r.relations ≡ s.relations → r.pending ≡ s.pending → r.instants ≡ s.instants → r ≡ s
+same_parts r s interface relations pending instants =
+    ap (λ (i : List Declaration). let x : Running = record { interface = i; relations = r.relations; pending = r.pending; instants = r.instants } in x) interface
+    ∙ ap (λ (i : List Relation). let x : Running = record { interface = s.interface; relations = i; pending = r.pending; instants = r.instants } in x) relations
+    ∙ ap (λ (p : ℕ). let x : Running = record { interface = s.interface; relations = s.relations; pending = p; instants = r.instants } in x) pending
+    ∙ ap (λ (past : List PastInstant). let x : Running = record { interface = s.interface; relations = s.relations; pending = s.pending; instants = past } in x) instants
+
+-- the module that runs
+abbrev module_of : (r : Running) → Term → GivenModule
+module_of r term = record { interface = r.interface; relations = r.relations; term = term }
 
 -- one module runs at most
-pub same_running : (journal : List SlotEntry) (r s : Running) → Runs journal r → Runs journal s → r ≡ s
-same_running journal r s one other =
+pub same_running : OneModule → (journal : List SlotEntry) (r s : Running) → Runs journal r → Runs journal s → r ≡ s
+same_running modules journal r s one other =
     let load : one.load ≡ other.load = same_Some one.load other.load (sym one.last ∙ other.last) in
-    let is : ModuleOf other.load r.interface one.term = subst (λ (l : LoadEntry). ModuleOf l r.interface one.term) load one.is in
-    let interface : r.interface ≡ s.interface = (same_module other.load r.interface s.interface one.term other.term is other.is).0 in
+    let is : ModuleOf other.load (module_of r one.term) = subst (λ (l : LoadEntry). ModuleOf l (module_of r one.term)) load one.is in
+    let same : module_of r one.term ≡ module_of s other.term = modules other.load (module_of r one.term) (module_of s other.term) is other.is in
+    let interface : r.interface ≡ s.interface = ap (λ (m : GivenModule). m.interface) same in
     let offers : mask_of r.interface (offers_of journal) ≡ mask_of s.interface (offers_of journal) =
     ap (λ (i : List Declaration). mask_of i (offers_of journal)) interface in
-    same_parts r s interface (one.offered ∙ offers ∙ sym other.offered) (one.past ∙ sym other.past)
+    same_parts r s interface (ap (λ (m : GivenModule). m.relations) same) (one.offered ∙ offers ∙ sym other.offered) (one.past ∙ sym other.past)
 
 -- what runs is loaded
 pub is_loaded_where : (journal : List SlotEntry) (r : Running) → Runs journal r → is_loaded journal ≡ true
@@ -63,7 +74,7 @@ record StepLeaves (before : List SlotEntry) (inputs : ℕ) (next : Term) : Type 
 
 -- what the last entry, after those before it, leaves
 abbrev LeavesAfter : List SlotEntry → Action → Term → Type 0
-LeavesAfter before (Load l) t = (i : List Declaration) × ModuleOf l i t
+LeavesAfter before (Load l) t = (m : GivenModule) × (m.term ≡ t) × ModuleOf l m
 LeavesAfter before (Offer name) t = Leaves before t
 LeavesAfter before Discard t = Leaves before t
 LeavesAfter before (Step i) t = StepLeaves before i.inputs t
@@ -76,8 +87,7 @@ record IsLast (journal : List SlotEntry) (t : Term) : Type 0 where
   leaves : LeavesAfter before last.action t
 
 last_of : (journal : List SlotEntry) (t : Term) → Leaves journal t → IsLast journal t
-last_of _ _ (loaded before stamp l interface term is) =
-    record { before = before; last = entry stamp (Load l); whole = refl; leaves = (interface, is) }
+last_of _ _ (loaded before stamp l m is) = record { before = before; last = entry stamp (Load l); whole = refl; leaves = (m, refl, is) }
 last_of _ _ (offered before term h stamp name) = record { before = before; last = entry stamp (Offer name); whole = refl; leaves = h }
 last_of _ _ (discarded before term h stamp) = record { before = before; last = entry stamp Discard; whole = refl; leaves = h }
 last_of _ _ (stepped before term h r running outputs next reacts stamp) =
@@ -101,45 +111,58 @@ snoc_same (w ∷ xs) (z ∷ ys) x y e =
     let tails : xs ++ x ∷ [] ≡ ys ++ y ∷ [] = cc in
     let r = snoc_same xs ys x y tails in (cc, r.1)
 
-pub one_term : (journal : List SlotEntry) (t u : Term) → Leaves journal t → Leaves journal u → t ≡ u
-one_term _ _ u (loaded before stamp l interface term is) h =
+pub one_term : OneModule → (journal : List SlotEntry) (t u : Term) → Leaves journal t → Leaves journal u → t ≡ u
+one_term modules _ _ u (loaded before stamp l m is) h =
     let g = last_of _ u h in
     let s = snoc_same before g.before (entry stamp (Load l)) g.last g.whole in
     let x = subst (λ (e : SlotEntry). LeavesAfter g.before e.action u) (sym s.1) g.leaves in
-    (same_module l interface x.0 term u is x.1).1
-one_term _ _ u (offered before term k stamp name) h =
+    ap (λ (n : GivenModule). n.term) (modules l m x.0 is x.2) ∙ x.1
+one_term modules _ _ u (offered before term k stamp name) h =
     let g = last_of _ u h in
     let s = snoc_same before g.before (entry stamp (Offer name)) g.last g.whole in
     let x = subst (λ (e : SlotEntry). LeavesAfter g.before e.action u) (sym s.1) g.leaves in
-    one_term before term u k (subst (λ (b : List SlotEntry). Leaves b u) (sym s.0) x)
-one_term _ _ u (discarded before term k stamp) h =
+    one_term modules before term u k (subst (λ (b : List SlotEntry). Leaves b u) (sym s.0) x)
+one_term modules _ _ u (discarded before term k stamp) h =
     let g = last_of _ u h in
     let s = snoc_same before g.before (entry stamp Discard) g.last g.whole in
     let x = subst (λ (e : SlotEntry). LeavesAfter g.before e.action u) (sym s.1) g.leaves in
-    one_term before term u k (subst (λ (b : List SlotEntry). Leaves b u) (sym s.0) x)
-one_term _ _ u (stepped before term k r running outputs next reacts stamp) h =
+    one_term modules before term u k (subst (λ (b : List SlotEntry). Leaves b u) (sym s.0) x)
+one_term modules _ _ u (stepped before term k r running outputs next reacts stamp) h =
     let g = last_of _ u h in
     let s = snoc_same before g.before (entry stamp (Step (instant r.pending outputs))) g.last g.whole in
     let x = subst (λ (e : SlotEntry). LeavesAfter g.before e.action u) (sym s.1) g.leaves in
-    let terms : term ≡ x.term = one_term before term x.term k (subst (λ (b : List SlotEntry). Leaves b x.term) (sym s.0) x.leaves) in
-    let runs : r ≡ x.r = same_running before r x.r running (subst (λ (b : List SlotEntry). Runs b x.r) (sym s.0) x.running) in
+    let terms : term ≡ x.term = one_term modules before term x.term k (subst (λ (b : List SlotEntry). Leaves b x.term) (sym s.0) x.leaves) in
+    let runs : r ≡ x.r = same_running modules before r x.r running (subst (λ (b : List SlotEntry). Runs b x.r) (sym s.0) x.running) in
     (same_reaction r x.r term x.term next u outputs x.outputs runs terms reacts x.reacts).1
 
 -- the next instant has one outcome at most
-pub same_outcome : (journal : List SlotEntry) (a b : ℕ) (t u : Term) → IsOutcome journal a t → IsOutcome journal b u
+pub same_outcome : OneModule → (journal : List SlotEntry) (a b : ℕ) (t u : Term) → IsOutcome journal a t → IsOutcome journal b u
     → ((n : ℕ) → bits a n ≡ bits b n) × (t ≡ u)
-same_outcome journal a b t u one other =
+same_outcome modules journal a b t u one other =
     same_reaction one.running other.running one.term other.term t u a b
-    (same_running journal one.running other.running one.runs other.runs)
-    (one_term journal one.term other.term one.leaves other.leaves) one.reacts other.reacts
+    (same_running modules journal one.running other.running one.runs other.runs)
+    (one_term modules journal one.term other.term one.leaves other.leaves) one.reacts other.reacts
 
 -- where there is an outcome, nothing is stuck
-pub not_both : (journal : List SlotEntry) (outputs : ℕ) (next : Term) (undecided : ℕ)
+pub not_both : OneModule → (journal : List SlotEntry) (outputs : ℕ) (next : Term) (undecided : ℕ)
     → IsOutcome journal outputs next → HasNoOutcome journal undecided → ⊥
-not_both journal outputs next undecided h k =
-    let runs : h.running ≡ k.running = same_running journal h.running k.running h.runs k.runs in
-    let terms : h.term ≡ k.term = one_term journal h.term k.term h.leaves k.leaves in
+not_both modules journal outputs next undecided h k =
+    let runs : h.running ≡ k.running = same_running modules journal h.running k.running h.runs k.runs in
+    let terms : h.term ≡ k.term = one_term modules journal h.term k.term h.leaves k.leaves in
     let same : ReactsWith k.running.interface k.term k.running.pending outputs next =
     subst (λ (t : Term). ReactsWith k.running.interface t k.running.pending outputs next) terms
     (subst (λ (r : Running). ReactsWith r.interface h.term r.pending outputs next) runs h.reacts) in
     k.stuck.cannot same.signals same.code next same.gives
+
+-- where an instant may take what is pending, no implication lacks a signal
+none_lacking : (p : PendingInputs) (number : ℕ) (missing : List ℕ) → ReadyAnswer p (Ok (record {})) → IsFirstImplied p number missing → ⊥
+none_lacking p number missing (inl refused) first = let no = refused.answered in absurd cc
+none_lacking p number missing (inr passes) first = passes.passed (number, missing) first
+
+-- the pending inputs don't both keep each relation and lack an implied one
+pub ready_or_lacking : OneModule → (journal : List SlotEntry) (number : ℕ) (missing : List ℕ) → LacksImplied journal number missing → KeepsRelations journal → ⊥
+ready_or_lacking modules journal number missing lacks keeps =
+    let same : keeps.running ≡ lacks.running = same_running modules journal keeps.running lacks.running keeps.runs lacks.runs in
+    let lawful : AreLawful lacks.running.relations (bits lacks.running.pending) =
+    subst (λ (r : Running). AreLawful r.relations (bits r.pending)) same keeps.lawful in
+    none_lacking (pending_of lacks.running) number missing (all_hold (pending_of lacks.running) lawful) lacks.first

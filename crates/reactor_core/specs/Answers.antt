@@ -1,10 +1,6 @@
 -- What a reactor answers: the reply to each command on a journal, and the journal afterwards.
-use Rattle.std.specs.Prelude.{◌≡◌, ◌⊎◌, ℕ, ◌-◌, ◌<◌, ◌≤◌, true, false, List, [], ◌∷◌, ◌++◌, length, Some, Result, Ok, Err, MatchResult, slice_get, bit_or, bit_and}
-use Rattle.est_kernel.specs.Interfaces.{declares}
-use Rattle.est_kernel.specs.declared.interface.Declaration.{Declaration}
-use Rattle.est_kernel.specs.declared.interface.Kind.{Kind}
-use Rattle.est_kernel.specs.declared.interface.Kind.TheVariants.{Input}
-use Rattle.est_kernel.specs.Bits.{bits}
+use Rattle.std.specs.Prelude.{◌≡◌, ◌⊎◌, ℕ, ◌-◌, ◌<◌, ◌≤◌, List, [], ◌∷◌, ◌++◌, length, Some, Result, Ok, Err, MatchResult, slice_get, bit_or, bit_and}
+use Rattle.est_relations.specs.Offers.{offer_rules as pending_rules}
 use Rattle.refusal_rules.specs.Rules.{Rule, Rules, Unless, MayRefuse, accept, ◌▸◌, ◌▸▸◌, Answers}
 use Rattle.reactor_core.specs.declared.entry.Stamp.{Stamp}
 use Rattle.reactor_core.specs.declared.entry.Load.{Load as LoadEntry}
@@ -12,11 +8,13 @@ use Rattle.reactor_core.specs.declared.entry.PastInstant.{PastInstant}
 use Rattle.reactor_core.specs.declared.entry.Action.TheVariants.{Load, Offer, Discard, Unload}
 use Rattle.reactor_core.specs.declared.entry.SlotEntry.{SlotEntry}
 use Rattle.reactor_core.specs.declared.refusal.Refusal.{Refusal}
-use Rattle.reactor_core.specs.declared.refusal.Refusal.TheVariants.{UnknownSignal, NotInput, AlreadyOffered, NoInstant, JournalFull, Memory}
+use Rattle.reactor_core.specs.declared.refusal.Refusal.TheVariants.{NoInstant, JournalFull, Memory}
 use Rattle.reactor_core.specs.declared.journal.TheConstants.{JOURNAL_ENTRIES}
 use Rattle.reactor_core.specs.declared.reactor.Shown.{Shown}
-use Rattle.reactor_core.specs.Loading.{IsLoadOf, IsLoadFault}
-use Rattle.reactor_core.specs.Meaning.{entry, instants_of, Running, Runs, place_of}
+use Rattle.reactor_core.specs.Converting.{all_converted}
+use Rattle.reactor_core.specs.Faults.{refusal_of_pending}
+use Rattle.reactor_core.specs.Loading.{GivenModule, Gives, IsLoadFault}
+use Rattle.reactor_core.specs.Meaning.{entry, instants_of, Running, Runs, pending_of}
 
 -- the journal may take another entry
 abbrev pub HasRoom : List SlotEntry → Type 0
@@ -26,48 +24,19 @@ HasRoom journal = length journal < JOURNAL_ENTRIES
 abbrev pub IsFull : List SlotEntry → Type 0
 IsFull journal = JOURNAL_ENTRIES ≤ length journal
 
--- the signal of this name stands at this place of the interface, with this kind
-pub record IsSignal (interface : List Declaration) (name : List ℕ) (place : ℕ) (kind : Kind) : Type 0 where
-  pub there : place_of interface name ≡ Some place
-  pub kind_is : declares kind interface place ≡ true
-
 -- why no further entry is added
 abbrev pub RefusesEntry : List SlotEntry → Refusal → Type 0
 RefusesEntry journal JournalFull = IsFull journal
 RefusesEntry journal Memory = HasRoom journal
 RefusesEntry journal _ = ⊥
 
--- the name is that of a signal
-pub record IsSignalName (interface : List Declaration) (name : List ℕ) : Type 0 where
-  pub place : ℕ
-  pub there : place_of interface name ≡ Some place
-
--- the name is that of an input
-pub record IsInputName (interface : List Declaration) (name : List ℕ) : Type 0 where
-  pub place : ℕ
-  pub input : IsSignal interface name place Input
-
--- the name is that of an input that is not pending
-pub record CanOffer (interface : List Declaration) (pending : ℕ) (name : List ℕ) : Type 0 where
-  pub place : ℕ
-  pub input : IsSignal interface name place Input
-  pub new : bits pending place ≡ false
-
 -- the rules for an entry, in the order in which they are asked: the journal has room, and memory may be refused
 abbrev pub entry_rules : List SlotEntry → Rules Refusal
 entry_rules journal = Unless (HasRoom journal) JournalFull ▸ MayRefuse Memory ▸ accept
 
--- the rules for the name of an offer: it is that of a signal, of an input, and of one that is not pending
-abbrev pub name_rules : List Declaration → (pending : ℕ) → (name : List ℕ) → Rules Refusal
-name_rules interface pending name =
-    Unless (IsSignalName interface name) UnknownSignal
-    ▸ Unless (IsInputName interface name) NotInput
-    ▸ Unless (CanOffer interface pending name) AlreadyOffered
-    ▸ accept
-
--- the rules for an offer: those for its name, and then those for its entry
+-- the rules for an offer: those of the pending inputs, by its name and the relations, and then those for its entry
 abbrev pub offer_rules : List SlotEntry → Running → (name : List ℕ) → Rules Refusal
-offer_rules journal r name = name_rules r.interface r.pending name ▸▸ entry_rules journal
+offer_rules journal r name = all_converted refusal_of_pending (pending_rules (pending_of r) name) ▸▸ entry_rules journal
 
 -- the answer to an offer of the name, and the journal afterwards: by the rules a refusal, and the journal as it was, or the entry is
 -- added
@@ -93,19 +62,23 @@ UnloadAnswer before stamp answer =
     (λ refusal. answer ≡ Err (refusal, before))
     (answer ≡ Ok (before ++ entry stamp Unload ∷ []))
 
--- the text has a fault, or it gives the module of this name, and so its load entry, which is handed on
+-- the text has a fault, or it gives the module of this name, which is handed on
 abbrev pub gives_module : (main text : List ℕ) → Rule Refusal
-gives_module main text = record { refuses = IsLoadFault main text; passes = (load : LoadEntry) × IsLoadOf main text load }
+gives_module main text = record { refuses = IsLoadFault main text; passes = (m : GivenModule) × Gives main text m }
 
 -- the rules for a load of the text's module of this name: that of the text, and then those for the entry
 abbrev pub load_rules : List SlotEntry → (main text : List ℕ) → Rules Refusal
 load_rules journal main text = gives_module main text ▸ entry_rules journal
 
--- the load's entry is added
+-- what a load entry keeps of a text: the text, and the name of its main module
+abbrev pub load_of : (main text : List ℕ) → LoadEntry
+load_of main text = record { main = main; text = text }
+
+-- the load's entry is added, and the text gives a module
 pub record AddsLoad (before : List SlotEntry) (stamp : Stamp) (main text : List ℕ) (after : List SlotEntry) : Type 0 where
-  pub load : LoadEntry
-  pub read : IsLoadOf main text load
-  pub added : after ≡ before ++ entry stamp (Load load) ∷ []
+  pub given : GivenModule
+  pub gives : Gives main text given
+  pub added : after ≡ before ++ entry stamp (Load (load_of main text)) ∷ []
 
 -- the answer to a load of the text's module of this name: by the rules a refusal, and the journal as it was, or the reactor, with the
 -- journal afterwards

@@ -1,34 +1,70 @@
--- The refusals that the faults of a text and of a kernel are.
+-- The refusals that the faults of a load's stages are: of cutting, of the grammar, of linking and of reduction; and those of pending
+-- inputs.
 use Rattle.est_kernel.specs.declared.limits.Limit.{Limit as KernelLimit}
 use Rattle.est_kernel.specs.declared.limits.Limit.TheVariants as kernel
-use Rattle.est_kernel.specs.declared.kernel.LoadFault.{LoadFault}
-use Rattle.est_kernel.specs.declared.kernel.LoadFault.TheVariants as load
-use Rattle.reactor_core.specs.declared.reader.fault.ReadFault.{ReadFault}
-use Rattle.reactor_core.specs.declared.reader.fault.ReadFault.TheVariants as read
+use Rattle.est_link.specs.declared.fault.Limit.{Limit as LinkLimit}
+use Rattle.est_link.specs.declared.fault.Limit.TheVariants as limit
+use Rattle.est_link.specs.declared.fault.LinkFault.{LinkFault}
+use Rattle.est_link.specs.declared.fault.LinkFault.TheVariants as link
+use Rattle.est_reduce.specs.declared.fault.ReduceFault.{ReduceFault}
+use Rattle.est_reduce.specs.declared.fault.ReduceFault.TheVariants as reduce
+use Rattle.est_relations.specs.declared.refusal.Refusal.{Refusal as PendingRefusal}
+use Rattle.est_relations.specs.declared.refusal.Refusal.TheVariants as pending
+use Rattle.est_syntax.specs.declared.parse.ParseFault.{ParseFault}
+use Rattle.est_syntax.specs.declared.parse.ParseFault.TheVariants as parse
+use Rattle.est_text.specs.declared.lex.LexFault.{LexFault}
+use Rattle.est_text.specs.declared.lex.LexFault.TheVariants as lex
 use Rattle.reactor_core.specs.declared.refusal.Limit.{Limit}
-use Rattle.reactor_core.specs.declared.refusal.Limit.TheVariants.{Statements, Loops, Traps, Locals}
+use Rattle.reactor_core.specs.declared.refusal.Limit.TheVariants.{Nesting, Signals, Relations, Statements, Loops, Traps, Locals}
 use Rattle.reactor_core.specs.declared.refusal.Refusal.{Refusal}
-use Rattle.reactor_core.specs.declared.refusal.Refusal.TheVariants.{Lexical, Syntax, UnknownModule, UnknownName, DuplicateName, EmitInput, InstantLoop, TooLarge, Memory}
+use Rattle.reactor_core.specs.declared.refusal.Refusal.TheVariants.{UnknownSignal, NotInput, AlreadyOffered, Excluded, Implied, Lexical, Syntax, UnknownModule, RecursiveRun, UnknownName, DuplicateName, EmitInput, BadRename, InstantLoop, TooLarge, Semantics, Memory}
 
 -- the limit of the same name
-abbrev pub limit_of : KernelLimit → Limit
-limit_of kernel.Statements = Statements
-limit_of kernel.Loops = Loops
-limit_of kernel.Traps = Traps
-limit_of kernel.Locals = Locals
+abbrev pub limit_of_kernel : KernelLimit → Limit
+limit_of_kernel kernel.Statements = Statements
+limit_of_kernel kernel.Loops = Loops
+limit_of_kernel kernel.Traps = Traps
+limit_of_kernel kernel.Locals = Locals
 
--- the refusal of the same name as the fault of a text
-abbrev pub refusal_of_text : ReadFault → Refusal
-refusal_of_text (read.Lexical place) = Lexical place
-refusal_of_text (read.Syntax place) = Syntax place
-refusal_of_text (read.UnknownModule name) = UnknownModule name
-refusal_of_text (read.UnknownName name) = UnknownName name
-refusal_of_text (read.DuplicateName name) = DuplicateName name
-refusal_of_text (read.EmitInput name) = EmitInput name
-refusal_of_text (read.TooLarge limit) = TooLarge limit
-refusal_of_text read.Memory = Memory
+-- the limit of the same name
+abbrev pub limit_of_link : LinkLimit → Limit
+limit_of_link limit.Signals = Signals
+limit_of_link limit.Relations = Relations
+limit_of_link limit.Statements = Statements
 
--- the refusal of the same name as the fault of a kernel
-abbrev pub refusal_of_kernel : LoadFault → Refusal
-refusal_of_kernel (load.TooLarge limit) = TooLarge (limit_of limit)
-refusal_of_kernel load.InstantLoop = InstantLoop
+-- the refusal that a fault of cutting is
+abbrev pub refusal_of_lex : LexFault → Refusal
+refusal_of_lex (lex.Lexical place) = Lexical place
+refusal_of_lex lex.Memory = Memory
+
+-- the refusal that a fault of the grammar is: a unit that is too deep passes the limit of nesting
+abbrev pub refusal_of_parse : ParseFault → Refusal
+refusal_of_parse (parse.Syntax place) = Syntax place
+refusal_of_parse (parse.TooLarge place) = TooLarge Nesting
+refusal_of_parse parse.Memory = Memory
+
+-- the refusal of the same name as a fault of linking
+abbrev pub refusal_of_link : LinkFault → Refusal
+refusal_of_link (link.DuplicateName name) = DuplicateName name
+refusal_of_link (link.UnknownModule name) = UnknownModule name
+refusal_of_link (link.RecursiveRun name) = RecursiveRun name
+refusal_of_link (link.BadRename name) = BadRename name
+refusal_of_link (link.UnknownName name) = UnknownName name
+refusal_of_link (link.EmitInput name) = EmitInput name
+refusal_of_link (link.Semantics relation) = Semantics relation
+refusal_of_link (link.TooLarge limit) = TooLarge (limit_of_link limit)
+refusal_of_link link.Memory = Memory
+
+-- the refusal of the same name as a fault of reduction
+abbrev pub refusal_of_reduce : ReduceFault → Refusal
+refusal_of_reduce (reduce.TooLarge limit) = TooLarge (limit_of_kernel limit)
+refusal_of_reduce reduce.InstantLoop = InstantLoop
+refusal_of_reduce reduce.Memory = Memory
+
+-- the refusal of the same name as that of pending inputs
+abbrev pub refusal_of_pending : PendingRefusal → Refusal
+refusal_of_pending pending.UnknownSignal = UnknownSignal
+refusal_of_pending pending.NotInput = NotInput
+refusal_of_pending pending.AlreadyOffered = AlreadyOffered
+refusal_of_pending (pending.Excluded relation signal) = Excluded relation signal
+refusal_of_pending (pending.Implied relation missing) = Implied relation missing

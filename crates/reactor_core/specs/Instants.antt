@@ -1,15 +1,19 @@
 -- The life of an instant: it is opened, settled and committed, or given up; and what each of these moves answers (this project's
 -- own form).
 use Rattle.std.specs.Prelude.{◌≡◌, ℕ, List, [], ◌∷◌, ◌++◌, Result, Ok, Err, MatchResult}
-use Rattle.refusal_rules.specs.Rules.{Answers}
+use Rattle.refusal_rules.specs.Rules.{Rule, accept, ◌▸◌, Answers}
+use Rattle.est_kernel.specs.Bits.{bits}
 use Rattle.est_kernel.specs.Term.{Term}
 use Rattle.est_kernel.specs.declared.state.Stuck.{Stuck}
+use Rattle.est_relations.specs.Keeping.{AreLawful}
+use Rattle.est_relations.specs.Offers.{IsFirstImplied}
 use Rattle.reactor_core.specs.declared.entry.Stamp.{Stamp}
 use Rattle.reactor_core.specs.declared.entry.Action.TheVariants.{Step}
 use Rattle.reactor_core.specs.declared.entry.SlotEntry.{SlotEntry}
 use Rattle.reactor_core.specs.declared.refusal.Refusal.{Refusal}
+use Rattle.reactor_core.specs.declared.refusal.Refusal.TheVariants.{Implied}
 use Rattle.reactor_core.specs.Reacting.{ReactsWith, IsStuck}
-use Rattle.reactor_core.specs.Meaning.{entry, instant, Running, Runs, Leaves}
+use Rattle.reactor_core.specs.Meaning.{entry, instant, Running, Runs, Leaves, pending_of}
 use Rattle.reactor_core.specs.Answers.{HasRoom, entry_rules}
 
 -- the outcome of the next instant after these entries: the constructive reaction of the term that is left to the pending inputs
@@ -44,9 +48,31 @@ pub record AddsInstant (before : List SlotEntry) (outputs : ℕ) (next : Term) (
   pub appended : after ≡ before ++ entry stamp (Step (instant outcome.running.pending outputs)) ∷ []
   pub leaves : Leaves after next
 
--- the answer to opening an instant: the reactor's, as it is. Nothing is refused, since no module has a relation yet
+-- the pending inputs lack the signal of this name, by the relation of this number, which is the first that does not hold of them
+pub record LacksImplied (journal : List SlotEntry) (number : ℕ) (missing : List ℕ) : Type 0 where
+  pub running : Running
+  pub runs : Runs journal running
+  pub first : IsFirstImplied (pending_of running) number missing
+
+-- each relation holds of the pending inputs
+pub record KeepsRelations (journal : List SlotEntry) : Type 0 where
+  pub running : Running
+  pub runs : Runs journal running
+  pub lawful : AreLawful running.relations (bits running.pending)
+
+-- refuses where the pending inputs lack an implied one, with the refusal of the relation's number and the signal's name; and lets pass
+-- where each relation holds of them
+abbrev pub not_ready : {R : Type 0} → (ℕ → List ℕ → R) → List SlotEntry → Rule R
+not_ready implied journal = record {
+  refuses = λ refusal. (number : ℕ) × (missing : List ℕ) × (refusal ≡ implied number missing) × LacksImplied journal number missing;
+  passes = KeepsRelations journal;
+}
+
+-- the answer to opening an instant: Implied where the pending inputs lack an implied one, and the reactor as it was; or the reactor's
+-- instant
 abbrev pub OpenAnswer : (before : List SlotEntry) → Result (List SlotEntry) (Refusal × List SlotEntry) → Type 0
-OpenAnswer before answer = MatchResult answer (λ opened. opened ≡ before) (λ refused. ⊥)
+OpenAnswer before answer =
+    Answers (not_ready Implied before ▸ accept) (λ refusal. answer ≡ Err (refusal, before)) (answer ≡ Ok before)
 
 -- the answer to settling: the outcome, exactly where there is one, or else the undecided outputs, and the reactor as it was
 abbrev pub SettleAnswer : (before : List SlotEntry) → Result SettledInstant (Stuck × List SlotEntry) → Type 0

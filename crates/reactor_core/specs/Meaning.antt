@@ -1,9 +1,7 @@
--- What a slot's journal means: whether a module runs, its pending inputs, its instants, and the term that is left of it
+-- What a slot's journal means: which module runs, its pending inputs, its instants, and the term that is left of it
 -- (this project's own form).
-use Rattle.std.specs.Prelude.{◌≡◌, ℕ, ◌^◌, Bool, List, [], ◌∷◌, ◌++◌, Option, Some, None, is_some, bit_or, position}
-use Rattle.est_kernel.specs.Interfaces.{is_named}
+use Rattle.std.specs.Prelude.{◌≡◌, ℕ, Bool, List, [], ◌∷◌, ◌++◌, Option, Some, None, is_some}
 use Rattle.est_kernel.specs.Term.{Term}
-use Rattle.est_kernel.specs.View.{term_of}
 use Rattle.est_kernel.specs.declared.interface.Declaration.{Declaration}
 use Rattle.reactor_core.specs.declared.entry.Stamp.{Stamp}
 use Rattle.reactor_core.specs.declared.entry.PastInstant.{PastInstant}
@@ -11,6 +9,9 @@ use Rattle.reactor_core.specs.declared.entry.Load.{Load as LoadEntry}
 use Rattle.reactor_core.specs.declared.entry.Action.{Action}
 use Rattle.reactor_core.specs.declared.entry.Action.TheVariants.{Load, Offer, Discard, Step, Unload}
 use Rattle.reactor_core.specs.declared.entry.SlotEntry.{SlotEntry}
+use Rattle.est_relations.specs.Offers.{PendingInputs, place_of, with_place}
+use Rattle.est_relations.specs.declared.relations.Relation.{Relation}
+use Rattle.reactor_core.specs.Loading.{GivenModule, Gives}
 use Rattle.reactor_core.specs.Reacting.{ReactsWith}
 
 -- the entry of an action, given with this stamp
@@ -65,30 +66,30 @@ instants_of journal = after_all instants_after [] journal
 abbrev pub offers_of : List SlotEntry → List (List ℕ)
 offers_of journal = after_all offers_after [] journal
 
--- the place in the interface of the signal of this name
-abbrev pub place_of : List Declaration → List ℕ → Option ℕ
-place_of interface name = position (is_named name) interface
-
 -- the mask with the signal at this place, if there is one
-abbrev pub with_place : ℕ → Option ℕ → ℕ
-with_place mask None = mask
-with_place mask (Some n) = bit_or mask (2 ^ n)
+abbrev pub with_signal : ℕ → Option ℕ → ℕ
+with_signal mask None = mask
+with_signal mask (Some place) = with_place mask place
 
 -- the mask of the signals of these names
 abbrev pub mask_of : List Declaration → List (List ℕ) → ℕ
 mask_of interface [] = 0
-mask_of interface (name ∷ names) = with_place (mask_of interface names) (place_of interface name)
+mask_of interface (name ∷ names) = with_signal (mask_of interface names) (place_of interface name)
 
--- the module of a load entry declares this interface and begins as this term: those of the kernel that the entry keeps
-pub record ModuleOf (l : LoadEntry) (interface : List Declaration) (term : Term) : Type 0 where
-  pub declares : interface ≡ l.kernel.interface
-  pub begins : term ≡ term_of l.kernel.root
+-- the module of a load entry: the one that its text and the name of its main module give
+abbrev pub ModuleOf : LoadEntry → GivenModule → Type 0
+ModuleOf l m = Gives l.main l.text m
 
--- a loaded module: its interface, the inputs that are pending, and the instants since the load, the first one first
+-- a loaded module: its interface and relations, the inputs that are pending, and the instants since the load, the first one first
 pub record Running : Type 0 where
   pub interface : List Declaration
+  pub relations : List Relation
   pub pending : ℕ
   pub instants : List PastInstant
+
+-- the inputs of what runs that are offered and not yet taken by a step
+abbrev pub pending_of : Running → PendingInputs
+pending_of r = record { interface = r.interface; relations = r.relations; mask = r.pending }
 
 -- this is what runs after these entries: the module of the last load, with what was offered and the instants since then. There is
 -- one such at most
@@ -96,7 +97,7 @@ pub record Runs (journal : List SlotEntry) (r : Running) : Type 0 where
   pub load : LoadEntry
   pub last : last_load journal ≡ Some load
   pub term : Term
-  pub is : ModuleOf load r.interface term
+  pub is : ModuleOf load (record { interface = r.interface; relations = r.relations; term = term })
   pub offered : r.pending ≡ mask_of r.interface (offers_of journal)
   pub past : r.instants ≡ instants_of journal
 
@@ -104,9 +105,8 @@ pub record Runs (journal : List SlotEntry) (r : Running) : Type 0 where
 -- step what the constructive reaction to the pending inputs leaves, which also gives the step's inputs and outputs; an unload leaves
 -- none
 pub data Leaves : List SlotEntry → Term → Type 0 where
-  loaded : (before : List SlotEntry) → (stamp : Stamp) → (l : LoadEntry)
-      → (interface : List Declaration) → (term : Term) → ModuleOf l interface term
-      → Leaves (before ++ entry stamp (Load l) ∷ []) term
+  loaded : (before : List SlotEntry) → (stamp : Stamp) → (l : LoadEntry) → (m : GivenModule) → ModuleOf l m
+      → Leaves (before ++ entry stamp (Load l) ∷ []) m.term
   offered : (before : List SlotEntry) → (term : Term) → Leaves before term
       → (stamp : Stamp) → (name : List ℕ) → Leaves (before ++ entry stamp (Offer name) ∷ []) term
   discarded : (before : List SlotEntry) → (term : Term) → Leaves before term

@@ -7,7 +7,8 @@ use Rattle.reactor_core.specs.declared.entry.Stamp.{Stamp}
 use Rattle.reactor_core.specs.declared.entry.Action.{Action}
 use Rattle.reactor_core.specs.declared.entry.Action.TheVariants.{Offer, Step}
 use Rattle.reactor_core.specs.declared.entry.SlotEntry.{SlotEntry}
-use Rattle.reactor_core.specs.Meaning.{entry, instant, place_of, Running, Runs}
+use Rattle.est_relations.specs.Offers.{place_of}
+use Rattle.reactor_core.specs.Meaning.{entry, instant, Running, Runs}
 
 -- the action takes no offer away: it is an offer itself, and no load, discard, step or unload
 abbrev pub KeepsOffers : Action → Type 0

@@ -1,59 +1,64 @@
 -- What the parts of a reactor have to do with its journal: private to its invariant.
-use Rattle.std.specs.Prelude.{◌≡◌, ℕ, true, List, Some, None, slice_get}
-use Rattle.est_kernel.specs.Bits.{bits}
-use Rattle.est_kernel.specs.declared.interface.Declaration.{Declaration}
-use Rattle.est_kernel.specs.declared.interface.Kind.TheVariants.{Input, Output}
+use Rattle.std.specs.Prelude.{◌≡◌, ℕ, List, Some, Ok, Err}
+use Rattle.est_kernel.specs.View.{term_of}
 use Rattle.est_kernel.specs.declared.state.State.{State}
 use Rattle.est_meaning.specs.States.{IsState, state_term}
-use Rattle.est_rounds.specs.Contract.{AreInputs}
-use Rattle.reactor_core.specs.declared.entry.Stamp.{Stamp}
+use Rattle.est_relations.specs.Offers.{PendingInputs, KeepsExclusions, IsFirstImplied, OfferAnswer as PendingAnswer}
+use Rattle.est_relations.specs.declared.refusal.Refusal.{Refusal as PendingRefusal}
 use Rattle.reactor_core.specs.declared.entry.PastInstant.{PastInstant}
 use Rattle.reactor_core.specs.declared.entry.Load.{Load as LoadEntry}
-use Rattle.reactor_core.specs.declared.entry.Action.TheVariants.{Load}
 use Rattle.reactor_core.specs.declared.entry.SlotEntry.{SlotEntry}
-use Rattle.reactor_core.specs.Meaning.{entry, last_load, instants_of, offers_of, mask_of, place_of, Leaves}
+use Rattle.reactor_core.specs.declared.loaded.Module.{Module}
 use Rattle.reactor_core.specs.declared.refusal.Refusal.{Refusal}
-use Rattle.reactor_core.specs.declared.refusal.Refusal.TheVariants.{UnknownSignal, NotInput, AlreadyOffered}
-use Rattle.reactor_core.specs.Answers.{IsSignal}
-use Rattle.reactor_core.specs.Instants.{IsOutcome}
+use Rattle.reactor_core.specs.declared.refusal.Refusal.TheVariants.{Implied}
+use Rattle.reactor_core.specs.Faults.{refusal_of_pending}
+use Rattle.reactor_core.specs.Loading.{GivenModule}
+use Rattle.reactor_core.specs.Meaning.{last_load, instants_of, offers_of, mask_of, ModuleOf, Leaves}
+use Rattle.reactor_core.specs.Reacting.{ReactsWith}
 
--- the entry at this place is this load
-abbrev pub LoadsAt : List SlotEntry → ℕ → LoadEntry → Type 0
-LoadsAt journal place l = (stamp : Stamp) × (slice_get journal place ≡ Some (entry stamp (Load l)))
+-- the module that a reactor holds, as a text gives it
+abbrev pub given_by : Module → GivenModule
+given_by m = record { interface = m.kernel.interface; relations = m.relations; term = term_of m.kernel.root }
 
--- the module of the load at this place runs, with these pending inputs and these instants, and the state stands for the
--- term that is left of it
-pub record IsRunning (journal : List SlotEntry) (place : ℕ) (state : State) (pending : ℕ) (instants : List PastInstant) : Type 0 where
+-- pending inputs of a module
+abbrev pub pending_inputs : Module → (mask : ℕ) → PendingInputs
+pending_inputs m mask = record { interface = m.kernel.interface; relations = m.relations; mask = mask }
+
+-- pending inputs of a module are inputs, and they keep each exclusion
+abbrev pub AreKept : Module → (mask : ℕ) → Type 0
+AreKept m mask = KeepsExclusions m.kernel.interface m.relations mask
+
+-- this module of the last load runs, with these pending inputs and these instants, and the state stands for the term that is left
+-- of it
+pub record IsRunning (journal : List SlotEntry) (m : Module) (state : State) (pending : ℕ) (instants : List PastInstant) : Type 0 where
   pub load : LoadEntry
-  pub there : LoadsAt journal place load
   pub last : last_load journal ≡ Some load
-  pub offered : pending ≡ mask_of load.kernel.interface (offers_of journal)
+  pub is : ModuleOf load (given_by m)
+  pub offered : pending ≡ mask_of m.kernel.interface (offers_of journal)
+  pub kept : AreKept m pending
   pub past : instants ≡ instants_of journal
-  pub leaves : Leaves journal (state_term load.kernel.root state)
-  pub fits : IsState load.kernel.root state
-  pub inputs : AreInputs load.kernel (record { signals = pending })
+  pub leaves : Leaves journal (state_term m.kernel.root state)
+  pub fits : IsState m.kernel.root state
 
--- the next instant after these entries emits these outputs, and leaves the term that this state of the module stands for
-pub record IsNextState (journal : List SlotEntry) (outputs : ℕ) (state : State) : Type 0 where
-  pub load : LoadEntry
-  pub last : last_load journal ≡ Some load
-  pub fits : IsState load.kernel.root state
-  pub outcome : IsOutcome journal outputs (state_term load.kernel.root state)
+-- the reaction of what is left in this state to the pending inputs emits these outputs, and leaves what the next state stands for
+pub record IsNext (m : Module) (state : State) (pending outputs : ℕ) (next : State) : Type 0 where
+  pub fits : IsState m.kernel.root next
+  pub reacts : ReactsWith m.kernel.interface (state_term m.kernel.root state) pending outputs (state_term m.kernel.root next)
 
--- the name is that of an output
-pub record IsOutputName (interface : List Declaration) (name : List ℕ) : Type 0 where
-  pub place : ℕ
-  pub output : IsSignal interface name place Output
+-- the pending inputs of a module with the input of this name are these
+pub record JoinsAs (m : Module) (pending : ℕ) (name : List ℕ) (after : ℕ) : Type 0 where
+  pub answer : PendingAnswer (pending_inputs m pending) name (Ok (record {})) (pending_inputs m after)
+  pub kept : AreKept m after
 
--- the name is that of an input that is pending
-pub record IsPendingName (interface : List Declaration) (pending : ℕ) (name : List ℕ) : Type 0 where
-  pub place : ℕ
-  pub input : IsSignal interface name place Input
-  pub offered : bits pending place ≡ true
+-- why the input of this name may not join the pending inputs of a module
+pub record RefusesName (m : Module) (pending : ℕ) (name : List ℕ) (refusal : Refusal) : Type 0 where
+  pub given : PendingRefusal
+  pub told : refusal ≡ refusal_of_pending given
+  pub answer : PendingAnswer (pending_inputs m pending) name (Err given) (pending_inputs m pending)
 
--- why a name can't be offered: no signal has it, it is an output's, or its signal is pending
-abbrev pub RefusesName : List Declaration → (pending : ℕ) → List ℕ → Refusal → Type 0
-RefusesName interface pending name UnknownSignal = place_of interface name ≡ None
-RefusesName interface pending name NotInput = IsOutputName interface name
-RefusesName interface pending name AlreadyOffered = IsPendingName interface pending name
-RefusesName interface pending name _ = ⊥
+-- why an instant may not take the pending inputs of a module
+pub record RefusesInstant (m : Module) (pending : ℕ) (refusal : Refusal) : Type 0 where
+  pub number : ℕ
+  pub missing : List ℕ
+  pub told : refusal ≡ Implied number missing
+  pub first : IsFirstImplied (pending_inputs m pending) number missing

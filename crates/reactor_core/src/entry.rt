@@ -1,6 +1,5 @@
 //! The entries of a slot's journal.
 use crate::text::Text;
-use est_kernel::kernel::Kernel;
 use est_text::identifier::Identifier;
 
 /// The policy version at which a command was judged, and the number of the session that gave it.
@@ -17,12 +16,11 @@ pub struct PastInstant {
     pub outputs: u64,
 }
 
-/// An accepted load: the name of the main module, the text, and the kernel that was read from it.
+/// An accepted load: the name of the main module, and the text. What runs is the module that the two give.
 #[derive(Drop)]
 pub struct Load {
     pub main: Identifier,
     pub text: Text,
-    pub kernel: Kernel,
 }
 
 /// What was accepted.

@@ -1,41 +1,80 @@
-//! The laws of journals. Each function does nothing: its contract is the law.
-ghost use Rattle.std.specs.Prelude.{◌≡◌, ◌↔◌, ℕ, true, List};
+//! The laws of journals. Each function does nothing but call the laws that it follows from: its contract is the law.
+ghost use Rattle.std.specs.Prelude.{◌≡◌, ◌⊎◌, ◌↔◌, ℕ, true, List};
 ghost use Rattle.est_kernel.specs.Bits.{bits};
 ghost use Rattle.est_kernel.specs.Term.{Term};
-ghost use Rattle.est_kernel.specs.declared.interface.Declaration.{Declaration};
 ghost use Rattle.reactor_core.specs.declared.entry.Load.{Load as LoadEntry};
 ghost use Rattle.reactor_core.specs.declared.entry.SlotEntry.{SlotEntry};
 ghost use Rattle.reactor_core.specs.declared.entry.Stamp.{Stamp};
+ghost use Rattle.reactor_core.specs.declared.refusal.Refusal.{Refusal};
+ghost use Rattle.reactor_core.specs.declared.refusal.Refusal.TheVariants.{Memory};
+ghost use Rattle.reactor_core.specs.Loading.{GivenModule, Gives, IsLoadFault};
 ghost use Rattle.reactor_core.specs.Meaning.{ModuleOf, Running, Runs, Leaves};
-ghost use Rattle.reactor_core.specs.Instants.{IsOutcome, HasNoOutcome, AddsInstant};
+ghost use Rattle.reactor_core.specs.Instants.{IsOutcome, HasNoOutcome, AddsInstant, LacksImplied, KeepsRelations};
 ghost use Rattle.reactor_core.specs.Offers.{IsOfferedAt, TakesOffers};
 
-/// A load entry is of one module at most: one interface, and one term.
+use est_link::laws::one_flat;
+use est_text::laws::{one_cut, one_fault};
+
+/// A load entry is of one module at most: one interface, one list of relations, and one term.
 pub fn one_module()
-    ensures { (load : LoadEntry) (i j : List Declaration) (t u : Term) → ModuleOf load i t → ModuleOf load j u → (i ≡ j) × (t ≡ u) }
-{}
+    ensures { (load : LoadEntry) (m n : GivenModule) → ModuleOf load m → ModuleOf load n → m ≡ n }
+{
+    one_cut();
+    one_flat();
+}
+
+/// A text and the name of its main module give one module, or have one first fault, and never both. Want of memory, which no
+/// definition foresees, can come at any time.
+pub fn one_load()
+    ensures given { (main text : List ℕ) (m n : GivenModule) → Gives main text m → Gives main text n → m ≡ n }
+    ensures fault { (main text : List ℕ) (a b : Refusal) → IsLoadFault main text a → IsLoadFault main text b
+        → (a ≡ b) ⊎ (a ≡ Memory) ⊎ (b ≡ Memory) }
+    ensures never_both { (main text : List ℕ) (m : GivenModule) (a : Refusal)
+        → Gives main text m → IsLoadFault main text a → a ≡ Memory }
+{
+    one_cut();
+    one_fault();
+    one_flat();
+}
 
 /// After a journal one module runs at most, with one mask of pending inputs and one list of instants.
 pub fn one_running()
     ensures { (journal : List SlotEntry) (r s : Running) → Runs journal r → Runs journal s → r ≡ s }
-{}
+{
+    one_module();
+}
 
 /// A journal leaves one term at most: what is left to run does not depend on how it was found.
 pub fn one_term_is_left()
     ensures { (journal : List SlotEntry) (t u : Term) → Leaves journal t → Leaves journal u → t ≡ u }
-{}
+{
+    one_module();
+}
 
 /// A journal's next instant has one outcome at most: one set of outputs, and one term that it leaves.
 pub fn one_outcome()
     ensures { (journal : List SlotEntry) (a b : ℕ) (t u : Term) → IsOutcome journal a t → IsOutcome journal b u
         → ((n : ℕ) → bits a n ≡ bits b n) × (t ≡ u) }
-{}
+{
+    one_module();
+}
 
 /// A journal's next instant doesn't both have an outcome and have none: a step is Stuck just where there is no reaction.
 pub fn an_outcome_or_none()
     ensures { (journal : List SlotEntry) (outputs : ℕ) (next : Term) (undecided : ℕ)
         → IsOutcome journal outputs next → HasNoOutcome journal undecided → ⊥ }
-{}
+{
+    one_module();
+}
+
+/// A journal's pending inputs don't both keep each relation and lack an implied one: a step is Implied just where a relation does not
+/// hold.
+pub fn ready_or_lacking()
+    ensures { (journal : List SlotEntry) (number : ℕ) (missing : List ℕ)
+        → LacksImplied journal number missing → KeepsRelations journal → ⊥ }
+{
+    one_module();
+}
 
 /// A signal is pending exactly where an offer of it was accepted and no load, discard, step or unload since; and those are the inputs of
 /// the next step.

@@ -10,7 +10,8 @@
 pub mod entry;
 pub mod journal;
 pub mod laws;
+mod loaded;
 pub mod reactor;
-mod reader;
+mod reading;
 pub mod refusal;
 pub mod text;

@@ -1,35 +1,28 @@
 //! A running module with its journal.
-ghost use Rattle.std.specs.Prelude.{◌≡◌, ◌⊎◌, ◌<◌, ◌-◌, ◌^◌, ◌++◌, ◌∷◌, [], length, bit_or, Some, MatchResult, MatchOption, IfOk, IfErr, IsTrue, true, false, slice_get};
-ghost use Rattle.est_kernel.specs.Bits.{bits};
+ghost use Rattle.std.specs.Prelude.{◌≡◌, ◌⊎◌, ◌<◌, ◌-◌, ◌++◌, ◌∷◌, [], length, Some, MatchResult, MatchOption, IfOk, IfErr, IsTrue, true, false, slice_get};
 ghost use Rattle.est_text.specs.Identifiers.{is_identifier};
-ghost use Rattle.est_kernel.specs.Term.{Term};
-ghost use Rattle.est_kernel.specs.declared.interface.Kind.TheVariants.{Input};
-ghost use Rattle.reactor_core.specs.declared.entry.Load.{Load as LoadEntry};
-ghost use Rattle.est_meaning.specs.States.{IsState};
-ghost use Rattle.est_rounds.specs.Contract.{AreInputs, IsReaction, HasNoReaction};
-ghost use Rattle.reactor_core.specs.Meaning.{Running, Runs, last_load, is_loaded, instants_of, entry};
-ghost use Rattle.reactor_core.specs.Loading.{IsLoadOf, IsLoadFault};
-ghost use Rattle.reactor_core.specs.Standing.{LoadsAt, IsRunning, IsNextState, RefusesName};
-ghost use Rattle.reactor_core.specs.Instants.{HasNoOutcome, AddsInstant, OpenAnswer};
-ghost use Rattle.reactor_core.specs.Answers.{LoadAnswer, OfferAnswer, DiscardAnswer, UnloadAnswer, ShownAnswer, HasRoom, RefusesEntry, IsSignal};
+ghost use Rattle.reactor_core.specs.Meaning.{Running, Runs, ModuleOf, is_loaded, instants_of, entry};
+ghost use Rattle.reactor_core.specs.Loading.{IsLoadFault};
+ghost use Rattle.reactor_core.specs.Standing.{given_by};
+ghost use Rattle.reactor_core.specs.Instants.{OpenAnswer};
+ghost use Rattle.reactor_core.specs.Answers.{LoadAnswer, OfferAnswer, DiscardAnswer, UnloadAnswer, ShownAnswer, HasRoom, RefusesEntry, load_of};
 
 use crate::entry::{Action, Load, PastInstant, SlotEntry, Stamp};
-use crate::journal::{JOURNAL_ENTRIES, Journal};
+use crate::journal::Journal;
+use crate::loaded::Module;
 use crate::reactor::instant::Instant;
-use crate::reader::read_kernel;
+use crate::reactor::parts::{Parts, check_relations, join};
+use crate::reading::read_module;
 use crate::refusal::Refusal;
 use crate::text::Text;
-use est_kernel::interface::{Interface, Kind};
-use est_kernel::kernel::Kernel;
-use est_kernel::mask;
-use est_kernel::state::{Inputs, Outcome, State, Stuck};
-use est_kernel::statement::InterfaceSignal;
-use est_rounds::engine::Engine;
+use est_kernel::interface::Interface;
+use est_kernel::state::State;
 use est_text::identifier::Identifier;
 use std::alloc::Global;
 use std::marker::Model;
 
 pub mod instant;
+mod parts;
 
 /// What is shown of an instant: the signals that were asked for, and those of them that were present, as masks over the
 /// interface in the order of declaration.
@@ -42,11 +35,7 @@ pub struct Shown {
 /// A journal whose last load runs. A contract sees the list of the journal's entries.
 #[derive(Drop)]
 pub struct Reactor {
-    journal: Journal,
-    loaded: usize,
-    state: State,
-    pending: u64,
-    instants: Vec<PastInstant>,
+    parts: Parts,
 }
 
 impl Model for Reactor {
@@ -61,67 +50,9 @@ impl Model for Reactor {
 
     ghost use Rattle.reactor_core.specs.Standing.{IsRunning};
 
-    ghost view = { λ r. r.journal };
+    ghost view = { λ r. r.parts.journal };
 
-    ghost invariant = { λ r. IsRunning r.journal r.loaded r.state r.pending r.instants.items };
-}
-
-/// The kernel of the load at this place.
-fn kernel_at(journal: &Journal, place: usize) -> &Kernel
-    requires { (l : LoadEntry) × LoadsAt journal.now place l }
-    ensures { (l : LoadEntry) → LoadsAt journal.now place l → result.now ≡ l.kernel }
-{
-    match &journal.entries()[place].action {
-        Action::Load(load) => &load.kernel,
-        _ => unreachable!(),
-    }
-}
-
-/// The reaction of the load at this place, in this state, to the pending inputs.
-fn reaction<E: Engine>(
-    engine: &mut E,
-    journal: &Journal,
-    place: usize,
-    state: &State,
-    pending: u64,
-) -> Result<Outcome, Stuck>
-    requires { (l : LoadEntry) × LoadsAt journal.now place l × IsState l.kernel.root state.now
-        × AreInputs l.kernel (record { signals = pending }) × E.is_for engine.old l.kernel }
-    ensures { (l : LoadEntry) → LoadsAt journal.now place l
-        → MatchResult result (IsReaction l.kernel state.now (record { signals = pending })) (HasNoReaction l.kernel state.now (record { signals = pending })) }
-{
-    let kernel = kernel_at(journal, place);
-    let inputs = Inputs { signals: pending };
-    engine.react(kernel, state, &inputs)
-}
-
-/// The input of this name, where it can be offered.
-fn offered_signal(
-    interface: &Interface,
-    pending: u64,
-    name: &Identifier,
-) -> Result<InterfaceSignal, Refusal>
-    ensures { MatchResult result
-        (λ s. IsSignal interface.now name.now s.index Input × (bits pending s.index ≡ false))
-        (λ e. RefusesName interface.now pending name.now e) }
-{
-    let Some(signal) = interface.find(name) else {
-        return Err(Refusal::UnknownSignal);
-    };
-    if interface.kind(signal) == Kind::Output {
-        return Err(Refusal::NotInput);
-    }
-    if mask::has(pending, signal.index) {
-        return Err(Refusal::AlreadyOffered);
-    }
-    Ok(signal)
-}
-
-/// The mask with this signal.
-fn with_signal(mask: u64, signal: InterfaceSignal) -> u64
-    ensures { result ≡ bit_or mask (2 ^ signal.index) }
-{
-    mask | 1 << signal.index
+    ghost invariant = { λ r. IsRunning r.parts.journal r.parts.loaded r.parts.state r.parts.pending r.parts.instants.items };
 }
 
 /// The n-th instant, counted from 1.
@@ -134,47 +65,19 @@ fn instant_at(instants: &[PastInstant], n: u64) -> Option<PastInstant>
     Some(instants[(n - 1) as usize])
 }
 
-/// Adds a step's entry and its instant, or refuses it as JournalFull or Memory and leaves both as they are.
-fn append_step(
-    journal: &mut Journal,
-    instants: &mut Vec<PastInstant>,
-    stamp: Stamp,
-    instant: PastInstant,
-) -> Result<(), Refusal>
-    ensures { MatchResult result
-        (λ _. HasRoom journal.old × (journal.new ≡ journal.old ++ entry stamp (Action.Step instant) ∷ [])
-        × (instants.new.items ≡ instants.old.items ++ instant ∷ []))
-        (λ e. RefusesEntry journal.old e × (journal.new ≡ journal.old) × (instants.new.items ≡ instants.old.items)) }
-{
-    if journal.is_full() {
-        return Err(Refusal::JournalFull);
-    }
-    if instants.reserve(1).is_err() {
-        return Err(Refusal::Memory);
-    }
-    let entry = SlotEntry {
-        stamp,
-        action: Action::Step(instant),
-    };
-    journal.append(entry)?;
-    instants.push_reserved(instant);
-    Ok(())
-}
-
-/// The load of the module `main` of a text: it keeps copies of both, and the kernel that is read from the text.
-fn read_load(alloc: Global, main: &str, text: &str) -> Result<Load, Refusal>
+/// The load of the module `main` of a text: its entry keeps copies of both, and its module is read from the text.
+fn read_load(alloc: Global, main: &str, text: &str) -> Result<(Load, Module), Refusal>
     requires { IsTrue (is_identifier main.now) }
-    ensures load { IfOk result (IsLoadOf main.now text.now) }
+    ensures entry { IfOk result (λ read. read.0 ≡ load_of main.now text.now) }
+    ensures given { IfOk result (λ read. ModuleOf read.0 (given_by read.1)) }
     ensures fault { IfErr result (IsLoadFault main.now text.now) }
 {
     let Some(main) = Identifier::from_text(main) else {
         unreachable!();
     };
-    let Ok(text) = Text::copied(alloc, text) else {
-        return Err(Refusal::Memory);
-    };
-    let kernel = read_kernel(alloc, &main, text.as_str())?;
-    Ok(Load { main, text, kernel })
+    let text = Text::copied(alloc, text)?;
+    let loaded = read_module(alloc, main.as_str(), text.as_str())?;
+    Ok((Load { main, text }, loaded))
 }
 
 impl Reactor {
@@ -182,7 +85,7 @@ impl Reactor {
     pub fn interface(&self) -> &Interface
         ensures { (r : Running) × Runs self.now r × (result.now ≡ r.interface) }
     {
-        kernel_at(&self.journal, self.loaded).interface()
+        self.parts.loaded.kernel.interface()
     }
 
     /// The journal, whose last load runs.
@@ -190,28 +93,29 @@ impl Reactor {
         ensures same { result.now ≡ self.now }
         ensures loaded { is_loaded self.now ≡ true }
     {
-        &self.journal
+        &self.parts.journal
     }
 
     /// The journal alone. It adds no entry and takes no memory.
     pub fn into_journal(self) -> Journal
         ensures { result ≡ self }
     {
-        self.journal
+        let Reactor { parts } = self;
+        parts.journal
     }
 
     /// How many instants there were since the load.
     pub fn instants(&self) -> u64
         ensures { result ≡ length (instants_of self.now) }
     {
-        self.instants.len() as u64
+        self.parts.instants.len() as u64
     }
 
     /// The inputs that are offered and not yet taken by a step, as a mask over the interface in the order of declaration.
     pub fn pending(&self) -> u64
         ensures { (r : Running) × Runs self.now r × (result ≡ r.pending) }
     {
-        self.pending
+        self.parts.pending
     }
 
     /// Loads the module `main` of a text: the reactor has not begun, and its journal has the load's entry, with copies of
@@ -228,53 +132,55 @@ impl Reactor {
         ensures { LoadAnswer journal stamp main.now text.now result }
     {
         match read_load(alloc, main, text) {
-            Ok(load) => Reactor::begin(alloc, journal, stamp, load),
+            Ok((load, loaded)) => Reactor::begin(alloc, journal, stamp, load, loaded),
             Err(fault) => Err((fault, journal)),
         }
     }
 
-    /// The reactor of a load: it has not begun, and its journal has the load's entry. A refusal, JournalFull or Memory,
-    /// gives the journal back as it was.
+    /// The reactor of a load and its module: it has not begun, and its journal has the load's entry. A refusal, JournalFull or
+    /// Memory, gives the journal back as it was.
     fn begin(
         alloc: Global,
         journal: Journal,
         stamp: Stamp,
         load: Load,
+        loaded: Module,
     ) -> Result<Reactor, (Refusal, Journal)>
+        requires { ModuleOf load (given_by loaded) }
         ensures { MatchResult result
             (λ r. HasRoom journal × (r ≡ journal ++ entry stamp (Action.Load load) ∷ []))
             (λ refused. RefusesEntry journal refused.0 × (refused.1 ≡ journal)) }
     {
         let mut journal = journal;
-        let loaded = journal.len();
         let entry = SlotEntry {
             stamp,
             action: Action::Load(load),
         };
         match journal.append(entry) {
             Ok(()) => Ok(Reactor {
-                journal,
-                loaded,
-                state: State::Fresh,
-                pending: 0,
-                instants: Vec::new(alloc),
+                parts: Parts {
+                    journal,
+                    loaded,
+                    state: State::Fresh,
+                    pending: 0,
+                    instants: Vec::new(alloc),
+                },
             }),
             Err(refusal) => Err((refusal, journal)),
         }
     }
 
-    /// Makes an input pending.
+    /// Makes an input pending, where that keeps each exclusion of the module.
     pub fn offer(&mut self, stamp: Stamp, name: &Identifier) -> Result<(), Refusal>
         ensures { OfferAnswer self.old stamp name.now result self.new }
     {
-        let interface = kernel_at(&self.journal, self.loaded).interface();
-        let signal = offered_signal(interface, self.pending, name)?;
+        let pending = join(&self.parts.loaded, self.parts.pending, name)?;
         let entry = SlotEntry {
             stamp,
             action: Action::Offer(*name),
         };
-        self.journal.append(entry)?;
-        self.pending = with_signal(self.pending, signal);
+        self.parts.journal.append(entry)?;
+        self.parts.pending = pending;
         Ok(())
     }
 
@@ -287,8 +193,8 @@ impl Reactor {
             stamp,
             action: Action::Discard,
         };
-        self.journal.append(entry)?;
-        self.pending = 0;
+        self.parts.journal.append(entry)?;
+        self.parts.pending = 0;
         Ok(())
     }
 
@@ -298,61 +204,34 @@ impl Reactor {
         ensures answer { UnloadAnswer self stamp result }
         ensures empty { IfOk result (λ journal. is_loaded journal ≡ false) }
     {
-        let mut reactor = self;
+        let Reactor { parts } = self;
+        let mut parts = parts;
         let entry = SlotEntry {
             stamp,
             action: Action::Unload,
         };
-        match reactor.journal.append(entry) {
-            Ok(()) => Ok(reactor.journal),
-            Err(refusal) => Err((refusal, reactor)),
+        match parts.journal.append(entry) {
+            Ok(()) => Ok(parts.journal),
+            Err(refusal) => Err((refusal, Reactor { parts })),
         }
     }
 
-    /// Opens the next instant, which takes the pending inputs. It adds no entry and takes no memory, and nothing is refused,
-    /// since no module has a relation yet.
+    /// Opens the next instant, which takes the pending inputs, where each relation of the module holds of them. Where one doesn't it
+    /// is refused as Implied, and the reactor is handed back as it was. It adds no entry and takes no memory.
     pub fn open(self) -> Result<Instant, (Refusal, Reactor)>
         ensures { OpenAnswer self result }
     {
-        Ok(Instant::of(self))
-    }
-
-    /// The reaction of what is left to run to the pending inputs, by this engine.
-    fn reaction_by<E: Engine>(&self, engine: &mut E) -> Result<Outcome, Stuck>
-        requires { (l : LoadEntry) → last_load self.now ≡ Some l → E.is_for engine.old l.kernel }
-        ensures { MatchResult result (λ o. IsNextState self.now o.outputs o.next) (λ s. HasNoOutcome self.now s.undecided) }
-    {
-        reaction(
-            engine,
-            &self.journal,
-            self.loaded,
-            &self.state,
-            self.pending,
-        )
-    }
-
-    /// Adds the instant of this outcome, with its entry, or refuses it as JournalFull or Memory and stays as it is.
-    fn advance(&mut self, stamp: Stamp, outcome: Outcome) -> Result<(), Refusal>
-        requires { IsNextState self.old outcome.outputs outcome.next }
-        ensures { MatchResult result
-            (λ _. (next : Term) × AddsInstant self.old outcome.outputs next stamp self.new)
-            (λ e. RefusesEntry self.old e × (self.new ≡ self.old)) }
-    {
-        let instant = PastInstant {
-            inputs: self.pending,
-            outputs: outcome.outputs,
-        };
-        append_step(&mut self.journal, &mut self.instants, stamp, instant)?;
-        self.state = outcome.next;
-        self.pending = 0;
-        Ok(())
+        match check_relations(&self.parts.loaded, self.parts.pending) {
+            Ok(()) => Ok(Instant::of(self)),
+            Err(refusal) => Err((refusal, self)),
+        }
     }
 
     /// What was present in the n-th instant since the load, within the mask. It takes no memory.
     pub fn shown(&self, n: u64, mask: u64) -> Result<Shown, Refusal>
         ensures { ShownAnswer self.now n mask result }
     {
-        match instant_at(self.instants.as_slice(), n) {
+        match instant_at(self.parts.instants.as_slice(), n) {
             Some(instant) => Ok(Shown {
                 mask,
                 present: (instant.inputs | instant.outputs) & mask,

@@ -13,15 +13,15 @@ ghost use Rattle.wire_lines.specs.Replies.{refusal_members, refused_with, signal
 ghost use Rattle.access_core.specs.declared.reply.Reply.TheVariants.{Refused, Login, Changed, Load, Discard, Step, Unload, Audit, Check};
 ghost use Rattle.access_core.specs.declared.reply.Change.TheVariants as change;
 ghost use Rattle.access_core.specs.declared.refusal.Refusal.TheVariants as refusal;
-ghost use Rattle.reactor_core.specs.declared.refusal.Place.{Place};
+ghost use Rattle.est_text.specs.declared.place.Place.{Place};
 
 use access_core::refusal::{Refusal, limit_text, table_text};
 use access_core::reply::{Reply, ShownSignal};
 use est_text::identifier::Identifier;
+use est_text::place::Place;
 use rbac_policy::commands::SessionId;
 use rbac_policy::names::Name;
 use rbac_policy::objects::{Object, Operation};
-use reactor_core::refusal::Place;
 use serde_json::{Value, json};
 use std::alloc::{AllocError, Global};
 
@@ -130,7 +130,7 @@ fn implied(
 }
 
 /// A refusal that names a relation alone.
-fn semantics(alloc: Global, refusal: &Refusal, relation: u8) -> Result<Value, AllocError>
+fn semantics(alloc: Global, refusal: &Refusal, relation: u64) -> Result<Value, AllocError>
     ensures { IfOk result (λ v. view v ≡ object (refused_with refusal.now (number_member (codes "relation") relation no_members))) }
 {
     let (code, fault) = (refusal.code(), refusal.name());

@@ -7,6 +7,7 @@ ghost use Rattle.reactor_core.specs.Instants.{SettleAnswer, CommitAnswer};
 
 use crate::entry::Stamp;
 use crate::reactor::Reactor;
+use crate::reactor::parts::{Parts, react};
 use crate::refusal::Refusal;
 use est_kernel::state::{Outcome, Stuck};
 use est_rounds::rounds::Rounds;
@@ -32,23 +33,24 @@ impl Model for Instant {
 
 /// An instant whose reaction is known. A contract sees the journal of its reactor and the reaction's outputs.
 pub struct Settled {
-    reactor: Reactor,
+    parts: Parts,
     outcome: Outcome,
 }
 
 impl Model for Settled {
     ghost use Rattle.std.specs.Coded.{codes};
     ghost use Rattle.reactor_core.specs.contracts.entry.SlotEntry as entry;
-    ghost use Rattle.reactor_core.specs.Standing.{IsNextState};
+    ghost use Rattle.reactor_core.specs.Standing.{IsRunning, IsNext};
     ghost use Rattle.reactor_core.specs.Instants.{SettledInstant};
 
     ghost Value = { SettledInstant };
 
     ghost coded = { Prim.hlevel (codes, entry.the_row.coded) };
 
-    ghost view = { λ s. record { journal = s.reactor; outputs = s.outcome.outputs } };
+    ghost view = { λ s. record { journal = s.parts.journal; outputs = s.outcome.outputs } };
 
-    ghost invariant = { λ s. IsNextState s.reactor s.outcome.outputs s.outcome.next };
+    ghost invariant = { λ s. IsRunning s.parts.journal s.parts.loaded s.parts.state s.parts.pending s.parts.instants.items
+        × IsNext s.parts.loaded s.parts.state s.parts.pending s.outcome.outputs s.outcome.next };
 }
 
 impl Instant {
@@ -65,9 +67,15 @@ impl Instant {
         ensures { SettleAnswer self result }
     {
         let Instant { reactor } = self;
-        match reactor.reaction_by(&mut Rounds::new()) {
-            Ok(outcome) => Ok(Settled { reactor, outcome }),
-            Err(stuck) => Err((stuck, reactor)),
+        let Reactor { parts } = reactor;
+        match react(
+            &mut Rounds::new(),
+            &parts.loaded,
+            &parts.state,
+            parts.pending,
+        ) {
+            Ok(outcome) => Ok(Settled { parts, outcome }),
+            Err(stuck) => Err((stuck, Reactor { parts })),
         }
     }
 
@@ -86,11 +94,11 @@ impl Settled {
     pub fn commit(self, stamp: Stamp) -> Result<Reactor, (Refusal, Reactor)>
         ensures { CommitAnswer self stamp result }
     {
-        let Settled { reactor, outcome } = self;
-        let mut reactor = reactor;
-        match reactor.advance(stamp, outcome) {
-            Ok(()) => Ok(reactor),
-            Err(refusal) => Err((refusal, reactor)),
+        let Settled { parts, outcome } = self;
+        let mut parts = parts;
+        match parts.advance(stamp, outcome) {
+            Ok(()) => Ok(Reactor { parts }),
+            Err(refusal) => Err((refusal, Reactor { parts })),
         }
     }
 
@@ -99,10 +107,7 @@ impl Settled {
         ensures { result ≡ self.journal }
     {
         match self {
-            Settled {
-                reactor,
-                outcome: _,
-            } => reactor,
+            Settled { parts, outcome: _ } => Reactor { parts },
         }
     }
 }

@@ -2,21 +2,19 @@ use Rattle.std.proofs.Common.{◌≡◌, ◌∙◌, ap, inr, subst, map, filter,
 use mathlib.Core.Path.{fun_ext}
 use Rattle.est_kernel.specs.Bits.{bits}
 use Rattle.est_kernel.specs.declared.interface.Declaration.{Declaration}
-use Rattle.reactor_core.specs.Meaning.{Running}
 use Rattle.access_core.specs.declared.refusal.Refusal.TheVariants.{Stuck}
 use Rattle.access_core.specs.Shown.{Sees, name_at, places_of, names_of}
-use Rattle.reactor_core.proofs.OneMeaning.{same_running}
 use Rattle.access_core.proofs.slot.refuse_stuck.Goals as goal
 
 pub returns-in-Ok : goal.returns-in-Ok
 returns-in-Ok c = λ entries stands.
     let interface = c.interface-interface.ensures in
-    let none = c.requires in
-    let one = same_running c.args.reactor.now interface.0 none.running interface.1 none.runs in
-    let same : c.interface-interface.result.now ≡ none.running.interface = interface.2 ∙ ap (λ (r : Running). r.interface) one in
+    let same : c.interface-interface.result.now ≡ interface.0.interface = interface.2 in
     inr (record {
       undecided = c.args.stuck.undecided;
-      none = none;
+      none = c.requires;
+      running = interface.0;
+      runs = interface.1;
       sees = bits c.find_observed-seen.result;
       observes = subst (λ (ds : List Declaration). Sees entries c.args.session c.args.slot ds (bits c.find_observed-seen.result)) same (c.find_observed-seen.ensures entries stands);
       named = ap Stuck (c.in-Ok.ensures

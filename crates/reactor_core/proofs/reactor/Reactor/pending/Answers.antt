@@ -4,7 +4,7 @@ use Rattle.reactor_core.proofs.reactor.Reactor.pending.Goals as goal
 
 pub returns : goal.returns
 returns c = (
-  running c.self.invariant.load c.self.inside.pending c.self.inside.instants.items,
+  running c.self.inside.parts.loaded c.self.inside.parts.pending c.self.inside.parts.instants.items,
   rw (← c.self.view_is) (runs_here c.self.invariant),
   refl,
 )

@@ -1,5 +1,0 @@
-use Rattle.reactor_core.proofs.Fronts.{line_found}
-use Rattle.reactor_core.proofs.reader.piece.line.Goals as goal
-
-pub returns : goal.returns
-returns c = line_found c.args.rest.now c.line_len.result c.requires.percent c.requires.some c.requires.brace c.line_len.ensures.within c.line_len.ensures.same c.line_len.ensures.stops

@@ -1,0 +1,14 @@
+//! What a load makes of a text.
+ghost use Rattle.est_relations.specs.Keeping.{AreOverInputs};
+
+use est_kernel::kernel::Kernel;
+use est_relations::relations::Relations;
+
+/// A module as it runs: its kernel, which has its interface, and the relations between its inputs.
+#[derive(Drop)]
+pub struct Module {
+    pub kernel: Kernel,
+    pub relations: Relations,
+    /// Each signal of a relation is an input.
+    pub ghost over_inputs: { AreOverInputs kernel.interface relations },
+}

@@ -1,0 +1,121 @@
+//! What a reactor is made of, and what an offer and an instant make of it.
+ghost use Rattle.std.specs.Prelude.{◌≡◌, ◌++◌, ◌∷◌, [], MatchResult};
+ghost use Rattle.est_kernel.specs.Bits.{bits};
+ghost use Rattle.est_kernel.specs.Term.{Term};
+ghost use Rattle.est_meaning.specs.States.{IsState};
+ghost use Rattle.est_relations.specs.Keeping.{AreLawful};
+ghost use Rattle.est_rounds.specs.Contract.{AreInputs, HasNoReaction};
+ghost use Rattle.reactor_core.specs.Meaning.{entry};
+ghost use Rattle.reactor_core.specs.Standing.{IsRunning, IsNext, AreKept, JoinsAs, RefusesName, RefusesInstant};
+ghost use Rattle.reactor_core.specs.Instants.{AddsInstant};
+ghost use Rattle.reactor_core.specs.Answers.{HasRoom, RefusesEntry};
+
+use crate::entry::{Action, PastInstant, SlotEntry, Stamp};
+use crate::journal::Journal;
+use crate::loaded::Module;
+use crate::refusal::Refusal;
+use est_kernel::state::{Inputs, Outcome, State, Stuck};
+use est_relations::pending::Pending;
+use est_rounds::engine::Engine;
+use est_text::identifier::Identifier;
+
+/// What a reactor is made of: a journal, the module of its last load, and how far that has come.
+#[derive(Drop)]
+pub struct Parts {
+    pub journal: Journal,
+    pub loaded: Module,
+    pub state: State,
+    /// The inputs that are offered and not yet taken, a bit for each in the order of declaration.
+    pub pending: u64,
+    /// The instants since the load.
+    pub instants: Vec<PastInstant>,
+}
+
+/// The pending inputs of a module with the one of this name, where it may join them.
+pub fn join(loaded: &Module, pending: u64, name: &Identifier) -> Result<u64, Refusal>
+    requires { AreKept loaded.now pending }
+    ensures { MatchResult result (JoinsAs loaded.now pending name.now) (RefusesName loaded.now pending name.now) }
+{
+    let mut pending = Pending::resume(loaded.kernel.interface(), &loaded.relations, pending);
+    pending.offer(name)?;
+    Ok(pending.inputs())
+}
+
+/// Whether an instant may take the pending inputs of a module.
+pub fn check_relations(loaded: &Module, pending: u64) -> Result<(), Refusal>
+    requires { AreKept loaded.now pending }
+    ensures { MatchResult result
+        (λ _. AreLawful loaded.now.relations (bits pending))
+        (RefusesInstant loaded.now pending) }
+{
+    let pending = Pending::resume(loaded.kernel.interface(), &loaded.relations, pending);
+    pending.ready()?;
+    Ok(())
+}
+
+/// The reaction of a module in this state to the pending inputs, by this engine.
+pub fn react<E: Engine>(
+    engine: &mut E,
+    loaded: &Module,
+    state: &State,
+    pending: u64,
+) -> Result<Outcome, Stuck>
+    requires state { IsState loaded.now.kernel.root state.now }
+    requires inputs { AreInputs loaded.now.kernel (record { signals = pending }) }
+    requires engine { E.is_for engine.old loaded.now.kernel }
+    ensures { MatchResult result
+        (λ o. IsNext loaded.now state.now pending o.outputs o.next)
+        (HasNoReaction loaded.now.kernel state.now (record { signals = pending })) }
+{
+    let inputs = Inputs { signals: pending };
+    engine.react(&loaded.kernel, state, &inputs)
+}
+
+/// Adds a step's entry and its instant, or refuses it as JournalFull or Memory and leaves both as they are.
+fn append_step(
+    journal: &mut Journal,
+    instants: &mut Vec<PastInstant>,
+    stamp: Stamp,
+    instant: PastInstant,
+) -> Result<(), Refusal>
+    ensures { MatchResult result
+        (λ _. HasRoom journal.old × (journal.new ≡ journal.old ++ entry stamp (Action.Step instant) ∷ [])
+        × (instants.new.items ≡ instants.old.items ++ instant ∷ []))
+        (λ e. RefusesEntry journal.old e × (journal.new ≡ journal.old) × (instants.new.items ≡ instants.old.items)) }
+{
+    if journal.is_full() {
+        return Err(Refusal::JournalFull);
+    }
+    if instants.reserve(1).is_err() {
+        return Err(Refusal::Memory);
+    }
+    let entry = SlotEntry {
+        stamp,
+        action: Action::Step(instant),
+    };
+    journal.append(entry)?;
+    instants.push_reserved(instant);
+    Ok(())
+}
+
+impl Parts {
+    /// Adds the instant of this outcome, with its entry, or refuses it as JournalFull or Memory; then the journal stays, and the same
+    /// runs.
+    pub fn advance(&mut self, stamp: Stamp, outcome: Outcome) -> Result<(), Refusal>
+        requires running { IsRunning self.old.journal self.old.loaded self.old.state self.old.pending self.old.instants.items }
+        requires next { IsNext self.old.loaded self.old.state self.old.pending outcome.outputs outcome.next }
+        ensures running { IsRunning self.new.journal self.new.loaded self.new.state self.new.pending self.new.instants.items }
+        ensures adds { MatchResult result
+            (λ _. (next : Term) × AddsInstant self.old.journal outcome.outputs next stamp self.new.journal)
+            (λ e. RefusesEntry self.old.journal e × (self.new.journal ≡ self.old.journal)) }
+    {
+        let instant = PastInstant {
+            inputs: self.pending,
+            outputs: outcome.outputs,
+        };
+        append_step(&mut self.journal, &mut self.instants, stamp, instant)?;
+        self.state = outcome.next;
+        self.pending = 0;
+        Ok(())
+    }
+}
