@@ -196,6 +196,12 @@ fn the_opening_module_is_read(rt: HostRuntime) -> Result<(), Fail> {
     let reactor = loaded(rt.alloc(), OPENING)?.ok().ok_or("refused")?;
     assert_eq!(rt; reactor.interface().outputs(), 3);
     assert_eq!(rt; reactor.interface().inputs(), 0);
+    Ok(())
+}
+
+/// A front of the opening module is no module: it ends too early, wherever it is cut.
+#[test]
+fn no_front_of_a_module_is_one(rt: HostRuntime) -> Result<(), Fail> {
     for end in 0..OPENING.len() {
         if let Some(text) = OPENING.get(..end) {
             let fault = fault_of(rt.alloc(), text)?;
