@@ -3,7 +3,7 @@ PROGRAM := crates/estserve/out/estserve
 ENGINE := crates/est_bench/out/est_bench
 TEXTS := crates/text_bench/out/text_bench
 
-.PHONY: help try run build examples documents test bench faults times
+.PHONY: help try run build abro examples documents test bench faults times
 
 help:
 	@echo 'make try       run the opening script on the program as it stands, built WITHOUT proof: about a minute'
@@ -11,7 +11,8 @@ help:
 	@echo 'make test      the gate: documents, examples, what must not compile, and then all proofs, wrong bodies, tests'
 	@echo '               and stored runs; the last line is "N passed, M failed"'
 	@echo 'make build     as make run, without the script'
-	@echo 'make examples  run each script of examples/scripts on the program, built without proof, and compare its answers'
+	@echo 'make examples  run each script and controller of examples on the program, built without proof, and compare its answers'
+	@echo 'make abro      the waves of ABRO, by the client, on the program built WITHOUT proof: about a minute'
 	@echo 'make documents write the tables of docs/PROOFS.md anew from the sources'
 	@echo 'make bench     prove and build, and then time commands, instants and the reading of texts'
 	@echo 'make faults    refuse each allocation of one test in turn; no part of make test'
@@ -27,8 +28,12 @@ run:
 build:
 	@python3 scripts/run.py estserve script < /dev/null
 
+abro:
+	@echo 'This program is built WITHOUT proof; make build proves it first.' >&2
+	@python3 clients/estserve.py run examples/abro/abro.strl --inputs examples/abro/abro.inputs --wave --unproved
+
 examples:
-	cd crates/estserve && rt try --cases ../../examples/scripts -- script
+	python3 scripts/examples.py
 
 documents:
 	python3 scripts/reading_list.py
@@ -38,6 +43,7 @@ documents:
 test:
 	python3 tests/documents.py
 	$(MAKE) --no-print-directory examples
+	clients/tests/run
 	python3 tests/must-not-compile/run
 	rt ci
 

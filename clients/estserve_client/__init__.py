@@ -1,0 +1,1 @@
+"""The parts of the client of estserve; `estserve.py` beside this folder is the way in."""

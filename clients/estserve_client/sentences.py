@@ -1,0 +1,68 @@
+"""What a refusal says, as a short sentence."""
+
+SENTENCES = {
+    "TooLong": "the line is too long",
+    "NotJson": "this is no JSON",
+    "NotARequest": "this is no command of estserve",
+    "NoSession": "there is no login, or its session has ended",
+    "AlreadyLoggedIn": "there is a login already",
+    "SessionsExhausted": "there are no session numbers left",
+    "Permission": "needs {op} on {object}",
+    "DsdViolated": "session {session} would violate the separation set {set}",
+    "NotAuthorized": "the user is not authorized for the role {role}",
+    "AlreadyActive": "the role {role} is active already",
+    "NotActive": "the role {role} is not active",
+    "Cycle": "the senior is the junior, or lies below it",
+    "UnknownUser": "there is no user {user}",
+    "UnknownRole": "there is no role {role}",
+    "UserExists": "the user {user} is there already",
+    "RoleExists": "the role {role} is there already",
+    "AlreadyAssigned": "the role is assigned already",
+    "NotAssigned": "the role is not assigned",
+    "AlreadyGranted": "the role has the permission already",
+    "NotGranted": "the role has not that permission itself",
+    "EdgeExists": "the one stands above the other already",
+    "NoEdge": "there is no such edge",
+    "DsdExists": "the separation set {set} is there already",
+    "NoDsd": "there is no separation set {set}",
+    "DsdShape": "a role is listed twice, or the number is under 2 or over that of the roles",
+    "RoleInDsd": "the role is a member of the separation set {set}",
+    "Full": "the table of {table} is full",
+    "Excluded": "relation {relation} excludes it, since {signal} is pending",
+    "Implied": "relation {relation} asks for {missing} too",
+    "Stuck": "the instant has no constructive reaction; undecided: {undecided}",
+    "NoSlot": "there is no such slot: they are 0 to 15",
+    "Occupied": "the slot is loaded: unload it first",
+    "Empty": "the slot is empty: load a module first",
+    "UnknownSignal": "the module has no such signal",
+    "NotInput": "it is an output",
+    "AlreadyOffered": "it is pending already",
+    "NoInstant": "there was no such instant since the load",
+    "JournalFull": "the journal is full",
+    "Lexical": "no token stands at line {line}, column {column}",
+    "Syntax": "the text cannot go on so at line {line}, column {column}",
+    "UnknownModule": "there is no module {name}",
+    "RecursiveRun": "the module {name} runs itself, be it through others",
+    "UnknownName": "the name {name} is not visible there",
+    "DuplicateName": "the name {name} is declared twice, or is tick",
+    "EmitInput": "the input {name} is emitted",
+    "BadRename": "the run module has no signal {name}, or it is renamed twice",
+    "InstantLoop": "a loop's body can end in the instant in which it begins",
+    "TooLarge": "the module passes the limit of {limit}",
+    "Semantics": "relation {relation} has a member that is no input of the module",
+    "Memory": "the server found no memory",
+}
+
+
+def sentence(refusal, relations=()):
+    """The sentence of a refusal. Where the texts of the module's relations are given, a relation is told by its text."""
+    fields = dict(refusal.fields)
+    number = fields.get("relation")
+    if isinstance(number, int) and 0 < number <= len(relations):
+        fields["relation"] = f"{number} ({relations[number - 1]})"
+    if "undecided" in fields:
+        fields["undecided"] = " ".join(fields["undecided"]) or "none that may be observed"
+    try:
+        return f"{refusal.fault}: {SENTENCES[refusal.fault].format(**fields)}"
+    except (KeyError, IndexError):
+        return str(refusal)

@@ -1,0 +1,60 @@
+"""What the client's tests share."""
+import contextlib
+import io
+import os
+import pathlib
+import sys
+import tempfile
+import unittest.mock
+
+CLIENTS = pathlib.Path(__file__).resolve().parents[1]
+ROOT = CLIENTS.parent
+DIALOGUE = CLIENTS / "tests" / "dialogue.py"
+sys.path.insert(0, str(CLIENTS))
+
+
+def read_vcd(lines):
+    """The changes in a VCD file: from the name of each wire to the values that it takes, by their times."""
+    names, changes, time = {}, {}, None
+    for words in map(str.split, lines):
+        if words[0] == "$var":
+            names[words[3]] = words[4]
+        elif words[0].startswith("#"):
+            time = int(words[0][1:])
+        elif words[0][0] in "01x":
+            changes.setdefault(names[words[0][1:]], {})[time] = words[0][0]
+    return changes
+
+
+class Ran:
+    """What a command of the client gave: its status, what it printed, what it told on standard error."""
+
+    def __init__(self, status, printed, told):
+        self.status, self.printed, self.told = status, printed, told
+
+
+def run_client(words, typed="", variables=None):
+    """Runs the client with these words, `typed` on its standard input, and these variables besides."""
+    import estserve
+    printed, told = io.StringIO(), io.StringIO()
+    stdin = io.TextIOWrapper(io.BytesIO(typed.encode()))
+    with contextlib.ExitStack() as held:
+        held.enter_context(contextlib.redirect_stdout(printed))
+        held.enter_context(contextlib.redirect_stderr(told))
+        held.enter_context(unittest.mock.patch("sys.stdin", stdin))
+        held.enter_context(unittest.mock.patch.dict(os.environ, variables or {}))
+        status = estserve.main([str(word) for word in words])
+    return Ran(status, printed.getvalue(), told.getvalue())
+
+
+def play_dialogue(path, words, typed=""):
+    """Runs the client over a stored dialogue, and fails where it doesn't ask for what is stored."""
+    with tempfile.TemporaryDirectory() as folder:
+        faults = pathlib.Path(folder) / "faults"
+        variables = {"ESTSERVE": str(DIALOGUE), "DIALOGUE": str(path), "FAULTS": str(faults)}
+        if "RECORDER" in os.environ:
+            variables["RECORD"] = os.environ["RECORDER"]
+        ran = run_client(words, typed, variables)
+        if faults.exists():
+            raise AssertionError(f"{path.name}: {faults.read_text()}")
+    return ran

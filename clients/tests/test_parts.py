@@ -1,0 +1,134 @@
+"""The client's parts, each by itself: lists of inputs, module texts, pictures, policies in files."""
+import importlib.util
+import unittest
+
+from support import read_vcd
+
+from estserve_client.inputs import read_inputs
+from estserve_client.module_text import main_of, modules_of, show_place
+from estserve_client.pictures import Seen, code_of, table_lines, vcd_lines, wave_lines
+from estserve_client.policy_file import BadPolicy, read_policy
+
+TEXT = """% a comment with module X: in it
+module A:
+input I, J; %{ input K;
+}% output O;
+relation I # J, I => J;
+present I then emit O end
+end module
+module B: output P; pause end module
+"""
+SEEN = Seen("A", [("I", "input"), ("J", "input"), ("O", "output")], [{"I": True, "J": False}, {"I": True, "O": True}])
+
+
+class Inputs(unittest.TestCase):
+    def names(self, text):
+        return [instant.names for instant in read_inputs(text)]
+
+    def test_a_line_is_an_instant(self):
+        self.assertEqual(self.names("A\nB C\n\nA\n"), [["A"], ["B", "C"], [], ["A"]])
+
+    def test_a_semicolon_ends_an_instant_too(self):
+        self.assertEqual(self.names("A; B\nA;\n;\n;;\n"), [["A"], ["B"], ["A"], [], [], []])
+
+    def test_a_comment_is_no_instant(self):
+        self.assertEqual(self.names("% nothing\nA % then B\n;% empty\n"), [["A"], []])
+
+    def test_a_name_counts_once_and_the_line_is_kept(self):
+        instants = read_inputs("% first\nA A\n")
+        self.assertEqual([(i.names, i.line) for i in instants], [(["A"], 2)])
+
+
+class Texts(unittest.TestCase):
+    def test_modules_with_their_signals(self):
+        first, second = modules_of(TEXT)
+        self.assertEqual(first.signals, [("I", "input"), ("J", "input"), ("O", "output")])
+        self.assertEqual(first.relations, ["I # J", "I => J"])
+        self.assertEqual((second.name, second.signals), ("B", [("P", "output")]))
+
+    def test_main_is_the_first_module_that_is_not_run(self):
+        text = "module CELL: pause end module module RING: run CELL [signal A/B] || run CELL end module module LAST: pause end module"
+        self.assertEqual([main_of(text).name, main_of(text, "CELL").name], ["RING", "CELL"])
+        self.assertEqual([module.runs for module in modules_of(text)], [[], ["CELL", "CELL"], []])
+
+    def test_main_is_the_named_module(self):
+        self.assertEqual([main_of(TEXT).name, main_of(TEXT, "B").name], ["A", "B"])
+        self.assertEqual(main_of(TEXT, "C").signals, [])
+        self.assertEqual(main_of("").signals, [])
+
+    def test_a_place_is_shown_by_bytes(self):
+        self.assertEqual(show_place("a\n\té b", 2, 5), "\té b\n\t  ^")
+        self.assertEqual(show_place("", 1, 1), "\n^")
+
+
+class Pictures(unittest.TestCase):
+    def test_a_table(self):
+        self.assertEqual(table_lines(SEEN), ["instant  inputs  outputs", "      1  I       .", "      2  I .     O"])
+
+    def test_waves(self):
+        lines = wave_lines(SEEN, plain=True)
+        self.assertEqual(lines[0].split(), ["instant", "1", "2"])
+        self.assertEqual(lines[1:], ["I        input  _/^\\_/^\\", "J        input  ____....", "O        output ...._/^\\"])
+
+    def test_a_vcd_file(self):
+        self.assertEqual(
+            read_vcd(vcd_lines(SEEN)),
+            {"I": {0: "1"}, "J": {0: "0", 1: "x"}, "O": {0: "x", 1: "1"}},
+        )
+        hidden = Seen("A", SEEN.signals, [{"I": True}, {"I": False}])
+        self.assertEqual(read_vcd(vcd_lines(hidden)), {"I": {0: "1", 1: "0"}})
+
+    def test_wires_have_names_of_their_own(self):
+        codes = [code_of(number) for number in range(9000)]
+        self.assertEqual(len(set(codes)), 9000)
+        self.assertTrue(all("!" <= letter <= "~" for code in codes for letter in code))
+
+
+POLICY = """
+users = ["ann"]     # people
+roles = ["driver",
+         "chief"]
+[inherit]
+chief = ["driver"]
+[assign]
+ann = ["chief"]
+[permissions]
+driver = ["offer 0.A", "step 0"]
+[separate.duties]
+roles = ["driver", "chief"]
+count = 2
+"""
+
+
+class Policies(unittest.TestCase):
+    def test_commands_in_an_order_that_works(self):
+        told = [(wish.line, *wish.command.values()) for wish in read_policy(POLICY)]
+        self.assertEqual(told[:4], [(3, "addrole", "driver"), (4, "addrole", "chief"), (2, "adduser", "ann"), (6, "inherit", "chief", "driver")])
+        self.assertEqual(told[4:], [
+            (12, "dsd", "duties", ["driver", "chief"], 2),
+            (8, "assign", "ann", "chief"),
+            (10, "grant", "driver", "offer", "0.A"),
+            (10, "grant", "driver", "step", "0"),
+        ])
+
+    @unittest.skipUnless(importlib.util.find_spec("tomllib"), "this Python has no reader of TOML")
+    def test_it_is_toml(self):
+        import tomllib
+        whole = tomllib.loads(POLICY)
+        self.assertEqual(whole["roles"], ["driver", "chief"])
+        self.assertEqual(whole["separate"]["duties"], {"roles": ["driver", "chief"], "count": 2})
+
+    def test_what_is_no_policy_is_told_with_its_line(self):
+        wrong = {
+            'users = ["a"': 1, "users = a": 1, "\nhosts = []": 2, "[people]\na = []": 2, "users = [1]": 1,
+            '[permissions]\na = ["offer"]': 2, "x": 1, 'users = []\nusers = []': 2, "[assign]\n[assign]": 2,
+            '[separate.s]\nroles = ["a"]': 2, '[separate.s]\nroles = ["a"]\ncount = ["b"]': 3, "[assign]\na = 1": 2,
+        }
+        for text, line in wrong.items():
+            with self.subTest(text), self.assertRaises(BadPolicy) as raised:
+                read_policy(text)
+            self.assertEqual(raised.exception.line, line, text)
+
+
+if __name__ == "__main__":
+    unittest.main()
