@@ -20,7 +20,7 @@ def dialogues():
     controllers = sorted((ROOT / "examples").glob("*/*.dialogue.stdout"))
     for answers in [path for folder in FOLDERS for path in sorted(folder.glob("*.stdout"))] + controllers:
         lines = answers.with_suffix("")
-        found[lines.name.replace(".dialogue", "")] = lines, answers
+        found[lines.name.replace(".dialogue", "_dialogue")] = lines, answers
     return found
 
 

@@ -83,7 +83,7 @@ class Shell(cmd.Cmd):
     def default(self, line):
         name, *words = line.split()
         if name == "EOF":
-            print()
+            print(end="\n" if self.prompt else "")
             return True
         if name not in PLAIN:
             print(f"there is no command {name}: help lists them")

@@ -36,7 +36,7 @@ class Ran:
 def run_client(words, typed="", variables=None):
     """Runs the client with these words, `typed` on its standard input, and these variables besides."""
     import estserve
-    printed, told = io.StringIO(), io.StringIO()
+    printed, told = (io.TextIOWrapper(io.BytesIO(), encoding="utf-8") for _ in range(2))
     stdin = io.TextIOWrapper(io.BytesIO(typed.encode()))
     with contextlib.ExitStack() as held:
         held.enter_context(contextlib.redirect_stdout(printed))
@@ -44,7 +44,9 @@ def run_client(words, typed="", variables=None):
         held.enter_context(unittest.mock.patch("sys.stdin", stdin))
         held.enter_context(unittest.mock.patch.dict(os.environ, variables or {}))
         status = estserve.main([str(word) for word in words])
-    return Ran(status, printed.getvalue(), told.getvalue())
+    for stream in (printed, told):
+        stream.seek(0)
+    return Ran(status, printed.read(), told.read())
 
 
 def play_dialogue(path, words, typed=""):
