@@ -134,7 +134,7 @@ class WhatGoesWrong(unittest.TestCase):
         with tempfile.TemporaryDirectory() as folder:
             path = pathlib.Path(folder) / "long.strl"
             path.write_text("%" + "x" * 65_536 + "\nmodule M: pause end module\n")
-            self.fails(["run", path, "--program", "/bin/cat"], "the text is too long")
+            self.fails(["run", path, "--program", "/bin/true"], "the text is too long")
 
     def test_a_fault_of_the_text_is_shown_at_its_place(self):
         with tempfile.TemporaryDirectory() as folder:
