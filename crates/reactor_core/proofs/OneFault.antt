@@ -5,7 +5,7 @@ use Rattle.est_kernel.specs.Limits.{limit_passed}
 use Rattle.est_kernel.specs.StartCodes.{IsLoopSafe}
 use Rattle.est_kernel.specs.declared.limits.Limit.{Limit}
 use Rattle.est_link.specs.FirstFaults.{IsFirstFault}
-use Rattle.est_link.specs.Modules.{Program, programs_of}
+use Rattle.est_link.specs.Modules.{programs_of}
 use Rattle.est_link.specs.declared.fault.LinkFault.{LinkFault}
 use Rattle.est_link.proofs.Uniqueness.{one_first_fault}
 use Rattle.est_reduce.specs.Bodies.{Body}
@@ -15,7 +15,7 @@ use Rattle.est_reduce.specs.declared.fault.ReduceFault.{ReduceFault}
 use Rattle.est_reduce.specs.declared.fault.ReduceFault.TheVariants as reduce
 use Rattle.est_reduce.specs.declared.flat.Flat.{Flat}
 use Rattle.est_reduce.proofs.Answering.{one_fault}
-use Rattle.est_syntax.specs.Grammar.{tokens_of, spelling}
+use Rattle.est_syntax.specs.Grammar.{tokens_of}
 use Rattle.est_syntax.specs.Faults.{IsSyntaxFault, IsTooDeep}
 use Rattle.est_syntax.specs.ParseFaults.{IsParseFault}
 use Rattle.est_syntax.specs.Tree.{LibraryTree}
