@@ -5,3 +5,4 @@ pub mod Accepted
 pub mod Fitting
 pub mod Authorizing
 pub mod Shaping
+pub mod PolicyListLemmas

@@ -1,2 +1,4 @@
 pub mod Conditions
 pub mod PolicyStep
+pub mod Room
+pub mod PolicyLists

@@ -5,11 +5,15 @@ ghost use Rattle.rbac_policy.specs.declared.commands.AdminCommand.{AdminCommand}
 ghost use Rattle.rbac_policy.specs.declared.commands.Entry.{Entry};
 ghost use Rattle.rbac_policy.specs.declared.policy.Policy.{Policy};
 ghost use Rattle.rbac_policy.specs.Change.{absorbed};
+ghost use Rattle.rbac_policy.specs.Leaving.{LeavesRoom};
+ghost use Rattle.rbac_policy.specs.Opening.{opening_entries};
 ghost use Rattle.rbac_policy.specs.StandsFor.{StandsFor};
 ghost use Rattle.rbac_policy.specs.declared.sizes.TheConstants.{LAST_VERSION};
 ghost use Rattle.rbac_admin.specs.declared.refusals.Refusal.{Refusal};
 ghost use Rattle.rbac_admin.specs.Conditions.{Administers};
 ghost use Rattle.rbac_admin.specs.PolicyStep.{PolicyStep, policy_rules, entry_of, is_administrative};
+ghost use Rattle.rbac_admin.specs.PolicyLists.{IsAccepted, IsPolicyList};
+ghost use Rattle.rbac_admin.specs.Room.{most_entries};
 
 /// The policy step gives one answer at most.
 pub fn one_answer()
@@ -52,4 +56,19 @@ pub fn accepted_stands()
     ensures { (policy : Policy) (entries : List Entry) (session : Option ℕ) (command : AdminCommand) (entry : Entry)
         → StandsFor policy entries → length entries < LAST_VERSION
         → PolicyStep entries session command (Ok entry) → StandsFor (absorbed policy entry) (entries ++ entry ∷ []) }
+{}
+
+/// The opening entries are a policy list, and with an accepted entry at its end a policy list is one.
+pub fn policy_lists_grow()
+    ensures opening { IsPolicyList opening_entries }
+    ensures grows { (entries : List Entry) (entry : Entry) → IsPolicyList entries → IsAccepted entries entry
+        → IsPolicyList (entries ++ entry ∷ []) }
+{}
+
+/// Where each living session has room for its logout, an accepted entry has room, and leaves it to the others.
+pub fn accepted_leaves_room()
+    ensures few { (entries : List Entry) (entry : Entry) → LeavesRoom most_entries entries → IsAccepted entries entry
+        → length entries < most_entries }
+    ensures left { (policy : Policy) (entries : List Entry) (entry : Entry) → LeavesRoom most_entries entries
+        → StandsFor policy (entries ++ entry ∷ []) → IsAccepted entries entry → LeavesRoom most_entries (entries ++ entry ∷ []) }
 {}

@@ -6,4 +6,5 @@
 pub mod decisions;
 pub mod laws;
 pub mod refusals;
+pub mod room;
 mod rules;

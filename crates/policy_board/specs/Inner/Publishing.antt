@@ -1,0 +1,19 @@
+-- What the writer's state has to be between two calls (this project's own form).
+use Rattle.std.specs.Prelude.{◌≡◌, List}
+use Rattle.logbook.specs.Pages.{Book}
+use Rattle.rbac_policy.specs.declared.policy.Policy.{Policy}
+use Rattle.rbac_policy.specs.Leaving.{LeavesRoom}
+use Rattle.rbac_policy.specs.StandsFor.{StandsFor}
+use Rattle.rbac_admin.specs.PolicyLists.{IsPolicyList}
+use Rattle.rbac_admin.specs.Room.{most_entries}
+use Rattle.policy_board.specs.Traced.{Traced}
+use Rattle.policy_board.specs.declared.shown.Operation.{Operation}
+use Rattle.policy_board.specs.Inner.Steps.{IsResting}
+
+-- it shows the policy of a policy list of this board, in which each living session has room for its logout, and nothing waits
+pub record IsPublishing (book : Book) (policy : Policy) (trace : Traced) (pending : List Operation) : Type 0 where
+  pub own : trace.book ≡ book
+  pub is_list : IsPolicyList trace.list
+  pub stands : StandsFor policy trace.list
+  pub leaves : LeavesRoom most_entries trace.list
+  pub resting : IsResting (policy, trace) pending

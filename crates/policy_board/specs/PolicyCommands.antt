@@ -1,0 +1,55 @@
+-- What a policy command is answered, and the policy list and the seat afterwards (this project's own form).
+use Rattle.std.specs.Prelude.{◌≡◌, ℕ, ◌+◌, max, List, [], ◌∷◌, ◌++◌, length, Option, Some, None, if◌then◌else◌, Result, Ok, Err, MatchResult}
+use Rattle.refusal_rules.specs.Rules.{Rule, Unless, MayRefuse, accept, ◌▸◌, Answers}
+use Rattle.rbac_policy.specs.declared.commands.AdminCommand.{AdminCommand}
+use Rattle.rbac_policy.specs.declared.commands.Entry.{Entry}
+use Rattle.rbac_policy.specs.Entries.{is_login, logins}
+use Rattle.rbac_admin.specs.declared.refusals.Refusal.{Refusal as PolicyRefusal}
+use Rattle.rbac_admin.specs.PolicyStep.{PolicyStep}
+use Rattle.rbac_admin.specs.Room.{HasRoomFor}
+use Rattle.policy_board.specs.SeatState.{SeatState}
+use Rattle.policy_board.specs.declared.refusal.Refusal.{Refusal}
+use Rattle.policy_board.specs.declared.refusal.Refusal.TheVariants.{Policy, JournalFull, Memory}
+use Rattle.policy_board.specs.declared.seat.Receipt.{Receipt}
+
+-- refuses where the policy list has no room for the entry's command
+abbrev pub list_full : List Entry → Entry → Rule Refusal
+list_full entries entry = Unless (HasRoomFor entry.command entries) JournalFull
+
+-- memory may be refused
+abbrev pub no_memory : Rule Refusal
+no_memory = MayRefuse Memory
+
+-- the session that the entry makes after these entries, where it is a login
+abbrev pub session_made : List Entry → Entry → Option ℕ
+session_made before entry = if is_login entry then Some (logins before + 1) else None
+
+module _ {J : Type 0} where
+  -- the answer is this refusal, and the list stays
+  pub record IsRefused (refusal : Refusal) (before : List Entry) (answer : Result (Receipt J) Refusal) (after : List Entry) : Type 0 where
+    pub answered : answer ≡ Err refusal
+    pub stays : after ≡ before
+
+  -- the entry, and no other, is put at the end of the list. The answer is its receipt, with the list that ends with it, and with the session
+  -- that it makes
+  pub record IsPublished (entry : Entry) (before : List Entry) (answer : Result (Receipt J) Refusal) (after : List Entry) : Type 0 where
+    pub receipt : Receipt J
+    pub answered : answer ≡ Ok receipt
+    pub entry_is : receipt.entry ≡ entry
+    pub list_is : receipt.list ≡ after
+    pub session_is : receipt.session ≡ session_made before entry
+    pub appended : after ≡ before ++ entry ∷ []
+
+  -- what the policy step answers on the list: its refusal, which leaves the list; or its entry, which is published, unless the list is full
+  -- or memory is refused, which leave the list too
+  pub record AdminStep (before : List Entry) (session : Option ℕ) (command : AdminCommand) (answer : Result (Receipt J) Refusal) (after : List Entry) : Type 0 where
+    pub decided : Result Entry PolicyRefusal
+    pub given : PolicyStep before session command decided
+    pub replied : MatchResult decided
+        (λ entry. Answers (list_full before entry ▸ no_memory ▸ accept) (λ refusal. IsRefused refusal before answer after)
+        (IsPublished entry before answer after))
+        (λ refusal. IsRefused (Policy refusal) before answer after)
+
+-- the seat knows the whole list as the call leaves it, whatever the answer
+abbrev pub seat_after : SeatState → List Entry → SeatState
+seat_after old list = record { known = list; seen = max old.seen (length list) }

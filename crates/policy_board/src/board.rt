@@ -1,0 +1,123 @@
+//! The board: the writer of the policy under the admin lock.
+ghost use Rattle.std.specs.Prelude.{◌≡◌, ◌<◌, List, length, MatchResult};
+ghost use Rattle.rbac_policy.specs.declared.commands.Entry.{Entry};
+ghost use Rattle.rbac_policy.specs.Facts.{May};
+ghost use Rattle.rbac_admin.specs.PolicyLists.{Begins, IsPolicyList};
+ghost use Rattle.policy_board.specs.PolicyCommands.{AdminStep, seat_after};
+ghost use Rattle.policy_board.specs.Reads.{Asks};
+ghost use Rattle.policy_board.specs.declared.board.TheConstants.{POLICY_LIST};
+ghost use Rattle.policy_board.specs.declared.board.Mismatch.TheVariants.{Count};
+
+use crate::desk::Desk;
+use crate::history::Naming;
+use crate::reader::SlotReader;
+use crate::refusal::Refusal;
+use crate::seat::{Receipt, Seat};
+use rbac_policy::commands::{AdminCommand, SessionId};
+use rbac_policy::journal::PolicyJournal;
+use rbac_policy::objects::{Object, Operation};
+use std::sync::{Mutex, MutexGuard, Wait};
+
+/// The number that stands for the policy list where a slot is named.
+pub const POLICY_LIST: u64 = 16;
+
+/// Where a history doesn't match what was seen of it.
+#[derive(Clone, Copy, PartialEq, Eq, Debug)]
+pub enum Mismatch {
+    /// More was seen of the list of this slot than it has; `POLICY_LIST` stands for the policy list.
+    Count { slot: u64 },
+}
+
+/// The policy of a server, which many threads share. Commands take turns under the admin lock; reads wait for nobody.
+pub struct Board<J: Naming> {
+    desk: Mutex<Desk<J>>,
+}
+
+impl<J: Naming> Board<J> {
+    pub(crate) fn new(desk: Desk<J>) -> Board<J> {
+        Board {
+            desk: Mutex::new(desk),
+        }
+    }
+
+    /// Answers a policy command, which this session gives, on the list as it is under the admin lock: `before`. It waits for that lock, and
+    /// for reads that still have the older policy.
+    ///
+    /// # Errors
+    ///
+    /// - the refusal of the policy step;
+    /// - else JournalFull, where the list has no room for the command;
+    /// - else Memory, where memory was refused.
+    pub fn admin<R: Wait>(
+        &self,
+        rt: &R,
+        seat: &mut Seat<J>,
+        session: Option<SessionId>,
+        command: AdminCommand,
+    ) -> Result<Receipt<J>, Refusal>
+        ensures { (before : List Entry) × (after : List Entry)
+            × IsPolicyList before × Begins seat.old.known before
+            × AdminStep before session command result after × (seat.new ≡ seat_after seat.old after) }
+    {
+        let mut desk = self.desk.lock(rt);
+        let answer = desk.admin(rt, seat, session, command);
+        MutexGuard::unlock(desk);
+        answer
+    }
+
+    /// Whether the session may do the operation on the object. It waits for nobody.
+    ///
+    /// # Errors
+    ///
+    /// - Behind, where the policy that was read is older than one that the seat has seen;
+    /// - Memory, where `left_right` refuses the read.
+    pub fn check_access(
+        &self,
+        seat: &mut Seat<J>,
+        session: SessionId,
+        operation: Operation,
+        object: &Object,
+    ) -> Result<bool, Refusal>
+        ensures { Asks (λ entries. May entries session operation object.now) seat.old result seat.new }
+    {
+        seat.check(session, operation, object)
+    }
+
+    /// Ends the board.
+    pub fn close(self) -> Closed<J> {
+        let Board { desk } = self;
+        Closed {
+            desk: desk.into_inner(),
+        }
+    }
+}
+
+/// A board that is closed. End it by `journal`.
+pub struct Closed<J: Naming> {
+    desk: Desk<J>,
+}
+
+impl<J: Naming> Closed<J> {
+    /// Takes a reader back, where what it saw is a beginning of the policy journal.
+    ///
+    /// # Errors
+    ///
+    /// Count, where it saw more entries than the journal has.
+    pub fn reader(&mut self, reader: SlotReader<J>) -> Result<(), Mismatch>
+        ensures seen { MatchResult result
+            (λ _. Begins reader self.old.desk)
+            (λ mismatch. (mismatch ≡ Count POLICY_LIST) × (length self.old.desk < length reader)) }
+        ensures same { self.new.desk ≡ self.old.desk }
+    {
+        self.desk.compare(&reader)
+    }
+
+    /// The policy journal. It waits for the readers, and ends the writer.
+    pub fn journal<R: Wait>(self, rt: &R) -> PolicyJournal
+        ensures same { result ≡ self.desk }
+        ensures list { IsPolicyList result }
+    {
+        let Closed { desk } = self;
+        desk.into_journal(rt)
+    }
+}

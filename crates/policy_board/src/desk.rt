@@ -1,0 +1,187 @@
+//! What lies under the admin lock: the writer, and the journal of all accepted entries.
+ghost use Rattle.std.specs.Prelude.{◌≡◌, ◌++◌, ◌∷◌, [], ◌<◌, List, Some, IsNone, length, IfOk, MatchResult};
+ghost use Rattle.rbac_policy.specs.declared.commands.Entry.{Entry};
+ghost use Rattle.rbac_policy.specs.StandsFor.{StandsFor};
+ghost use Rattle.refusal_rules.specs.Rules.{accept, ◌▸◌, Answers};
+ghost use Rattle.rbac_admin.specs.PolicyLists.{Begins, IsAccepted, IsPolicyList};
+ghost use Rattle.policy_board.specs.PolicyCommands.{AdminStep, IsPublished, IsRefused, no_memory, seat_after, session_made};
+ghost use Rattle.policy_board.specs.declared.board.TheConstants.{POLICY_LIST};
+ghost use Rattle.policy_board.specs.declared.board.Mismatch.TheVariants.{Count};
+
+use crate::board::{Mismatch, POLICY_LIST};
+use crate::history::Naming;
+use crate::publisher::Publisher;
+use crate::reader::SlotReader;
+use crate::refusal::Refusal;
+use crate::seat::{Receipt, Seat};
+use rbac_admin::decisions::decide;
+use rbac_admin::room::has_room;
+use rbac_policy::commands::{AdminCommand, Entry, SessionId};
+use rbac_policy::journal::PolicyJournal;
+use rbac_policy::policy::Policy;
+use std::alloc::AllocError;
+use std::marker::Model;
+use std::sync::Wait;
+
+/// The writer and the journal. A contract sees the journal, which is all that is published.
+pub struct Desk<J: Naming> {
+    publisher: Option<Publisher<J>>,
+    journal: PolicyJournal,
+}
+
+impl<J: Naming> Model for Desk<J> {
+    ghost use Rattle.std.specs.Prelude.{◌≡◌, List, Some};
+    ghost use Rattle.rbac_policy.specs.declared.commands.Entry.{Entry};
+
+    ghost Value = { List Entry };
+
+    ghost view = { λ d. d.journal };
+
+    ghost invariant = { λ d. d.publisher ≡ Some d.journal };
+}
+
+// The place is empty.
+fn put_back<T>(place: &mut Option<T>, value: T)
+    requires { IsNone place.old }
+    ensures { place.new ≡ Some value }
+{
+    match place.replace(value) {
+        None => {}
+        Some(_) => unreachable!(),
+    }
+}
+
+// Two copies of the entry: one is published, the other goes into its receipt.
+fn copies(entry: &Entry) -> Result<(Entry, Entry), AllocError>
+    ensures { IfOk result (λ both. (both.0 ≡ entry.now) × (both.1 ≡ entry.now)) }
+{
+    let published = entry.clone()?;
+    let told = entry.clone()?;
+    Ok((published, told))
+}
+
+// The session that the entry, which the policy took in last, has made.
+fn session_made(policy: &Policy, entry: &Entry) -> Option<SessionId>
+    ensures { (before : List Entry) → StandsFor policy.now (before ++ entry.now ∷ []) → result ≡ session_made before entry.now }
+{
+    match &entry.command {
+        AdminCommand::CreateSession { .. } => Some(SessionId::new(policy.logins())),
+        AdminCommand::AddUser { .. }
+        | AdminCommand::DeleteUser { .. }
+        | AdminCommand::AddRole { .. }
+        | AdminCommand::DeleteRole { .. }
+        | AdminCommand::AssignUser { .. }
+        | AdminCommand::DeassignUser { .. }
+        | AdminCommand::GrantPermission { .. }
+        | AdminCommand::RevokePermission { .. }
+        | AdminCommand::AddInheritance { .. }
+        | AdminCommand::DeleteInheritance { .. }
+        | AdminCommand::CreateDsdSet { .. }
+        | AdminCommand::DeleteDsdSet { .. }
+        | AdminCommand::DeleteSession
+        | AdminCommand::AddActiveRole { .. }
+        | AdminCommand::DropActiveRole { .. } => None,
+    }
+}
+
+impl<J: Naming> Desk<J> {
+    /// Of a writer that shows the list of the journal.
+    pub fn new(publisher: Publisher<J>, journal: PolicyJournal) -> Desk<J>
+        requires { publisher ≡ journal }
+        ensures { result ≡ journal }
+    {
+        Desk {
+            publisher: Some(publisher),
+            journal,
+        }
+    }
+
+    // Publishes the entry. All that may be refused has been asked, but for the journal's place, which is taken first.
+    fn append<R: Wait>(&mut self, rt: &R, entry: Entry) -> Result<Receipt<J>, Refusal>
+        requires { IsAccepted self.old entry }
+        ensures { Answers (no_memory ▸ accept) (λ refusal. IsRefused refusal self.old result self.new) (IsPublished entry self.old result self.new) }
+    {
+        let Ok((published, told)) = copies(&entry) else {
+            return Err(Refusal::Memory);
+        };
+        let Ok(()) = self.journal.push(entry) else {
+            return Err(Refusal::Memory);
+        };
+        let publisher = self.publisher.take().unwrap().publish(rt, published);
+        let receipt = Receipt {
+            session: session_made(publisher.policy(), &told),
+            entry: told,
+            list: publisher.front(),
+        };
+        put_back(&mut self.publisher, publisher);
+        Ok(receipt)
+    }
+
+    // The answer to a policy command: its entry is decided on the policy that is published, and appended where there is room.
+    fn answer<R: Wait>(
+        &mut self,
+        rt: &R,
+        session: Option<SessionId>,
+        command: AdminCommand,
+    ) -> Result<Receipt<J>, Refusal>
+        ensures { AdminStep self.old session command result self.new }
+    {
+        let policy = self.publisher.as_ref().unwrap().policy();
+        let entry = match decide(policy, session, command) {
+            Ok(entry) => entry,
+            Err(refusal) => return Err(Refusal::Policy(refusal)),
+        };
+        if !has_room(self.journal.entries(), &entry.command) {
+            return Err(Refusal::JournalFull);
+        }
+        self.append(rt, entry)
+    }
+
+    /// Answers a policy command. An accepted one adds its entry at the end, and publishes it. The seat then knows the list.
+    pub fn admin<R: Wait>(
+        &mut self,
+        rt: &R,
+        seat: &mut Seat<J>,
+        session: Option<SessionId>,
+        command: AdminCommand,
+    ) -> Result<Receipt<J>, Refusal>
+        ensures known { Begins seat.old.known self.old }
+        ensures list { IsPolicyList self.old }
+        ensures step { AdminStep self.old session command result self.new }
+        ensures seat { seat.new ≡ seat_after seat.old self.new }
+    {
+        let publisher = self.publisher.as_ref().unwrap();
+        publisher.wait_whole(rt, seat.known());
+        seat.know(&publisher.front());
+        let answer = self.answer(rt, session, command);
+        if let Ok(receipt) = &answer {
+            seat.know(receipt.list());
+        }
+        answer
+    }
+
+    /// Whether what the reader saw is a beginning of the journal.
+    pub fn compare(&self, reader: &SlotReader<J>) -> Result<(), Mismatch>
+        ensures { MatchResult result
+            (λ _. Begins reader.now self.now)
+            (λ mismatch. (mismatch ≡ Count POLICY_LIST) × (length self.now < length reader.now)) }
+    {
+        if reader
+            .front()
+            .begins(&self.publisher.as_ref().unwrap().front())
+        {
+            return Ok(());
+        }
+        Err(Mismatch::Count { slot: POLICY_LIST })
+    }
+
+    /// Waits for the readers, ends the writer, and gives the journal.
+    pub fn into_journal<R: Wait>(self, rt: &R) -> PolicyJournal
+        ensures same { result ≡ self }
+        ensures list { IsPolicyList self }
+    {
+        let Desk { publisher, journal } = self;
+        publisher.unwrap().take(rt);
+        journal
+    }
+}

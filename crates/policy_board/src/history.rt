@@ -1,0 +1,326 @@
+//! The one list of accepted entries, which exists in the proofs alone, and what was seen of it.
+ghost use Rattle.std.specs.Prelude.{◌≡◌, [], ◌<◌, ◌≤◌, ◌==◌, ◌^◌, ◌++◌, ◌∷◌, length, MatchBool, IfSome, IsTrue};
+ghost use Rattle.rbac_policy.specs.Opening.{opening_entries};
+ghost use Rattle.rbac_admin.specs.PolicyLists.{Begins, IsAccepted, IsPolicyList};
+ghost use Rattle.policy_board.specs.Inner.Book.{head_of};
+
+use logbook::{Gain, Offer, Plain, Play, Rule, Seen, Start, Word};
+use rbac_policy::commands::Entry;
+use std::marker::{Brand, Model, PhantomData};
+
+/// How many entries a policy opens with.
+const OPENING: u64 = 4;
+
+/// The rule of the list.
+pub struct Law;
+
+impl Rule<Entry, u64> for Law {
+    ghost use Rattle.std.specs.Prelude.{[]};
+    ghost use base.Fml.{ftrue};
+    ghost use Rattle.rbac_policy.specs.Opening.{opening_entries};
+    ghost use Rattle.policy_board.specs.Inner.Book.{IsBook};
+
+    ghost holds = { λ cells log. IsBook cells log };
+
+    ghost first = { opening_entries };
+
+    ghost hinted = { λ n log. Unit {0} };
+
+    ghost shows = { λ log. [] };
+
+    ghost keeps = { λ names log. ftrue };
+
+    ghost moves = { λ ask before after answer. Unit {0} };
+}
+
+/// Callers trade nothing.
+pub struct Nothing;
+
+impl Gain<Entry, u64> for Nothing {
+    ghost use base.Fml.{ftrue};
+
+    ghost after = { λ names about answer. ftrue };
+}
+
+/// A step that adds an entry.
+pub struct Adding;
+
+impl Play<Entry, u64> for Adding {
+    ghost use Rattle.policy_board.specs.Inner.Book.{Adds};
+
+    ghost then = { Adds };
+}
+
+impl Plain<Entry, Entry, u64> for Adding {
+    ghost use Rattle.std.specs.Prelude.{None};
+
+    ghost ask = { λ entry. entry };
+
+    ghost state = { λ entry. None };
+}
+
+/// A step that looks how long the list is.
+pub struct Looking;
+
+impl Play<Entry, u64> for Looking {
+    ghost use Rattle.policy_board.specs.Inner.Book.{Looks};
+
+    ghost then = { Looks };
+}
+
+impl Plain<(), Entry, u64> for Looking {
+    ghost use Rattle.std.specs.Prelude.{None};
+    ghost use Rattle.policy_board.specs.Inner.Book.{no_entry};
+
+    ghost ask = { λ about. no_entry };
+
+    ghost state = { λ about. None };
+}
+
+/// Which board it is. Each call of a program picks it.
+pub trait Naming {
+    ghost use Rattle.logbook.specs.Pages.{Book};
+
+    ghost book: { Book };
+}
+
+impl Naming for Brand {
+    ghost book = { record { number = 0; log_name = 0; cells_name = 0 } };
+}
+
+/// A list with the opening entries alone, which no board has yet.
+pub struct Fresh {
+    head: Word<Entry, u64, Law>,
+    seen: Seen<Entry, u64, Law>,
+    pub ghost opening: { seen.log ≡ opening_entries },
+    pub ghost head_is: { head ≡ head_of seen.book },
+}
+
+impl Fresh {
+    /// A new list.
+    pub fn new() -> Fresh {
+        let (seen, mut first, _second) = Seen::open(Start::alone(), OPENING, 0);
+        Fresh {
+            head: Word::tracked(OPENING, &mut first),
+            seen,
+        }
+    }
+
+    /// The list under the name of a board.
+    pub(crate) fn named<J: Naming>(self) -> (Head<J>, Front<J>)
+        requires { self.seen.book ≡ J.book }
+        ensures { result.1 ≡ opening_entries }
+    {
+        let Fresh { head, seen } = self;
+        (
+            Head {
+                head,
+                of: PhantomData,
+            },
+            Front {
+                trace: Trace {
+                    count: OPENING,
+                    seen,
+                },
+                of: PhantomData,
+            },
+        )
+    }
+}
+
+/// The word by which entries are added: the length of the list.
+#[derive(Drop)]
+pub struct Head<J: Naming> {
+    head: Word<Entry, u64, Law>,
+    of: PhantomData<J>,
+    ghost head_is: { head ≡ head_of J.book },
+}
+
+/// A beginning of the list of some board.
+#[derive(Drop)]
+pub struct Trace {
+    count: u64,
+    seen: Seen<Entry, u64, Law>,
+}
+
+impl Model for Trace {
+    ghost use Rattle.std.specs.Prelude.{◌≡◌, length};
+    ghost use Rattle.rbac_admin.specs.PolicyLists.{IsPolicyList};
+    ghost use Rattle.policy_board.specs.Traced.{Traced};
+
+    ghost Value = { Traced };
+
+    ghost view = { λ t. record { book = t.seen.book; list = t.seen.log } };
+
+    ghost invariant = { λ t. (t.count ≡ length t.seen.log) × IsPolicyList t.seen.log };
+}
+
+impl Trace {
+    /// How many entries it has.
+    pub fn len(&self) -> u64
+        ensures length { result ≡ length self.now.list }
+        ensures list { IsPolicyList self.now.list }
+    {
+        self.count
+    }
+
+    /// A copy.
+    pub fn again(&self) -> Trace
+        ensures { result ≡ self.now }
+    {
+        Trace {
+            count: self.count,
+            seen: self.seen.again(),
+        }
+    }
+}
+
+/// A beginning of the board's list that was seen. It takes no memory. A contract sees the entries.
+#[derive(Drop)]
+pub struct Front<J: Naming> {
+    trace: Trace,
+    of: PhantomData<J>,
+}
+
+impl<J: Naming> Model for Front<J> {
+    ghost use Rattle.std.specs.Prelude.{◌≡◌, List};
+    ghost use Rattle.rbac_policy.specs.declared.commands.Entry.{Entry};
+
+    ghost Value = { List Entry };
+
+    ghost view = { λ f. f.trace.list };
+
+    ghost invariant = { λ f. f.trace.book ≡ J.book };
+}
+
+impl<J: Naming> Front<J> {
+    /// The trace under the board's name.
+    pub(crate) fn of(trace: &Trace) -> Front<J>
+        requires { trace.now.book ≡ J.book }
+        ensures { result ≡ trace.now.list }
+    {
+        Front {
+            trace: trace.again(),
+            of: PhantomData,
+        }
+    }
+
+    /// The entries, and of which board's list they are.
+    pub(crate) fn trace(&self) -> Trace
+        ensures { (result.list ≡ self.now) × (result.book ≡ J.book) }
+    {
+        self.trace.again()
+    }
+
+    /// How many entries it has: the version of the policy that stands for it.
+    pub fn version(&self) -> u64
+        ensures length { result ≡ length self.now }
+        ensures list { IsPolicyList self.now }
+    {
+        self.trace.len()
+    }
+
+    /// A copy.
+    pub fn again(&self) -> Front<J>
+        ensures { result ≡ self.now }
+    {
+        Front {
+            trace: self.trace.again(),
+            of: PhantomData,
+        }
+    }
+
+    /// Of two fronts one begins the other. True where this one begins the other.
+    pub fn begins(&self, other: &Front<J>) -> bool
+        ensures { MatchBool result
+            (Begins self.now other.now) (Begins other.now self.now × (length other.now < length self.now)) }
+    {
+        begins(&self.trace, &other.trace)
+    }
+
+    /// Of two fronts the shorter begins the longer.
+    pub(crate) fn compare(&self, other: &Front<J>)
+        requires { length self.now ≤ length other.now }
+        ensures { Begins self.now other.now }
+    {
+        if !self.begins(other) {
+            unreachable!()
+        }
+    }
+
+    /// Whether the list has no more entries than were seen. Then the other front begins this one. It waits for nobody.
+    pub(crate) fn is_whole(&self, head: &Head<J>, other: &Front<J>) -> bool
+        ensures { IsTrue result → Begins other.now self.now }
+    {
+        is_whole(&self.trace, &head.head, &other.trace)
+    }
+
+    /// Adds an entry to all that was seen, and says whether it did. It did not where the list is longer, and the front is as it was then.
+    pub(crate) fn add(&mut self, head: &Head<J>, entry: &Entry) -> bool
+        requires room { length self.old < 2 ^ 62 }
+        requires accepted { IsAccepted self.old entry.now }
+        ensures { MatchBool result (self.new ≡ self.old ++ entry.now ∷ []) (self.new ≡ self.old) }
+    {
+        match add_to(&self.trace, &head.head, entry) {
+            Some(trace) => {
+                self.trace = trace;
+                true
+            }
+            None => false,
+        }
+    }
+}
+
+// Of two traces of one board one begins the other.
+fn begins(one: &Trace, other: &Trace) -> bool
+    requires { other.now.book ≡ one.now.book }
+    ensures { MatchBool result
+        (Begins one.now.list other.now.list)
+        (Begins other.now.list one.now.list × (length other.now.list < length one.now.list)) }
+{
+    let mut both = one.seen.again();
+    both.learn(&other.seen);
+    if one.count > other.count {
+        return false;
+    }
+    true
+}
+
+// Looks at the list when both traces are known to begin it: where it has as many entries as the one, that is all of it.
+fn is_whole(one: &Trace, head: &Word<Entry, u64, Law>, other: &Trace) -> bool
+    requires head { head.now ≡ head_of one.now.book }
+    requires book { other.now.book ≡ one.now.book }
+    ensures { IsTrue result → Begins other.now.list one.now.list }
+{
+    let mut both = one.seen.again();
+    both.learn(&other.seen);
+    let mut offer: Offer<Entry, u64, Law, Nothing> = both.plain::<Nothing, (), Looking>(&());
+    let found = head.load::<Looking, Nothing>(&mut both, &mut offer);
+    found == one.count
+}
+
+fn add_to(trace: &Trace, head: &Word<Entry, u64, Law>, entry: &Entry) -> Option<Trace>
+    requires head { head.now ≡ head_of trace.now.book }
+    requires room { length trace.now.list < 2 ^ 62 }
+    requires accepted { IsAccepted trace.now.list entry.now }
+    ensures { IfSome result (λ t. (t.book ≡ trace.now.book) × (t.list ≡ trace.now.list ++ entry.now ∷ [])) }
+{
+    let count = trace.count;
+    let mut seen = trace.seen.again();
+    let mut offer: Offer<Entry, u64, Law, Nothing> = seen.plain::<Nothing, Entry, Adding>(entry);
+    let mut pen = seen.no_pen();
+    let found = head.compare_exchange::<Adding, Nothing>(
+        count,
+        count + 1,
+        &mut seen,
+        &mut offer,
+        &mut pen,
+    );
+    if found != count {
+        return None;
+    }
+    Some(Trace {
+        count: count + 1,
+        seen,
+    })
+}

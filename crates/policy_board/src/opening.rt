@@ -1,0 +1,129 @@
+//! A new board, with its seats and readers.
+ghost use Rattle.std.specs.Prelude.{◌≡◌, ◌≤◌, [], drop, replicate, vec_capacity, IfOk, IfErr};
+ghost use Rattle.rbac_policy.specs.Opening.{opening_entries};
+ghost use Rattle.rbac_policy.specs.declared.objects.TheConstants.{SLOTS};
+ghost use Rattle.policy_board.specs.SeatState.{new_seat};
+ghost use Rattle.policy_board.specs.Inner.Publishing.{IsPublishing};
+ghost use Rattle.policy_board.specs.declared.refusal.Refusal.TheVariants.{Memory};
+
+use crate::board::Board;
+use crate::desk::Desk;
+use crate::history::{Fresh, Front, Naming};
+use crate::publisher::Publisher;
+use crate::reader::SlotReader;
+use crate::refusal::Refusal;
+use crate::seat::Seat;
+use crate::shown::{PolicyWriter, Shown};
+use rbac_policy::journal::PolicyJournal;
+use rbac_policy::objects::SLOTS;
+use rbac_policy::policy::Policy;
+use std::alloc::{AllocError, Global};
+
+/// The most seats of a board.
+pub const SEATS: usize = 16;
+
+/// A board with its seats, and a reader for each slot.
+pub struct Opened<J: Naming> {
+    pub board: Board<J>,
+    pub seats: Vec<Seat<J>>,
+    pub readers: Vec<SlotReader<J>>,
+}
+
+// A writer that shows the opening policy, with room for so many readers.
+fn open_writer<J: Naming>(
+    alloc: Global,
+    opening: &Front<J>,
+    readers: usize,
+) -> Result<PolicyWriter<J>, AllocError>
+    requires opening { opening.now ≡ opening_entries }
+    requires readers { (1 ≤ readers) × (readers ≤ 1024) }
+    ensures { IfOk result (λ w. (w.desk.shown.value.trace.list ≡ opening_entries)
+        × IsPublishing J.book w.desk.shown.value.policy w.desk.shown.value.trace (drop w.behind w.log.items)) }
+{
+    let first = Shown {
+        policy: Policy::opening(),
+        trace: opening.trace(),
+    };
+    let second = Shown {
+        policy: Policy::opening(),
+        trace: opening.trace(),
+    };
+    let writer = PolicyWriter::<J>::new(alloc, first, second, readers)?;
+    Ok(writer)
+}
+
+// So many readers, in room that was made for them.
+fn fill_readers<J: Naming>(
+    room: Vec<SlotReader<J>>,
+    publisher: &Publisher<J>,
+    opening: &Front<J>,
+    count: usize,
+) -> Vec<SlotReader<J>>
+    requires opening { opening.now ≡ opening_entries }
+    requires room { (room.items ≡ []) × (count ≤ vec_capacity room) }
+    ensures { result.items ≡ replicate count opening_entries }
+{
+    let mut readers = room;
+    while readers.len() < count {
+        readers.push_reserved(publisher.reader(opening));
+    }
+    readers
+}
+
+// So many seats, in room that was made for them.
+fn fill_seats<J: Naming>(
+    room: Vec<Seat<J>>,
+    publisher: &Publisher<J>,
+    opening: &Front<J>,
+    count: usize,
+) -> Vec<Seat<J>>
+    requires opening { opening.now ≡ opening_entries }
+    requires room { (room.items ≡ []) × (count ≤ vec_capacity room) }
+    ensures { result.items ≡ replicate count new_seat }
+{
+    let mut seats = room;
+    while seats.len() < count {
+        seats.push_reserved(Seat::new(publisher.reader(opening)));
+    }
+    seats
+}
+
+// The parts of a new board. All room is made before there is a writer, which only a wait could end.
+fn open_parts<J: Naming>(alloc: Global, fresh: Fresh, seats: usize) -> Result<Opened<J>, AllocError>
+    requires name { fresh.seen.book ≡ J.book }
+    requires seats { (1 ≤ seats) × (seats ≤ SEATS) }
+    ensures { IfOk result (λ o. (o.seats.items ≡ replicate seats new_seat) × (o.readers.items ≡ replicate SLOTS opening_entries)) }
+{
+    let (head, opening) = fresh.named::<J>();
+    let slots = usize::from(SLOTS);
+    let journal = PolicyJournal::opening(alloc)?;
+    let seat_room = Vec::with_capacity(alloc, seats)?;
+    let reader_room = Vec::with_capacity(alloc, slots)?;
+    let publisher = Publisher::new(open_writer(alloc, &opening, seats + slots)?, head);
+    let seats = fill_seats(seat_room, &publisher, &opening, seats);
+    let readers = fill_readers(reader_room, &publisher, &opening, slots);
+    Ok(Opened {
+        board: Board::new(Desk::new(publisher, journal)),
+        seats,
+        readers,
+    })
+}
+
+impl<J: Naming> Board<J> {
+    /// A board under the name of a fresh list, with so many seats, and a reader for each slot. None has seen more than the opening entries.
+    ///
+    /// # Errors
+    ///
+    /// Memory, where memory was refused.
+    pub fn open(alloc: Global, fresh: Fresh, seats: usize) -> Result<Opened<J>, Refusal>
+        requires name { fresh.seen.book ≡ J.book }
+        requires seats { (1 ≤ seats) × (seats ≤ SEATS) }
+        ensures opened { IfOk result (λ o. (o.seats.items ≡ replicate seats new_seat) × (o.readers.items ≡ replicate SLOTS opening_entries)) }
+        ensures refused { IfErr result (λ refusal. refusal ≡ Memory) }
+    {
+        match open_parts(alloc, fresh, seats) {
+            Ok(opened) => Ok(opened),
+            Err(_) => Err(Refusal::Memory),
+        }
+    }
+}

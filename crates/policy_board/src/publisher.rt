@@ -1,0 +1,159 @@
+//! The one writer of the policy, with the list of what it has published.
+ghost use Rattle.std.specs.Prelude.{◌≡◌, [], ◌∷◌, ◌++◌, ◌<◌, drop, length};
+ghost use Rattle.rbac_policy.specs.Opening.{opening_entries};
+ghost use Rattle.rbac_policy.specs.StandsFor.{StandsFor};
+ghost use Rattle.rbac_admin.specs.PolicyLists.{Begins, IsAccepted};
+ghost use Rattle.rbac_admin.specs.Room.{most_entries};
+ghost use Rattle.policy_board.specs.Traced.{traced};
+ghost use Rattle.policy_board.specs.Inner.Publishing.{IsPublishing};
+
+use crate::history::{Front, Head, Naming};
+use crate::reader::SlotReader;
+use crate::shown::{Operation, PolicyWriter, Sees, Shown};
+use rbac_policy::commands::Entry;
+use rbac_policy::policy::Policy;
+use std::marker::Model;
+use std::sync::Wait;
+
+/// The writer. A contract sees the list of all that is published. End it by `take`.
+pub struct Publisher<J: Naming> {
+    writer: PolicyWriter<J>,
+    head: Head<J>,
+}
+
+impl<J: Naming> Model for Publisher<J> {
+    ghost use Rattle.std.specs.Prelude.{List, drop};
+    ghost use Rattle.rbac_policy.specs.declared.commands.Entry.{Entry};
+    ghost use Rattle.policy_board.specs.Inner.Publishing.{IsPublishing};
+
+    ghost Value = { List Entry };
+
+    ghost view = { λ p. p.writer.desk.shown.value.trace.list };
+
+    ghost invariant = { λ p. IsPublishing J.book p.writer.desk.shown.value.policy p.writer.desk.shown.value.trace (drop p.writer.behind p.writer.log.items) };
+}
+
+// Has the writer take the operation up. It waits where memory is refused, of which `Publisher::new` made the room.
+fn append<J: Naming, R: Wait>(
+    rt: &R,
+    writer: PolicyWriter<J>,
+    operation: Operation,
+) -> PolicyWriter<J>
+    ensures shown { result.desk ≡ writer.desk }
+    ensures pending { drop result.behind result.log.items ≡ drop writer.behind writer.log.items ++ operation ∷ [] }
+{
+    let mut writer = writer;
+    let mut operation = operation;
+    for _ in rt.forever() {
+        match writer.append(operation) {
+            Ok(()) => return writer,
+            Err(back) => operation = back,
+        }
+    }
+    unreachable!()
+}
+
+// Adds the entry to the list. No other thread adds one, so the first turn does it.
+fn add_entry<J: Naming, R: Wait>(rt: &R, head: &Head<J>, front: Front<J>, entry: &Entry) -> Front<J>
+    requires room { length front < most_entries }
+    requires accepted { IsAccepted front entry.now }
+    ensures { result ≡ front ++ entry.now ∷ [] }
+{
+    let mut front = front;
+    for _ in rt.forever() {
+        if front.add(head, entry) {
+            return front;
+        }
+    }
+    unreachable!()
+}
+
+// Shows readers one entry more. It waits for those that still read the other copy.
+fn show<J: Naming, R: Wait>(
+    rt: &R,
+    writer: PolicyWriter<J>,
+    entry: Entry,
+    front: &Front<J>,
+) -> PolicyWriter<J>
+    requires list { front.now ≡ writer.desk.shown.value.trace.list ++ entry ∷ [] }
+    requires accepted { IsAccepted writer.desk.shown.value.trace.list entry }
+    requires before { IsPublishing J.book writer.desk.shown.value.policy writer.desk.shown.value.trace (drop writer.behind writer.log.items) }
+    ensures shown { result.desk.shown.value.trace ≡ traced J.book front.now }
+    ensures after { IsPublishing J.book result.desk.shown.value.policy result.desk.shown.value.trace (drop result.behind result.log.items) }
+{
+    let operation = Operation::Add {
+        entry,
+        trace: front.trace(),
+    };
+    let writer = append(rt, writer, operation);
+    let (writer, published) = writer.publish_as::<Sees<J>, R>(rt);
+    match published {
+        Ok(()) => writer,
+        Err(_) => unreachable!(),
+    }
+}
+
+impl<J: Naming> Publisher<J> {
+    /// Of a writer that shows the opening policy. It makes the room for what will wait to be published, where memory isn't refused.
+    pub fn new(writer: PolicyWriter<J>, head: Head<J>) -> Publisher<J>
+        requires { IsPublishing J.book writer.desk.shown.value.policy writer.desk.shown.value.trace (drop writer.behind writer.log.items) }
+        ensures { result ≡ writer.desk.shown.value.trace.list }
+    {
+        let mut writer = writer;
+        let _room = writer.append(Operation::Room);
+        Publisher { writer, head }
+    }
+
+    /// The policy that is published.
+    pub fn policy(&self) -> &Policy
+        ensures { StandsFor result.now self.now }
+    {
+        &self.writer.published().policy
+    }
+
+    /// The list that is published.
+    pub fn front(&self) -> Front<J>
+        ensures { result ≡ self.now }
+    {
+        Front::of(&self.writer.published().trace)
+    }
+
+    /// A reader that has seen the opening entries.
+    pub fn reader(&self, opening: &Front<J>) -> SlotReader<J>
+        requires { opening.now ≡ opening_entries }
+        ensures { result ≡ opening_entries }
+    {
+        SlotReader::new(&self.writer, opening)
+    }
+
+    /// Waits until all entries are published: at once, since entries are published where they are added. The other front then begins the list.
+    pub fn wait_whole<R: Wait>(&self, rt: &R, known: &Front<J>)
+        ensures { Begins known.now self.now }
+    {
+        let front = self.front();
+        for _ in rt.forever() {
+            if front.is_whole(&self.head, known) {
+                return;
+            }
+        }
+        unreachable!()
+    }
+
+    /// Adds the entry to the list, and shows it to the readers. It waits for those that still read the other copy.
+    pub fn publish<R: Wait>(self, rt: &R, entry: Entry) -> Publisher<J>
+        requires { IsAccepted self entry }
+        ensures { result ≡ self ++ entry ∷ [] }
+    {
+        let front = self.front();
+        let Publisher { writer, head } = self;
+        let front = add_entry(rt, &head, front, &entry);
+        let writer = show(rt, writer, entry, &front);
+        Publisher { writer, head }
+    }
+
+    /// Waits for the readers, and ends the writer.
+    pub fn take<R: Wait>(self, rt: &R) {
+        let Publisher { writer, head: _ } = self;
+        writer.take(rt);
+    }
+}

@@ -1,0 +1,193 @@
+//! A caller's place at the board: what it has seen, and its own reader.
+ghost use Rattle.std.specs.Prelude.{◌≡◌, max, length, MatchResult};
+ghost use Rattle.rbac_policy.specs.Facts.{IsLive, May};
+ghost use Rattle.rbac_policy.specs.Opening.{opening_entries};
+ghost use Rattle.rbac_admin.specs.PolicyLists.{Begins};
+ghost use Rattle.policy_board.specs.Reads.{Asks, HasRead, IsUnread};
+ghost use Rattle.policy_board.specs.PolicyCommands.{seat_after};
+
+use crate::history::{Front, Naming};
+use crate::reader::{Reading, SlotReader};
+use crate::refusal::Refusal;
+use rbac_policy::commands::{Entry, SessionId};
+use rbac_policy::objects::{Object, Operation};
+use std::marker::Model;
+use std::mem::replace;
+
+/// What an accepted policy command leaves its caller: its entry, the list that ends with it, and the session that it made, if it is a login.
+#[derive(Drop)]
+pub struct Receipt<J: Naming> {
+    pub(crate) entry: Entry,
+    pub(crate) list: Front<J>,
+    pub(crate) session: Option<SessionId>,
+}
+
+impl<J: Naming> Receipt<J> {
+    /// The entry.
+    pub fn entry(&self) -> &Entry
+        ensures { result.now ≡ self.now.entry }
+    {
+        &self.entry
+    }
+
+    /// The policy's version with the entry.
+    pub fn version(&self) -> u64
+        ensures { result ≡ length self.now.list }
+    {
+        self.list.version()
+    }
+
+    /// The session that the entry made.
+    pub fn session(&self) -> Option<SessionId>
+        ensures { result ≡ self.now.session }
+    {
+        self.session
+    }
+
+    /// The list that ends with the entry: a note that another seat may learn.
+    pub fn list(&self) -> &Front<J>
+        ensures { result.now ≡ self.now.list }
+    {
+        &self.list
+    }
+}
+
+/// A caller's place. What it asks is answered for a policy that is no older than any that it has seen or was told of.
+#[derive(Drop)]
+pub struct Seat<J: Naming> {
+    reader: SlotReader<J>,
+    known: Front<J>,
+    seen: u64,
+}
+
+impl<J: Naming> Model for Seat<J> {
+    ghost use Rattle.std.specs.Prelude.{◌≤◌, max, length};
+    ghost use Rattle.rbac_policy.specs.Opening.{opening_entries};
+    ghost use Rattle.policy_board.specs.SeatState.{SeatState};
+
+    ghost Value = { SeatState };
+
+    ghost view = { λ s. record { known = s.known; seen = s.seen } };
+
+    ghost invariant = { λ s. length s.known ≤ max s.seen (length opening_entries) };
+}
+
+impl<J: Naming> Seat<J> {
+    /// A seat that has seen nothing but the opening entries.
+    pub(crate) fn new(reader: SlotReader<J>) -> Seat<J>
+        requires { reader ≡ opening_entries }
+        ensures { result ≡ record { known = opening_entries; seen = 0 } }
+    {
+        Seat {
+            known: reader.front().again(),
+            reader,
+            seen: 0,
+        }
+    }
+
+    /// The greatest version that it has seen.
+    pub fn seen(&self) -> u64
+        ensures { result ≡ self.now.seen }
+    {
+        self.seen
+    }
+
+    /// It has seen this version.
+    pub fn saw(&mut self, version: u64)
+        ensures { self.new ≡ record self.old { seen = max self.old.seen version } }
+    {
+        self.seen = self.seen.max(version);
+    }
+
+    /// The longest list that it has read or was told of.
+    pub(crate) fn known(&self) -> &Front<J>
+        ensures { result.now ≡ self.now.known }
+    {
+        &self.known
+    }
+
+    /// It knows this list, which begins with what it knew.
+    pub(crate) fn know(&mut self, list: &Front<J>)
+        requires { Begins self.old.known list.now }
+        ensures { self.new ≡ seat_after self.old list.now }
+    {
+        self.seen = self.seen.max(list.version());
+        self.known = list.again();
+    }
+
+    /// It is told of the receipt's list: from now on it is answered for no shorter one.
+    pub fn learn(&mut self, receipt: Receipt<J>)
+        ensures before { Begins self.old.known self.new.known }
+        ensures told { Begins receipt.list self.new.known }
+        ensures seen { self.new.seen ≡ max self.old.seen (length receipt.list) }
+    {
+        let Receipt { list, .. } = receipt;
+        self.seen = self.seen.max(list.version());
+        if self.known.begins(&list) {
+            self.known = list;
+        }
+    }
+
+    // Begins a read. The seat has its reader again once what it gives is left, and put back.
+    fn enter(&mut self) -> Result<Reading<J>, Refusal>
+        ensures { MatchResult result
+            (λ reading. HasRead self.old reading self.new)
+            (λ refusal. IsUnread self.old refusal self.new) }
+    {
+        let away = SlotReader::vacant(self.known.again());
+        let reading = match replace(&mut self.reader, away).enter() {
+            Ok(reading) => reading,
+            Err(reader) => {
+                self.reader = reader;
+                return Err(Refusal::Memory);
+            }
+        };
+        let front = reading.front().again();
+        let found = front.version();
+        if found < self.seen {
+            self.reader = reading.leave();
+            return Err(Refusal::Behind {
+                found,
+                seen: self.seen,
+            });
+        }
+        self.known.compare(&front);
+        self.known = front;
+        self.seen = found;
+        Ok(reading)
+    }
+
+    /// Whether the session may do the operation on the object. It waits for nobody.
+    ///
+    /// # Errors
+    ///
+    /// - Behind, where the policy that was read is older than one that the seat has seen;
+    /// - Memory, where `left_right` refuses the read.
+    pub(crate) fn check(
+        &mut self,
+        session: SessionId,
+        operation: Operation,
+        object: &Object,
+    ) -> Result<bool, Refusal>
+        ensures { Asks (λ entries. May entries session operation object.now) self.old result self.new }
+    {
+        let reading = self.enter()?;
+        let allowed = reading.policy().may(session, &operation, object);
+        self.reader = reading.leave();
+        Ok(allowed)
+    }
+
+    /// Whether the session lives. It waits for nobody.
+    ///
+    /// # Errors
+    ///
+    /// As those of `Board::check_access`.
+    pub fn lives(&mut self, session: SessionId) -> Result<bool, Refusal>
+        ensures { Asks (λ entries. IsLive entries session) self.old result self.new }
+    {
+        let reading = self.enter()?;
+        let lives = reading.policy().lives(session);
+        self.reader = reading.leave();
+        Ok(lives)
+    }
+}

@@ -1,0 +1,83 @@
+//! What readers are shown, and the rule under which they read it.
+ghost use Rattle.std.specs.Prelude.{◌≡◌};
+
+use crate::history::{Naming, Trace};
+use crossbeam_utils::rule::{Outcome, Protocol};
+use left_right::Absorb;
+use left_right::reader::Reader;
+use left_right::writer::Writer;
+use rbac_policy::commands::Entry;
+use rbac_policy::policy::Policy;
+use std::alloc::AllocError;
+use std::collections::LinkedList;
+use std::marker::PhantomData;
+
+/// The policy, with the list that it stands for.
+#[derive(Drop)]
+pub struct Shown {
+    pub policy: Policy,
+    pub trace: Trace,
+}
+
+/// What the writer has both copies take in.
+#[derive(Drop)]
+pub enum Operation {
+    /// Changes nothing. Where it waits, there is room for what comes after it.
+    Room,
+    /// An entry, with the list that ends with it.
+    Add { entry: Entry, trace: Trace },
+}
+
+impl Absorb<Operation> for Shown {
+    ghost use Rattle.policy_board.specs.Inner.Steps.{after_operation};
+
+    type State = (Policy, Trace);
+
+    ghost state = { λ s. (s.policy, s.trace) };
+
+    ghost applied = { λ s operation. after_operation s operation };
+
+    ghost never_fails = { Unit {0} };
+
+    fn absorb_first(&mut self, operation: &Operation, _other: &Shown) -> Result<(), AllocError> {
+        match operation {
+            Operation::Room => {}
+            Operation::Add { entry, trace } => {
+                self.policy.absorb(entry);
+                self.trace = trace.again();
+            }
+        }
+        Ok(())
+    }
+}
+
+/// The rule of the published policy.
+pub struct Published<J> {
+    of: PhantomData<J>,
+}
+
+impl<J: Naming> Protocol<Shown, LinkedList<Entry>> for Published<J> {
+    ghost use Rattle.std.specs.Prelude.{◌≡◌};
+    ghost use Rattle.rbac_policy.specs.Opening.{opening_entries};
+    ghost use Rattle.policy_board.specs.Rule.{IsKept};
+
+    ghost holds = { λ x views. (x.trace.book ≡ J.book) × IsKept x.policy x.trace.list views };
+
+    ghost first = { opening_entries };
+}
+
+/// What a publication tells the writer, and a read its reader.
+pub struct Sees<J> {
+    of: PhantomData<J>,
+}
+
+impl<J: Naming> Outcome<Shown, LinkedList<Entry>> for Sees<J> {
+    ghost use Rattle.std.specs.Prelude.{◌≡◌};
+    ghost use Rattle.policy_board.specs.Rule.{IsSeen};
+
+    ghost then = { λ v x y w. (y.trace.book ≡ J.book) × IsSeen v y.policy y.trace.list w };
+}
+
+pub type PolicyReader<J> = Reader<Shown, LinkedList<Entry>, Published<J>>;
+
+pub type PolicyWriter<J> = Writer<Shown, Operation, LinkedList<Entry>, Published<J>>;
