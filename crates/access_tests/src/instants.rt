@@ -315,6 +315,36 @@ fn want_of_memory(rt: HostRuntime) -> Result<(), Fail> {
     Ok(())
 }
 
+/// With ample memory nothing is refused. Where one allocation is refused it is in the load, in an offer, in a discard, which leaves what
+/// is pending, or in the unload, which hands the reactor back: the test ends with the words for it, after the same call was accepted.
+#[test]
+fn entries_without_memory(rt: HostRuntime) -> Result<(), Fail> {
+    let text = "module M: input I; pause end module";
+    let mut reactor = loaded(rt.alloc(), text)?.ok().ok_or("refused a load")?;
+    for _ in 0..7 {
+        let offered = reactor.offer(STAMP, &name("I")?);
+        offered.ok().ok_or("refused an offer")?;
+        if reactor.discard(STAMP) == Err(Refusal::Memory) {
+            assert_eq!(rt; reactor.pending(), 1);
+            assert_eq!(rt; reactor.discard(STAMP), Ok(()));
+            assert_eq!(rt; reactor.pending(), 0);
+            return Err(Fail::from("refused a discard"));
+        }
+        assert_eq!(rt; reactor.pending(), 0);
+    }
+    let offered = reactor.offer(STAMP, &name("I")?);
+    offered.ok().ok_or("refused an offer")?;
+    let Err((refusal, reactor)) = reactor.unload(STAMP) else {
+        return Ok(());
+    };
+    assert_eq!(rt; refusal, Refusal::Memory);
+    assert_eq!(rt; reactor.pending(), 1);
+    assert_eq!(rt; reactor.journal().len(), 16);
+    let journal = reactor.unload(STAMP).ok().ok_or("refused twice")?;
+    assert_eq!(rt; journal.len(), 17);
+    Err(Fail::from("refused an unload"))
+}
+
 /// A text that is no module, or has no module M, is refused by its fault.
 #[test]
 fn faults_of_a_text(rt: HostRuntime) -> Result<(), Fail> {
