@@ -15,7 +15,7 @@ help:
 	@echo 'make abro      the waves of ABRO, by the client, on the program built WITHOUT proof: about a minute'
 	@echo 'make documents write the tables of docs/PROOFS.md anew from the sources'
 	@echo 'make bench     prove and build, and then time commands, instants and the reading of texts'
-	@echo 'make faults    refuse each allocation of one test in turn; no part of make test'
+	@echo 'make faults    refuse each allocation of two tests in turn; no part of make test'
 	@echo 'make times     the proofs, wrong bodies and tests of make test, and a table of the time that each crate takes'
 
 try:
