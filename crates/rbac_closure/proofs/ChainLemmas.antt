@@ -29,3 +29,16 @@ with_edge {Edge = Edge} senior junior h (step {a = a} {b = m} {c = c} e rest) =
           let at : Chain Edge a senior = subst (λ x. Chain Edge a x) new.0 stay in
           elim last [ inl q ↦ inr (at, subst (λ y. Chain Edge y c) new.1 q) | inr p ↦ inr (at, p.1) ]
     ]
+
+-- with a senior's edges more, a chain is one without them, or one to their senior and one from one of their juniors
+pub with_row : {A : Type 0} {Edge More : A → A → Type 0} (senior : A) (Junior : A → Type 0) → ((x y : A) → More x y → Edge x y ⊎ ((x ≡ senior) × Junior y))
+    → {a b : A} → Chain More a b → Chain Edge a b ⊎ (Chain Edge a senior × ((j : A) × Junior j × Chain Edge j b))
+with_row senior Junior h stay = inl stay
+with_row {A = A} {Edge = Edge} senior Junior h (step {a = a} {b = m} {c = c} e rest) =
+    let last : Chain Edge m c ⊎ (Chain Edge m senior × ((j : A) × Junior j × Chain Edge j c)) = with_row senior Junior h rest in
+    elim (h a m e) [
+      | inl old ↦ elim last [ inl q ↦ inl (step old q) | inr p ↦ inr (step old p.0, p.1) ]
+      | inr new ↦
+          let at : Chain Edge a senior = subst (λ x. Chain Edge a x) new.0 stay in
+          elim last [ inl q ↦ inr (at, (m, new.1, q)) | inr p ↦ inr (at, p.1) ]
+    ]

@@ -1,3 +1,4 @@
 pub mod SetLemmas
 pub mod ChainLemmas
 pub mod EdgeLemmas
+pub mod Finding

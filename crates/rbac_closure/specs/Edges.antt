@@ -1,6 +1,6 @@
 -- The edges between roles that are named by their places in a table, and the order that they make: a list has, for each place, the set of the
 -- juniors to which an edge leads from it (RH of ANSI INCITS 359-2004, general role hierarchies, on places: this project's own form).
-use Rattle.std.specs.Prelude.{ℕ, List, map, slice_index, slice_set}
+use Rattle.std.specs.Prelude.{ℕ, ◌↔◌, List, map, slice_index, slice_set}
 use Rattle.rbac_closure.specs.Sets.{Has, with_place, without_place}
 
 -- a chain of edges, possibly empty, leads from the first to the second
@@ -21,6 +21,11 @@ pub record IsBelowSome (edges : List ℕ) (set place : ℕ) : Type 0 where
   pub top : ℕ
   pub within : Has set top
   pub chain : IsAbove edges top place
+
+-- a set with the roles of this one, all that lies below one of them, and nothing else
+pub record AllBelow (edges : List ℕ) (set : ℕ) : Type 0 where
+  pub found : ℕ
+  pub is : (place : ℕ) → Has found place ↔ IsBelowSome edges set place
 
 -- the edges with one more
 abbrev pub edge_added : ℕ → ℕ → List ℕ → List ℕ

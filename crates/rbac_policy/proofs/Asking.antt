@@ -10,7 +10,8 @@ use Rattle.rbac_policy.specs.declared.objects.Object.{Object}
 use Rattle.rbac_policy.specs.Objects.{same_operation, same_object}
 use Rattle.rbac_policy.specs.declared.sizes.TheConstants.{ROLES}
 use Rattle.rbac_closure.specs.Sets.{Has, Meets}
-use Rattle.rbac_policy.specs.Order.{IsBelowSome, below}
+use Rattle.rbac_closure.specs.Edges.{IsBelowSome}
+use Rattle.rbac_policy.specs.Order.{below}
 use Rattle.rbac_policy.specs.declared.commands.Entry.{Entry}
 use Rattle.rbac_policy.specs.declared.rows.Session.{Session}
 use Rattle.rbac_policy.specs.declared.rows.Grant.{Grant}
@@ -18,8 +19,7 @@ use Rattle.rbac_policy.specs.declared.policy.Policy.{Policy}
 use Rattle.rbac_policy.specs.Names.{NameText}
 use Rattle.rbac_policy.specs.Facts.{IsUser, IsRole, IsActive, IsGranted, IsLive, May}
 use Rattle.rbac_policy.specs.StandsFor.{Holds, InMask, StandsFor}
-use Rattle.rbac_policy.proofs.Walking.{below_sound, below_all}
-use Rattle.rbac_policy.proofs.Masks.{low_bits}
+use Rattle.rbac_policy.proofs.Below.{below_sound, below_all}
 use Rattle.rbac_policy.proofs.Order.{chain_up, chain_down}
 use Rattle.rbac_policy.proofs.Equality.{operations, objects, both}
 use Rattle.rbac_policy.specs.Tables.{At, first_of, session_of, grant_of, user_is, role_is, place_of}
@@ -141,15 +141,9 @@ module _ (p : Policy) (L : List Entry) (st : StandsFor p L) (n : ℕ) (op : Oper
   -- a place that the walk finds is that of a role
   pub may_found : (x : Session) (g : Grant) → session_of n p.sessions ≡ Some x → grant_of op ob p.grants ≡ Some g → Meets (below p.juniors x.active) g.roles ↔ May L n op ob
   may_found x g sx sg =
-      let a = session_slot x sx in
-      let w = walked x g sx sg in
-      let fits : below p.juniors x.active < 2 ^ ROLES = low_bits (below p.juniors x.active) (λ q bit.
-      let b = below_sound p.juniors x.active q bit in
-      let named = st.sessions.named a.at x a.there b.top b.within in
-      let up = chain_up p.roles p.juniors L st.roles b.chain named.0 named.1 in
-      omega (arith, slice_get_within p.roles q (Some up.0) up.1, st.roles.places)) in (
+      let w = walked x g sx sg in (
         λ m. w.0 (m.0, below_sound p.juniors x.active m.0 m.1, m.2),
-        λ may. let h = w.1 may in (h.0, below_all p.juniors x.active fits h.0 h.1, h.2),
+        λ may. let h = w.1 may in (h.0, below_all p.juniors x.active h.0 h.1, h.2),
       )
 
 -- a test that is right both ways

@@ -3,9 +3,8 @@ use Rattle.std.proofs.Common.{◌≡◌, ◌↔◌, ◌<◌, ◌^◌, ℕ, Bool,
 use Rattle.std.proofs.lemmas.Option.{slice_get_within}
 use Rattle.rbac_policy.specs.declared.sizes.TheConstants.{ROLES}
 use Rattle.rbac_policy.specs.Names.{NameText}
-use Rattle.rbac_policy.proofs.Walking.{below_sound, below_all}
+use Rattle.rbac_policy.proofs.Below.{below_sound, below_all}
 use Rattle.rbac_policy.proofs.Order.{authorized_below, below_authorized, below_named}
-use Rattle.rbac_policy.proofs.Masks.{low_bits}
 use Rattle.std.specs.Prelude.{Option, Some, None, is_some}
 use Rattle.std.specs.Int.Bits.{bit_and}
 use Rattle.std.proofs.lemmas.Bool.{cases_eq}
@@ -53,11 +52,6 @@ module _ (p : Policy) (L : List Entry) (st : StandsFor p L) where
     all : ℕ
     all = below p.juniors (roles_of u p.users)
 
-    fits : all < 2 ^ ROLES
-    fits = low_bits all (λ q bit.
-        let n = below_named p.roles p.juniors p.users L st.roles st.users u q (below_sound p.juniors (roles_of u p.users) q bit) in
-        omega (arith, slice_get_within p.roles q (Some n.0) n.1, st.roles.places))
-
     by_place : (o : Option ℕ) → place_of r p.roles ≡ o → Decided (IsAuthorized L u r)
     by_place None e = inr (λ a. no_role p L st r e a.exists)
     by_place (Some q) e =
@@ -67,5 +61,5 @@ module _ (p : Policy) (L : List Entry) (st : StandsFor p L) where
           | inr none ↦ inr (λ a.
               let h = authorized_below p.roles p.juniors p.users L st.roles st.users u r a in
               let same = st.roles.unique h.0 q r h.1 there in
-              absurd (omega (arith, none, subst (Has all) same (below_all p.juniors (roles_of u p.users) fits h.0 h.2))))
+              absurd (omega (arith, none, subst (Has all) same (below_all p.juniors (roles_of u p.users) h.0 h.2))))
         ]

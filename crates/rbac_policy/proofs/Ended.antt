@@ -4,7 +4,7 @@ use Rattle.std.specs.Prelude.{Option, Some}
 use Rattle.std.proofs.lemmas.Option.{slice_get_within}
 use Rattle.rbac_policy.specs.declared.sizes.TheConstants.{ROLES, SESSIONS}
 use Rattle.rbac_closure.specs.Sets.{Has}
-use Rattle.rbac_policy.specs.Order.{IsBelowSome, below}
+use Rattle.rbac_closure.specs.Edges.{IsBelowSome}
 use Rattle.rbac_policy.specs.declared.commands.Entry.{Entry}
 use Rattle.rbac_policy.specs.declared.rows.User.{User}
 use Rattle.rbac_policy.specs.declared.rows.Session.{Session}
@@ -15,8 +15,6 @@ use Rattle.rbac_policy.specs.Tables.{At, roles_of, session_kept}
 use Rattle.rbac_policy.specs.StandsFor.{Holds, InMask, IsNamed, IsKeyed, UsersStand, RolesStand, SessionsStand}
 use Rattle.rbac_policy.proofs.Order.{one_role, authorized_below, below_authorized, below_named}
 use Rattle.rbac_policy.proofs.Lives.{Remains, lives_after, lives_before}
-use Rattle.rbac_policy.proofs.Walking.{below_sound}
-use Rattle.rbac_policy.proofs.Masks.{low_bits}
 use Rattle.rbac_policy.proofs.Sweep.{IsSwept, HasOnlyBelow, swept_sessions}
 
 -- before the sweep the slots have the sessions that remain, with the roles that are active in them by the names of `before`
@@ -36,14 +34,8 @@ module _ (before roles : List (Option NameText)) (keeps : (p : ℕ) (r : NameTex
   abbrev new : List (Option Session)
   new = map (session_kept users juniors) mid
 
-  -- the roles of a user, with those below, lie in the places of the table
-  few : (x : Session) → below juniors (roles_of x.user users) < 2 ^ ROLES
-  few x = low_bits (below juniors (roles_of x.user users)) (λ p bit.
-      let r = below_named roles juniors users (L ++ e ∷ []) rs us x.user p (below_sound juniors (roles_of x.user users) p bit) in
-      omega (arith, slice_get_within roles p (Some r.0) r.1, rs.places))
-
   sw : IsSwept users juniors mid new
-  sw = swept_sessions users juniors mid few
+  sw = swept_sessions users juniors mid
 
   -- a role that is active in a slot that was left has its place still
   still : (at : ℕ) (x : Session) → At new at x → (p : ℕ) → Has x.active p → (r : NameText) × At roles p r

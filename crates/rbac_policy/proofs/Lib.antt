@@ -1,14 +1,12 @@
 pub mod Ascii
 pub mod Filled
 pub mod ObjectTexts
-pub mod Walking
+pub mod Below
 pub mod Steps
 pub mod Lives
 pub mod Order
 pub mod Slots
 pub mod Equality
-pub mod Masks
-pub mod Places
 pub mod Sweep
 pub mod Ended
 pub mod Untouched

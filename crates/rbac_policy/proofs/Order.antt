@@ -7,8 +7,8 @@ use Rattle.std.specs.Str.{bytes_eq}
 use Rattle.std.proofs.lemmas.Slice.Eq.{bytes_eq-Decides}
 use Rattle.std.proofs.lemmas.Option.{slice_get_within, same_Some}
 use Rattle.rbac_closure.specs.Sets.{Has}
-use Rattle.rbac_closure.specs.Edges.{Chain, stay, step}
-use Rattle.rbac_policy.specs.Order.{IsBelowSome, IsRowEdge}
+use Rattle.rbac_closure.specs.Edges as edge
+use Rattle.rbac_closure.specs.Edges.{Chain, stay, step, IsBelowSome}
 use Rattle.rbac_policy.specs.declared.commands.Entry.{Entry}
 use Rattle.rbac_policy.specs.declared.rows.User.{User}
 use Rattle.rbac_policy.specs.Facts.{IsAssigned, IsEdge, IsAuthorized}
@@ -22,21 +22,21 @@ one_role roles p a b x y = cc
 
 module _ (roles : List (Option NameText)) (juniors : List ℕ) (L : List Entry) (stand : RolesStand roles juniors L) where
   -- a chain of edges from the role at a place is a chain of rows
-  pub chain_down : {a b : NameText} → Chain (IsEdge L) a b → (p : ℕ) → At roles p a → (q : ℕ) × At roles q b × Chain (IsRowEdge juniors) p q
+  pub chain_down : {a b : NameText} → Chain (IsEdge L) a b → (p : ℕ) → At roles p a → (q : ℕ) × At roles q b × Chain (edge.IsEdge juniors) p q
   chain_down stay p there = (p, there, stay)
   chain_down (step e more) p there =
       let m = (stand.edges p _ there _).0 e in
       let rest = chain_down more m.place m.there in
-      (rest.0, rest.1, step (omega (arith, slice_get_within roles p _ there, stand.places), m.bit) rest.2)
+      (rest.0, rest.1, step m.bit rest.2)
 
   -- and the other way round
-  pub chain_up : {p q : ℕ} → Chain (IsRowEdge juniors) p q → (a : NameText) → At roles p a → (b : NameText) × At roles q b × Chain (IsEdge L) a b
+  pub chain_up : {p q : ℕ} → Chain (edge.IsEdge juniors) p q → (a : NameText) → At roles p a → (b : NameText) × At roles q b × Chain (IsEdge L) a b
   chain_up stay a there = (a, there, stay)
   chain_up (step {a = p} {b = m} e more) a there =
-      let named = stand.named p m e.1 in
-      let edge = (stand.edges p a there named.0).1 (record { place = m; there = named.1; bit = e.1 }) in
+      let named = stand.named p m e in
+      let first = (stand.edges p a there named.0).1 (record { place = m; there = named.1; bit = e }) in
       let rest = chain_up more named.0 named.1 in
-      (rest.0, rest.1, step edge rest.2)
+      (rest.0, rest.1, step first rest.2)
 
 -- what `roles_of` finds: the mask of a slot with the user, or nothing where no slot has it
 pub record FoundUser (u : NameText) (users : List (Option User)) : Type 0 where

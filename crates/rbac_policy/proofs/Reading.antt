@@ -17,24 +17,23 @@ use Rattle.rbac_policy.specs.Counting.{HasAtLeast}
 use Rattle.rbac_policy.specs.Tables.{roles_of, place_of, grant_of}
 use Rattle.rbac_policy.specs.StandsFor.{StandsFor}
 use Rattle.rbac_policy.proofs.Equality.{operations, objects, both}
-use Rattle.rbac_policy.proofs.Walking.{below_sound, below_all}
+use Rattle.rbac_policy.proofs.Below.{below_sound, below_all}
 use Rattle.rbac_policy.proofs.Order.{authorized_below, below_authorized}
 use Rattle.rbac_policy.proofs.Asking.{reflects, first_cases, role_at, granted_slot, not_granted_pair}
 use Rattle.rbac_policy.proofs.Room.{Keeps, full_without_room, not_full_with_room}
 
 module _ (p : Policy) (L : List Entry) (st : StandsFor p L) where
-  pub authorized_test : (u r : NameText) (place all : ℕ) (b : Bool) → place_of r p.roles ≡ Some place → all ≡ below p.juniors (roles_of u p.users) → all < 2 ^ ROLES
+  pub authorized_test : (u r : NameText) (place all : ℕ) (b : Bool) → place_of r p.roles ≡ Some place → all ≡ below p.juniors (roles_of u p.users)
       → IsTrue b ↔ Has all place → IsTrue b ↔ IsAuthorized L u r
-  authorized_test u r place all b found walked fits test =
+  authorized_test u r place all b found walked test =
       let there = role_at p L st r place found in (
         λ t. below_authorized p.roles p.juniors p.users L st.roles st.users u r place there
             (below_sound p.juniors (roles_of u p.users) place (subst (λ m. Has m place) walked (test.0 t))),
         λ a.
             let h = authorized_below p.roles p.juniors p.users L st.roles st.users u r a in
             let same = st.roles.unique h.0 place r h.1 there in
-            let Fits : ℕ → Type 0 = λ m. m < 2 ^ ROLES in
             test.1 (subst (λ m. Has m place) (sym walked) (subst (Has (below p.juniors (roles_of u p.users))) same
-            (below_all p.juniors (roles_of u p.users) (subst Fits walked fits) h.0 h.2))),
+            (below_all p.juniors (roles_of u p.users) h.0 h.2))),
       )
 
   pub granted_test : (r : NameText) (op : Operation) (ob : Object) (g : Grant) (place : ℕ) (b : Bool) → grant_of op ob p.grants ≡ Some g → place_of r p.roles ≡ Some place

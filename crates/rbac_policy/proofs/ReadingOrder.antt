@@ -4,14 +4,13 @@ use Rattle.std.specs.Prelude.{Some, None, slice_index}
 use Rattle.rbac_closure.specs.Edges as edge
 use Rattle.rbac_closure.specs.Edges.{Chain, stay, step}
 use Rattle.rbac_closure.specs.Sets.{Has}
-use Rattle.rbac_closure.proofs.ChainLemmas.{widened}
 use Rattle.rbac_policy.specs.declared.commands.Entry.{Entry}
 use Rattle.rbac_policy.specs.declared.policy.Policy.{Policy}
 use Rattle.rbac_policy.specs.Names.{NameText}
 use Rattle.rbac_policy.specs.Facts.{IsRole, IsEdge, IsAtOrBelow}
 use Rattle.rbac_policy.specs.Tables.{At, place_of}
 use Rattle.rbac_policy.specs.StandsFor.{StandsFor}
-use Rattle.rbac_policy.proofs.Order.{chain_down, one_role}
+use Rattle.rbac_policy.proofs.Order.{chain_up, chain_down, one_role}
 use Rattle.rbac_policy.proofs.Asking.{role_at, no_role}
 use Rattle.rbac_policy.proofs.ReadingRoles.{in_mask, mask_role}
 
@@ -31,27 +30,18 @@ module _ (p : Policy) (L : List Entry) (st : StandsFor p L) where
         λ h. test.1 (bit.0 (slot.0 h)),
       )
 
-  -- a chain of the rows' edges is one of the entries'
-  chain_named : {q r : ℕ} → Chain (edge.IsEdge p.juniors) q r → (a : NameText) → At p.roles q a → (b : NameText) × At p.roles r b × Chain (IsEdge L) a b
-  chain_named stay a there = (a, there, stay)
-  chain_named (step {a = q} {b = m} e more) a there =
-      let named = st.roles.named q m e in
-      let first = (st.roles.edges q a there named.0).1 (record { place = m; there = named.1; bit = e }) in
-      let rest = chain_named more named.0 named.1 in
-      (rest.0, rest.1, step first rest.2)
-
   pub below_test : (junior senior : NameText) (above place all : ℕ) (t : Bool) → place_of senior p.roles ≡ Some above → place_of junior p.roles ≡ Some place
       → ((q : ℕ) → Has all q ↔ edge.IsAbove p.juniors above q) → IsTrue t ↔ Has all place → IsTrue t ↔ IsAtOrBelow L junior senior
   below_test junior senior above place all t found_s found_j walked test =
       let here = role_at p L st senior above found_s in
       let there = role_at p L st junior place found_j in (
         λ h.
-            let up = chain_named ((walked place).0 (test.0 h)) senior here in
+            let up = chain_up p.roles p.juniors L st.roles ((walked place).0 (test.0 h)) senior here in
             subst (Chain (IsEdge L) senior) (one_role p.roles place up.0 junior up.1 there) up.2,
         λ h.
             let down = chain_down p.roles p.juniors L st.roles h above here in
             let same = st.roles.unique down.0 place junior down.1 there in
-            test.1 ((walked place).1 (subst (Chain (edge.IsEdge p.juniors) above) same (widened (λ x y e. e.1) down.2))),
+            test.1 ((walked place).1 (subst (Chain (edge.IsEdge p.juniors) above) same down.2)),
       )
 
   -- nothing but a role lies below a role

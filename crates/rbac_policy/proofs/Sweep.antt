@@ -1,18 +1,17 @@
 -- The sweep through the slots of sessions, which empties those that have a role for which their user is not authorized.
 use Rattle.std.proofs.Common.{◌≡◌, ℕ, ◌^◌, ◌<◌, List, length, map, cond, sym, ◌∙◌, ap, subst, refl, true, false, Bool}
 use Rattle.std.specs.Prelude.{Option, Some, None}
-use Rattle.std.specs.Int.Bits.{bit_or}
 use Rattle.std.proofs.lemmas.Bool.Decides.{Decides-eqb}
 use Rattle.std.proofs.lemmas.Option.{same_Some}
 use Rattle.std.proofs.lemmas.List.{length-map}
-use Rattle.rbac_policy.specs.declared.sizes.TheConstants.{ROLES}
 use Rattle.rbac_policy.specs.declared.rows.User.{User}
 use Rattle.rbac_policy.specs.declared.rows.Session.{Session}
-use Rattle.rbac_closure.specs.Sets.{Has}
-use Rattle.rbac_policy.specs.Order.{IsBelowSome, below}
+use Rattle.rbac_closure.specs.Sets.{Has, either}
+use Rattle.rbac_closure.specs.Edges.{IsBelowSome}
+use Rattle.rbac_policy.specs.Order.{below}
 use Rattle.rbac_policy.specs.Tables.{At, roles_of, has_only_authorized, session_kept}
-use Rattle.rbac_policy.proofs.Walking.{below_sound, below_all}
-use Rattle.rbac_policy.proofs.Masks.{inside_from_test, test_from_inside}
+use Rattle.rbac_policy.proofs.Below.{below_sound, below_all}
+use Rattle.rbac_closure.proofs.SetLemmas.{within_from_either, either_from_within}
 use Rattle.rbac_policy.proofs.Slots.{mapped, map_at}
 
 -- each active role is one that is assigned to the user, or below one
@@ -25,19 +24,18 @@ pub record IsSwept (users : List (Option User)) (juniors : List ℕ) (old new : 
   pub left : (place : ℕ) (x : Session) → At new place x → At old place x × HasOnlyBelow users juniors x
   pub stays : (place : ℕ) (x : Session) → At old place x → HasOnlyBelow users juniors x → At new place x
 
-module _ (users : List (Option User)) (juniors : List ℕ) (sessions : List (Option Session))
-    (few : (x : Session) → below juniors (roles_of x.user users) < 2 ^ ROLES) where
+module _ (users : List (Option User)) (juniors : List ℕ) (sessions : List (Option Session)) where
   passes : (at : ℕ) (x : Session) → At sessions at x → has_only_authorized users juniors x ≡ true → HasOnlyBelow users juniors x
   passes at x there t p bit =
       let all = below juniors (roles_of x.user users) in
       below_sound juniors (roles_of x.user users) p
-      (inside_from_test x.active all ((Decides-eqb (bit_or all x.active) all).0 t) p bit)
+      (within_from_either x.active all ((Decides-eqb (either x.active all) all).0 t) p bit)
 
   passes_by : (at : ℕ) (x : Session) → At sessions at x → HasOnlyBelow users juniors x → has_only_authorized users juniors x ≡ true
   passes_by at x there only =
       let all = below juniors (roles_of x.user users) in
-      (Decides-eqb (bit_or all x.active) all).1
-      (test_from_inside x.active all (λ p bit. below_all juniors (roles_of x.user users) (few x) p (only p bit)))
+      (Decides-eqb (either x.active all) all).1
+      (either_from_within x.active all (λ p bit. below_all juniors (roles_of x.user users) p (only p bit)))
 
   kept_from : (x y : Session) → session_kept users juniors (Some x) ≡ Some y → (x ≡ y) × (has_only_authorized users juniors x ≡ true)
   kept_from x y gives = by_test (has_only_authorized users juniors x) refl where

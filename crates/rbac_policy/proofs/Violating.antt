@@ -19,8 +19,7 @@ use Rattle.rbac_policy.specs.Separation.{IsFirstViolated}
 use Rattle.rbac_policy.specs.Tables.{At}
 use Rattle.rbac_policy.specs.Violations.{holds_many, violator, least_violator, violated_by, violation_of, place_of_set, first_violation}
 use Rattle.rbac_policy.specs.StandsFor.{Holds, InMask, IsNamed, IsRowOf, RolesStand}
-use Rattle.rbac_policy.proofs.Walking.{below_sound, below_all}
-use Rattle.rbac_policy.proofs.Masks.{low_bits}
+use Rattle.rbac_policy.proofs.Below.{below_sound, below_all}
 use Rattle.rbac_policy.proofs.Order.{one_role, chain_up, chain_down}
 use Rattle.rbac_policy.proofs.Counted.{as_many_roles, as_many_places}
 use Rattle.rbac_policy.proofs.Least.{LeastOf, Judged, Stands, judged}
@@ -69,9 +68,6 @@ module _ (roles : List (Option NameText)) (juniors : List ℕ) (sets : List (Opt
         let up = chain_up roles juniors L rs b.chain top.0 top.1 in
         (up.0, up.1)
 
-    fits : below juniors x.active < 2 ^ ROLES
-    fits = low_bits (below juniors x.active) (λ q bit. let r = below_named q bit in omega (arith, slice_get_within roles q (Some r.0) r.1, rs.places))
-
     module _ (d : DsdSet) (place : ℕ) (set : NameText) (count : ℕ) (members : List NameText) (row : IsRowOf roles place set count members d) where
       abbrev held : ℕ
       held = common (below juniors x.active) d.roles
@@ -88,7 +84,7 @@ module _ (roles : List (Option NameText)) (juniors : List ℕ) (sets : List (Opt
           let b = h.1 in
           let top = all b.active b.is_active in
           let down = chain_down roles juniors L rs b.below top.place top.there in
-          let found = below_all juniors x.active fits down.0 (record { top = top.place; within = top.bit; chain = down.2 }) in
+          let found = below_all juniors x.active down.0 (record { top = top.place; within = top.bit; chain = down.2 }) in
           let member = (row.members role).0 h.0 in
           let same = rs.unique member.place down.0 role member.there down.1 in
           record { place = down.0; there = down.1; bit = (has_common (below juniors x.active) d.roles down.0).1 (found, subst (Has d.roles) same member.bit) }

@@ -9,7 +9,7 @@ use Rattle.rbac_policy.specs.declared.rows.User.{User}
 use Rattle.rbac_policy.specs.declared.rows.Grant.{Grant}
 use Rattle.rbac_policy.specs.declared.rows.Session.{Session}
 use Rattle.rbac_policy.specs.declared.rows.DsdSet.{DsdSet}
-use Rattle.rbac_closure.specs.Sets.{without_place}
+use Rattle.rbac_closure.specs.Sets.{either, without_place}
 use Rattle.rbac_policy.specs.Names.{NameText}
 use Rattle.rbac_policy.specs.Objects.{same_operation, same_object}
 use Rattle.rbac_policy.specs.Order.{below}
@@ -109,7 +109,7 @@ grant_cleared place (Some grant) = grant_with grant (without_place grant.roles p
 -- each active role is one that is assigned to the user, or below one
 abbrev pub has_only_authorized : List (Option User) → List ℕ → Session → Bool
 has_only_authorized users juniors session =
-    let authorized = below juniors (roles_of session.user users) in bit_or authorized session.active == authorized
+    let authorized = below juniors (roles_of session.user users) in either session.active authorized == authorized
 
 -- the session, if it has only authorized roles
 abbrev pub session_kept : List (Option User) → List ℕ → Option Session → Option Session

@@ -323,7 +323,7 @@ fn has_only_authorized(session: &Session, users: &[Option<User>; USERS], juniors
     ensures { result ≡ has_only_authorized users.now juniors.now session.now }
 {
     let authorized = below(juniors, roles_of(users, &session.user));
-    authorized.union(session.active) == authorized
+    session.active.union(authorized) == authorized
 }
 
 fn session_kept(
