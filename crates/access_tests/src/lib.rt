@@ -1,11 +1,8 @@
-//! The worked examples of access and the desk: decisions on policy commands, running modules, and slots under a policy, through public
-//! calls alone.
+//! The worked examples of access and the desk: running modules, and slots under a policy, through public calls alone.
 //!
 //! This crate has no function but tests, and stands above the crates that it calls, so that each of those is proved once.
 #![tactic(auto)]
 
-#[cfg(test)]
-mod decisions;
 #[cfg(test)]
 mod desks;
 #[cfg(test)]

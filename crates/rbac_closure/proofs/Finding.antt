@@ -1,10 +1,9 @@
 -- All that lies below a set of roles can be found for any edges, a place's row after the other.
 use Rattle.std.proofs.Common.{◌≡◌, ◌↔◌, ℕ, zero, suc, ◌<◌, ◌⊎◌, List, length, inl, inr, arith, subst, sym}
 use Rattle.std.specs.Prelude.{slice_index}
-use Rattle.std.specs.Int.{bit_at}
 use Rattle.std.proofs.lemmas.Bool.{cases_lt}
 use Rattle.rbac_closure.specs.Sets.{Has, either}
-use Rattle.rbac_closure.specs.Edges.{Chain, stay, step, IsEdge, IsBelowSome, AllBelow}
+use Rattle.rbac_closure.specs.Edges.{Chain, stay, step, IsEdge, AllBelow}
 use Rattle.rbac_closure.proofs.SetLemmas.{has_cases, has_either}
 use Rattle.rbac_closure.proofs.ChainLemmas.{joined, widened, stays, with_row}
 use Rattle.rbac_closure.proofs.EdgeLemmas.{from_table}
@@ -39,33 +38,42 @@ module _ (edges : List ℕ) (many : ℕ) where
   -- where the place of the row is reached, all that its juniors reach is reached too
   led_further : (set : ℕ) → Led edges many set → Led edges many row → Led edges (suc many) set
   led_further set old from_row = elim (has_cases old.0 many) [
-    | inl reached ↦ (either old.0 from_row.0, λ p. (
-      λ h. elim ((has_either old.0 from_row.0 p).0 h) [
-        | inl x ↦ let l = (old.1 p).0 x in (l.0, l.1, widened more_early l.2)
-        | inr x ↦
-            let to = (old.1 many).0 reached in
-            let from = (from_row.1 p).0 x in
-            (to.0, to.1, joined (widened more_early to.2) (step (omega arith, from.1) (widened more_early from.2)))
-      ],
-      λ l. elim (with_row many (Has row) early_or_row l.2) [
-        | inl q ↦ (has_either old.0 from_row.0 p).1 (inl ((old.1 p).1 (l.0, l.1, q)))
-        | inr q ↦ (has_either old.0 from_row.0 p).1 (inr ((from_row.1 p).1 q.1))
-      ],
-    ))
-    | inr none ↦ (old.0, λ p. (
-      λ h. let l = (old.1 p).0 h in (l.0, l.1, widened more_early l.2),
-      λ l. elim (with_row many (Has row) early_or_row l.2) [
-        | inl q ↦ (old.1 p).1 (l.0, l.1, q)
-        | inr q ↦ absurd (omega (arith, none, (old.1 many).1 (l.0, l.1, q.0)))
-      ],
-    ))
+    | inl reached ↦ (
+      either old.0 from_row.0,
+      λ p. (
+        λ h. elim ((has_either old.0 from_row.0 p).0 h) [
+          | inl x ↦ let l = (old.1 p).0 x in (l.0, l.1, widened more_early l.2)
+          | inr x ↦
+              let to = (old.1 many).0 reached in
+              let from = (from_row.1 p).0 x in
+              (to.0, to.1, joined (widened more_early to.2) (step (omega arith, from.1) (widened more_early from.2)))
+        ],
+        λ l. elim (with_row many (Has row) early_or_row l.2) [
+          | inl q ↦ (has_either old.0 from_row.0 p).1 (inl ((old.1 p).1 (l.0, l.1, q)))
+          | inr q ↦ (has_either old.0 from_row.0 p).1 (inr ((from_row.1 p).1 q.1))
+        ],
+      ),
+    )
+    | inr none ↦ (
+      old.0,
+      λ p. (
+        λ h. let l = (old.1 p).0 h in (l.0, l.1, widened more_early l.2),
+        λ l. elim (with_row many (Has row) early_or_row l.2) [
+          | inl q ↦ (old.1 p).1 (l.0, l.1, q)
+          | inr q ↦ absurd (omega (arith, none, (old.1 many).1 (l.0, l.1, q.0)))
+        ],
+      ),
+    )
   ]
 
 led : (edges : List ℕ) (many set : ℕ) → Led edges many set
-led edges zero set = (set, λ p. (
-  λ h. (p, h, stay),
-  λ l. subst (Has set) (sym (stays (λ x y e. absurd (omega (arith, e.0))) l.2)) l.1,
-))
+led edges zero set = (
+  set,
+  λ p. (
+    λ h. (p, h, stay),
+    λ l. subst (Has set) (sym (stays (λ x y e. absurd (omega (arith, e.0))) l.2)) l.1,
+  ),
+)
 led edges (suc many) set = led_further edges many set (led edges many set) (led edges many (slice_index edges many))
 
 -- all that lies below a set

@@ -1,5 +1,8 @@
 //! The edges between roles, and what they make: all that lies below each role and above it.
 ghost use Rattle.std.specs.Prelude.{◌≡◌, ◌↔◌, ◌⊎◌, ◌<◌, ◌^◌, ℕ, IsTrue, length, replicate, slice_index, slice_set, map};
+ghost use Rattle.std.specs.Cmp.{partial_equiv_from_equiv};
+ghost use Rattle.std.specs.Cmp.Lexicographic.{nat_list_eq_equiv};
+ghost use Rattle.std.specs.Str.{bytes_eq};
 ghost use Rattle.rbac_closure.specs.Sets.{Has, either, without_place};
 ghost use Rattle.rbac_closure.specs.Edges.{IsEdge, IsAbove, IsBelowSome, edge_added, edge_removed, role_cleared};
 ghost use Rattle.rbac_closure.specs.Inner.Rows.{HasJuniors, IsInTable};
@@ -25,6 +28,21 @@ impl Model for Rows {
     ghost view = { λ r. r.juniors };
 
     ghost invariant = { λ r. IsClosed r.juniors r.below r.above };
+}
+
+/// Rows are equal where their edges are.
+impl PartialEq for Rows {
+    ghost eq = { bytes_eq };
+
+    ghost laws = { partial_equiv_from_equiv nat_list_eq_equiv };
+
+    fn eq(&self, other: &Rows) -> bool {
+        self.juniors == other.juniors
+    }
+}
+
+impl Eq for Rows {
+    ghost laws = { nat_list_eq_equiv };
 }
 
 // Each place's set has that place alone.

@@ -26,7 +26,8 @@ use Rattle.rbac_policy.specs.StandsFor.{StandsFor, UsersStand, RolesStand, Grant
 use Rattle.rbac_policy.proofs.Ended.{Unswept, swept_stand}
 use Rattle.rbac_policy.proofs.Untouched.{untouched_users, untouched_roles, untouched_grants, untouched_sessions, untouched_sets, logins_push, logins_other}
 use Rattle.rbac_policy.proofs.Slots.{free}
-use Rattle.rbac_policy.proofs.Equality.{operations, objects, both}
+use Rattle.rbac_policy.proofs.Equality.{operations}
+use Rattle.rbac_policy.specs.Inner.ObjectLaws.{objects, both}
 use Rattle.rbac_policy.proofs.Room.{room, keeps_users, keeps_roles, keeps_grants, keeps_sessions, keeps_sets, pair_of}
 use Rattle.rbac_policy.proofs.Listed.{Placed, placed}
 use Rattle.rbac_policy.proofs.Adding.{adding}

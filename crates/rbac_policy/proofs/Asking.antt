@@ -1,5 +1,5 @@
 -- What the tables answer to a question is what the entries say.
-use Rattle.std.proofs.Common.{◌≡◌, ◌<◌, ◌^◌, arith, ℕ, zero, suc, ◌⊎◌, ◌↔◌, List, [], ◌∷◌, cond, inl, inr, sym, ◌∙◌, ap, refl, subst, true, false, Bool}
+use Rattle.std.proofs.Common.{◌≡◌, ℕ, zero, suc, ◌⊎◌, ◌↔◌, List, [], ◌∷◌, cond, inl, inr, sym, ◌∙◌, ap, refl, subst, true, false, Bool}
 use Rattle.std.specs.Prelude.{slice_get, Option, Some, None}
 use Rattle.std.proofs.lemmas.Bool.{false≢true}
 use Rattle.std.proofs.lemmas.Option.{same_Some}
@@ -8,7 +8,6 @@ use Rattle.std.proofs.lemmas.Bool.Decides.{Decides-eqb}
 use Rattle.rbac_policy.specs.declared.objects.Operation.{Operation}
 use Rattle.rbac_policy.specs.declared.objects.Object.{Object}
 use Rattle.rbac_policy.specs.Objects.{same_operation, same_object}
-use Rattle.rbac_policy.specs.declared.sizes.TheConstants.{ROLES}
 use Rattle.rbac_closure.specs.Sets.{Has, Meets}
 use Rattle.rbac_closure.specs.Edges.{IsBelowSome}
 use Rattle.rbac_policy.specs.Order.{below}
@@ -21,13 +20,14 @@ use Rattle.rbac_policy.specs.Facts.{IsUser, IsRole, IsActive, IsGranted, IsLive,
 use Rattle.rbac_policy.specs.StandsFor.{Holds, InMask, StandsFor}
 use Rattle.rbac_policy.proofs.Below.{below_sound, below_all}
 use Rattle.rbac_policy.proofs.Order.{chain_up, chain_down}
-use Rattle.rbac_policy.proofs.Equality.{operations, objects, both}
+use Rattle.rbac_policy.proofs.Equality.{operations}
+use Rattle.rbac_policy.specs.Inner.ObjectLaws.{objects, both}
 use Rattle.rbac_policy.specs.Tables.{At, first_of, session_of, grant_of, user_is, role_is, place_of}
 use Rattle.std.proofs.Common.{IsTrue, rules}
 use Rattle.std.specs.Prelude.{is_some}
 use Rattle.std.specs.List.{list_any}
 use Rattle.std.proofs.lemmas.Slice.Eq.{bytes_eq-Decides}
-use Rattle.std.proofs.lemmas.Option.{slice_get-get_or, slice_get_within}
+use Rattle.std.proofs.lemmas.Option.{slice_get-get_or}
 use Rattle.std.proofs.lemmas.List.Quantifiers.{position-Some}
 use Rattle.rbac_policy.specs.declared.rows.User.{User}
 use Rattle.rbac_policy.proofs.Granting.{some_passes, passes_any}

@@ -1,7 +1,6 @@
 -- The sweep leaves the sessions that live.
-use Rattle.std.proofs.Common.{◌≡◌, ℕ, ◌≤◌, ◌<◌, ◌^◌, ◌↔◌, List, [], ◌∷◌, ◌++◌, length, map, sym, ◌∙◌, subst, arith}
-use Rattle.std.specs.Prelude.{Option, Some}
-use Rattle.std.proofs.lemmas.Option.{slice_get_within}
+use Rattle.std.proofs.Common.{◌≡◌, ℕ, ◌≤◌, ◌↔◌, List, [], ◌∷◌, ◌++◌, length, map, sym, ◌∙◌, subst}
+use Rattle.std.specs.Prelude.{Option}
 use Rattle.rbac_policy.specs.declared.sizes.TheConstants.{ROLES, SESSIONS}
 use Rattle.rbac_closure.specs.Sets.{Has}
 use Rattle.rbac_closure.specs.Edges.{IsBelowSome}

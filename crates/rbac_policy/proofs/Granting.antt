@@ -21,7 +21,8 @@ use Rattle.rbac_policy.specs.StandsFor.{Holds, InMask, IsNamed, GrantsStand}
 use Rattle.rbac_policy.proofs.Steps.{in_force_push}
 use Rattle.rbac_policy.proofs.Untouched.{through}
 use Rattle.rbac_policy.proofs.Slots.{get_set_same, get_set_other}
-use Rattle.rbac_policy.proofs.Equality.{operations, objects, both}
+use Rattle.rbac_policy.proofs.Equality.{operations}
+use Rattle.rbac_policy.specs.Inner.ObjectLaws.{objects, both}
 use Rattle.rbac_policy.proofs.Slots.{mapped, map_at, written, Free, free, in_with_bit, named_with_bit, none_in_zero, zero_named}
 
 pub flip : {A B : Type 0} → A ↔ B → B ↔ A

@@ -1,8 +1,7 @@
 -- What the tests of the readers say of the list of entries.
-use Rattle.std.proofs.Common.{inl, inr, ◌≡◌, ℕ, ◌<◌, ◌^◌, ◌↔◌, List, length, sym, ◌∙◌, ap, refl, subst, true, false, Bool, IsTrue}
+use Rattle.std.proofs.Common.{inl, inr, ◌≡◌, ℕ, ◌↔◌, List, length, sym, ◌∙◌, ap, refl, subst, true, false, Bool, IsTrue}
 use Rattle.std.specs.Prelude.{Option, Some, None, is_some, is_none, position, not, ◌&&◌}
 use Rattle.std.proofs.lemmas.Bool.{false≢true}
-use Rattle.rbac_policy.specs.declared.sizes.TheConstants.{ROLES}
 use Rattle.rbac_policy.specs.declared.objects.Operation.{Operation}
 use Rattle.rbac_policy.specs.declared.objects.Object.{Object}
 use Rattle.rbac_policy.specs.declared.commands.Entry.{Entry}
@@ -16,7 +15,8 @@ use Rattle.rbac_policy.specs.Facts.{IsGranted, IsPairGranted, IsAuthorized}
 use Rattle.rbac_policy.specs.Counting.{HasAtLeast}
 use Rattle.rbac_policy.specs.Tables.{roles_of, place_of, grant_of}
 use Rattle.rbac_policy.specs.StandsFor.{StandsFor}
-use Rattle.rbac_policy.proofs.Equality.{operations, objects, both}
+use Rattle.rbac_policy.proofs.Equality.{operations}
+use Rattle.rbac_policy.specs.Inner.ObjectLaws.{objects, both}
 use Rattle.rbac_policy.proofs.Below.{below_sound, below_all}
 use Rattle.rbac_policy.proofs.Order.{authorized_below, below_authorized}
 use Rattle.rbac_policy.proofs.Asking.{reflects, first_cases, role_at, granted_slot, not_granted_pair}

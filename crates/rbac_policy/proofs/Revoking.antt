@@ -19,7 +19,8 @@ use Rattle.rbac_policy.specs.StandsFor.{InMask, IsNamed, GrantsStand}
 use Rattle.rbac_policy.proofs.Steps.{in_force_push}
 use Rattle.rbac_policy.proofs.Untouched.{through}
 use Rattle.rbac_policy.proofs.Granting.{flip}
-use Rattle.rbac_policy.proofs.Equality.{operations, objects, both}
+use Rattle.rbac_policy.proofs.Equality.{operations}
+use Rattle.rbac_policy.specs.Inner.ObjectLaws.{objects, both}
 use Rattle.rbac_policy.proofs.Mapping.{GrantBecomes, GrantSlot, grants_mapped}
 use Rattle.rbac_policy.proofs.Slots.{in_without_bit, named_without_bit, none_in_zero}
 

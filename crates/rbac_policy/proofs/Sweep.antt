@@ -1,5 +1,5 @@
 -- The sweep through the slots of sessions, which empties those that have a role for which their user is not authorized.
-use Rattle.std.proofs.Common.{◌≡◌, ℕ, ◌^◌, ◌<◌, List, length, map, cond, sym, ◌∙◌, ap, subst, refl, true, false, Bool}
+use Rattle.std.proofs.Common.{◌≡◌, ℕ, List, length, map, cond, sym, ◌∙◌, ap, subst, refl, true, false, Bool}
 use Rattle.std.specs.Prelude.{Option, Some, None}
 use Rattle.std.proofs.lemmas.Bool.Decides.{Decides-eqb}
 use Rattle.std.proofs.lemmas.Option.{same_Some}

@@ -1,12 +1,11 @@
 -- The first violation that the tables show is the first that the entries make.
-use Rattle.std.proofs.Common.{◌≡◌, ℕ, ◌<◌, ◌≤◌, ◌^◌, ◌↔◌, List, length, cond, true, false, Bool, arith, sym, ◌∙◌, ap, refl, subst, inl, inr}
+use Rattle.std.proofs.Common.{◌≡◌, ℕ, ◌≤◌, ◌↔◌, List, length, cond, true, false, Bool, arith, sym, ◌∙◌, ap, refl, subst, inl, inr}
 use Rattle.std.specs.Prelude.{slice_get, Option, Some, None, Contains}
 use Rattle.std.proofs.lemmas.Bool.{false≢true}
 use Rattle.std.proofs.lemmas.Bool.Decides.{leb_tells}
-use Rattle.std.proofs.lemmas.Option.{slice_get_within, same_Some}
+use Rattle.std.proofs.lemmas.Option.{same_Some}
 use Rattle.rbac_closure.specs.Sets.{Has, common, places_of}
 use Rattle.rbac_closure.proofs.SetLemmas.{has_common}
-use Rattle.rbac_policy.specs.declared.sizes.TheConstants.{ROLES}
 use Rattle.rbac_policy.specs.declared.commands.Entry.{Entry}
 use Rattle.rbac_policy.specs.declared.rows.Session.{Session}
 use Rattle.rbac_policy.specs.declared.rows.DsdSet.{DsdSet}

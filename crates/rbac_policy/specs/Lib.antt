@@ -15,3 +15,4 @@ pub mod Separation
 pub mod StandsFor
 pub mod Decided
 pub mod Leaving
+pub mod Inner

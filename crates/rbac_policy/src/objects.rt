@@ -1,6 +1,8 @@
 //! What may be done, and on what.
-ghost use Rattle.std.specs.Prelude.{◌≡◌, ◌<◌, ◌==◌, nat_lt, Some, None, if◌then◌else◌};
-ghost use Rattle.rbac_policy.specs.Objects.{operation_number, same_operation, same_object};
+ghost use Rattle.std.specs.Prelude.{◌≡◌, ◌<◌, nat_lt, Some, None, if◌then◌else◌};
+ghost use Rattle.std.specs.Cmp.{partial_equiv_from_equiv};
+ghost use Rattle.rbac_policy.specs.Inner.ObjectLaws.{object_equality};
+ghost use Rattle.rbac_policy.specs.Objects.{same_object};
 
 use est_text::identifier::Identifier;
 use std::marker::Model;
@@ -45,7 +47,7 @@ impl Model for SlotNumber {
 }
 
 /// What a permission is for: the policy, a slot, or a signal of the module in a slot.
-#[derive(Clone, Copy, PartialEq, Eq, Debug)]
+#[derive(Clone, Copy, Debug)]
 pub enum Object {
     /// The policy itself.
     Policy,
@@ -53,28 +55,6 @@ pub enum Object {
     Slot(SlotNumber),
     /// The signal of this name, in the slot of this number.
     Signal(SlotNumber, Identifier),
-}
-
-impl Operation {
-    fn number(&self) -> u8
-        ensures { result ≡ operation_number self.now }
-    {
-        match self {
-            Operation::Offer => 0,
-            Operation::Observe => 1,
-            Operation::Step => 2,
-            Operation::Load => 3,
-            Operation::Administer => 4,
-            Operation::Audit => 5,
-        }
-    }
-
-    /// Whether the two are one.
-    pub fn is(&self, other: &Operation) -> bool
-        ensures { result ≡ same_operation self.now other.now }
-    {
-        self.number() == other.number()
-    }
 }
 
 impl SlotNumber {
@@ -96,25 +76,23 @@ impl SlotNumber {
     {
         self.number
     }
-
-    /// Whether the two are one.
-    pub fn is(&self, other: &SlotNumber) -> bool
-        ensures { result ≡ (self.now == other.now) }
-    {
-        self.number == other.number
-    }
 }
 
-impl Object {
-    /// Whether the two are one.
-    pub fn is(&self, other: &Object) -> bool
-        ensures { result ≡ same_object self.now other.now }
-    {
+impl PartialEq for Object {
+    ghost eq = { same_object };
+
+    ghost laws = { partial_equiv_from_equiv object_equality };
+
+    fn eq(&self, other: &Object) -> bool {
         match (self, other) {
             (Object::Policy, Object::Policy) => true,
-            (Object::Slot(a), Object::Slot(b)) => a.is(b),
-            (Object::Signal(a, s), Object::Signal(b, t)) => a.is(b) && s.is(t),
+            (Object::Slot(a), Object::Slot(b)) => a == b,
+            (Object::Signal(a, s), Object::Signal(b, t)) => a == b && s.is(t),
             _ => false,
         }
     }
+}
+
+impl Eq for Object {
+    ghost laws = { object_equality };
 }

@@ -167,7 +167,7 @@ fn grant_is(slot: &Option<Grant>, operation: &Operation, object: &Object) -> boo
     ensures { result ≡ grant_is operation.now object.now slot.now }
 {
     match slot {
-        Some(grant) => grant.operation.is(operation) && grant.object.is(object),
+        Some(grant) => grant.operation == *operation && grant.object == *object,
         None => false,
     }
 }
@@ -189,7 +189,7 @@ fn grant_given(
     ensures { result ≡ grant_given operation.now object.now place slot.now }
 {
     match slot {
-        Some(grant) if grant.operation.is(operation) && grant.object.is(object) => Some(Grant {
+        Some(grant) if grant.operation == *operation && grant.object == *object => Some(Grant {
             operation: grant.operation,
             object: grant.object,
             roles: grant.roles.with(place),
@@ -258,7 +258,7 @@ fn grant_revoked(
     ensures { result ≡ grant_revoked operation.now object.now place slot.now }
 {
     match slot {
-        Some(grant) if grant.operation.is(operation) && grant.object.is(object) => {
+        Some(grant) if grant.operation == *operation && grant.object == *object => {
             grant_with(grant, grant.roles.without(place))
         }
         _ => *slot,
@@ -310,7 +310,7 @@ pub fn grant_of(
 {
     for slot in grants {
         if let Some(grant) = slot {
-            if grant.operation.is(operation) && grant.object.is(object) {
+            if grant.operation == *operation && grant.object == *object {
                 return Some(*grant);
             }
         }

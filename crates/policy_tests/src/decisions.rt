@@ -1,28 +1,14 @@
 //! The answers to policy commands, on policies that a server could come to.
 ghost use Rattle.std.specs.Prelude.{◌<◌};
 
+use crate::commands::{give, name, names};
 use est_text::identifier::Identifier;
-use rbac_admin::decisions::decide;
 use rbac_admin::refusals::Refusal;
 use rbac_policy::commands::{AdminCommand, Entry, SessionId, Table};
-use rbac_policy::names::{LISTED_ROLES, Name, RoleNames};
 use rbac_policy::objects::{Object, Operation, SlotNumber};
 use rbac_policy::policy::Policy;
 use std::alloc::Global;
 use std::process::Abort;
-
-fn name(rt: &impl Abort, text: &str) -> Name {
-    Name::from_text(text).expect(rt, "a name")
-}
-
-fn names(rt: &impl Abort, alloc: Global, texts: &[&str]) -> RoleNames {
-    let mut roles = Vec::new(alloc);
-    for text in texts {
-        roles.push(name(rt, text)).expect(rt, "room");
-    }
-    assert!(rt; roles.len() <= LISTED_ROLES);
-    RoleNames::from_vec(roles).expect(rt, "room")
-}
 
 fn login(rt: &impl Abort, alloc: Global, user: &str, roles: &[&str]) -> AdminCommand {
     AdminCommand::CreateSession {
@@ -36,27 +22,6 @@ fn grant(rt: &impl Abort, role: &str) -> AdminCommand {
         role: name(rt, role),
         operation: Operation::Audit,
         object: Object::Policy,
-    }
-}
-
-/// The refusal of the command, if it is refused; else the policy takes in the entry, which is the command with its session, or with
-/// none for a login.
-fn give(
-    rt: &impl Abort,
-    policy: &mut Policy,
-    session: Option<SessionId>,
-    command: &AdminCommand,
-) -> Option<Refusal> {
-    let given = command.clone().expect(rt, "room");
-    match decide(policy, session, given) {
-        Ok(entry) => {
-            let is_login = matches!(command, AdminCommand::CreateSession { .. });
-            assert!(rt; entry.command == *command);
-            assert!(rt; entry.session == if is_login { None } else { session });
-            policy.absorb(&entry);
-            None
-        }
-        Err(refusal) => Some(refusal),
     }
 }
 
