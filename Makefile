@@ -14,7 +14,7 @@ help:
 	@echo 'make examples  run each script and controller of examples on the program, built without proof, and compare its answers'
 	@echo 'make abro      the waves of ABRO, by the client, on the program built WITHOUT proof: about a minute'
 	@echo 'make documents write the tables of docs/PROOFS.md anew from the sources'
-	@echo 'make bench     prove and build, and then time commands, instants and the reading of texts'
+	@echo 'make bench     prove and build, and then time commands, instants and the reading of texts, and see how loads take memory'
 	@echo 'make faults    refuse each allocation of two tests in turn; no part of make test'
 	@echo 'make times     the proofs, wrong bodies and tests of make test, and a table of the time that each crate takes'
 
@@ -49,6 +49,7 @@ test:
 
 bench: build
 	python3 bench/commands.py $(PROGRAM)
+	python3 bench/memory.py $(PROGRAM)
 	@python3 scripts/run.py est_bench all 1 > /dev/null
 	python3 bench/instants.py $(ENGINE)
 	@python3 scripts/run.py text_bench 1 < crates/text_bench/stdin > /dev/null
