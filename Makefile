@@ -2,6 +2,7 @@
 PROGRAM := crates/estserve/out/estserve
 ENGINE := crates/est_bench/out/est_bench
 TEXTS := crates/text_bench/out/text_bench
+LOADS := crates/load_bench/out/load_bench
 
 .PHONY: help try run build abro examples documents test bench faults times
 
@@ -54,6 +55,8 @@ bench: build
 	python3 bench/instants.py $(ENGINE)
 	@python3 scripts/run.py text_bench 1 < crates/text_bench/stdin > /dev/null
 	python3 bench/texts.py $(TEXTS)
+	@python3 scripts/run.py load_bench 1 < crates/load_bench/stdin > /dev/null
+	python3 bench/loads.py $(LOADS)
 
 faults:
 	python3 tests/faults/run
