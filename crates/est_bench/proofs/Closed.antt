@@ -11,8 +11,10 @@ use Rattle.est_bench.specs.declared.workload.Workload.{Workload}
 use Rattle.est_bench.specs.declared.workload.Workload.TheVariants.{Opening, Parallel, Locals, Large, Sequence, SequenceLeft, OneOutput, ManyOutputs, Relay}
 
 blinker_closed : (outputs n : ℕ) → 0 < outputs → IsClosedOver outputs 0 (blinker outputs n)
-blinker_closed outputs n h i a =
-    (a.each (2 * n % outputs) (mod_below (2 * n) outputs h), (tt, (a.each ((2 * n + 1) % outputs) (mod_below (2 * n + 1) outputs h), tt)))
+blinker_closed outputs n h i a = (
+  a.each (2 * n % outputs) (mod_below (2 * n) outputs h),
+  (tt, (a.each ((2 * n + 1) % outputs) (mod_below (2 * n + 1) outputs h), tt)),
+)
 
 blinkers_closed : (outputs n : ℕ) → 0 < outputs → IsClosedOver outputs 0 (blinkers outputs n)
 unfolding blinkers
@@ -42,7 +44,8 @@ unfolding nested_left
 nested_left_closed zero i a = part_closed 0 i a
 nested_left_closed (suc n) i a = (nested_left_closed n i a, part_closed (n + 1) i a)
 
-under_locals_closed : (i : List Declaration) (d locals : ℕ) (t : Term) → locals + d ≡ 6 → IsClosed i 0 6 t → IsClosed i 0 locals (under_locals d t)
+under_locals_closed : (i : List Declaration) (d locals : ℕ) (t : Term) → locals + d ≡ 6 → IsClosed i 0 6 t
+    → IsClosed i 0 locals (under_locals d t)
 unfolding under_locals
 under_locals_closed i zero locals t e h =
     let same : 6 ≡ locals = omega arith in

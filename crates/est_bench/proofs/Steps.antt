@@ -20,13 +20,15 @@ all_outputs_push [] d k h (suc n) l = absurd (omega arith)
 all_outputs_push (e ∷ ds) d k h zero l = h zero (omega arith)
 all_outputs_push (e ∷ ds) d k h (suc n) l = all_outputs_push ds d k (λ m b. h (suc m) (omega arith)) n (omega arith)
 
-pub outputs_push : (n : ℕ) (ds : List Declaration) (d : Declaration) → d.kind ≡ Output → HasOutputs n ds → HasOutputs (n + 1) (ds ++ d ∷ [])
+pub outputs_push : (n : ℕ) (ds : List Declaration) (d : Declaration) → d.kind ≡ Output → HasOutputs n ds
+    → HasOutputs (n + 1) (ds ++ d ∷ [])
 outputs_push n ds d k h = record {
   length_is = rw length-append (omega (arith, h.length_is));
   each = λ m l. all_outputs_push ds d k (λ j b. h.each j (omega (arith, h.length_is))) m (omega (arith, h.length_is));
 }
 
-pub next_sum : (k : Kernel) (n sum : ℕ) (x : State) (o : Outcome) (later : ℕ) (next : State) → SumsTo k n sum x → IsReaction k x no_inputs o
+pub next_sum : (k : Kernel) (n sum : ℕ) (x : State) (o : Outcome) (later : ℕ) (next : State) → SumsTo k n sum x
+    → IsReaction k x no_inputs o
     → later ≡ sum_after sum o.outputs → next ≡ begun_again o.next → SumsTo k (n + 1) later next
 next_sum k n sum x o later next h r e f = rw (e, f) (goes_on o h r)
 

@@ -50,7 +50,8 @@ unfoldable pub emissions : (outputs n : ℕ) → Term
 emissions outputs zero = pause
 emissions outputs (suc n) = seq (emit (outer (n % outputs))) (emissions outputs n)
 
--- the outputs n to 0, each emitted where the one before it is present, and O0 always: `present P then emit Q end || present O then emit P end || emit O`
+-- the outputs n to 0, each emitted where the one before it is present, and O0 always: `present P then emit Q end ||
+-- present O then emit P end || emit O`
 unfoldable pub relay : ℕ → Term
 relay zero = emit (outer 0)
 relay (suc n) = par (present (of (outer n)) (emit (outer (n + 1))) nothing) (relay n)

@@ -73,7 +73,7 @@ impl Workload {
         }
     }
 
-    /// What it runs.
+    /// What it runs, or memory was refused.
     pub fn statement(self, alloc: Global) -> Result<Statement, AllocError>
         ensures { IfOk result (λ s. term_of s ≡ meant self) }
     {

@@ -1,5 +1,5 @@
 -- A statement that is closed and within the limits has its numbers' bits in masks.
-use Rattle.std.proofs.Common.{◌≡◌, ◌≤◌, ◌<◌, ℕ, ◌+◌, None, Option, List, arith}
+use Rattle.std.proofs.Common.{◌≡◌, ◌≤◌, ℕ, ◌+◌, None, List, arith}
 use Rattle.std.specs.Prelude.{if◌then◌else◌, nat_lt, Some}
 use Rattle.std.proofs.lemmas.Bool.Decides.{nat_tests}
 use Rattle.est_kernel.specs.Limits.{statement_count, loop_depth, trap_depth, local_depth, limit_passed}
@@ -7,7 +7,6 @@ use Rattle.est_kernel.specs.Masks.{HasSignalBit, HasTestBit, FitsMasks}
 use Rattle.est_kernel.specs.Scope.{IsAsked, IsClosed, IsEmitted, IsVisible}
 use Rattle.est_kernel.specs.View.{name_of, query_of, term_of}
 use Rattle.est_kernel.specs.declared.interface.Declaration.{Declaration}
-use Rattle.est_kernel.specs.declared.limits.Limit.{Limit}
 use Rattle.est_kernel.specs.declared.limits.Limit.TheVariants.{Statements, Loops, Traps, Locals}
 use Rattle.est_kernel.specs.declared.limits.TheConstants.{MOST_STATEMENTS, MOST_LOOPS, MOST_TRAPS, MOST_LOCALS}
 use Rattle.est_kernel.specs.declared.statement.Signal.{Signal}
@@ -40,7 +39,8 @@ few_binders i traps locals (Present' k x p y q) h t l = (
   few_binders i traps locals p h.1 (omega (arith, t)) (omega (arith, l)),
   few_binders i traps locals q h.2 (omega (arith, t)) (omega (arith, l)),
 )
-few_binders i traps locals (Suspend' k x p) h t l = (test_bit i locals k h.0 (omega (arith, l)), few_binders i traps locals p h.1 t l)
+few_binders i traps locals (Suspend' k x p) h t l =
+    (test_bit i locals k h.0 (omega (arith, l)), few_binders i traps locals p h.1 t l)
 few_binders i traps locals (Seq' x p y q) h t l = (
   few_binders i traps locals p h.0 (omega (arith, t)) (omega (arith, l)),
   few_binders i traps locals q h.1 (omega (arith, t)) (omega (arith, l)),
@@ -52,7 +52,8 @@ few_binders i traps locals (Par' x p y q) h t l = (
 )
 few_binders i traps locals (Trap' x p) h t l = few_binders i (traps + 1) locals p h (omega (arith, t)) l
 few_binders i traps locals (Exit k) h t l = omega (arith, h, t)
-few_binders i traps locals (Binder' s x p) h t l = (omega (arith, h.0, l), few_binders i traps (locals + 1) p h.1 t (omega (arith, l)))
+few_binders i traps locals (Binder' s x p) h t l =
+    (omega (arith, h.0, l), few_binders i traps (locals + 1) p h.1 t (omega (arith, l)))
 
 depths_kept : (statements loops traps locals : ℕ)
     → (if nat_lt MOST_STATEMENTS statements then Some Statements else (
@@ -63,7 +64,9 @@ depths_kept : (statements loops traps locals : ℕ)
 depths_kept statements loops traps locals h = (grind (arith, nat_tests), grind (arith, nat_tests))
 
 -- a closed statement within the limits has its numbers' bits in masks
-pub fits_within_limits : (i : List Declaration) (s : Statement) → IsClosed i 0 0 (term_of s) → limit_passed (term_of s) ≡ None → FitsMasks s
+pub fits_within_limits : (i : List Declaration) (s : Statement) → IsClosed i 0 0 (term_of s)
+    → limit_passed (term_of s) ≡ None → FitsMasks s
 fits_within_limits i s h l =
-    let kept = depths_kept (statement_count (term_of s)) (loop_depth (term_of s)) (trap_depth (term_of s)) (local_depth (term_of s)) l in
+    let kept = depths_kept (statement_count (term_of s)) (loop_depth (term_of s)) (trap_depth (term_of s))
+    (local_depth (term_of s)) l in
     few_binders i 0 0 s h (omega (arith, kept.0)) (omega (arith, kept.1))

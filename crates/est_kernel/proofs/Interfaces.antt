@@ -15,7 +15,8 @@ declares_beyond kind (d ∷ ds) zero h = absurd (omega arith)
 declares_beyond kind (d ∷ ds) (suc n) h = declares_beyond kind ds n (omega arith)
 
 -- a place is of the kind of its declaration
-pub declares_at : (kind : Kind) (ds : List Declaration) (n : ℕ) (d : Declaration) → n < length ds → declares kind ds n ≡ same_kind (get_or ds n d).kind kind
+pub declares_at : (kind : Kind) (ds : List Declaration) (n : ℕ) (d : Declaration) → n < length ds
+    → declares kind ds n ≡ same_kind (get_or ds n d).kind kind
 declares_at kind [] n d h = absurd (omega arith)
 declares_at kind (e ∷ ds) zero d h = refl
 declares_at kind (e ∷ ds) (suc n) d h = declares_at kind ds n d (omega arith)
@@ -41,7 +42,8 @@ same_refl Input = refl
 same_refl Output = refl
 
 -- a declaration is of its own kind
-pub declares_its_kind : (ds : List Declaration) (n : ℕ) (d : Declaration) → n < length ds → d ≡ get_or ds n d → declares d.kind ds n ≡ true
+pub declares_its_kind : (ds : List Declaration) (n : ℕ) (d : Declaration) → n < length ds → d ≡ get_or ds n d
+    → declares d.kind ds n ≡ true
 declares_its_kind ds n d h e = declares_at d.kind ds n d h ∙ rw (sym e) (same_refl d.kind)
 
 -- no place is looked at
@@ -49,13 +51,15 @@ pub none_looked_at : (x b : Bool) (n : ℕ) → x ≡ false → x ≡ (nat_lt n 
 none_looked_at x b n h = grind (arith, nat_tests)
 
 -- the places that were looked at are all there are
-pub all_looked_at : (kind : Kind) (ds : List Declaration) (f : ℕ → Bool) (i : ℕ) → length ds ≤ i → ((n : ℕ) → f n ≡ (nat_lt n i && declares kind ds n)) → (n : ℕ) → f n ≡ declares kind ds n
+pub all_looked_at : (kind : Kind) (ds : List Declaration) (f : ℕ → Bool) (i : ℕ) → length ds ≤ i
+    → ((n : ℕ) → f n ≡ (nat_lt n i && declares kind ds n)) → (n : ℕ) → f n ≡ declares kind ds n
 all_looked_at kind ds f i h before n = elim (cases_lt n i) [
   | inl l ↦ rw (before n) (grind (arith, nat_tests))
   | inr g ↦ rw (before n, declares_beyond kind ds n (omega arith)) (grind (arith, nat_tests))
 ]
 
-apart_push : {K : Type 0} (eq : K → K → Bool) (x : K) (xs : List K) (y : K) → AllByRecursion (λ z. eq x z ≡ false) xs → eq x y ≡ false → AllByRecursion (λ z. eq x z ≡ false) (xs ++ y ∷ [])
+apart_push : {K : Type 0} (eq : K → K → Bool) (x : K) (xs : List K) (y : K) → AllByRecursion (λ z. eq x z ≡ false) xs
+    → eq x y ≡ false → AllByRecursion (λ z. eq x z ≡ false) (xs ++ y ∷ [])
 apart_push eq x [] y a n = (n, tt)
 apart_push eq x (z ∷ zs) y a n = (a.0, apart_push eq x zs y a.1 n)
 
@@ -64,7 +68,8 @@ neither false b h = (refl, h)
 neither true b h = cc
 
 -- one more that none is, at the end
-pub distinct_push : {K : Type 0} (eq : K → K → Bool) (xs : List K) (y : K) → IsDistinct eq xs → list_any (λ x. eq x y) xs ≡ false → IsDistinct eq (xs ++ y ∷ [])
+pub distinct_push : {K : Type 0} (eq : K → K → Bool) (xs : List K) (y : K) → IsDistinct eq xs
+    → list_any (λ x. eq x y) xs ≡ false → IsDistinct eq (xs ++ y ∷ [])
 unfolding IsDistinct
 distinct_push eq [] y d n = (tt, tt)
 distinct_push eq (x ∷ xs) y d n =

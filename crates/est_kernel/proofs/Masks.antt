@@ -144,17 +144,22 @@ at_more true false z = refl
 at_more false true z = refl
 at_more false false z = refl
 
-out_of_trap_at : (a n : ℕ) → bits (bit_or (bit_or (bit_and (bit_or a (a / 4)) 1) (bit_and a 2)) (a / 8 * 4)) n ≡ codes_out_of_trap (bits a) n
+out_of_trap_at : (a n : ℕ) → bits (bit_or (bit_or (bit_and (bit_or a (a / 4)) 1) (bit_and a 2)) (a / 8 * 4)) n
+    ≡ codes_out_of_trap (bits a) n
 unfolding codes_out_of_trap
-out_of_trap_at a zero = out_of_trap_parts a 0 ∙ rw (bits_1_0, bits_2_0, bits_four_0 (a / 8), quarter a 0) (at_0 (bits a 0) (bits (a / 4) 0))
-out_of_trap_at a (suc zero) = out_of_trap_parts a 1 ∙ rw (bits_1_1, bits_2_1, bits_four_1 (a / 8)) (at_1 (bits a 1) (bits (a / 4) 1))
+out_of_trap_at a zero =
+    out_of_trap_parts a 0 ∙ rw (bits_1_0, bits_2_0, bits_four_0 (a / 8), quarter a 0) (at_0 (bits a 0) (bits (a / 4) 0))
+out_of_trap_at a (suc zero) =
+    out_of_trap_parts a 1 ∙ rw (bits_1_1, bits_2_1, bits_four_1 (a / 8)) (at_1 (bits a 1) (bits (a / 4) 1))
 out_of_trap_at a (suc (suc k)) =
     out_of_trap_parts a (suc (suc k))
-    ∙ rw (quarter 1 k, quarter 2 k, bits_zero k, four_times (a / 8) k) (at_more (bits a (suc (suc k))) (bits (a / 4) (suc (suc k))) (bits (a / 8) k)
+    ∙ rw (quarter 1 k, quarter 2 k, bits_zero k, four_times (a / 8) k)
+    (at_more (bits a (suc (suc k))) (bits (a / 4) (suc (suc k))) (bits (a / 8) k)
     ∙ sym (quarter a (suc k) ∙ (bits-suc (a / 4) k ∙ ap (λ x. bits x k) (omega arith))))
 
 -- the codes outside a trap, as a mask
-pub out_of_trap_bits : (a : ℕ) → bits (bit_or (bit_or (bit_and (bit_or a (a / 4)) 1) (bit_and a 2)) (a / 8 * 4)) ≡ codes_out_of_trap (bits a)
+pub out_of_trap_bits : (a : ℕ) → bits (bit_or (bit_or (bit_and (bit_or a (a / 4)) 1) (bit_and a 2)) (a / 8 * 4))
+    ≡ codes_out_of_trap (bits a)
 out_of_trap_bits a = fun_ext (λ n. out_of_trap_at a n)
 
 -- no number up to n is in the empty set
@@ -184,8 +189,10 @@ unfolding bits
 least_bits a n p q l =
     let low = bit_at-trailing_zeros w64 a p q in
     elim (cases_lt n (trailing_zeros w64 a)) [
-      | inl h ↦ ap (λ y. nat_eq y 1) (bit_at_mask_below (trailing_zeros w64 a) 64 n h) ∙ sym (up_to_before (bits a) (trailing_zeros w64 a) n (λ i g. ap (λ y. nat_eq y 1) (low.2 i g)) h)
-      | inr h ↦ ap (λ y. nat_eq y 1) (bit_at_mask_inside (trailing_zeros w64 a) 64 n h l) ∙ sym (up_to_from (bits a) (trailing_zeros w64 a) n (ap (λ y. nat_eq y 1) low.1) h)
+      | inl h ↦ ap (λ y. nat_eq y 1) (bit_at_mask_below (trailing_zeros w64 a) 64 n h)
+          ∙ sym (up_to_before (bits a) (trailing_zeros w64 a) n (λ i g. ap (λ y. nat_eq y 1) (low.2 i g)) h)
+      | inr h ↦ ap (λ y. nat_eq y 1) (bit_at_mask_inside (trailing_zeros w64 a) 64 n h l)
+          ∙ sym (up_to_from (bits a) (trailing_zeros w64 a) n (ap (λ y. nat_eq y 1) low.1) h)
     ]
 
 -- the greater codes of all pairs, as a mask
@@ -195,7 +202,13 @@ pub max_bits : (a b fa fb : ℕ) → a < 2 ^ 64 → b < 2 ^ 64
 unfolding max_codes
 max_bits a b fa fb p q h k = fun_ext (λ n. elim (cases_lt n 64) [
   | inl l ↦ rw (bits_or (bit_and a fb) (bit_and b fa) n, bits_and a fb n, bits_and b fa n, h n l, k n l) refl
-  | inr g ↦ rw (bits_or (bit_and a fb) (bit_and b fa) n, bits_and a fb n, bits_and b fa n, bits_above a n p g, bits_above b n q g) refl
+  | inr g ↦ rw (
+    bits_or (bit_and a fb) (bit_and b fa) n,
+    bits_and a fb n,
+    bits_and b fa n,
+    bits_above a n p g,
+    bits_above b n q g,
+  ) refl
 ])
 
 -- a mask leaves what lies past the width

@@ -7,11 +7,13 @@ use Rattle.est_kernel.proofs.Masks.{bits_zero}
 use Rattle.est_kernel.specs.Bits.{bits}
 
 -- the bit that was written
-pub word_same : (ws : List ℕ) (n w : ℕ) (b : Bool) → n / 64 < length ws → bits w (n % 64) ≡ b → bits (slice_index (slice_set ws (n / 64) w) (n / 64)) (n % 64) ≡ b
+pub word_same : (ws : List ℕ) (n w : ℕ) (b : Bool) → n / 64 < length ws → bits w (n % 64) ≡ b
+    → bits (slice_index (slice_set ws (n / 64) w) (n / 64)) (n % 64) ≡ b
 word_same ws n w b l e = rw get_or-set_same e
 
 -- the other bits
-pub word_others : (ws : List ℕ) (n w : ℕ) → n / 64 < length ws → ((k : ℕ) → k ≢ n % 64 → bits w k ≡ bits (slice_index ws (n / 64)) k)
+pub word_others : (ws : List ℕ) (n w : ℕ) → n / 64 < length ws
+    → ((k : ℕ) → k ≢ n % 64 → bits w k ≡ bits (slice_index ws (n / 64)) k)
     → (i : ℕ) → i ≢ n → bits (slice_index (slice_set ws (n / 64) w) (i / 64)) (i % 64) ≡ bits (slice_index ws (i / 64)) (i % 64)
 word_others ws n w l f i d = elim (cases_eq (i / 64) (n / 64)) [
   | inl e ↦ let r : i % 64 ≢ n % 64 = λ h. d (omega arith) in rw (e, get_or-set_same) (f (i % 64) r)

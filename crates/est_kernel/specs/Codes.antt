@@ -1,16 +1,6 @@
 -- Completion codes and sets of them, as tests of numbers: 0 ends, 1 pauses, k + 2 exits the trap that lies k traps outwards.
 -- (Berry, The Constructive Semantics of Pure Esterel, the behaviour rules)
-use Rattle.std.specs.Prelude.{ℕ, zero, suc, ◌+◌, Bool, false, ◌&&◌, ◌||◌, nat_eq}
-use Rattle.est_kernel.specs.Bits.{bits}
-use Rattle.est_kernel.specs.declared.completion.Completion.{Completion}
-use Rattle.est_kernel.specs.declared.completion.Completion.TheVariants.{End, Pause, Exit}
-use Rattle.est_kernel.specs.declared.code_set.CodeSet.{CodeSet}
-
--- the code of a completion
-abbrev pub code_of : Completion → ℕ
-code_of End = 0
-code_of Pause = 1
-code_of (Exit k) = k.index + 2
+use Rattle.std.specs.Prelude.{ℕ, zero, suc, Bool, false, ◌&&◌, ◌||◌, nat_eq}
 
 -- a code outside a trap: the trap's own exit ends it, an outer exit comes one nearer
 abbrev pub code_out_of_trap : ℕ → ℕ
@@ -54,7 +44,3 @@ unfoldable pub codes_out_of_trap : Codes → Codes
 codes_out_of_trap a zero = a 0 || a 2
 codes_out_of_trap a (suc zero) = a 1
 codes_out_of_trap a (suc (suc k)) = a (suc (suc (suc k)))
-
--- the codes in a set, those of its mask (this project's own form)
-abbrev pub codes_of : CodeSet → Codes
-codes_of s = bits s.mask

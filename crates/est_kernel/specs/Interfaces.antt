@@ -1,10 +1,11 @@
 -- Interfaces as lists of declarations (The Esterel v5 Language Primer, interface declarations).
-use Rattle.std.specs.Prelude.{ℕ, zero, suc, List, [], ◌∷◌, Bool, true, false}
+use Rattle.std.specs.Prelude.{ℕ, zero, suc, ◌≤◌, List, [], ◌∷◌, length, Bool, true, false}
 use Rattle.std.specs.List.{IsDistinct}
 use Rattle.std.specs.Str.{bytes_eq}
 use Rattle.est_kernel.specs.declared.interface.Kind.{Kind}
 use Rattle.est_kernel.specs.declared.interface.Kind.TheVariants.{Input, Output}
 use Rattle.est_kernel.specs.declared.interface.Declaration.{Declaration}
+use Rattle.est_kernel.specs.declared.interface.TheConstants.{MOST_SIGNALS}
 
 -- whether the two are one
 abbrev pub same_kind : Kind → Kind → Bool
@@ -34,3 +35,7 @@ is_named name d = bytes_eq d.name name
 -- no two declarations are of one name
 abbrev pub HasDistinctNames : List Declaration → Type 0
 HasDistinctNames ds = IsDistinct (λ a b. bytes_eq a.name b.name) ds
+
+-- at most so many declarations as an interface has room for, and no two of one name
+abbrev pub IsInterface : List Declaration → Type 0
+IsInterface ds = (length ds ≤ MOST_SIGNALS) × HasDistinctNames ds

@@ -1,5 +1,5 @@
 -- Statements whose numbers have their bits in masks of 64 (this project's own form).
-use Rattle.std.specs.Prelude.{ℕ, ◌+◌, ◌<◌}
+use Rattle.std.specs.Prelude.{◌+◌, ◌<◌}
 use Rattle.est_kernel.specs.declared.statement.Signal.{Signal}
 use Rattle.est_kernel.specs.declared.statement.Signal.TheVariants.{Interface, Local}
 use Rattle.est_kernel.specs.declared.statement.Test.{Test}

@@ -1,7 +1,7 @@
 //! Whether each name of a statement has its binder.
 
 ghost use Rattle.std.specs.Prelude.{◌↔◌, ℕ, IsTrue};
-ghost use Rattle.est_kernel.specs.Inner.Counting.{Counts};
+ghost use Rattle.est_kernel.specs.Inner.Counting.{Counts, TellsClosed};
 ghost use Rattle.est_kernel.specs.Scope.{IsAsked, IsClosed, IsEmitted, IsVisible};
 ghost use Rattle.est_kernel.specs.View.{name_of, query_of, term_of};
 
@@ -49,7 +49,7 @@ fn is_emitted(interface: &Interface, locals: u32, s: Signal) -> bool
 
 /// The same, within so many traps and local signals. Counts stop at the largest `u32`, which no number of a statement reaches.
 fn is_closed_within(interface: &Interface, traps: u32, locals: u32, s: &Statement) -> bool
-    ensures { (t l : ℕ) → Counts t traps → Counts l locals → IsTrue result ↔ IsClosed interface.now t l (term_of s.now) }
+    ensures { TellsClosed result interface.now traps locals (term_of s.now) }
 {
     match s {
         Statement::Nothing | Statement::Pause(_) => true,

@@ -2,7 +2,8 @@
 
 ghost use Rattle.std.specs.Prelude.{◌≡◌, ◌<◌, ℕ};
 ghost use Rattle.est_kernel.specs.Bits.{bits};
-ghost use Rattle.est_kernel.specs.Codes.{code_of, codes_of, no_codes, code, either_code, but_zero, max_codes, codes_out_of_trap, some_up_to};
+ghost use Rattle.est_kernel.specs.Codes.{no_codes, code, either_code, but_zero, max_codes, codes_out_of_trap, some_up_to};
+ghost use Rattle.est_kernel.specs.CodeViews.{code_of, codes_of};
 
 use crate::completion::Completion;
 use crate::mask;

@@ -1,7 +1,8 @@
 //! How a statement completes in an instant.
 
 ghost use Rattle.std.specs.Prelude.{◌≡◌, max, nat_eq};
-ghost use Rattle.est_kernel.specs.Codes.{code_of, code_out_of_trap};
+ghost use Rattle.est_kernel.specs.Codes.{code_out_of_trap};
+ghost use Rattle.est_kernel.specs.CodeViews.{code_of};
 
 use crate::statement::TrapIndex;
 

@@ -51,16 +51,15 @@ pub struct Interface {
 }
 
 impl Model for Interface {
-    ghost use Rattle.std.specs.Prelude.{List, ◌≤◌, length};
+    ghost use Rattle.std.specs.Prelude.{List};
     ghost use Rattle.est_kernel.specs.declared.interface.Declaration.{Declaration};
-    ghost use Rattle.est_kernel.specs.declared.interface.TheConstants.{MOST_SIGNALS};
-    ghost use Rattle.est_kernel.specs.Interfaces.{HasDistinctNames};
+    ghost use Rattle.est_kernel.specs.Interfaces.{IsInterface};
 
     ghost Value = { List Declaration };
 
     ghost view = { λ i. i.declarations.items };
 
-    ghost invariant = { λ i. (length i.declarations.items ≤ MOST_SIGNALS) × HasDistinctNames i.declarations.items };
+    ghost invariant = { λ i. IsInterface i.declarations.items };
 }
 
 impl Interface {
@@ -104,7 +103,7 @@ impl Interface {
         &self.declarations
     }
 
-    /// Adds a signal at the end.
+    /// Adds a signal at the end. Where memory is refused, the interface stays as it was.
     pub fn declare(&mut self, declaration: Declaration) -> Result<(), AllocError>
         requires room { length self.old < MOST_SIGNALS }
         requires new_name { list_any (is_named declaration.name) self.old ≡ false }

@@ -1,6 +1,7 @@
 //! How large a kernel may be: its statements, and the nesting of its loops, traps and local signals.
 
-ghost use Rattle.std.specs.Prelude.{◌≡◌, ◌+◌, ◌≤◌, ◌<◌, MatchOption};
+ghost use Rattle.std.specs.Prelude.{◌≡◌, ◌≤◌};
+ghost use Rattle.est_kernel.specs.Inner.Counting.{LeavesRoom};
 ghost use Rattle.est_kernel.specs.View.{term_of};
 ghost use Rattle.est_kernel.specs.Limits.{statement_count, loop_depth, trap_depth, local_depth, limit_passed};
 
@@ -100,7 +101,7 @@ fn nesting_of(s: &Statement) -> Depths
 
 /// What is left of a room for statements, if they fit. It goes no deeper than the room, whatever statement comes.
 fn room_after(s: &Statement, room: u16) -> Option<u16>
-    ensures { MatchOption result (room < statement_count (term_of s.now)) (λ r. r + statement_count (term_of s.now) ≡ room) }
+    ensures { LeavesRoom result room (statement_count (term_of s.now)) }
 {
     if room == 0 {
         return None;

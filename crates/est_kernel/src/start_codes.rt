@@ -1,7 +1,7 @@
 //! The codes with which a statement can be begun.
 
 ghost use Rattle.std.specs.Prelude.{◌≡◌, MatchOption};
-ghost use Rattle.est_kernel.specs.Codes.{codes_of};
+ghost use Rattle.est_kernel.specs.CodeViews.{codes_of};
 ghost use Rattle.est_kernel.specs.Masks.{FitsMasks};
 ghost use Rattle.est_kernel.specs.StartCodes.{start_codes, IsLoopSafe};
 ghost use Rattle.est_kernel.specs.View.{term_of};
@@ -13,7 +13,8 @@ use crate::statement::Statement;
 /// The codes with which a statement can be begun, if no loop in it has a body that can end at once.
 pub fn start_codes(s: &Statement) -> Option<CodeSet>
     requires fits { FitsMasks s.now }
-    ensures { MatchOption result (¬ IsLoopSafe (term_of s.now)) (λ codes. IsLoopSafe (term_of s.now) × (codes_of codes ≡ start_codes (term_of s.now))) }
+    ensures { MatchOption result (¬ IsLoopSafe (term_of s.now))
+        (λ codes. IsLoopSafe (term_of s.now) × (codes_of codes ≡ start_codes (term_of s.now))) }
 {
     match s {
         Statement::Nothing | Statement::Emit(_) => Some(CodeSet::single(Completion::End)),

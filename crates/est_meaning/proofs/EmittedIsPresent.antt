@@ -12,9 +12,9 @@ use Rattle.est_meaning.specs.Rounds.{JudgedSignals, first_env, round, env_after,
 use Rattle.est_meaning.specs.Rules.{Gives}
 use Rattle.est_meaning.specs.Signals.{Signals}
 use Rattle.est_meaning.specs.Status.{Env, with_local, verdict}
-use Rattle.est_meaning.proofs.Learning.{settles}
-use Rattle.est_meaning.proofs.Monotony.{monotone, local_below, less_same}
-use Rattle.est_meaning.proofs.MustRules.{gives_must, gives_can}
+use Rattle.est_meaning.proofs.RoundsComeToRest.{settles}
+use Rattle.est_meaning.proofs.KnowledgeIsMonotone.{monotone, local_below, less_same}
+use Rattle.est_meaning.proofs.DecidedByMust.{gives_must, gives_can}
 
 -- a status that is the verdict on one answer
 decided_as : (v : Status) (b : Bool) → v ≡ verdict b b → IsDecidedAs v b
@@ -50,7 +50,8 @@ judged_decided j w inputs t outputs u r n h =
     let there = judged_there j t (last_env j inputs t) r.signals r.code u still r.gives n h in
     decided_as (last_env j inputs t (outer n)) (outputs n) (there ∙ ap (λ b. verdict b b) (sym (r.seen n)))
 
-first_offered : (j : JudgedSignals) (inputs : ℕ → Bool) (n : ℕ) → j.has n ≡ false → first_env j inputs (outer n) ≡ verdict (inputs n) false
+first_offered : (j : JudgedSignals) (inputs : ℕ → Bool) (n : ℕ) → j.has n ≡ false
+    → first_env j inputs (outer n) ≡ verdict (inputs n) false
 unfolding first_env
 first_offered j inputs n h = rw h refl
 
@@ -71,7 +72,8 @@ one_answer false = refl
 pub offered_decided : (j : JudgedSignals) (inputs : ℕ → Bool) (t : Term) (n : ℕ) → j.has n ≡ false
     → IsDecidedAs (last_env j inputs t (outer n)) (inputs n)
 offered_decided j inputs t n h =
-    decided_as (last_env j inputs t (outer n)) (inputs n) (stays_offered (how_many j.has j.places) j inputs t n h ∙ one_answer (inputs n))
+    decided_as (last_env j inputs t (outer n)) (inputs n)
+    (stays_offered (how_many j.has j.places) j inputs t n h ∙ one_answer (inputs n))
 
 own_status : (e : Env) (s : ℕ) (v : Status) → with_local e s v (inner s) ≡ v
 unfolding with_local
@@ -85,7 +87,8 @@ between false false true d f g = absurd (both_ways false refl (g refl))
 between false false false d f g = refl
 
 -- a local signal of a reaction
-pub local_decided : (s : ℕ) (p : Term) (e : Env) (o : Signals) (k : ℕ) (u : Term) → Gives (signal s p) e o k u → IsDecidedWithin s p e o k
+pub local_decided : (s : ℕ) (p : Term) (e : Env) (o : Signals) (k : ℕ) (u : Term) → Gives (signal s p) e o k u
+    → IsDecidedWithin s p e o k
 local_decided s p e o k u g =
     let open_env = with_local e s Unknown in
     let body_env = env_within sure s p e in

@@ -120,12 +120,12 @@ pub record IsDecidedWithin (s : ℕ) (p : Term) (e : Env) (o : Signals) (k : ℕ
   pub seen_outside : o ≡ without s emitted
   pub status : IsDecidedAs (env_within sure s p e (inner s)) (emitted (inner s))
 
--- Emitted is present. Why care: what a program finds out about a signal is what happens in that very instant. No test is ever
--- answered by a presence that nothing brings about, nor by an absence that something contradicts.
--- Where a term reacts to the inputs of an instant, each judged signal is decided in the last environment: present exactly where
--- the reaction emits it, absent exactly where not, whatever was offered. A signal that is not judged, an input, is present exactly
--- where it was offered, whether the term reacts or not. And wherever the rules give `signal s in p` a reaction, s is decided in
--- the environment of p: present exactly where the reaction of p emits it
+-- Emitted is present. Why care: what a program finds out about a signal is what happens in that very instant. No test
+-- is ever answered by a presence that nothing brings about, nor by an absence that something contradicts. Where a term
+-- reacts to the inputs of an instant, each judged signal is decided in the last environment: present exactly where the
+-- reaction emits it, absent exactly where not, whatever was offered. A signal that is not judged, an input, is present
+-- exactly where it was offered, whether the term reacts or not. And wherever the rules give `signal s in p` a reaction,
+-- s is decided in the environment of p: present exactly where the reaction of p emits it
 pub record EmittedIsPresent : Type 0 where
   pub judged : (j : JudgedSignals) → IsWithinPlaces j
       → (inputs : ℕ → Bool) (t : Term) (outputs : ℕ → Bool) (u : Term)

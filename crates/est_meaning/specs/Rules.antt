@@ -43,7 +43,8 @@ pub data HeldRule (v : Status) (s : Query) (p : Term) (body : Behaviour) (o : Si
 -- `;`: the first part does not end and the second waits; or it ends and the second is begun
 pub data SeqRule (first second : Behaviour) (q : Term) (o : Signals) (k : ℕ) (u : Term) : Type 0 where
   goes_on : k ≢ 0 → Inside first (λ t. seq t q) o k u → SeqRule first second q o k u
-  ends_then : (before after : Signals) (left : Term) → first before 0 left → second after k u → o ≡ union before after → SeqRule first second q o k u
+  ends_then : (before after : Signals) (left : Term) → first before 0 left → second after k u
+      → o ≡ union before after → SeqRule first second q o k u
 
 -- `loop`: the body may not end in the instant in which it is begun
 pub record LoopRule (body : Behaviour) (p : Term) (o : Signals) (k : ℕ) (u : Term) : Type 0 where

@@ -55,7 +55,8 @@ IsExclusive (Trap' a p) bits = IsExclusive p bits
 IsExclusive (Exit k) bits = Unit {0}
 IsExclusive (Binder' s a p) bits = IsExclusive p bits
 
--- s can have paused at exactly these pauses: there is one, none stands on both sides of a `;` or a `present`, and each is a pause of s
+-- s can have paused at exactly these pauses: there is one, none stands on both sides of a `;` or a `present`, and each
+-- is a pause of s
 pub record HasPausedAt (s : Statement) (pauses : ℕ → Bool) : Type 0 where
   pub live : is_live s pauses ≡ true
   pub exclusive : IsExclusive s pauses

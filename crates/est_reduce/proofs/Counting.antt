@@ -58,16 +58,23 @@ small_asked i l h k tick a = tt
 small_asked i l h k (of (outer n)) a = omega (arith, a)
 small_asked i l h k (of (inner n)) a = omega (arith, a)
 
-pub closed_small : (i : List Declaration) (u l : ℕ) (p : Term) → length i ≤ 64 → u + trap_depth p ≤ 65536 → l + local_depth p ≤ 65536 → IsClosed i u l p → IsSmall p
+pub closed_small : (i : List Declaration) (u l : ℕ) (p : Term) → length i ≤ 64 → u + trap_depth p ≤ 65536
+    → l + local_depth p ≤ 65536 → IsClosed i u l p → IsSmall p
 closed_small i u l kernel.nothing a b c d = tt
 closed_small i u l kernel.pause a b c d = tt
 closed_small i u l (kernel.emit s) a b c d = small_emitted i l a (omega arith) s d
-closed_small i u l (kernel.present s p q) a b c d = (small_asked i l a (omega arith) s d.0, closed_small i u l p a (omega arith) (omega arith) d.1, closed_small i u l q a (omega arith) (omega arith) d.2)
+closed_small i u l (kernel.present s p q) a b c d = (
+  small_asked i l a (omega arith) s d.0,
+  closed_small i u l p a (omega arith) (omega arith) d.1,
+  closed_small i u l q a (omega arith) (omega arith) d.2,
+)
 closed_small i u l (kernel.suspend s p) a b c d = (small_asked i l a (omega arith) s d.0, closed_small i u l p a b c d.1)
 closed_small i u l (kernel.held s p) a b c d = (small_asked i l a (omega arith) s d.0, closed_small i u l p a b c d.1)
-closed_small i u l (kernel.seq p q) a b c d = (closed_small i u l p a (omega arith) (omega arith) d.0, closed_small i u l q a (omega arith) (omega arith) d.1)
+closed_small i u l (kernel.seq p q) a b c d =
+    (closed_small i u l p a (omega arith) (omega arith) d.0, closed_small i u l q a (omega arith) (omega arith) d.1)
 closed_small i u l (kernel.loop p) a b c d = closed_small i u l p a b c d
-closed_small i u l (kernel.par p q) a b c d = (closed_small i u l p a (omega arith) (omega arith) d.0, closed_small i u l q a (omega arith) (omega arith) d.1)
+closed_small i u l (kernel.par p q) a b c d =
+    (closed_small i u l p a (omega arith) (omega arith) d.0, closed_small i u l q a (omega arith) (omega arith) d.1)
 closed_small i u l (kernel.trap p) a b c d = closed_small i (u + 1) l p a (omega arith) c d
 closed_small i u l (kernel.exit k) a b c d = omega (arith, d)
 closed_small i u l (kernel.signal s p) a b c d = (omega (arith, d.0), closed_small i u (l + 1) p a b (omega arith) d.1)

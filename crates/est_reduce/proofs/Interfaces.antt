@@ -8,7 +8,8 @@ use Rattle.est_kernel.specs.declared.interface.Kind.TheVariants.{Output}
 use Rattle.est_kernel.proofs.Interfaces.{declares_beyond}
 use Rattle.est_kernel.specs.declared.interface.Declaration.{Declaration}
 
-apart_at : (d : Declaration) (ds : List Declaration) (n : ℕ) (e : Declaration) → AllByRecursion (λ z. bytes_eq d.name z.name ≡ false) ds
+apart_at : (d : Declaration) (ds : List Declaration) (n : ℕ) (e : Declaration)
+    → AllByRecursion (λ z. bytes_eq d.name z.name ≡ false) ds
     → n < length ds → bytes_eq d.name (get_or ds n e).name ≡ false
 apart_at d [] n e a h = absurd (omega arith)
 apart_at d (z ∷ zs) zero e a h = a.0

@@ -39,16 +39,24 @@ lift_reduced r r' d l (present s p q) h = both (kernel.present s) _ _ _ _ (lift_
 lift_reduced r r' d l (suspend false s p) h = ap (kernel.suspend s) (lift_reduced r r' d l p h)
 lift_reduced r r' d l (suspend true s p) h =
     ap (λ x. kernel.suspend s (kernel.seq (kernel.present s kernel.pause kernel.nothing) x)) (lift_reduced r r' d l p h)
-lift_reduced r r' d l (abort false s p) h = ap (aborting false s) (lift_reduced (past_fresh r) (past_fresh r') (suc d) l p (fresh r r' d h))
-lift_reduced r r' d l (abort true s p) h = ap (aborting true s) (lift_reduced (past_fresh r) (past_fresh r') (suc d) l p (fresh r r' d h))
-lift_reduced r r' d l (weak_abort false s p) h = ap (weakly_aborting false s) (lift_reduced (past_fresh r) (past_fresh r') (suc d) l p (fresh r r' d h))
-lift_reduced r r' d l (weak_abort true s p) h = ap (weakly_aborting true s) (lift_reduced (past_fresh r) (past_fresh r') (suc d) l p (fresh r r' d h))
+lift_reduced r r' d l (abort false s p) h =
+    ap (aborting false s) (lift_reduced (past_fresh r) (past_fresh r') (suc d) l p (fresh r r' d h))
+lift_reduced r r' d l (abort true s p) h =
+    ap (aborting true s) (lift_reduced (past_fresh r) (past_fresh r') (suc d) l p (fresh r r' d h))
+lift_reduced r r' d l (weak_abort false s p) h =
+    ap (weakly_aborting false s) (lift_reduced (past_fresh r) (past_fresh r') (suc d) l p (fresh r r' d h))
+lift_reduced r r' d l (weak_abort true s p) h =
+    ap (weakly_aborting true s) (lift_reduced (past_fresh r) (past_fresh r') (suc d) l p (fresh r r' d h))
 lift_reduced r r' d l (repeat p) h = ap kernel.loop (lift_reduced r r' d l p h)
-lift_reduced r r' d l (repeat_each s p) h = ap (looping_each s) (lift_reduced (past_fresh r) (past_fresh r') (suc d) l p (fresh r r' d h))
-lift_reduced r r' d l (every false s p) h = ap (doing_every false s) (lift_reduced (past_fresh r) (past_fresh r') (suc d) l p (fresh r r' d h))
-lift_reduced r r' d l (every true s p) h = ap (doing_every true s) (lift_reduced (past_fresh r) (past_fresh r') (suc d) l p (fresh r r' d h))
+lift_reduced r r' d l (repeat_each s p) h =
+    ap (looping_each s) (lift_reduced (past_fresh r) (past_fresh r') (suc d) l p (fresh r r' d h))
+lift_reduced r r' d l (every false s p) h =
+    ap (doing_every false s) (lift_reduced (past_fresh r) (past_fresh r') (suc d) l p (fresh r r' d h))
+lift_reduced r r' d l (every true s p) h =
+    ap (doing_every true s) (lift_reduced (past_fresh r) (past_fresh r') (suc d) l p (fresh r r' d h))
 lift_reduced r r' d l (trap p) h = ap kernel.trap (lift_reduced (past_named r) (past_named r') (suc d) l p (named r r' d h))
-lift_reduced r r' d l (signal n p) h = ap (binders l n) (lift_reduced r r' d (l + n) p h) ∙ sym (lifted_binders d l n (reduced r (l + n) p))
+lift_reduced r r' d l (signal n p) h =
+    ap (binders l n) (lift_reduced r r' d (l + n) p h) ∙ sym (lifted_binders d l n (reduced r (l + n) p))
 lift_reduced r r' d l (seq p q) h = both kernel.seq _ _ _ _ (lift_reduced r r' d l p h) (lift_reduced r r' d l q h)
 lift_reduced r r' d l (par p q) h = both kernel.par _ _ _ _ (lift_reduced r r' d l p h) (lift_reduced r r' d l q h)
 

@@ -26,7 +26,8 @@ pub closed_term : (i : List Declaration) (f : Body) → IsBound i 0 0 f → IsCl
 closed_term i f b = reduced_closed i (λ k. k) 0 0 0 (λ k lt. lt) f b
 
 -- and where it has few statements, its numbers fit their types
-pub small_term : (i : List Declaration) (f : Body) → length i ≤ 64 → reduced_statements f ≤ 2048 → IsBound i 0 0 f → IsSmall (kernel_term f)
+pub small_term : (i : List Declaration) (f : Body) → length i ≤ 64 → reduced_statements f ≤ 2048 → IsBound i 0 0 f
+    → IsSmall (kernel_term f)
 small_term i f few h b =
     let count = count_reduced (λ k. k) 0 f in
     closed_small i 0 0 (kernel_term f) few
@@ -34,7 +35,8 @@ small_term i f few h b =
     (omega (arith, h, count, locals_are_statements (kernel_term f)))
     (closed_term i f b)
 
-passes_first : (n most : ℕ) (later : Option Limit) → most < n → (if nat_lt most n then Some Statements else later) ≡ Some Statements
+passes_first : (n most : ℕ) (later : Option Limit) → most < n
+    → (if nat_lt most n then Some Statements else later) ≡ Some Statements
 passes_first n most later h = grind (arith, nat_tests)
 
 -- a term of too many statements passes the limit on them

@@ -1,9 +1,9 @@
 //! Whether each name of a body is bound.
 
-ghost use Rattle.std.specs.Prelude.{◌↔◌, ℕ, IsTrue};
+ghost use Rattle.std.specs.Prelude.{◌↔◌, IsTrue};
 ghost use Rattle.est_kernel.specs.Scope.{IsAsked, IsEmitted, IsVisible};
 ghost use Rattle.est_reduce.specs.Bound.{IsBound};
-ghost use Rattle.est_reduce.specs.Inner.Counting.{Counts};
+ghost use Rattle.est_reduce.specs.Inner.Counting.{Counted, TellsBound};
 ghost use Rattle.est_reduce.specs.Views.{bound_name, bound_query, body_of};
 
 use crate::body::{Body, BoundSignal, BoundTest};
@@ -19,7 +19,7 @@ pub fn is_bound(interface: &Interface, body: &Body) -> bool
 
 /// Whether the signal is of the interface, or of one of so many local signals.
 fn is_visible(interface: &Interface, locals: u64, signal: BoundSignal) -> bool
-    ensures { (l : ℕ) → Counts l locals → IsTrue result ↔ IsVisible interface.now l (bound_name signal) }
+    ensures { Counted locals (λ l. IsTrue result ↔ IsVisible interface.now l (bound_name signal)) }
 {
     match signal {
         BoundSignal::Outer(index) => (index as usize) < interface.len(),
@@ -29,7 +29,7 @@ fn is_visible(interface: &Interface, locals: u64, signal: BoundSignal) -> bool
 
 /// Whether what is asked is `tick` or a visible signal.
 fn is_asked(interface: &Interface, locals: u64, test: BoundTest) -> bool
-    ensures { (l : ℕ) → Counts l locals → IsTrue result ↔ IsAsked interface.now l (bound_query test) }
+    ensures { Counted locals (λ l. IsTrue result ↔ IsAsked interface.now l (bound_query test)) }
 {
     match test {
         BoundTest::Tick => true,
@@ -40,7 +40,7 @@ fn is_asked(interface: &Interface, locals: u64, test: BoundTest) -> bool
 /// Whether the signal is an output, or of one of so many local signals.
 #[tactic(auto, using(crate::proofs::Interfaces::no_output_beyond))]
 fn is_emitted(interface: &Interface, locals: u64, signal: BoundSignal) -> bool
-    ensures { (l : ℕ) → Counts l locals → IsTrue result ↔ IsEmitted interface.now l (bound_name signal) }
+    ensures { Counted locals (λ l. IsTrue result ↔ IsEmitted interface.now l (bound_name signal)) }
 {
     match signal {
         BoundSignal::Outer(index) => {
@@ -53,7 +53,7 @@ fn is_emitted(interface: &Interface, locals: u64, signal: BoundSignal) -> bool
 /// The same, within so many traps and local signals. Counts stop at the largest `u64`, which no number of a body reaches. It
 /// goes as deep as the body is.
 fn is_bound_within(interface: &Interface, traps: u64, locals: u64, body: &Body) -> bool
-    ensures { (t l : ℕ) → Counts t traps → Counts l locals → IsTrue result ↔ IsBound interface.now t l (body_of body.now) }
+    ensures { TellsBound result interface.now traps locals (body_of body.now) }
 {
     match body {
         Body::Nothing | Body::Pause | Body::Halt => true,

@@ -1,5 +1,5 @@
 //! How many kernel statements a body comes to, before any is built.
-ghost use Rattle.std.specs.Prelude.{◌≡◌, ◌+◌, ◌<◌, MatchOption};
+ghost use Rattle.est_reduce.specs.Inner.Counting.{LeavesRoom};
 ghost use Rattle.est_reduce.specs.Inner.Sizes.{reduced_statements};
 ghost use Rattle.est_reduce.specs.Views.{body_of};
 
@@ -8,7 +8,7 @@ use crate::body::Body;
 /// What is left of a room for kernel statements, if the reduction of the body fits. Each statement but an empty `signal`, which
 /// no text has, takes some of the room, so it goes no deeper than the room, 2,048 levels from `reduce`.
 pub fn room_after(body: &Body, room: u32) -> Option<u32>
-    ensures { MatchOption result (room < reduced_statements (body_of body.now)) (λ left. left + reduced_statements (body_of body.now) ≡ room) }
+    ensures { LeavesRoom result room (reduced_statements (body_of body.now)) }
 {
     match body {
         Body::Nothing | Body::Pause | Body::Emit(_) | Body::Exit(_) => room.checked_sub(1),

@@ -27,17 +27,21 @@ use Rattle.est_relations.proofs.FirstBroken.{kept_at, with_bits}
 
 -- ---- lists
 
-position_end : {X : Type 0} (keep : X → Bool) (ys : List X) → ((k : ℕ) (d : X) → k < length ys → not (keep (get_or ys k d)) ≡ false)
+position_end : {X : Type 0} (keep : X → Bool) (ys : List X)
+    → ((k : ℕ) (d : X) → k < length ys → not (keep (get_or ys k d)) ≡ false)
     → position_or_len (λ x. not (keep x)) ys ≡ length ys
 position_end keep [] g = refl
 position_end keep (y ∷ ys) g =
-    position_or_len_is (λ x. not (keep x)) (y ∷ ys) (length (y ∷ ys)) y (omega arith) (λ k lt. g k y lt) (λ lt. absurd (omega (arith, lt)))
+    position_or_len_is (λ x. not (keep x)) (y ∷ ys) (length (y ∷ ys)) y (omega arith) (λ k lt. g k y lt)
+    (λ lt. absurd (omega (arith, lt)))
 
 -- where each passes, there is no first that doesn't
-none_first : {X : Type 0} (keep : X → Bool) (xs : List X) (n : ℕ) → list_all keep xs ≡ true → position (λ x. not (keep x)) xs ≡ Some n → ⊥
+none_first : {X : Type 0} (keep : X → Bool) (xs : List X) (n : ℕ) → list_all keep xs ≡ true
+    → position (λ x. not (keep x)) xs ≡ Some n → ⊥
 none_first keep xs n h p = at_end (length xs) (position_or_len (λ x. not (keep x)) xs) n (position_end keep xs each) p where
   each : (k : ℕ) (d : _) → k < length xs → not (keep (get_or xs k d)) ≡ false
-  each k d lt = ap not (kept_at keep xs (length xs) k d (omega arith) lt (ap (list_all keep) (take_all (length xs) xs (omega arith)) ∙ h))
+  each k d lt = ap not (kept_at keep xs (length xs) k d (omega arith) lt
+      (ap (list_all keep) (take_all (length xs) xs (omega arith)) ∙ h))
 
   at_end : (l at n : ℕ) → at ≡ l → cond (nat_lt at l) (Some at) None ≡ Some n → ⊥
   at_end l at n e p = grind (arith, nat_tests)
@@ -51,7 +55,8 @@ and_second true b h = h
 and_second false b h = absurd (false≢true h)
 
 -- what holds of all holds at a place
-pub all_there : {X : Type 0} (test : X → Bool) (xs : List X) (n : ℕ) (x : X) → list_all test xs ≡ true → slice_get xs n ≡ Some x → test x ≡ true
+pub all_there : {X : Type 0} (test : X → Bool) (xs : List X) (n : ℕ) (x : X) → list_all test xs ≡ true
+    → slice_get xs n ≡ Some x → test x ≡ true
 all_there test [] n x h s = cc
 all_there test (y ∷ ys) zero x h s = let same : y ≡ x = cc in rw (← same) (and_first (test y) (list_all test ys) h)
 all_there test (y ∷ ys) (suc n) x h s = all_there test ys n x (and_second (test y) (list_all test ys) h) s
@@ -80,7 +85,8 @@ same_place i name m n p q = same_Some m n (sym p ∙ q)
 none_breaks : (rs : List Relation) → list_all (keeps_exclusion (bits 0)) rs ≡ true
 none_breaks [] = refl
 none_breaks (Exclusion members ∷ rs) =
-    let one : has_one_at_most (bits 0) members ≡ true = one_where (bits 0) members (λ a b p q x y. absurd (false≢true (sym (bits_zero a) ∙ x))) in
+    let one : has_one_at_most (bits 0) members ≡ true =
+    one_where (bits 0) members (λ a b p q x y. absurd (false≢true (sym (bits_zero a) ∙ x))) in
     rw one (none_breaks rs)
 none_breaks (Implication a b ∷ rs) = none_breaks rs
 
@@ -120,11 +126,13 @@ missing_within i rs mask number m h l =
 
 -- ---- the answers
 
-not_output : (i : List Declaration) (name : List ℕ) (place : ℕ) → place_of i name ≡ Some place → inputs_of i place ≡ true → IsOutputName i name → ⊥
+not_output : (i : List Declaration) (name : List ℕ) (place : ℕ) → place_of i name ≡ Some place
+    → inputs_of i place ≡ true → IsOutputName i name → ⊥
 not_output i name place there input o =
     no_input_and_output i o.place (ap (inputs_of i) (same_place i name o.place place o.there there) ∙ input) o.output
 
-not_pending : (i : List Declaration) (mask : ℕ) (name : List ℕ) (place : ℕ) → place_of i name ≡ Some place → bits mask place ≡ false → IsPendingName i mask name → ⊥
+not_pending : (i : List Declaration) (mask : ℕ) (name : List ℕ) (place : ℕ) → place_of i name ≡ Some place
+    → bits mask place ≡ false → IsPendingName i mask name → ⊥
 not_pending i mask name place there new o =
     false≢true (sym new ∙ (ap (bits mask) (same_place i name place o.place there o.there) ∙ o.pending))
 
@@ -149,7 +157,8 @@ refused_name p name (Implied r s) k h = absurd h
 
 -- an offer is refused by an exclusion
 pub refused_member : (p : PendingInputs) (name : List ℕ) (place number m : ℕ) (d : Declaration)
-    → IsNewInput p.interface p.mask name place → IsFirstBroken p.relations p.mask place number m → slice_get p.interface m ≡ Some d
+    → IsNewInput p.interface p.mask name place → IsFirstBroken p.relations p.mask place number m
+    → slice_get p.interface m ≡ Some d
     → OfferAnswer p name (Err (Excluded number d.name)) p
 refused_member p name place number m d new broken there =
     pass (record { place = place; there = new.there })
@@ -177,11 +186,13 @@ accepted p name place after new h is =
     (pass (not_output p.interface name place new.there new.input)
     (pass (not_pending p.interface p.mask name place new.there new.new)
     (pass (λ e f. none_first (keeps_exclusion (bits (with_place p.mask place))) p.relations f.broken.index h
-    (ap (λ n. position (λ r. not (keeps_exclusion (bits (with_place p.mask n)) r)) p.relations) (same_place p.interface name place f.place new.there f.there) ∙ f.broken.first))
+    (ap (λ n. position (λ r. not (keeps_exclusion (bits (with_place p.mask n)) r)) p.relations)
+    (same_place p.interface name place f.place new.there f.there) ∙ f.broken.first))
     (refl, record { place = place; there = new.there; added = is }))))
 
 -- an instant may not take what is pending
-pub not_ready : (p : PendingInputs) (number m : ℕ) (d : Declaration) → IsFirstLacking p.relations p.mask number m → slice_get p.interface m ≡ Some d
+pub not_ready : (p : PendingInputs) (number m : ℕ) (d : Declaration) → IsFirstLacking p.relations p.mask number m
+    → slice_get p.interface m ≡ Some d
     → ReadyAnswer p (Err (Implied number d.name))
 not_ready p number m d l there =
     refuse (Implied number d.name) (

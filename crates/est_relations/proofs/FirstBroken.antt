@@ -25,13 +25,17 @@ with_bits mask place n = bits_or mask (2 ^ place) n ∙ ap (λ b. bits mask n ||
 -- a signal that is no member may come
 pub no_member : (members : List ℕ) (mask place : ℕ) → list_any (nat_eq place) members ≡ false
     → has_one_at_most (bits mask) members ≡ true → has_one_at_most (bits (with_place mask place)) members ≡ true
-no_member members mask place out kept = one_beside (bits mask) (bits (with_place mask place)) members place (with_bits mask place) out kept
+no_member members mask place out kept =
+    one_beside (bits mask) (bits (with_place mask place)) members place (with_bits mask place) out kept
 
 -- a member may come exactly where no member is pending
-pub member : (members : List ℕ) (mask place : ℕ) (o : Option InterfaceSignal) → list_any (nat_eq place) members ≡ true → bits mask place ≡ false
+pub member : (members : List ℕ) (mask place : ℕ) (o : Option InterfaceSignal)
+    → list_any (nat_eq place) members ≡ true → bits mask place ≡ false
     → option_map {T = InterfaceSignal} {U = ℕ} (λ s. s.index) o ≡ find (bits mask) members
-    → MatchOption o (has_one_at_most (bits (with_place mask place)) members ≡ true) (λ m. Excludes (Exclusion members) mask place m.index)
-member members mask place None in_it new found = one_alone (bits mask) (bits (with_place mask place)) members place (with_bits mask place) (sym found)
+    → MatchOption o (has_one_at_most (bits (with_place mask place)) members ≡ true)
+    (λ m. Excludes (Exclusion members) mask place m.index)
+member members mask place None in_it new found =
+    one_alone (bits mask) (bits (with_place mask place)) members place (with_bits mask place) (sym found)
 member members mask place (Some m) in_it new found = record {
   broken = not_two (bits mask) (bits (with_place mask place)) members place m.index (with_bits mask place) new in_it (sym found);
   members = members;
@@ -53,24 +57,28 @@ not_asked present a b h = rw h refl
 
 -- ---- the first relation
 
-pub kept_at : {X : Type 0} (keep : X → Bool) (xs : List X) (n k : ℕ) (d : X) → n ≤ length xs → k < n → list_all keep (take n xs) ≡ true → keep (get_or xs k d) ≡ true
+pub kept_at : {X : Type 0} (keep : X → Bool) (xs : List X) (n k : ℕ) (d : X) → n ≤ length xs → k < n
+    → list_all keep (take n xs) ≡ true → keep (get_or xs k d) ≡ true
 kept_at keep [] n k d few lt h = absurd (omega (arith, few, lt))
 kept_at keep (x ∷ xs) zero k d few lt h = absurd (omega (arith, lt))
 kept_at keep (x ∷ xs) (suc n) zero d few lt h = both (keep x) (list_all keep (take n xs)) h where
   both : (a b : Bool) → (a && b) ≡ true → a ≡ true
   both true b h = refl
   both false b h = h
-kept_at keep (x ∷ xs) (suc n) (suc k) d few lt h = kept_at keep xs n k d (omega (arith, few)) (omega (arith, lt)) (both (keep x) (list_all keep (take n xs)) h) where
-  both : (a b : Bool) → (a && b) ≡ true → b ≡ true
-  both true b h = h
-  both false b h = absurd (false≢true h)
+kept_at keep (x ∷ xs) (suc n) (suc k) d few lt h =
+    kept_at keep xs n k d (omega (arith, few)) (omega (arith, lt)) (both (keep x) (list_all keep (take n xs)) h) where
+      both : (a b : Bool) → (a && b) ≡ true → b ≡ true
+      both true b h = h
+      both false b h = absurd (false≢true h)
 
 -- the first place at which a test fails
-pub first_at : {X : Type 0} (keep : X → Bool) (xs : List X) (n : ℕ) (d : X) → n < length xs → list_all keep (take n xs) ≡ true → keep (get_or xs n d) ≡ false
+pub first_at : {X : Type 0} (keep : X → Bool) (xs : List X) (n : ℕ) (d : X) → n < length xs
+    → list_all keep (take n xs) ≡ true → keep (get_or xs n d) ≡ false
     → position (λ x. not (keep x)) xs ≡ Some n
 first_at keep xs n d lt h f =
     let is : position_or_len (λ x. not (keep x)) xs ≡ n =
-    position_or_len_is (λ x. not (keep x)) xs n d (omega (arith, lt)) (λ k l. ap not (kept_at keep xs n k d (omega (arith, lt)) l h)) (λ l. ap not f) in
+    position_or_len_is (λ x. not (keep x)) xs n d (omega (arith, lt))
+    (λ k l. ap not (kept_at keep xs n k d (omega (arith, lt)) l h)) (λ l. ap not f) in
     rw is (within n (length xs) lt) where
       within : (n l : ℕ) → n < l → cond (nat_lt n l) (Some n) None ≡ Some n
       within n l h = grind (arith, nat_tests)
@@ -82,7 +90,8 @@ pub first_broken : (rs : List Relation) (mask place n m : ℕ) (r : Relation) �
 first_broken rs mask place n m r lt at before e = record {
   index = n;
   numbered = refl;
-  first = first_at (keeps_exclusion (bits (with_place mask place))) rs n r lt before (ap (keeps_exclusion (bits (with_place mask place))) (sym at) ∙ e.broken);
+  first = first_at (keeps_exclusion (bits (with_place mask place))) rs n r lt before
+      (ap (keeps_exclusion (bits (with_place mask place))) (sym at) ∙ e.broken);
   members = e.members;
   is = slice_get-get_or rs n r lt ∙ ap Some (sym at ∙ e.is);
   pending = e.pending;

@@ -7,7 +7,8 @@ use Rattle.est_kernel.specs.declared.statement.InterfaceSignal.{InterfaceSignal}
 use Rattle.est_relations.specs.Keeping.{has_one_at_most}
 
 -- the first place for which the test is true is that of the first signal for whose place it is
-pub find_place : (p : ℕ → Bool) (xs : List InterfaceSignal) → option_map {T = InterfaceSignal} {U = ℕ} (λ s. s.index) (find (λ s. p s.index) xs) ≡ find p (map (λ s. s.index) xs)
+pub find_place : (p : ℕ → Bool) (xs : List InterfaceSignal)
+    → option_map {T = InterfaceSignal} {U = ℕ} (λ s. s.index) (find (λ s. p s.index) xs) ≡ find p (map (λ s. s.index) xs)
 find_place p [] = refl
 find_place p (x ∷ xs) = at_head (p x.index) _ _ (find_place p xs) where
   at_head : (b : Bool) (o : Option InterfaceSignal) (q : Option ℕ) → option_map {T = InterfaceSignal} {U = ℕ} (λ s. s.index) o ≡ q
@@ -106,16 +107,19 @@ one_where present ms h =
 pub found_is : (p : ℕ → Bool) (ms : List ℕ) (m : ℕ) → find p ms ≡ Some m → (list_any (nat_eq m) ms ≡ true) × (p m ≡ true)
 found_is p [] m h = cc
 found_is p (x ∷ xs) m h = at_head (p x) refl h (found_is p xs m) where
-  at_head : (b : Bool) → p x ≡ b → cond b (Some x) (find p xs) ≡ Some m → (find p xs ≡ Some m → (list_any (nat_eq m) xs ≡ true) × (p m ≡ true))
+  at_head : (b : Bool) → p x ≡ b → cond b (Some x) (find p xs) ≡ Some m
+      → (find p xs ≡ Some m → (list_any (nat_eq m) xs ≡ true) × (p m ≡ true))
       → ((nat_eq m x || list_any (nat_eq m) xs) ≡ true) × (p m ≡ true)
-  at_head true e h later = let same : x ≡ m = cc in (rw (← same) (or_first (nat_eq x x) (list_any (nat_eq x) xs) (eq-eqb x x refl)), rw (← same) e)
+  at_head true e h later = let same : x ≡ m = cc in
+      (rw (← same) (or_first (nat_eq x x) (list_any (nat_eq x) xs) (eq-eqb x x refl)), rw (← same) e)
   at_head false e h later = let rest = later h in (or_second (nat_eq m x) (list_any (nat_eq m) xs) rest.0, rest.1)
 
 -- where none is found, no member passes
 pub none_found : (p : ℕ → Bool) (ms : List ℕ) (m : ℕ) → find p ms ≡ None → list_any (nat_eq m) ms ≡ true → p m ≡ false
 none_found p [] m h k = absurd (false≢true k)
 none_found p (x ∷ xs) m h k = at_head (p x) refl h (none_found p xs m) where
-  at_head : (b : Bool) → p x ≡ b → cond b (Some x) (find p xs) ≡ None → (find p xs ≡ None → list_any (nat_eq m) xs ≡ true → p m ≡ false) → p m ≡ false
+  at_head : (b : Bool) → p x ≡ b → cond b (Some x) (find p xs) ≡ None
+      → (find p xs ≡ None → list_any (nat_eq m) xs ≡ true → p m ≡ false) → p m ≡ false
   at_head true e h later = cc
   at_head false e h later = elim (or_true (nat_eq m x) (list_any (nat_eq m) xs) k) [
     | inl s ↦ rw (nat_same m x s) e
@@ -123,7 +127,8 @@ none_found p (x ∷ xs) m h k = at_head (p x) refl h (none_found p xs m) where
   ]
 
 -- a signal that is no member leaves an exclusion as it is
-pub one_beside : (before after : ℕ → Bool) (ms : List ℕ) (s : ℕ) → ((n : ℕ) → after n ≡ (before n || nat_eq s n)) → list_any (nat_eq s) ms ≡ false
+pub one_beside : (before after : ℕ → Bool) (ms : List ℕ) (s : ℕ) → ((n : ℕ) → after n ≡ (before n || nat_eq s n))
+    → list_any (nat_eq s) ms ≡ false
     → has_one_at_most before ms ≡ true → has_one_at_most after ms ≡ true
 one_beside before after ms s is out h = one_where after ms (λ a b p q x y.
     one_means before ms h a b p q (stays a p x) (stays b q y)) where
@@ -134,7 +139,8 @@ one_beside before after ms s is out h = one_where after ms (λ a b p q x y.
       ]
 
 -- where no member is present, one may come
-pub one_alone : (before after : ℕ → Bool) (ms : List ℕ) (s : ℕ) → ((n : ℕ) → after n ≡ (before n || nat_eq s n)) → find before ms ≡ None
+pub one_alone : (before after : ℕ → Bool) (ms : List ℕ) (s : ℕ) → ((n : ℕ) → after n ≡ (before n || nat_eq s n))
+    → find before ms ≡ None
     → has_one_at_most after ms ≡ true
 one_alone before after ms s is none = one_where after ms (λ a b p q x y. sym (is_it a p x) ∙ is_it b q y) where
   is_it : (n : ℕ) → list_any (nat_eq n) ms ≡ true → after n ≡ true → s ≡ n
@@ -144,12 +150,14 @@ one_alone before after ms s is none = one_where after ms (λ a b p q x y. sym (i
   ]
 
 -- where a member is present, another may not come
-pub not_two : (before after : ℕ → Bool) (ms : List ℕ) (s m : ℕ) → ((n : ℕ) → after n ≡ (before n || nat_eq s n)) → before s ≡ false
+pub not_two : (before after : ℕ → Bool) (ms : List ℕ) (s m : ℕ) → ((n : ℕ) → after n ≡ (before n || nat_eq s n))
+    → before s ≡ false
     → list_any (nat_eq s) ms ≡ true → find before ms ≡ Some m → has_one_at_most after ms ≡ false
 not_two before after ms s m is new in_it found = elim (cases_Bool (has_one_at_most after ms)) [
   | inl t ↦
       let other = found_is before ms m found in
-      let same : s ≡ m = one_means after ms t s m in_it other.0 (is s ∙ or_second (before s) (nat_eq s s) (eq-eqb s s refl)) (is m ∙ or_first (before m) (nat_eq s m) other.1) in
+      let same : s ≡ m = one_means after ms t s m in_it other.0
+      (is s ∙ or_second (before s) (nat_eq s s) (eq-eqb s s refl)) (is m ∙ or_first (before m) (nat_eq s m) other.1) in
       absurd (false≢true (sym new ∙ rw same other.1))
   | inr f ↦ f
 ]

@@ -32,7 +32,8 @@ record FirstFailing {X : Type 0} (keep : X → Bool) (xs : List X) : Type 0 wher
 first_failing : {X : Type 0} (keep : X → Bool) (xs : List X) → list_all keep xs ≡ false → FirstFailing keep xs
 first_failing keep [] h = absurd (false≢true (sym h))
 first_failing keep (x ∷ xs) h = at_head (keep x) refl h (first_failing keep xs) where
-  at_head : (b : Bool) → keep x ≡ b → (b && list_all keep xs) ≡ false → (list_all keep xs ≡ false → FirstFailing keep xs) → FirstFailing keep (x ∷ xs)
+  at_head : (b : Bool) → keep x ≡ b → (b && list_all keep xs) ≡ false
+      → (list_all keep xs ≡ false → FirstFailing keep xs) → FirstFailing keep (x ∷ xs)
   at_head false e h later = record { place = 0; failing = x; within = omega arith; before = refl; there = refl; fails = e }
   at_head true e h later = let rest = later h in record {
     place = suc rest.place;
@@ -73,21 +74,26 @@ some_pending members mask place kept broken = found (find (bits mask) members) r
   found : (o : Option ℕ) → find (bits mask) members ≡ o → (m : ℕ) × (find (bits mask) members ≡ Some m)
   found (Some m) e = (m, e)
   found None e =
-      absurd (false≢true (sym broken ∙ one_alone (bits mask) (bits (with_place mask place)) members place (with_bits mask place) e))
+      absurd (false≢true (sym broken ∙ one_alone (bits mask) (bits (with_place mask place)) members place
+      (with_bits mask place) e))
 
 -- where no exclusion can be named, each is kept
-all_kept : (p : PendingInputs) (name : List ℕ) (place : ℕ) → KeepsExclusions p.interface p.relations p.mask → place_of p.interface name ≡ Some place
+all_kept : (p : PendingInputs) (name : List ℕ) (place : ℕ) → KeepsExclusions p.interface p.relations p.mask
+    → place_of p.interface name ≡ Some place
     → ((number : ℕ) (signal : List ℕ) → IsFirstExcluded p name number signal → ⊥)
     → list_all (keeps_exclusion (bits (with_place p.mask place))) p.relations ≡ true
 all_kept p name place k there none = elim (cases_Bool (list_all (keeps_exclusion (bits (with_place p.mask place))) p.relations)) [
   | inl t ↦ t
-  | inr f ↦ let first = first_failing (keeps_exclusion (bits (with_place p.mask place))) p.relations f in absurd (breaks first first.failing first.there first.fails)
+  | inr f ↦ let first = first_failing (keeps_exclusion (bits (with_place p.mask place))) p.relations f in
+      absurd (breaks first first.failing first.there first.fails)
 ] where
-  breaks : (first : FirstFailing (keeps_exclusion (bits (with_place p.mask place))) p.relations) (r : Relation) → slice_get p.relations first.place ≡ Some r
+  breaks : (first : FirstFailing (keeps_exclusion (bits (with_place p.mask place))) p.relations) (r : Relation)
+      → slice_get p.relations first.place ≡ Some r
       → keeps_exclusion (bits (with_place p.mask place)) r ≡ false → ⊥
   breaks first (Implication a b) at e = false≢true (sym e)
   breaks first (Exclusion members) at e =
-      let was : has_one_at_most (bits p.mask) members ≡ true = all_there (keeps_exclusion (bits p.mask)) p.relations first.place (Exclusion members) k.kept at in
+      let was : has_one_at_most (bits p.mask) members ≡ true =
+      all_there (keeps_exclusion (bits p.mask)) p.relations first.place (Exclusion members) k.kept at in
       let one = some_pending members p.mask place was e in
       let signal = k.inputs one.0 (found_is (bits p.mask) members one.0 one.1).1 in
       let d = declaration_at p.interface one.0 (input_within p.interface one.0 signal) in
@@ -98,8 +104,10 @@ all_kept p name place k there none = elim (cases_Bool (list_all (keeps_exclusion
         broken = record {
           index = first.place;
           numbered = refl;
-          first = first_at (keeps_exclusion (bits (with_place p.mask place))) p.relations first.place first.failing first.within first.before
-              (ap (keeps_exclusion (bits (with_place p.mask place))) (get_or_from_slice_get p.relations first.place first.failing first.failing first.there) ∙ first.fails);
+          first = first_at (keeps_exclusion
+              (bits (with_place p.mask place))) p.relations first.place first.failing first.within first.before
+              (ap (keeps_exclusion (bits (with_place p.mask place)))
+              (get_or_from_slice_get p.relations first.place first.failing first.failing first.there) ∙ first.fails);
           members = members;
           is = at;
           pending = one.1;
@@ -111,14 +119,16 @@ all_kept p name place k there none = elim (cases_Bool (list_all (keeps_exclusion
 pub offer_keeps : (before after : PendingInputs) (name : List ℕ) → KeepsExclusions before.interface before.relations before.mask
     → OfferAnswer before name (Ok (record {})) after → KeepsExclusions after.interface after.relations after.mask
 offer_keeps before after name k answer =
-    let all = all_passed (offer_rules before name) (λ refusal. (Ok (record {}) ≡ Err refusal) × (after ≡ before)) ((Ok (record {}) ≡ Ok (record {})) × Adds before name after)
+    let all = all_passed (offer_rules before name) (λ refusal. (Ok (record {}) ≡ Err refusal) × (after ≡ before))
+    ((Ok (record {}) ≡ Ok (record {})) × Adds before name after)
     (λ refusal h. no_fault (record {}) refusal h.0) answer in
     let adds = all.1.1 in
     let new : IsNewInput before.interface before.mask name adds.place = record {
       there = adds.there;
       input = input_there before.interface adds.place (place_within before.interface name adds.place adds.there)
           (λ o. all.0.1.0 (record { place = adds.place; there = adds.there; output = o }));
-      new = not_true (bits before.mask adds.place) (λ b. all.0.1.1.0 (record { place = adds.place; there = adds.there; pending = b }));
+      new = not_true (bits before.mask adds.place)
+          (λ b. all.0.1.1.0 (record { place = adds.place; there = adds.there; pending = b }));
     } in
     rw adds.added
     (kept_with before.interface before.relations before.mask adds.place name k new

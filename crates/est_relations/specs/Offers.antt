@@ -18,6 +18,10 @@ pub record PendingInputs : Type 0 where
   pub relations : List Relation
   pub mask : ℕ
 
+-- the pending inputs of this mask
+abbrev pub pending_inputs : List Declaration → List Relation → (mask : ℕ) → PendingInputs
+pending_inputs interface relations mask = record { interface = interface; relations = relations; mask = mask }
+
 -- the place in the interface of the signal of this name
 abbrev pub place_of : List Declaration → List ℕ → Option ℕ
 place_of interface name = position (is_named name) interface
@@ -55,8 +59,8 @@ pub record IsNameAt (interface : List Declaration) (place : ℕ) (name : List �
   pub there : slice_get interface place ≡ Some declaration
   pub named : name ≡ declaration.name
 
--- with the signal at this place, the relation of this number, counted from 1, is the first exclusion that would not hold, and this
--- is its first member in written order that is pending
+-- with the signal at this place, the relation of this number, counted from 1, is the first exclusion that would not
+-- hold, and this is its first member in written order that is pending
 pub record IsFirstBroken (relations : List Relation) (mask place number member : ℕ) : Type 0 where
   pub index : ℕ
   pub numbered : number ≡ index + 1

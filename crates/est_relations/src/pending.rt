@@ -1,10 +1,8 @@
 //! The inputs that are offered and not yet taken by an instant.
-ghost use Rattle.std.specs.Prelude.{◌≡◌, ◌<◌, ◌≤◌, length, List, true, false, MatchOption, MatchResult};
-ghost use Rattle.est_kernel.specs.Bits.{bits};
-ghost use Rattle.est_kernel.specs.Interfaces.{inputs_of};
+ghost use Rattle.std.specs.Prelude.{◌≡◌, MatchResult};
 ghost use Rattle.est_relations.specs.Inner.Names.{IsNewInput, RefusesName, JoinsAs, RefusesOffer};
 ghost use Rattle.est_relations.specs.Keeping.{AreOverInputs};
-ghost use Rattle.est_relations.specs.Offers.{KeepsExclusions, OfferAnswer, ReadyAnswer, with_place};
+ghost use Rattle.est_relations.specs.Offers.{KeepsExclusions, OfferAnswer, ReadyAnswer, pending_inputs, with_place};
 
 use crate::refusal::Refusal;
 use crate::relations::Relations;
@@ -90,7 +88,7 @@ impl<'a> Pending<'a> {
     /// `est_reduce` says so of its own.
     pub fn new(interface: &'a Interface, relations: &'a Relations) -> Pending<'a>
         requires { AreOverInputs interface.now relations.now }
-        ensures { result ≡ record { interface = interface.now; relations = relations.now; mask = 0 } }
+        ensures { result ≡ pending_inputs interface.now relations.now 0 }
     {
         Pending {
             interface,
@@ -102,7 +100,7 @@ impl<'a> Pending<'a> {
     /// These inputs are pending: for an owner that keeps the mask alone, as `inputs` gave it.
     pub fn resume(interface: &'a Interface, relations: &'a Relations, inputs: u64) -> Pending<'a>
         requires { KeepsExclusions interface.now relations.now inputs }
-        ensures { result ≡ record { interface = interface.now; relations = relations.now; mask = inputs } }
+        ensures { result ≡ pending_inputs interface.now relations.now inputs }
     {
         Pending {
             interface,
@@ -119,8 +117,9 @@ impl<'a> Pending<'a> {
         self.inputs
     }
 
-    /// Makes the input of this name pending, where that keeps each exclusion. It is refused, and nothing changes, by the first of
-    /// these that holds: no signal has the name, it is an output's, its signal is pending already, or an exclusion would not hold.
+    /// Makes the input of this name pending, where that keeps each exclusion. It is refused, and nothing changes, by
+    /// the first of these that holds: no signal has the name, it is an output's, its signal is pending already, or an
+    /// exclusion would not hold.
     pub fn offer(&mut self, name: &Identifier) -> Result<(), Refusal>
         ensures { OfferAnswer self.old name.now result self.new }
     {
@@ -149,7 +148,7 @@ impl<'a> Pending<'a> {
 
     /// Takes all inputs away.
     pub fn clear(&mut self)
-        ensures { self.new ≡ record { interface = self.old.interface; relations = self.old.relations; mask = 0 } }
+        ensures { self.new ≡ pending_inputs self.old.interface self.old.relations 0 }
     {
         self.inputs = 0;
     }

@@ -20,11 +20,16 @@ first_verdict false true = refl
 first_verdict false false = refl
 
 -- before the first round
-pub first_known_is : (j : JudgedSignals) (i p q : ℕ) → ((n : ℕ) → bits p n ≡ (bits i n && not (bits j.signals n))) → ((n : ℕ) → bits q n ≡ (bits j.signals n || bits i n))
-    → env_of (record { present = record { interface = p; local = 0 }; possible = record { interface = q; local = 0 } }) ≡ first_env (judged_by j) (bits i)
+pub first_known_is : (j : JudgedSignals) (i p q : ℕ) → ((n : ℕ) → bits p n ≡ (bits i n && not (bits j.signals n)))
+    → ((n : ℕ) → bits q n ≡ (bits j.signals n || bits i n))
+    → env_of (record {
+      present = record { interface = p; local = 0 };
+      possible = record { interface = q; local = 0 };
+    }) ≡ first_env (judged_by j) (bits i)
 unfolding env_of set_of first_env
 first_known_is j i p q f g = fun_ext (elim [
-  | outer n ↦ ap (λ x. meaning.verdict x (bits q n)) (f n) ∙ (ap (λ x. meaning.verdict (bits i n && not (bits j.signals n)) x) (g n) ∙ first_verdict (bits j.signals n) (bits i n))
+  | outer n ↦ ap (λ x. meaning.verdict x (bits q n)) (f n)
+      ∙ (ap (λ x. meaning.verdict (bits i n && not (bits j.signals n)) x) (g n) ∙ first_verdict (bits j.signals n) (bits i n))
   | inner n ↦ ap (λ x. meaning.verdict x (bits 0 n)) (bits_zero n) ∙ ap (λ x. meaning.verdict false x) (bits_zero n)
 ])
 
@@ -39,7 +44,8 @@ chosen false false true = refl
 chosen false false false = refl
 
 -- a mask of which some places are judged again
-pub judged_again_is : (o before now kept found : ℕ) (all : ℕ) → ((n : ℕ) → bits kept n ≡ (bits before n && not (bits o n))) → ((n : ℕ) → bits found n ≡ (bits o n && bits now n))
+pub judged_again_is : (o before now kept found : ℕ) (all : ℕ)
+    → ((n : ℕ) → bits kept n ≡ (bits before n && not (bits o n))) → ((n : ℕ) → bits found n ≡ (bits o n && bits now n))
     → ((n : ℕ) → bits all n ≡ (bits kept n || bits found n)) → (n : ℕ) → bits all n ≡ cond (bits o n) (bits now n) (bits before n)
 judged_again_is o before now kept found all fk ff e n = e n ∙ rw (fk n, ff n) (chosen (bits o n) (bits before n) (bits now n))
 
@@ -52,7 +58,10 @@ pub next_known_is : (j : JudgedSignals) (t : Term) (e : meaning.Env) (ms cs p q 
     → e ≡ env_of (record { present = p; possible = q }) → set_of ms ≡ (must t e).signals → set_of cs ≡ (can t sure e).signals
     → ((n : ℕ) → bits p' n ≡ cond (bits j.signals n) (bits ms.interface n) (bits p.interface n))
     → ((n : ℕ) → bits q' n ≡ cond (bits j.signals n) (bits cs.interface n) (bits q.interface n))
-    → env_of (record { present = record { interface = p'; local = p.local }; possible = record { interface = q'; local = q.local } }) ≡ round (judged_by j) t e
+    → env_of (record {
+      present = record { interface = p'; local = p.local };
+      possible = record { interface = q'; local = q.local };
+    }) ≡ round (judged_by j) t e
 unfolding env_of set_of round
 next_known_is j t e ms cs p q p' q' ee em ec fp fq = fun_ext (elim [
   | outer n ↦
@@ -72,7 +81,8 @@ left_open false false true = refl
 left_open false false false = refl
 
 -- what is left undecided
-pub undecided_is : (e : Env) (o u : ℕ) → ((n : ℕ) → bits u n ≡ ((bits o n && bits e.possible.interface n) && not (bits e.present.interface n)))
+pub undecided_is : (e : Env) (o u : ℕ)
+    → ((n : ℕ) → bits u n ≡ ((bits o n && bits e.possible.interface n) && not (bits e.present.interface n)))
     → (n : ℕ) → bits u n ≡ (bits o n && meaning.is_unknown (env_of e (outer n)))
 unfolding env_of set_of
 undecided_is e o u f n = f n ∙ left_open (bits o n) (bits e.present.interface n) (bits e.possible.interface n)

@@ -51,7 +51,10 @@ pub set_env : (p q p' q' : SignalSet) (k : ℕ) (b c : Bool)
     → set_of p' ≡ with_member (set_of p) k b → set_of q' ≡ with_member (set_of q) k c
     → env_of (record { present = p'; possible = q' }) ≡ with_local (env_of (record { present = p; possible = q })) k (verdict b c)
 unfolding env_of with_local with_member
-set_env p q p' q' k b c e f = fun_ext (λ t. ap (λ g. verdict (g t) (set_of q' t)) e ∙ (ap (λ g. verdict (cond (same_name (inner k) t) b (set_of p t)) (g t)) f ∙ go (same_name (inner k) t) b c (set_of p t) (set_of q t)))
+set_env p q p' q' k b c e f =
+    fun_ext (λ t. ap (λ g. verdict (g t) (set_of q' t)) e
+    ∙ (ap (λ g. verdict (cond (same_name (inner k) t) b (set_of p t)) (g t)) f
+    ∙ go (same_name (inner k) t) b c (set_of p t) (set_of q t)))
   where
     go : (t b c x y : Bool) → verdict (cond t b x) (cond t c y) ≡ cond t (verdict b c) (verdict x y)
     go true b c x y = refl

@@ -21,7 +21,8 @@ judged_of k = judged_outputs k.interface
 abbrev pub AreInputs : Kernel → Inputs → Type 0
 AreInputs k i = IsIn (bits i.signals) (inputs_of k.interface)
 
--- the outcome is the reaction of the term that the state stands for: its outputs are those emitted, and its next state stands for the next term
+-- the outcome is the reaction of the term that the state stands for: its outputs are those emitted, and its next state
+-- stands for the next term
 pub record IsReaction (k : Kernel) (x : State) (i : Inputs) (o : Outcome) : Type 0 where
   pub reacts : Reacts (judged_of k) (bits i.signals) (state_term k.root x) (bits o.outputs) (state_term k.root o.next)
   pub next : IsState k.root o.next

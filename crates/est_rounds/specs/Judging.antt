@@ -1,10 +1,17 @@
 -- What is judged of a statement that goes on from its pauses (this project's own form).
 use Rattle.std.specs.Prelude.{◌≡◌, ℕ, Bool, true, false, Option, Some, None}
-use Rattle.est_meaning.specs.MustCan.{must, can, sure, maybe}
+use Rattle.est_kernel.specs.CodeViews.{codes_of}
+use Rattle.est_kernel.specs.Term.{Term}
+use Rattle.est_kernel.specs.View.{term_of}
+use Rattle.est_meaning.specs.MustCan as meaning
+use Rattle.est_meaning.specs.MustCan.{must, can, sure, maybe, next_mode, must_then, can_then}
 use Rattle.est_meaning.specs.States.{is_live, term_at}
 use Rattle.est_meaning.specs.Status.{Env}
+use Rattle.est_kernel.specs.Pauses.{pauses_of}
+use Rattle.est_kernel.specs.declared.pause_set.PauseSet.{PauseSet}
 use Rattle.est_kernel.specs.declared.statement.Statement.{Statement}
-use Rattle.est_rounds.specs.Views.{acts_of}
+use Rattle.est_rounds.specs.Views.{acts_of, env_of}
+use Rattle.est_rounds.specs.declared.signal_set.Env.{Env as Known}
 use Rattle.est_rounds.specs.declared.acts.Acts.{Acts}
 use Rattle.est_rounds.specs.declared.acts.Judgement.{Judgement}
 
@@ -28,3 +35,27 @@ pub record MustAndCanDo (s : Statement) (pauses : ℕ → Bool) (e : Env) (judge
 abbrev pub IsJudged : Option Judgement → Statement → (ℕ → Bool) → Env → Type 0
 IsJudged (Some judged) s pauses e = MustAndCanDo s pauses e judged
 IsJudged None s pauses e = is_live s pauses ≡ false
+
+-- the same, of the set of pauses and of what is known: in doubt, and surely
+abbrev pub JudgesInDoubt : Option Acts → Statement → PauseSet → Known → Type 0
+JudgesInDoubt answer s pauses e = IsJudgedInDoubt answer s (pauses_of pauses) (env_of e)
+
+abbrev pub Judges : Option Judgement → Statement → PauseSet → Known → Type 0
+Judges answer s pauses e = IsJudged answer s (pauses_of pauses) (env_of e)
+
+-- what a term must do, what it can do, and what it can do in doubt whether it is reached, by what is known
+abbrev pub must_by : Known → Term → meaning.Acts
+must_by e t = must t (env_of e)
+
+abbrev pub can_by : Known → Term → meaning.Acts
+can_by e t = can t sure (env_of e)
+
+abbrev pub may_by : Known → Term → meaning.Acts
+may_by e t = can t maybe (env_of e)
+
+-- what a first part and a statement that follows it must do, and can do, by what is judged of the first
+abbrev pub must_follow : Judgement → Statement → Known → meaning.Acts
+must_follow first q e = must_then (acts_of first.must) (must (term_of q) (env_of e))
+
+abbrev pub can_follow : Judgement → Statement → Known → meaning.Acts
+can_follow first q e = can_then (acts_of first.can) (can (term_of q) (next_mode sure (codes_of first.must.codes 0)) (env_of e))

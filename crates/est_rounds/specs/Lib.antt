@@ -1,4 +1,5 @@
 pub mod Contract
 pub mod Judging
+pub mod Learning
 pub mod Steps
 pub mod Views

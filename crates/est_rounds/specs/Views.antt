@@ -1,7 +1,7 @@
 -- What the values of the code stand for (this project's own form).
 use Rattle.std.specs.Prelude.{ℕ, Bool, cond}
 use Rattle.est_kernel.specs.Bits.{bits}
-use Rattle.est_kernel.specs.Codes.{codes_of}
+use Rattle.est_kernel.specs.CodeViews.{codes_of}
 use Rattle.est_kernel.specs.Term.{outer, inner}
 use Rattle.est_meaning.specs.Signals.{Signals, same_name}
 use Rattle.est_meaning.specs.Status as meaning

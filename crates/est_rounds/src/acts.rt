@@ -1,7 +1,7 @@
 //! What a statement must do and what it can do, as sets of signals and of completion codes.
 
 ghost use Rattle.std.specs.Prelude.{◌≡◌, ◌<◌, IsTrue, false};
-ghost use Rattle.est_kernel.specs.Codes.{code_of, codes_of};
+ghost use Rattle.est_kernel.specs.CodeViews.{code_of, codes_of};
 ghost use Rattle.est_kernel.specs.Term.{inner};
 ghost use Rattle.est_meaning.specs.MustCan.{just_code, no_acts, either, together, acts_out_of_trap, hide, local_status, may_stay, must_then, can_then, sure};
 ghost use Rattle.est_meaning.specs.Status.{verdict};

@@ -5,8 +5,7 @@ ghost use Rattle.est_kernel.specs.Masks.{FitsMasks, HasTestBit};
 ghost use Rattle.est_kernel.specs.Pauses.{pauses_of};
 ghost use Rattle.est_kernel.specs.declared.statement.Statement.TheVariants.{Suspend', Seq', Loop', Par', Trap', Local'};
 ghost use Rattle.est_meaning.specs.States.{is_live};
-ghost use Rattle.est_rounds.specs.Judging.{IsJudged, IsJudgedInDoubt};
-ghost use Rattle.est_rounds.specs.Views.{env_of};
+ghost use Rattle.est_rounds.specs.Judging.{Judges, JudgesInDoubt};
 
 use crate::acts::{Acts, Judgement};
 use crate::signal_set::{self, Env};
@@ -39,7 +38,7 @@ pub fn has_live(s: &Statement, pauses: &PauseSet) -> bool
 #[cycle(doubt)]
 pub fn resume_maybe(s: &Statement, pauses: &PauseSet, env: &Env) -> Option<Acts>
     requires fits { FitsMasks s.now }
-    ensures { IsJudgedInDoubt result s.now (pauses_of pauses.now) (env_of env.now) }
+    ensures { JudgesInDoubt result s.now pauses.now env.now }
 {
     match s {
         Statement::Nothing => None,
@@ -69,7 +68,7 @@ pub fn resume_maybe(s: &Statement, pauses: &PauseSet, env: &Env) -> Option<Acts>
 #[cycle(doubt)]
 fn suspend_maybe(t: Test, p: &Statement, pauses: &PauseSet, env: &Env) -> Option<Acts>
     requires fits { HasTestBit t × FitsMasks p.now }
-    ensures { (x : _) → IsJudgedInDoubt result (Suspend' t x p.now) (pauses_of pauses.now) (env_of env.now) }
+    ensures { (x : _) → JudgesInDoubt result (Suspend' t x p.now) pauses.now env.now }
 {
     match signal_set::answer_to(env, t) {
         Status::Present => {
@@ -88,7 +87,7 @@ fn suspend_maybe(t: Test, p: &Statement, pauses: &PauseSet, env: &Env) -> Option
 #[cycle(doubt)]
 fn seq_maybe(p: &Statement, q: &Statement, pauses: &PauseSet, env: &Env) -> Option<Acts>
     requires fits { FitsMasks p.now × FitsMasks q.now }
-    ensures { (x y : _) → IsJudgedInDoubt result (Seq' x p.now y q.now) (pauses_of pauses.now) (env_of env.now) }
+    ensures { (x y : _) → JudgesInDoubt result (Seq' x p.now y q.now) pauses.now env.now }
 {
     match resume_maybe(p, pauses, env) {
         Some(first) => Some(then_start_maybe(first, q, env)),
@@ -100,7 +99,7 @@ fn seq_maybe(p: &Statement, q: &Statement, pauses: &PauseSet, env: &Env) -> Opti
 #[cycle(doubt)]
 fn loop_maybe(p: &Statement, pauses: &PauseSet, env: &Env) -> Option<Acts>
     requires fits { FitsMasks p.now }
-    ensures { (x : _) → IsJudgedInDoubt result (Loop' x p.now) (pauses_of pauses.now) (env_of env.now) }
+    ensures { (x : _) → JudgesInDoubt result (Loop' x p.now) pauses.now env.now }
 {
     let first = resume_maybe(p, pauses, env)?;
     Some(then_start_maybe(first, p, env))
@@ -110,7 +109,7 @@ fn loop_maybe(p: &Statement, pauses: &PauseSet, env: &Env) -> Option<Acts>
 #[cycle(doubt)]
 fn par_maybe(p: &Statement, q: &Statement, pauses: &PauseSet, env: &Env) -> Option<Acts>
     requires fits { FitsMasks p.now × FitsMasks q.now }
-    ensures { (x y : _) → IsJudgedInDoubt result (Par' x p.now y q.now) (pauses_of pauses.now) (env_of env.now) }
+    ensures { (x y : _) → JudgesInDoubt result (Par' x p.now y q.now) pauses.now env.now }
 {
     match (resume_maybe(p, pauses, env), resume_maybe(q, pauses, env)) {
         (None, None) => None,
@@ -124,7 +123,7 @@ fn par_maybe(p: &Statement, q: &Statement, pauses: &PauseSet, env: &Env) -> Opti
 #[cycle(doubt)]
 fn trap_maybe(p: &Statement, pauses: &PauseSet, env: &Env) -> Option<Acts>
     requires fits { FitsMasks p.now }
-    ensures { (x : _) → IsJudgedInDoubt result (Trap' x p.now) (pauses_of pauses.now) (env_of env.now) }
+    ensures { (x : _) → JudgesInDoubt result (Trap' x p.now) pauses.now env.now }
 {
     Some(resume_maybe(p, pauses, env)?.out_of_trap())
 }
@@ -133,7 +132,7 @@ fn trap_maybe(p: &Statement, pauses: &PauseSet, env: &Env) -> Option<Acts>
 #[cycle(doubt)]
 fn local_maybe(s: LocalSignal, p: &Statement, pauses: &PauseSet, env: &Env) -> Option<Acts>
     requires fits { (s.index < 64) × FitsMasks p.now }
-    ensures { (x : _) → IsJudgedInDoubt result (Local' s x p.now) (pauses_of pauses.now) (env_of env.now) }
+    ensures { (x : _) → JudgesInDoubt result (Local' s x p.now) pauses.now env.now }
 {
     let open = signal_set::set_local(env, s, Status::Unknown);
     let first = resume_maybe(p, pauses, &open)?;
@@ -145,7 +144,7 @@ fn local_maybe(s: LocalSignal, p: &Statement, pauses: &PauseSet, env: &Env) -> O
 #[cycle(sure)]
 pub fn resume_sure(s: &Statement, pauses: &PauseSet, env: &Env) -> Option<Judgement>
     requires fits { FitsMasks s.now }
-    ensures { IsJudged result s.now (pauses_of pauses.now) (env_of env.now) }
+    ensures { Judges result s.now pauses.now env.now }
 {
     match s {
         Statement::Nothing => None,
@@ -175,7 +174,7 @@ pub fn resume_sure(s: &Statement, pauses: &PauseSet, env: &Env) -> Option<Judgem
 #[cycle(sure)]
 fn suspend_sure(t: Test, p: &Statement, pauses: &PauseSet, env: &Env) -> Option<Judgement>
     requires fits { HasTestBit t × FitsMasks p.now }
-    ensures { (x : _) → IsJudged result (Suspend' t x p.now) (pauses_of pauses.now) (env_of env.now) }
+    ensures { (x : _) → Judges result (Suspend' t x p.now) pauses.now env.now }
 {
     match signal_set::answer_to(env, t) {
         Status::Present => {
@@ -200,7 +199,7 @@ fn suspend_sure(t: Test, p: &Statement, pauses: &PauseSet, env: &Env) -> Option<
 #[cycle(sure)]
 fn seq_sure(p: &Statement, q: &Statement, pauses: &PauseSet, env: &Env) -> Option<Judgement>
     requires fits { FitsMasks p.now × FitsMasks q.now }
-    ensures { (x y : _) → IsJudged result (Seq' x p.now y q.now) (pauses_of pauses.now) (env_of env.now) }
+    ensures { (x y : _) → Judges result (Seq' x p.now y q.now) pauses.now env.now }
 {
     match resume_sure(p, pauses, env) {
         Some(first) => Some(then_start(first, q, env)),
@@ -212,7 +211,7 @@ fn seq_sure(p: &Statement, q: &Statement, pauses: &PauseSet, env: &Env) -> Optio
 #[cycle(sure)]
 fn loop_sure(p: &Statement, pauses: &PauseSet, env: &Env) -> Option<Judgement>
     requires fits { FitsMasks p.now }
-    ensures { (x : _) → IsJudged result (Loop' x p.now) (pauses_of pauses.now) (env_of env.now) }
+    ensures { (x : _) → Judges result (Loop' x p.now) pauses.now env.now }
 {
     let first = resume_sure(p, pauses, env)?;
     Some(then_start(first, p, env))
@@ -222,7 +221,7 @@ fn loop_sure(p: &Statement, pauses: &PauseSet, env: &Env) -> Option<Judgement>
 #[cycle(sure)]
 fn par_sure(p: &Statement, q: &Statement, pauses: &PauseSet, env: &Env) -> Option<Judgement>
     requires fits { FitsMasks p.now × FitsMasks q.now }
-    ensures { (x y : _) → IsJudged result (Par' x p.now y q.now) (pauses_of pauses.now) (env_of env.now) }
+    ensures { (x y : _) → Judges result (Par' x p.now y q.now) pauses.now env.now }
 {
     match (resume_sure(p, pauses, env), resume_sure(q, pauses, env)) {
         (None, None) => None,
@@ -240,7 +239,7 @@ fn par_sure(p: &Statement, q: &Statement, pauses: &PauseSet, env: &Env) -> Optio
 #[cycle(sure)]
 fn trap_sure(p: &Statement, pauses: &PauseSet, env: &Env) -> Option<Judgement>
     requires fits { FitsMasks p.now }
-    ensures { (x : _) → IsJudged result (Trap' x p.now) (pauses_of pauses.now) (env_of env.now) }
+    ensures { (x : _) → Judges result (Trap' x p.now) pauses.now env.now }
 {
     Some(resume_sure(p, pauses, env)?.out_of_trap())
 }
@@ -249,7 +248,7 @@ fn trap_sure(p: &Statement, pauses: &PauseSet, env: &Env) -> Option<Judgement>
 #[cycle(sure)]
 fn local_sure(s: LocalSignal, p: &Statement, pauses: &PauseSet, env: &Env) -> Option<Judgement>
     requires fits { (s.index < 64) × FitsMasks p.now }
-    ensures { (x : _) → IsJudged result (Local' s x p.now) (pauses_of pauses.now) (env_of env.now) }
+    ensures { (x : _) → Judges result (Local' s x p.now) pauses.now env.now }
 {
     let open = signal_set::set_local(env, s, Status::Unknown);
     let first = resume_sure(p, pauses, &open)?;

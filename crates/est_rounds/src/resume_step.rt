@@ -1,13 +1,12 @@
 //! The step of a statement that goes on from its pauses.
 
-ghost use Rattle.std.specs.Prelude.{◌≡◌, ◌<◌, ◌||◌, ◌&&◌, ℕ, true, false, cond};
+ghost use Rattle.std.specs.Prelude.{◌<◌, ◌||◌};
 ghost use Rattle.est_kernel.specs.Masks.{FitsMasks, HasTestBit};
 ghost use Rattle.est_kernel.specs.PauseNumbers.{has_pause, HasDistinctPauses, AreApart};
-ghost use Rattle.est_meaning.specs.States.{is_live, IsExclusive};
+ghost use Rattle.est_meaning.specs.States.{IsExclusive};
 ghost use Rattle.est_kernel.specs.Pauses.{pauses_of};
 ghost use Rattle.est_kernel.specs.declared.statement.Statement.TheVariants.{Suspend', Seq', Loop', Par', Trap', Local'};
-ghost use Rattle.est_rounds.specs.Views.{env_of};
-ghost use Rattle.est_rounds.specs.Steps.{IsResumed};
+ghost use Rattle.est_rounds.specs.Steps.{AreClear, AreExclusive, GoesOn, IsClear, KeepsOthers, TakeTurns, TakesOver};
 
 use crate::resume::{has_live, resume_sure};
 use crate::signal_set::{self, Env};
@@ -30,7 +29,7 @@ pub enum Resumed {
 
 /// Takes the pauses of a statement over from one set into another.
 fn keep(s: &Statement, pauses: &PauseSet, next: &mut PauseSet)
-    ensures { (i : ℕ) → pauses_of next.new i ≡ cond (has_pause s.now i) (pauses_of pauses.now i) (pauses_of next.old i) }
+    ensures { TakesOver s.now pauses.now next.old next.new }
 {
     match s {
         Statement::Nothing => {}
@@ -68,9 +67,9 @@ pub fn resume_step(s: &Statement, pauses: &PauseSet, env: &Env, next: &mut Pause
     requires fits { FitsMasks s.now }
     requires distinct { HasDistinctPauses s.now }
     requires exclusive { IsExclusive s.now (pauses_of pauses.now) }
-    requires clear { is_live s.now (pauses_of next.old) ≡ false }
-    ensures resumed { IsResumed result s.now (pauses_of pauses.now) (env_of env.now) (pauses_of next.new) }
-    ensures others { (i : ℕ) → has_pause s.now i ≡ false → pauses_of next.new i ≡ pauses_of next.old i }
+    requires clear { IsClear s.now next.old }
+    ensures resumed { GoesOn result s.now pauses.now env.now next.new }
+    ensures others { KeepsOthers (has_pause s.now) next.old next.new }
 {
     match s {
         Statement::Nothing => Resumed::Asleep,
@@ -109,9 +108,9 @@ fn resume_suspend(
     requires fits { HasTestBit t × FitsMasks p.now }
     requires distinct { HasDistinctPauses p.now }
     requires exclusive { IsExclusive p.now (pauses_of pauses.now) }
-    requires clear { is_live p.now (pauses_of next.old) ≡ false }
-    ensures resumed { (x : _) → IsResumed result (Suspend' t x p.now) (pauses_of pauses.now) (env_of env.now) (pauses_of next.new) }
-    ensures others { (i : ℕ) → has_pause p.now i ≡ false → pauses_of next.new i ≡ pauses_of next.old i }
+    requires clear { IsClear p.now next.old }
+    ensures resumed { (x : _) → GoesOn result (Suspend' t x p.now) pauses.now env.now next.new }
+    ensures others { KeepsOthers (has_pause p.now) next.old next.new }
 {
     match signal_set::answer_to(env, t) {
         Status::Absent => resume_step(p, pauses, env, next),
@@ -144,10 +143,10 @@ fn resume_seq(
 ) -> Resumed
     requires fits { FitsMasks p.now × FitsMasks q.now }
     requires distinct { HasDistinctPauses p.now × HasDistinctPauses q.now × AreApart p.now q.now }
-    requires exclusive { IsExclusive p.now (pauses_of pauses.now) × IsExclusive q.now (pauses_of pauses.now) × ((is_live p.now (pauses_of pauses.now) && is_live q.now (pauses_of pauses.now)) ≡ false) }
-    requires clear { (is_live p.now (pauses_of next.old) || is_live q.now (pauses_of next.old)) ≡ false }
-    ensures resumed { (x y : _) → IsResumed result (Seq' x p.now y q.now) (pauses_of pauses.now) (env_of env.now) (pauses_of next.new) }
-    ensures others { (i : ℕ) → (has_pause p.now i || has_pause q.now i) ≡ false → pauses_of next.new i ≡ pauses_of next.old i }
+    requires exclusive { TakeTurns p.now q.now pauses.now }
+    requires clear { AreClear p.now q.now next.old }
+    ensures resumed { (x y : _) → GoesOn result (Seq' x p.now y q.now) pauses.now env.now next.new }
+    ensures others { KeepsOthers (λ i. has_pause p.now i || has_pause q.now i) next.old next.new }
 {
     match resume_step(p, pauses, env, next) {
         Resumed::Asleep => resume_step(q, pauses, env, next),
@@ -170,9 +169,9 @@ fn resume_loop(p: &Statement, pauses: &PauseSet, env: &Env, next: &mut PauseSet)
     requires fits { FitsMasks p.now }
     requires distinct { HasDistinctPauses p.now }
     requires exclusive { IsExclusive p.now (pauses_of pauses.now) }
-    requires clear { is_live p.now (pauses_of next.old) ≡ false }
-    ensures resumed { (x : _) → IsResumed result (Loop' x p.now) (pauses_of pauses.now) (env_of env.now) (pauses_of next.new) }
-    ensures others { (i : ℕ) → has_pause p.now i ≡ false → pauses_of next.new i ≡ pauses_of next.old i }
+    requires clear { IsClear p.now next.old }
+    ensures resumed { (x : _) → GoesOn result (Loop' x p.now) pauses.now env.now next.new }
+    ensures others { KeepsOthers (has_pause p.now) next.old next.new }
 {
     match resume_step(p, pauses, env, next) {
         Resumed::Asleep => Resumed::Asleep,
@@ -205,10 +204,10 @@ fn resume_par(
 ) -> Resumed
     requires fits { FitsMasks p.now × FitsMasks q.now }
     requires distinct { HasDistinctPauses p.now × HasDistinctPauses q.now × AreApart p.now q.now }
-    requires exclusive { IsExclusive p.now (pauses_of pauses.now) × IsExclusive q.now (pauses_of pauses.now) }
-    requires clear { (is_live p.now (pauses_of next.old) || is_live q.now (pauses_of next.old)) ≡ false }
-    ensures resumed { (x y : _) → IsResumed result (Par' x p.now y q.now) (pauses_of pauses.now) (env_of env.now) (pauses_of next.new) }
-    ensures others { (i : ℕ) → (has_pause p.now i || has_pause q.now i) ≡ false → pauses_of next.new i ≡ pauses_of next.old i }
+    requires exclusive { AreExclusive p.now q.now pauses.now }
+    requires clear { AreClear p.now q.now next.old }
+    ensures resumed { (x y : _) → GoesOn result (Par' x p.now y q.now) pauses.now env.now next.new }
+    ensures others { KeepsOthers (λ i. has_pause p.now i || has_pause q.now i) next.old next.new }
 {
     match resume_step(p, pauses, env, next) {
         Resumed::Stuck => Resumed::Stuck,
@@ -237,9 +236,9 @@ fn resume_trap(p: &Statement, pauses: &PauseSet, env: &Env, next: &mut PauseSet)
     requires fits { FitsMasks p.now }
     requires distinct { HasDistinctPauses p.now }
     requires exclusive { IsExclusive p.now (pauses_of pauses.now) }
-    requires clear { is_live p.now (pauses_of next.old) ≡ false }
-    ensures resumed { (x : _) → IsResumed result (Trap' x p.now) (pauses_of pauses.now) (env_of env.now) (pauses_of next.new) }
-    ensures others { (i : ℕ) → has_pause p.now i ≡ false → pauses_of next.new i ≡ pauses_of next.old i }
+    requires clear { IsClear p.now next.old }
+    ensures resumed { (x : _) → GoesOn result (Trap' x p.now) pauses.now env.now next.new }
+    ensures others { KeepsOthers (has_pause p.now) next.old next.new }
 {
     match resume_step(p, pauses, env, next) {
         Resumed::Asleep => Resumed::Asleep,
@@ -260,9 +259,9 @@ fn resume_local(
     requires fits { (s.index < 64) × FitsMasks p.now }
     requires distinct { HasDistinctPauses p.now }
     requires exclusive { IsExclusive p.now (pauses_of pauses.now) }
-    requires clear { is_live p.now (pauses_of next.old) ≡ false }
-    ensures resumed { (x : _) → IsResumed result (Local' s x p.now) (pauses_of pauses.now) (env_of env.now) (pauses_of next.new) }
-    ensures others { (i : ℕ) → has_pause p.now i ≡ false → pauses_of next.new i ≡ pauses_of next.old i }
+    requires clear { IsClear p.now next.old }
+    ensures resumed { (x : _) → GoesOn result (Local' s x p.now) pauses.now env.now next.new }
+    ensures others { KeepsOthers (has_pause p.now) next.old next.new }
 {
     let open = signal_set::set_local(env, s, Status::Unknown);
     let first = match resume_sure(p, pauses, &open) {

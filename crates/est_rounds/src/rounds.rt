@@ -1,18 +1,16 @@
 //! Reactions by rounds over the outputs.
 
-ghost use Rattle.std.specs.Prelude.{◌≡◌, ◌≤◌, length, IfSome, IfNone, ℕ, false, not, cond, ◌&&◌};
+ghost use Rattle.std.specs.Prelude.{◌≡◌, IfSome, IfNone, ℕ, cond};
 ghost use Rattle.est_kernel.specs.Bits.{bits};
-ghost use Rattle.est_kernel.specs.Codes.{code_of};
-ghost use Rattle.est_kernel.specs.Pauses.{pauses_of};
 ghost use Rattle.est_kernel.specs.PauseNumbers.{has_pause};
 ghost use Rattle.est_kernel.specs.declared.kernel.Kernel.{Kernel as KernelValue};
-ghost use Rattle.est_meaning.specs.MustCan.{must, can, sure};
-ghost use Rattle.est_meaning.specs.Rounds.{first_env, round, how_many, last_env};
-ghost use Rattle.est_meaning.specs.Rules.{HasNoRule};
-ghost use Rattle.est_meaning.specs.States.{is_live, IsState, state_term};
-ghost use Rattle.est_meaning.specs.Steps.{StepsTo};
+ghost use Rattle.est_meaning.specs.Rounds.{first_env, how_many};
+ghost use Rattle.est_meaning.specs.States.{IsState};
 ghost use Rattle.est_rounds.specs.Contract.{judged_of};
-ghost use Rattle.est_rounds.specs.Views.{set_of, env_of, acts_of, judged_by};
+ghost use Rattle.est_rounds.specs.Views.{env_of, acts_of, judged_by};
+ghost use Rattle.est_rounds.specs.Judging.{can_by, must_by};
+ghost use Rattle.est_rounds.specs.Learning.{IsKernelStep, IsLastRound, IsRound, is_left_open, term_left};
+ghost use Rattle.est_rounds.specs.Steps.{IsClear, IsStuckBy, KeepsOthers};
 
 use crate::acts::{Acts, Judgement};
 use crate::engine::Engine;
@@ -72,8 +70,8 @@ fn first_known(judged: JudgedSignals, inputs: u64) -> Env
 #[tactic(auto, using(est_kernel::proofs::FitsMasks::fits_within_limits))]
 fn judge(kernel: &Kernel, state: &State, env: &Env) -> Judgement
     requires { IsState kernel.now.root state.now }
-    ensures must { acts_of result.must ≡ must (state_term kernel.now.root state.now) (env_of env.now) }
-    ensures can { acts_of result.can ≡ can (state_term kernel.now.root state.now) sure (env_of env.now) }
+    ensures must { acts_of result.must ≡ must_by env.now (term_left kernel.now state.now) }
+    ensures can { acts_of result.can ≡ can_by env.now (term_left kernel.now state.now) }
 {
     match state {
         State::Fresh => start_sure(kernel.root(), env),
@@ -98,7 +96,7 @@ fn judged_again(judged: JudgedSignals, before: u64, now: u64) -> u64
 /// What is known after one more round.
 fn next_known(kernel: &Kernel, state: &State, judged: JudgedSignals, env: &Env) -> Env
     requires { IsState kernel.now.root state.now }
-    ensures { env_of result ≡ round (judged_by judged) (state_term kernel.now.root state.now) (env_of env.now) }
+    ensures { IsRound kernel.now state.now judged env.now result }
 {
     let acts = judge(kernel, state, env);
     Env {
@@ -116,7 +114,7 @@ fn next_known(kernel: &Kernel, state: &State, judged: JudgedSignals, env: &Env) 
 /// What is known after the last round. A round that changes nothing is the last that is run.
 fn last_known(kernel: &Kernel, state: &State, judged: JudgedSignals, inputs: u64) -> Env
     requires { IsState kernel.now.root state.now }
-    ensures { env_of result ≡ last_env (judged_by judged) (bits inputs) (state_term kernel.now.root state.now) }
+    ensures { IsLastRound kernel.now state.now judged inputs result }
 {
     let mut env = first_known(judged, inputs);
     for i in 0..judged_count(judged) {
@@ -131,7 +129,7 @@ fn last_known(kernel: &Kernel, state: &State, judged: JudgedSignals, inputs: u64
 
 /// The judged signals that may be present and aren't known to be.
 fn undecided_of(judged: JudgedSignals, env: &Env) -> u64
-    ensures { (n : ℕ) → bits result n ≡ ((bits judged.signals n && bits env.now.possible.interface n) && not (bits env.now.present.interface n)) }
+    ensures { (n : ℕ) → bits result n ≡ is_left_open judged env.now n }
 {
     mask::minus(
         mask::common(judged.signals, env.possible.interface),
@@ -143,10 +141,10 @@ fn undecided_of(judged: JudgedSignals, env: &Env) -> u64
 #[tactic(auto, using(est_kernel::proofs::FitsMasks::fits_within_limits))]
 fn step_of(kernel: &Kernel, state: &State, env: &Env, next: &mut PauseSet) -> Option<Step>
     requires state { IsState kernel.now.root state.now }
-    requires clear { is_live kernel.now.root (pauses_of next.old) ≡ false }
-    ensures some { IfSome result (λ r. StepsTo kernel.now.root (state_term kernel.now.root state.now) (env_of env.now) (set_of r.signals) (code_of r.completion) (pauses_of next.new)) }
-    ensures none { IfNone result (HasNoRule (state_term kernel.now.root state.now) (env_of env.now)) }
-    ensures others { (i : ℕ) → has_pause kernel.now.root i ≡ false → pauses_of next.new i ≡ pauses_of next.old i }
+    requires clear { IsClear kernel.now.root next.old }
+    ensures some { IfSome result (λ r. IsKernelStep r kernel.now state.now env.now next.new) }
+    ensures none { IfNone result (IsStuckBy env.now (term_left kernel.now state.now)) }
+    ensures others { KeepsOthers (has_pause kernel.now.root) next.old next.new }
 {
     match state {
         State::Fresh => start_step(kernel.root(), env, next),

@@ -1,12 +1,12 @@
 //! What a statement that is begun must do and can do.
 
 ghost use Rattle.std.specs.Prelude.{◌≡◌, ◌<◌};
-ghost use Rattle.est_kernel.specs.Codes.{codes_of};
 ghost use Rattle.est_kernel.specs.Masks.{FitsMasks};
 ghost use Rattle.est_kernel.specs.Term.{par, signal, trap};
 ghost use Rattle.est_kernel.specs.View.{term_of};
-ghost use Rattle.est_meaning.specs.MustCan.{must, can, sure, maybe, must_then, can_then, next_mode};
-ghost use Rattle.est_rounds.specs.Views.{acts_of, env_of};
+ghost use Rattle.est_rounds.specs.Views.{acts_of};
+ghost use Rattle.est_meaning.specs.MustCan.{can_then};
+ghost use Rattle.est_rounds.specs.Judging.{can_by, can_follow, may_by, must_by, must_follow};
 
 use crate::acts::{Acts, Judgement};
 use crate::signal_set::{self, Env};
@@ -19,7 +19,7 @@ use est_meaning::status::Status;
 #[cycle(doubt)]
 pub fn start_maybe(s: &Statement, env: &Env) -> Acts
     requires fits { FitsMasks s.now }
-    ensures { acts_of result ≡ can (term_of s.now) maybe (env_of env.now) }
+    ensures { acts_of result ≡ may_by env.now (term_of s.now) }
 {
     match s {
         Statement::Nothing => Acts::just_code(Completion::End),
@@ -47,7 +47,7 @@ pub fn start_maybe(s: &Statement, env: &Env) -> Acts
 #[cycle(doubt)]
 fn par_maybe(p: &Statement, q: &Statement, env: &Env) -> Acts
     requires fits { FitsMasks p.now × FitsMasks q.now }
-    ensures { acts_of result ≡ can (par (term_of p.now) (term_of q.now)) maybe (env_of env.now) }
+    ensures { acts_of result ≡ may_by env.now (par (term_of p.now) (term_of q.now)) }
 {
     start_maybe(p, env).beside(start_maybe(q, env))
 }
@@ -56,7 +56,7 @@ fn par_maybe(p: &Statement, q: &Statement, env: &Env) -> Acts
 #[cycle(doubt)]
 fn trap_maybe(p: &Statement, env: &Env) -> Acts
     requires fits { FitsMasks p.now }
-    ensures { acts_of result ≡ can (trap (term_of p.now)) maybe (env_of env.now) }
+    ensures { acts_of result ≡ may_by env.now (trap (term_of p.now)) }
 {
     start_maybe(p, env).out_of_trap()
 }
@@ -65,7 +65,7 @@ fn trap_maybe(p: &Statement, env: &Env) -> Acts
 #[cycle(doubt)]
 fn local_maybe(s: LocalSignal, p: &Statement, env: &Env) -> Acts
     requires fits { (s.index < 64) × FitsMasks p.now }
-    ensures { acts_of result ≡ can (signal s.index (term_of p.now)) maybe (env_of env.now) }
+    ensures { acts_of result ≡ may_by env.now (signal s.index (term_of p.now)) }
 {
     let open = signal_set::set_local(env, s, Status::Unknown);
     let first = start_maybe(p, &open);
@@ -77,7 +77,7 @@ fn local_maybe(s: LocalSignal, p: &Statement, env: &Env) -> Acts
 #[cycle(doubt)]
 pub fn then_start_maybe(first: Acts, q: &Statement, env: &Env) -> Acts
     requires fits { FitsMasks q.now }
-    ensures { acts_of result ≡ can_then (acts_of first) (can (term_of q.now) maybe (env_of env.now)) }
+    ensures { acts_of result ≡ can_then (acts_of first) (may_by env.now (term_of q.now)) }
 {
     if first.has_end() {
         first.can_then(start_maybe(q, env))
@@ -90,8 +90,8 @@ pub fn then_start_maybe(first: Acts, q: &Statement, env: &Env) -> Acts
 #[cycle(start)]
 pub fn start_sure(s: &Statement, env: &Env) -> Judgement
     requires fits { FitsMasks s.now }
-    ensures must { acts_of result.must ≡ must (term_of s.now) (env_of env.now) }
-    ensures can { acts_of result.can ≡ can (term_of s.now) sure (env_of env.now) }
+    ensures must { acts_of result.must ≡ must_by env.now (term_of s.now) }
+    ensures can { acts_of result.can ≡ can_by env.now (term_of s.now) }
 {
     match s {
         Statement::Nothing => Judgement::exactly(Acts::just_code(Completion::End)),
@@ -122,8 +122,8 @@ pub fn start_sure(s: &Statement, env: &Env) -> Judgement
 #[cycle(start)]
 fn par_sure(p: &Statement, q: &Statement, env: &Env) -> Judgement
     requires fits { FitsMasks p.now × FitsMasks q.now }
-    ensures must { acts_of result.must ≡ must (par (term_of p.now) (term_of q.now)) (env_of env.now) }
-    ensures can { acts_of result.can ≡ can (par (term_of p.now) (term_of q.now)) sure (env_of env.now) }
+    ensures must { acts_of result.must ≡ must_by env.now (par (term_of p.now) (term_of q.now)) }
+    ensures can { acts_of result.can ≡ can_by env.now (par (term_of p.now) (term_of q.now)) }
 {
     start_sure(p, env).beside(start_sure(q, env))
 }
@@ -132,8 +132,8 @@ fn par_sure(p: &Statement, q: &Statement, env: &Env) -> Judgement
 #[cycle(start)]
 fn trap_sure(p: &Statement, env: &Env) -> Judgement
     requires fits { FitsMasks p.now }
-    ensures must { acts_of result.must ≡ must (trap (term_of p.now)) (env_of env.now) }
-    ensures can { acts_of result.can ≡ can (trap (term_of p.now)) sure (env_of env.now) }
+    ensures must { acts_of result.must ≡ must_by env.now (trap (term_of p.now)) }
+    ensures can { acts_of result.can ≡ can_by env.now (trap (term_of p.now)) }
 {
     start_sure(p, env).out_of_trap()
 }
@@ -142,8 +142,8 @@ fn trap_sure(p: &Statement, env: &Env) -> Judgement
 #[cycle(start)]
 fn local_sure(s: LocalSignal, p: &Statement, env: &Env) -> Judgement
     requires fits { (s.index < 64) × FitsMasks p.now }
-    ensures must { acts_of result.must ≡ must (signal s.index (term_of p.now)) (env_of env.now) }
-    ensures can { acts_of result.can ≡ can (signal s.index (term_of p.now)) sure (env_of env.now) }
+    ensures must { acts_of result.must ≡ must_by env.now (signal s.index (term_of p.now)) }
+    ensures can { acts_of result.can ≡ can_by env.now (signal s.index (term_of p.now)) }
 {
     let open = signal_set::set_local(env, s, Status::Unknown);
     let first = start_sure(p, &open);
@@ -155,8 +155,8 @@ fn local_sure(s: LocalSignal, p: &Statement, env: &Env) -> Judgement
 #[cycle(start)]
 pub fn then_start(first: Judgement, q: &Statement, env: &Env) -> Judgement
     requires fits { FitsMasks q.now }
-    ensures must { acts_of result.must ≡ must_then (acts_of first.must) (must (term_of q.now) (env_of env.now)) }
-    ensures can { acts_of result.can ≡ can_then (acts_of first.can) (can (term_of q.now) (next_mode sure (codes_of first.must.codes 0)) (env_of env.now)) }
+    ensures must { acts_of result.must ≡ must_follow first q.now env.now }
+    ensures can { acts_of result.can ≡ can_follow first q.now env.now }
 {
     if first.must.has_end() {
         let second = start_sure(q, env);

@@ -1,7 +1,8 @@
 //! The step of a statement that is begun: what it emits, its completion code, and the pauses at which it then stands.
 
-ghost use Rattle.std.specs.Prelude.{◌≡◌, ◌≢◌, ◌<◌, ℕ, true, false, not, ◌&&◌, ◌||◌, cond, nat_eq, max, IfSome, IfNone};
-ghost use Rattle.est_kernel.specs.Codes.{code_of, code_out_of_trap};
+ghost use Rattle.std.specs.Prelude.{◌≡◌, ◌≢◌, ◌<◌, ℕ, not, ◌&&◌, ◌||◌, nat_eq, max, IfNone};
+ghost use Rattle.est_kernel.specs.Codes.{code_out_of_trap};
+ghost use Rattle.est_kernel.specs.CodeViews.{code_of};
 ghost use Rattle.est_kernel.specs.Masks.{FitsMasks};
 ghost use Rattle.est_kernel.specs.PauseNumbers.{has_pause, HasDistinctPauses, AreApart};
 ghost use Rattle.est_kernel.specs.View.{term_of};
@@ -9,10 +10,9 @@ ghost use Rattle.est_meaning.specs.States.{is_live};
 ghost use Rattle.est_kernel.specs.Pauses.{pauses_of};
 ghost use Rattle.est_kernel.specs.Term.{par, seq, signal, trap};
 ghost use Rattle.est_kernel.specs.declared.statement.Statement.TheVariants.{Local', Par', Seq', Trap'};
-ghost use Rattle.est_meaning.specs.Rules.{HasNoRule};
 ghost use Rattle.est_meaning.specs.Signals.{no_signals, union, without};
-ghost use Rattle.est_meaning.specs.Steps.{StepsTo};
-ghost use Rattle.est_rounds.specs.Views.{set_of, env_of};
+ghost use Rattle.est_rounds.specs.Views.{set_of};
+ghost use Rattle.est_rounds.specs.Steps.{AreClear, HaveSamePauses, IfBegun, IsClear, IsStuckBy, KeepsAllBut, KeepsOthers, emitted, greater_code};
 
 use crate::signal_set::{self, Env, SignalSet};
 use crate::start::start_sure;
@@ -44,7 +44,7 @@ impl Step {
 
     /// The step of a part that has ended and of the one that follows it.
     pub fn then(self, next: Step) -> Step
-        ensures signals { set_of result.signals ≡ union (set_of self.signals) (set_of next.signals) }
+        ensures signals { emitted result ≡ union (emitted self) (emitted next) }
         ensures completion { result.completion ≡ next.completion }
     {
         Step {
@@ -105,19 +105,26 @@ fn clear(s: &Statement, next: &mut PauseSet)
     }
 }
 
+/// How a parallel completes, by its sides: with the greater code.
+fn greater(left: Completion, right: Completion) -> Completion
+    ensures { code_of result ≡ max (code_of left) (code_of right) }
+{
+    left.greater(right)
+}
+
 /// The step of both sides of a parallel: where it doesn't pause, a side that has paused is left.
 pub fn both(p: &Statement, q: &Statement, left: Step, right: Step, next: &mut PauseSet) -> Step
     requires apart { AreApart p.now q.now }
     requires left { is_live p.now (pauses_of next.old) ≡ nat_eq (code_of left.completion) 1 }
     requires right { is_live q.now (pauses_of next.old) ≡ nat_eq (code_of right.completion) 1 }
-    ensures signals { set_of result.signals ≡ union (set_of left.signals) (set_of right.signals) }
-    ensures code { code_of result.completion ≡ max (code_of left.completion) (code_of right.completion) }
-    ensures kept { code_of result.completion ≡ 1 → (i : ℕ) → pauses_of next.new i ≡ pauses_of next.old i }
-    ensures left_ended { code_of result.completion ≢ 1 → is_live p.now (pauses_of next.new) ≡ false }
-    ensures right_ended { code_of result.completion ≢ 1 → is_live q.now (pauses_of next.new) ≡ false }
-    ensures others { (i : ℕ) → has_pause p.now i ≡ false → has_pause q.now i ≡ false → pauses_of next.new i ≡ pauses_of next.old i }
+    ensures signals { emitted result ≡ union (emitted left) (emitted right) }
+    ensures code { code_of result.completion ≡ greater_code left right }
+    ensures kept { code_of result.completion ≡ 1 → HaveSamePauses next.old next.new }
+    ensures left_ended { code_of result.completion ≢ 1 → IsClear p.now next.new }
+    ensures right_ended { code_of result.completion ≢ 1 → IsClear q.now next.new }
+    ensures others { KeepsAllBut p.now q.now next.old next.new }
 {
-    let completion = left.completion.greater(right.completion);
+    let completion = greater(left.completion, right.completion);
     if !completion.is_pause() {
         if left.completion.is_pause() {
             clear(p, next);
@@ -136,10 +143,10 @@ pub fn both(p: &Statement, q: &Statement, left: Step, right: Step, next: &mut Pa
 pub fn start_step(s: &Statement, env: &Env, next: &mut PauseSet) -> Option<Step>
     requires fits { FitsMasks s.now }
     requires distinct { HasDistinctPauses s.now }
-    requires clear { is_live s.now (pauses_of next.old) ≡ false }
-    ensures some { IfSome result (λ r. StepsTo s.now (term_of s.now) (env_of env.now) (set_of r.signals) (code_of r.completion) (pauses_of next.new)) }
-    ensures none { IfNone result (HasNoRule (term_of s.now) (env_of env.now)) }
-    ensures others { (i : ℕ) → has_pause s.now i ≡ false → pauses_of next.new i ≡ pauses_of next.old i }
+    requires clear { IsClear s.now next.old }
+    ensures some { IfBegun result s.now env.now next.new }
+    ensures none { IfNone result (IsStuckBy env.now (term_of s.now)) }
+    ensures others { KeepsOthers (has_pause s.now) next.old next.new }
 {
     match s {
         Statement::Nothing => Some(Step::quiet(Completion::End)),
@@ -178,10 +185,10 @@ pub fn start_step(s: &Statement, env: &Env, next: &mut PauseSet) -> Option<Step>
 fn start_seq(p: &Statement, q: &Statement, env: &Env, next: &mut PauseSet) -> Option<Step>
     requires fits { FitsMasks p.now × FitsMasks q.now }
     requires distinct { HasDistinctPauses p.now × HasDistinctPauses q.now × AreApart p.now q.now }
-    requires clear { (is_live p.now (pauses_of next.old) || is_live q.now (pauses_of next.old)) ≡ false }
-    ensures some { (x y : _) → IfSome result (λ r. StepsTo (Seq' x p.now y q.now) (seq (term_of p.now) (term_of q.now)) (env_of env.now) (set_of r.signals) (code_of r.completion) (pauses_of next.new)) }
-    ensures none { IfNone result (HasNoRule (seq (term_of p.now) (term_of q.now)) (env_of env.now)) }
-    ensures others { (i : ℕ) → (has_pause p.now i || has_pause q.now i) ≡ false → pauses_of next.new i ≡ pauses_of next.old i }
+    requires clear { AreClear p.now q.now next.old }
+    ensures some { (x y : _) → IfBegun result (Seq' x p.now y q.now) env.now next.new }
+    ensures none { IfNone result (IsStuckBy env.now (seq (term_of p.now) (term_of q.now))) }
+    ensures others { KeepsOthers (λ i. has_pause p.now i || has_pause q.now i) next.old next.new }
 {
     let first = start_step(p, env, next)?;
     if first.completion.is_end() {
@@ -196,10 +203,10 @@ fn start_seq(p: &Statement, q: &Statement, env: &Env, next: &mut PauseSet) -> Op
 fn start_par(p: &Statement, q: &Statement, env: &Env, next: &mut PauseSet) -> Option<Step>
     requires fits { FitsMasks p.now × FitsMasks q.now }
     requires distinct { HasDistinctPauses p.now × HasDistinctPauses q.now × AreApart p.now q.now }
-    requires clear { (is_live p.now (pauses_of next.old) || is_live q.now (pauses_of next.old)) ≡ false }
-    ensures some { (x y : _) → IfSome result (λ r. StepsTo (Par' x p.now y q.now) (par (term_of p.now) (term_of q.now)) (env_of env.now) (set_of r.signals) (code_of r.completion) (pauses_of next.new)) }
-    ensures none { IfNone result (HasNoRule (par (term_of p.now) (term_of q.now)) (env_of env.now)) }
-    ensures others { (i : ℕ) → (has_pause p.now i || has_pause q.now i) ≡ false → pauses_of next.new i ≡ pauses_of next.old i }
+    requires clear { AreClear p.now q.now next.old }
+    ensures some { (x y : _) → IfBegun result (Par' x p.now y q.now) env.now next.new }
+    ensures none { IfNone result (IsStuckBy env.now (par (term_of p.now) (term_of q.now))) }
+    ensures others { KeepsOthers (λ i. has_pause p.now i || has_pause q.now i) next.old next.new }
 {
     let left = start_step(p, env, next)?;
     let right = start_step(q, env, next)?;
@@ -211,10 +218,10 @@ fn start_par(p: &Statement, q: &Statement, env: &Env, next: &mut PauseSet) -> Op
 fn start_trap(p: &Statement, env: &Env, next: &mut PauseSet) -> Option<Step>
     requires fits { FitsMasks p.now }
     requires distinct { HasDistinctPauses p.now }
-    requires clear { is_live p.now (pauses_of next.old) ≡ false }
-    ensures some { (x : _) → IfSome result (λ r. StepsTo (Trap' x p.now) (trap (term_of p.now)) (env_of env.now) (set_of r.signals) (code_of r.completion) (pauses_of next.new)) }
-    ensures none { IfNone result (HasNoRule (trap (term_of p.now)) (env_of env.now)) }
-    ensures others { (i : ℕ) → has_pause p.now i ≡ false → pauses_of next.new i ≡ pauses_of next.old i }
+    requires clear { IsClear p.now next.old }
+    ensures some { (x : _) → IfBegun result (Trap' x p.now) env.now next.new }
+    ensures none { IfNone result (IsStuckBy env.now (trap (term_of p.now))) }
+    ensures others { KeepsOthers (has_pause p.now) next.old next.new }
 {
     Some(start_step(p, env, next)?.out_of_trap())
 }
@@ -224,10 +231,10 @@ fn start_trap(p: &Statement, env: &Env, next: &mut PauseSet) -> Option<Step>
 fn start_local(s: LocalSignal, p: &Statement, env: &Env, next: &mut PauseSet) -> Option<Step>
     requires fits { (s.index < 64) × FitsMasks p.now }
     requires distinct { HasDistinctPauses p.now }
-    requires clear { is_live p.now (pauses_of next.old) ≡ false }
-    ensures some { (x : _) → IfSome result (λ r. StepsTo (Local' s x p.now) (signal s.index (term_of p.now)) (env_of env.now) (set_of r.signals) (code_of r.completion) (pauses_of next.new)) }
-    ensures none { IfNone result (HasNoRule (signal s.index (term_of p.now)) (env_of env.now)) }
-    ensures others { (i : ℕ) → has_pause p.now i ≡ false → pauses_of next.new i ≡ pauses_of next.old i }
+    requires clear { IsClear p.now next.old }
+    ensures some { (x : _) → IfBegun result (Local' s x p.now) env.now next.new }
+    ensures none { IfNone result (IsStuckBy env.now (signal s.index (term_of p.now))) }
+    ensures others { KeepsOthers (has_pause p.now) next.old next.new }
 {
     let open = signal_set::set_local(env, s, Status::Unknown);
     let status = start_sure(p, &open).status_of(s);

@@ -34,13 +34,15 @@ await_is d = search (rules, the_lemmas)
 pub present_is : (n : List ℕ) (b : Branches) → unit_view (unit.Present n b) ≡ present n (branches_view b)
 present_is n b = search (rules, the_lemmas)
 
-pub suspend_is : (t : Statement) (d : Delay) (c : Bool) → unit_view (unit.Suspend t d c) ≡ suspend (statement_view t) (delay_view d) c
+pub suspend_is : (t : Statement) (d : Delay) (c : Bool)
+    → unit_view (unit.Suspend t d c) ≡ suspend (statement_view t) (delay_view d) c
 suspend_is t d c = search (rules, the_lemmas)
 
 pub abort_is : (t : Statement) (d : Delay) (c : Bool) → unit_view (unit.Abort t d c) ≡ abort (statement_view t) (delay_view d) c
 abort_is t d c = search (rules, the_lemmas)
 
-pub weak_abort_is : (t : Statement) (d : Delay) (w : WeakEnd) → unit_view (unit.WeakAbort t d w) ≡ weak_abort (statement_view t) (delay_view d) (weak_end_view w)
+pub weak_abort_is : (t : Statement) (d : Delay) (w : WeakEnd)
+    → unit_view (unit.WeakAbort t d w) ≡ weak_abort (statement_view t) (delay_view d) (weak_end_view w)
 weak_abort_is t d w = search (rules, the_lemmas)
 
 pub repeat_is : (t : Statement) (c : Bool) → unit_view (unit.Loop t c) ≡ repeat (statement_view t) c
@@ -55,7 +57,8 @@ every_is d t c = search (rules, the_lemmas)
 pub trap_is : (n : List ℕ) (t : Statement) (c : Bool) → unit_view (unit.Trap n t c) ≡ trap n (statement_view t) c
 trap_is n t c = search (rules, the_lemmas)
 
-pub signal_is : (ns : Names) (t : Statement) (c : Bool) → unit_view (unit.Signal ns t c) ≡ signal (names_view ns) (statement_view t) c
+pub signal_is : (ns : Names) (t : Statement) (c : Bool)
+    → unit_view (unit.Signal ns t c) ≡ signal (names_view ns) (statement_view t) c
 signal_is ns t c = search (rules, the_lemmas)
 
 pub group_is : (t : Statement) → unit_view (unit.Group t) ≡ group (statement_view t)

@@ -1,5 +1,6 @@
 pub mod Runs
 pub mod Prefixes
+pub mod UnitPrefixes
 pub mod Stops
 pub mod Reading
 pub mod Opening

@@ -1,281 +1,33 @@
 -- What the machine has taken so far begins a library.
-use Rattle.std.proofs.Common.{◌≡◌, ◌∙◌, ℕ, ◌+◌, ◌≤◌, suc, List, [], ◌∷◌, ◌++◌, Bool, true, false, if◌then◌else◌, refl, sym, ap, subst, ◌⊎◌, inl, inr, arith}
-use denote.Enum.Bare.{same_true}
-use Rattle.est_text.specs.contracts.keyword.Keyword.{the_type as keyword_type}
-use Rattle.est_text.specs.contracts.token.Symbol.{the_type as symbol_type}
+use Rattle.std.proofs.Common.{◌≡◌, ◌∙◌, ℕ, ◌+◌, ◌≤◌, List, [], ◌∷◌, ◌++◌, Bool, true, false, if◌then◌else◌, refl, sym, ap, subst, inl, inr, arith}
 use Rattle.est_text.specs.declared.token.Token.{Token}
 use Rattle.est_text.specs.declared.token.Token.TheVariants.{Keyword, Identifier, Symbol}
 use Rattle.est_text.specs.declared.keyword.Keyword.TheVariants as keyword
 use Rattle.est_text.specs.declared.token.Symbol.TheVariants as symbol
-use Rattle.est_syntax.specs.Tree.{DelayTree, RenamingTree, WeakEndTree, left_out, end_abort, end_weak_abort, UnitTree, nothing, pause, halt, emit, sustain, exit, await, present, suspend, abort, weak_abort, repeat, repeat_each, every, trap, signal, run, group, BranchesTree, then_only, else_only, both, SequenceTree, sequence, UnitsTree, no_units, units, StatementTree, statement, SequencesTree, no_sequences, sequences, RelationTree, excludes, implies, DeclarationTree, input, output, relations, ModuleTree}
+use Rattle.est_syntax.specs.Tree.{WeakEndTree, left_out, end_abort, end_weak_abort, then_only, else_only, both, SequenceTree, sequence, no_units, units, StatementTree, statement, no_sequences, sequences, excludes, implies, input, output, relations, ModuleTree}
 use Rattle.est_syntax.specs.Grammar as g
 use Rattle.est_syntax.specs.Machine as m
-use Rattle.est_syntax.specs.Machine.{Want, Step, Outcome, refused, to, opens, right, wrong, deep, same, step, step_after_end, unit_start, followed, unit_or, go_on, open_count, kw_end, module_wants}
-
--- the text is what is wanted, and then the rest; so many units are open round it
-abbrev pub Spells : ℕ → ℕ → Want → List Token → List Token → Type 0
-Spells limit k (m.one t) bs rest = bs ≡ t ∷ rest
-Spells limit k (m.may t) bs rest = (c : Bool) × (bs ≡ g.token_if c t rest)
-Spells limit k m.name bs rest = (n : List ℕ) × (bs ≡ Identifier n ∷ rest)
-Spells limit k m.later_names bs rest = (ns : List (List ℕ)) × (bs ≡ g.later_names_onto ns rest)
-Spells limit k m.later_members bs rest = (ns : List (List ℕ)) × (bs ≡ g.later_members_onto ns rest)
-Spells limit k m.relation bs rest = (r : RelationTree) × (bs ≡ g.relation_onto r rest)
-Spells limit k m.relation_tail bs rest = (((n : List ℕ) × (ns : List (List ℕ)) × (bs ≡ Symbol symbol.Hash ∷ Identifier n ∷ g.later_members_onto ns rest)) ⊎ ((n : List ℕ) × (bs ≡ Symbol symbol.Implies ∷ Identifier n ∷ rest)))
-Spells limit k m.later_relations bs rest = (rs : List RelationTree) × (bs ≡ g.later_relations_onto rs rest)
-Spells limit k m.declarations bs rest = (ds : List DeclarationTree) × (bs ≡ g.declarations_onto ds rest)
-Spells limit k m.renamings bs rest = (rs : List RenamingTree) × (bs ≡ g.renamings_onto rs rest)
-Spells limit k m.later_renamings bs rest = (rs : List RenamingTree) × (bs ≡ g.later_renamings_onto rs rest)
-Spells limit k m.unit bs rest = (u : UnitTree) × (g.unit_depth u + k ≤ limit) × (bs ≡ g.unit_onto u rest)
-Spells limit k m.sequence bs rest = (q : SequenceTree) × (g.sequence_depth q + k ≤ limit) × (bs ≡ g.sequence_onto q rest)
-Spells limit k m.sequence_tail bs rest = (us : UnitsTree) × (c : Bool) × (g.units_depth us + k ≤ limit) × (bs ≡ g.units_onto us (g.token_if c (Symbol symbol.Semicolon) rest))
-Spells limit k m.after_semicolon bs rest = ((bs ≡ rest) ⊎ ((q : SequenceTree) × (g.sequence_depth q + k ≤ limit) × (bs ≡ g.sequence_onto q rest)))
-Spells limit k m.statement bs rest = (t : StatementTree) × (g.statement_depth t + k ≤ limit) × (bs ≡ g.statement_onto t rest)
-Spells limit k m.statement_tail bs rest = (qs : SequencesTree) × (g.sequences_depth qs + k ≤ limit) × (bs ≡ g.sequences_onto qs rest)
-Spells limit k m.branches bs rest = (b : BranchesTree) × (g.branches_depth b + k ≤ limit) × (bs ≡ g.branches_onto b rest)
-Spells limit k m.after_then bs rest = (((c : Bool) × (bs ≡ kw_end ∷ g.token_if c (Keyword keyword.Present) rest)) ⊎ ((e : StatementTree) × (c : Bool) × (g.statement_depth e + k ≤ limit) × (bs ≡ Keyword keyword.Else ∷ g.statement_onto e (kw_end ∷ g.token_if c (Keyword keyword.Present) rest))))
-Spells limit k m.loop_tail bs rest = (((c : Bool) × (bs ≡ kw_end ∷ g.token_if c (Keyword keyword.Loop) rest)) ⊎ ((n : List ℕ) × (bs ≡ Keyword keyword.Each ∷ Identifier n ∷ rest)))
-Spells limit k (m.may_end t) bs rest = (c : Bool) × (bs ≡ g.end_if c t rest)
-Spells limit k (m.ended t) bs rest = ((bs ≡ t ∷ rest) ⊎ (rest ≡ kw_end ∷ bs))
-Spells limit k m.may_end_weak bs rest = (c : WeakEndTree) × (bs ≡ g.weak_end_onto c rest)
-Spells limit k m.ended_weak bs rest = (((c : Bool) × (bs ≡ g.token_if c (Keyword keyword.Weak) (Keyword keyword.Abort ∷ rest))) ⊎ (rest ≡ kw_end ∷ bs))
-Spells limit k m.leave bs rest = bs ≡ rest
-Spells limit k m.modules bs rest = (ps : List ModuleTree) × (g.modules_depth ps + k ≤ limit) × (bs ≡ g.modules_onto ps rest)
-Spells limit k m.library bs rest = (p : ModuleTree) × (ps : List ModuleTree) × (g.statement_depth p.body + k ≤ limit) × (g.modules_depth ps + k ≤ limit) × (bs ≡ g.module_onto p (g.modules_onto ps rest))
-
--- all that is wanted, one after another
-abbrev pub All : ℕ → List Want → List Token → Type 0
-All limit [] bs = bs ≡ []
-All limit (w ∷ s) bs = (rest : List Token) × Spells limit (open_count s) w bs rest × All limit s rest
-
--- ---- something can always follow
-
-a_statement : StatementTree
-a_statement = statement (sequence pause no_units false) no_sequences
-
-a_module : ModuleTree
-a_module = record { name = []; declarations = []; body = a_statement }
-
-finish_one : (limit k : ℕ) → k ≤ limit → (w : Want) (rest : List Token) → (bs : List Token) × Spells limit k w bs rest
-unfolding a_statement a_module
-finish_one limit k h (m.one t) rest = (t ∷ rest, refl)
-finish_one limit k h (m.may t) rest = (rest, (false, refl))
-finish_one limit k h m.name rest = (Identifier [] ∷ rest, ([], refl))
-finish_one limit k h m.later_names rest = (rest, ([], refl))
-finish_one limit k h m.later_members rest = (rest, ([], refl))
-finish_one limit k h m.relation rest = (g.relation_onto (implies [] []) rest, (implies [] [], refl))
-finish_one limit k h m.relation_tail rest = (Symbol symbol.Implies ∷ Identifier [] ∷ rest, inr ([], refl))
-finish_one limit k h m.later_relations rest = (rest, ([], refl))
-finish_one limit k h m.declarations rest = (rest, ([], refl))
-finish_one limit k h m.renamings rest = (rest, ([], refl))
-finish_one limit k h m.later_renamings rest = (rest, ([], refl))
-finish_one limit k h m.unit rest = (Keyword keyword.Pause ∷ rest, (pause, omega (arith, h), refl))
-finish_one limit k h m.sequence rest = (Keyword keyword.Pause ∷ rest, (sequence pause no_units false, omega (arith, h), refl))
-finish_one limit k h m.sequence_tail rest = (rest, (no_units, false, omega (arith, h), refl))
-finish_one limit k h m.after_semicolon rest = (rest, inl refl)
-finish_one limit k h m.statement rest = (g.statement_onto a_statement rest, (a_statement, omega (arith, h), refl))
-finish_one limit k h m.statement_tail rest = (rest, (no_sequences, omega (arith, h), refl))
-finish_one limit k h m.branches rest = (g.branches_onto (then_only a_statement false) rest, (then_only a_statement false, omega (arith, h), refl))
-finish_one limit k h m.after_then rest = (kw_end ∷ rest, inl (false, refl))
-finish_one limit k h m.loop_tail rest = (kw_end ∷ rest, inl (false, refl))
-finish_one limit k h (m.may_end t) rest = (rest, (false, refl))
-finish_one limit k h (m.ended t) rest = (t ∷ rest, inl refl)
-finish_one limit k h m.may_end_weak rest = (rest, (left_out, refl))
-finish_one limit k h m.ended_weak rest = (Keyword keyword.Abort ∷ rest, inl (false, refl))
-finish_one limit k h m.leave rest = (rest, refl)
-finish_one limit k h m.modules rest = (rest, ([], omega (arith, h), refl))
-finish_one limit k h m.library rest = (g.module_onto a_module rest, (a_module, [], omega (arith, h), omega (arith, h), refl))
-
-fewer : (w : Want) (s : List Want) → open_count s ≤ open_count (w ∷ s)
-fewer (m.one t) s = omega arith
-fewer (m.may t) s = omega arith
-fewer m.name s = omega arith
-fewer m.later_names s = omega arith
-fewer m.later_members s = omega arith
-fewer m.relation s = omega arith
-fewer m.relation_tail s = omega arith
-fewer m.later_relations s = omega arith
-fewer m.declarations s = omega arith
-fewer m.renamings s = omega arith
-fewer m.later_renamings s = omega arith
-fewer m.unit s = omega arith
-fewer m.sequence s = omega arith
-fewer m.sequence_tail s = omega arith
-fewer m.after_semicolon s = omega arith
-fewer m.statement s = omega arith
-fewer m.statement_tail s = omega arith
-fewer m.branches s = omega arith
-fewer m.after_then s = omega arith
-fewer m.loop_tail s = omega arith
-fewer (m.may_end t) s = omega arith
-fewer (m.ended t) s = omega arith
-fewer m.may_end_weak s = omega arith
-fewer m.ended_weak s = omega arith
-fewer m.leave s = omega arith
-fewer m.modules s = omega arith
-fewer m.library s = omega arith
-
-pub finish : (limit : ℕ) (s : List Want) → open_count s ≤ limit → (bs : List Token) × All limit s bs
-finish limit [] h = ([], refl)
-finish limit (w ∷ s) h =
-    let r : open_count s ≤ limit = omega (arith, h, fewer w s) in
-    let f = finish limit s r in
-    let e = finish_one limit (open_count s) r w f.0 in
-    (e.0, (f.0, e.1, f.1))
-
--- ---- a step back
-
-same_is : (t b : Token) → same t b ≡ true → b ≡ t
-same_is (Keyword k) (Keyword l) e = ap Keyword (sym (same_true keyword_type tt k l e))
-same_is (Keyword k) (Identifier n) e = cc
-same_is (Keyword k) (Symbol l) e = cc
-same_is (Symbol k) (Symbol l) e = ap Symbol (sym (same_true symbol_type tt k l e))
-same_is (Symbol k) (Identifier n) e = cc
-same_is (Symbol k) (Keyword l) e = cc
-same_is (Identifier n) b e = cc
-
--- `immediate`? ID
-delay_from : (bs r1 r2 : List Token) (c : Bool) (n : List ℕ) → bs ≡ g.token_if c (Keyword keyword.Immediate) r1 → r1 ≡ Identifier n ∷ r2 → bs ≡ g.delay_onto (record { immediate = c; signal = n }) r2
-delay_from bs r1 r2 c n e f = e ∙ ap (λ (l : List Token). g.token_if c (Keyword keyword.Immediate) l) f
-
--- the test behind the body of a unit, with its end
-pub record Delayed (limit k : ℕ) (w : Want) (s : List Want) (bs : List Token) : Type 0 where
-  pub delay : DelayTree
-  pub inner : List Token
-  pub rest : List Token
-  pub text : bs ≡ Keyword keyword.When ∷ g.delay_onto delay inner
-  pub end : Spells limit k w inner rest
-  pub later : All limit s rest
-
-delayed : (limit : ℕ) (w : Want) (s : List Want) (bs : List Token) → All limit (m.one (Keyword keyword.When) ∷ m.may (Keyword keyword.Immediate) ∷ m.name ∷ w ∷ m.leave ∷ s) bs → Delayed limit (suc (open_count s)) w s bs
-delayed limit w s bs h =
-    let a = h.2 in
-    let b = a.2 in
-    let d = b.2 in
-    let e = d.2 in
-    record {
-      delay = record { immediate = a.1.0; signal = b.1.0 };
-      inner = b.0;
-      rest = e.0;
-      text = h.1 ∙ ap (λ (l : List Token). Keyword keyword.When ∷ l) (delay_from h.0 a.0 b.0 a.1.0 b.1.0 a.1.1 b.1.1);
-      end = subst (Spells limit (suc (open_count s)) w b.0) e.1 d.1;
-      later = e.2;
-    }
-
--- the body of a unit with its own end
-pub record Framed (limit k : ℕ) (word : Token) (s : List Want) (bs : List Token) : Type 0 where
-  pub body : StatementTree
-  pub again : Bool
-  pub rest : List Token
-  pub fits : g.statement_depth body + suc k ≤ limit
-  pub text : bs ≡ g.statement_onto body (kw_end ∷ g.token_if again word rest)
-  pub later : All limit s rest
-
-framed : (limit : ℕ) (word : Token) (s : List Want) (bs : List Token) → All limit (m.statement ∷ m.one kw_end ∷ m.may word ∷ m.leave ∷ s) bs → Framed limit (open_count s) word s bs
-framed limit word s bs h =
-    let a = h.2 in
-    let b = a.2 in
-    let d = b.2 in
-    record {
-      body = h.1.0;
-      again = b.1.0;
-      rest = d.0;
-      fits = h.1.1;
-      text = h.1.2 ∙ ap (λ (l : List Token). g.statement_onto h.1.0 l) (a.1 ∙ ap (λ (l : List Token). kw_end ∷ l) (b.1.1 ∙ ap (λ (l : List Token). g.token_if b.1.0 word l) d.1));
-      later = d.2;
-    }
-
--- a unit stands first
-pub record UnitFirst (limit : ℕ) (s : List Want) (bs : List Token) : Type 0 where
-  pub tree : UnitTree
-  pub rest : List Token
-  pub fits : g.unit_depth tree + open_count s ≤ limit
-  pub text : bs ≡ g.unit_onto tree rest
-  pub later : All limit s rest
-
--- what is wanted behind a unit's first token makes a unit with it
-abbrev pub UnitBack : ℕ → Token → Step → Type 0
-UnitBack limit b refused = Unit {0}
-UnitBack limit b (to ws) = ((s : List Want) → open_count (ws ++ s) ≤ open_count s) × ((s : List Want) (bs : List Token) → open_count s ≤ limit → All limit (ws ++ s) bs → UnitFirst limit s (b ∷ bs))
-UnitBack limit b (opens ws) = (s : List Want) (bs : List Token) → open_count s ≤ limit → All limit (ws ++ s) bs → UnitFirst limit s (b ∷ bs)
-
-loop_end : (limit : ℕ) (s : List Want) (t : StatementTree) (bs r1 r2 r3 : List Token) → g.statement_depth t + suc (open_count s) ≤ limit → bs ≡ g.statement_onto t r1 → Spells limit (suc (open_count s)) m.loop_tail r1 r2 → r2 ≡ r3 → All limit s r3 → UnitFirst limit s (Keyword keyword.Loop ∷ bs)
-loop_end limit s t bs r1 r2 r3 d e (inl p) f h = record { tree = repeat t p.0; rest = r3; fits = omega (arith, d); text = ap (λ (l : List Token). Keyword keyword.Loop ∷ l) (e ∙ ap (λ (l : List Token). g.statement_onto t l) (p.1 ∙ ap (λ (l : List Token). kw_end ∷ g.token_if p.0 (Keyword keyword.Loop) l) f)); later = h }
-loop_end limit s t bs r1 r2 r3 d e (inr p) f h = record { tree = repeat_each t p.0; rest = r3; fits = omega (arith, d); text = ap (λ (l : List Token). Keyword keyword.Loop ∷ l) (e ∙ ap (λ (l : List Token). g.statement_onto t l) (p.1 ∙ ap (λ (l : List Token). Keyword keyword.Each ∷ Identifier p.0 ∷ l) f)); later = h }
-
-loop_back : (limit : ℕ) (s : List Want) (bs : List Token) → All limit (m.statement ∷ m.loop_tail ∷ m.leave ∷ s) bs → UnitFirst limit s (Keyword keyword.Loop ∷ bs)
-loop_back limit s bs h =
-    let a = h.2 in
-    let b = a.2 in
-    loop_end limit s h.1.0 bs h.0 a.0 b.0 h.1.1 h.1.2 a.1 b.1 b.2
-
-unit_back : (limit : ℕ) (b : Token) → UnitBack limit b (unit_start b)
-unit_back limit (Keyword keyword.Nothing) = ((λ s. omega arith), λ s bs r h. record { tree = nothing; rest = bs; fits = omega (arith, r); text = refl; later = h })
-unit_back limit (Keyword keyword.Pause) = ((λ s. omega arith), λ s bs r h. record { tree = pause; rest = bs; fits = omega (arith, r); text = refl; later = h })
-unit_back limit (Keyword keyword.Halt) = ((λ s. omega arith), λ s bs r h. record { tree = halt; rest = bs; fits = omega (arith, r); text = refl; later = h })
-unit_back limit (Keyword keyword.Emit) = ((λ s. omega arith), λ s bs r h. record { tree = emit h.1.0; rest = h.0; fits = omega (arith, r); text = ap (λ (l : List Token). Keyword keyword.Emit ∷ l) h.1.1; later = h.2 })
-unit_back limit (Keyword keyword.Sustain) = ((λ s. omega arith), λ s bs r h. record { tree = sustain h.1.0; rest = h.0; fits = omega (arith, r); text = ap (λ (l : List Token). Keyword keyword.Sustain ∷ l) h.1.1; later = h.2 })
-unit_back limit (Keyword keyword.Exit) = ((λ s. omega arith), λ s bs r h. record { tree = exit h.1.0; rest = h.0; fits = omega (arith, r); text = ap (λ (l : List Token). Keyword keyword.Exit ∷ l) h.1.1; later = h.2 })
-unit_back limit (Keyword keyword.Await) = (
-  (λ s. omega arith),
-  λ s bs r h.
-      let a = h.2 in
-      record { tree = await (record { immediate = h.1.0; signal = a.1.0 }); rest = a.0; fits = omega (arith, r); text = ap (λ (l : List Token). Keyword keyword.Await ∷ l) (delay_from bs h.0 a.0 h.1.0 a.1.0 h.1.1 a.1.1); later = a.2 },
-)
-unit_back limit (Keyword keyword.Run) = (
-  (λ s. omega arith),
-  λ s bs r h.
-      let a = h.2 in
-      record { tree = run h.1.0 a.1.0; rest = a.0; fits = omega (arith, r); text = ap (λ (l : List Token). Keyword keyword.Run ∷ l) (h.1.1 ∙ ap (λ (l : List Token). Identifier h.1.0 ∷ l) a.1.1); later = a.2 },
-)
-unit_back limit (Keyword keyword.Present) = λ s bs r h.
-    let a = h.2 in
-    let b = a.2 in
-    record { tree = present h.1.0 a.1.0; rest = b.0; fits = omega (arith, a.1.1); text = ap (λ (l : List Token). Keyword keyword.Present ∷ l) (h.1.1 ∙ ap (λ (l : List Token). Identifier h.1.0 ∷ l) (a.1.2 ∙ ap (λ (l : List Token). g.branches_onto a.1.0 l) b.1)); later = b.2 }
-unit_back limit (Keyword keyword.Suspend) = λ s bs r h.
-    let d = delayed limit (m.may_end (Keyword keyword.Suspend)) s h.0 h.2 in
-    record { tree = suspend h.1.0 d.delay d.end.0; rest = d.rest; fits = omega (arith, h.1.1); text = ap (λ (l : List Token). Keyword keyword.Suspend ∷ l) (h.1.2 ∙ ap (λ (l : List Token). g.statement_onto h.1.0 l) (d.text ∙ ap (λ (l : List Token). Keyword keyword.When ∷ g.delay_onto d.delay l) d.end.1)); later = d.later }
-unit_back limit (Keyword keyword.Abort) = λ s bs r h.
-    let d = delayed limit (m.may_end (Keyword keyword.Abort)) s h.0 h.2 in
-    record { tree = abort h.1.0 d.delay d.end.0; rest = d.rest; fits = omega (arith, h.1.1); text = ap (λ (l : List Token). Keyword keyword.Abort ∷ l) (h.1.2 ∙ ap (λ (l : List Token). g.statement_onto h.1.0 l) (d.text ∙ ap (λ (l : List Token). Keyword keyword.When ∷ g.delay_onto d.delay l) d.end.1)); later = d.later }
-unit_back limit (Keyword keyword.Weak) = λ s bs r h.
-    let a = h.2 in
-    let d = delayed limit m.may_end_weak s a.0 a.2 in
-    record { tree = weak_abort a.1.0 d.delay d.end.0; rest = d.rest; fits = omega (arith, a.1.1); text = ap (λ (l : List Token). Keyword keyword.Weak ∷ l) (h.1 ∙ ap (λ (l : List Token). Keyword keyword.Abort ∷ l) (a.1.2 ∙ ap (λ (l : List Token). g.statement_onto a.1.0 l) (d.text ∙ ap (λ (l : List Token). Keyword keyword.When ∷ g.delay_onto d.delay l) d.end.1))); later = d.later }
-unit_back limit (Keyword keyword.Loop) = λ s bs r h. loop_back limit s bs h
-unit_back limit (Keyword keyword.Every) = λ s bs r h.
-    let a = h.2 in
-    let b = a.2 in
-    let f = framed limit (Keyword keyword.Every) s b.0 b.2 in
-    record { tree = every (record { immediate = h.1.0; signal = a.1.0 }) f.body f.again; rest = f.rest; fits = omega (arith, f.fits); text = ap (λ (l : List Token). Keyword keyword.Every ∷ l) (delay_from bs h.0 a.0 h.1.0 a.1.0 h.1.1 a.1.1 ∙ ap (λ (l : List Token). g.delay_onto (record { immediate = h.1.0; signal = a.1.0 }) l) (b.1 ∙ ap (λ (l : List Token). Keyword keyword.Do ∷ l) f.text)); later = f.later }
-unit_back limit (Keyword keyword.Trap) = λ s bs r h.
-    let a = h.2 in
-    let f = framed limit (Keyword keyword.Trap) s a.0 a.2 in
-    record { tree = trap h.1.0 f.body f.again; rest = f.rest; fits = omega (arith, f.fits); text = ap (λ (l : List Token). Keyword keyword.Trap ∷ l) (h.1.1 ∙ ap (λ (l : List Token). Identifier h.1.0 ∷ l) (a.1 ∙ ap (λ (l : List Token). Keyword keyword.In ∷ l) f.text)); later = f.later }
-unit_back limit (Keyword keyword.Signal) = λ s bs r h.
-    let a = h.2 in
-    let b = a.2 in
-    let f = framed limit (Keyword keyword.Signal) s b.0 b.2 in
-    record { tree = signal (record { first = h.1.0; later = a.1.0 }) f.body f.again; rest = f.rest; fits = omega (arith, f.fits); text = ap (λ (l : List Token). Keyword keyword.Signal ∷ l) (h.1.1 ∙ ap (λ (l : List Token). Identifier h.1.0 ∷ l) (a.1.1 ∙ ap (λ (l : List Token). g.later_names_onto a.1.0 l) (b.1 ∙ ap (λ (l : List Token). Keyword keyword.In ∷ l) f.text))); later = f.later }
-unit_back limit (Symbol symbol.OpenBracket) = λ s bs r h.
-    let a = h.2 in
-    let b = a.2 in
-    record { tree = group h.1.0; rest = b.0; fits = omega (arith, h.1.1); text = ap (λ (l : List Token). Symbol symbol.OpenBracket ∷ l) (h.1.2 ∙ ap (λ (l : List Token). g.statement_onto h.1.0 l) (a.1 ∙ ap (λ (l : List Token). Symbol symbol.CloseBracket ∷ l) b.1)); later = b.2 }
-unit_back limit _ = tt
+use Rattle.est_syntax.specs.Machine.{Want, Step, refused, to, opens, same, step, step_after_end, unit_start, followed, unit_or, open_count, kw_end, module_wants}
+use Rattle.est_syntax.proofs.UnitPrefixes.{Spells, All, fewer, same_is, UnitFirst, UnitBack, unit_back}
 
 -- what is wanted after the token is, with the tokens before it, what was wanted before them
 abbrev pub Back : ℕ → List Want → List Token → Step → Type 0
 Back limit s pre refused = Unit {0}
-Back limit s pre (to t) = (open_count t ≤ open_count s) × ((bs : List Token) → open_count s ≤ limit → All limit t bs → All limit s (pre ++ bs))
+Back limit s pre (to t) =
+    (open_count t ≤ open_count s) × ((bs : List Token) → open_count s ≤ limit → All limit t bs → All limit s (pre ++ bs))
 Back limit s pre (opens t) = (bs : List Token) → open_count s ≤ limit → All limit t bs → All limit s (pre ++ bs)
 
-back_if : (limit : ℕ) (s : List Want) (pre : List Token) (x : Bool) (o p : Step) → (x ≡ true → Back limit s pre o) → Back limit s pre p → Back limit s pre (if x then o else p)
+back_if : (limit : ℕ) (s : List Want) (pre : List Token) (x : Bool) (o p : Step) → (x ≡ true → Back limit s pre o)
+    → Back limit s pre p → Back limit s pre (if x then o else p)
 back_if limit s pre true o p h k = h refl
 back_if limit s pre false o p h k = k
 
 -- a want that the tokens read so far spell, before those that are read for what is wanted behind it
-along : (limit : ℕ) (w : Want) (s : List Want) (all pre : List Token) (o : Step) → ((bs : List Token) → Spells limit (open_count s) w (all ++ bs) (pre ++ bs)) → Back limit s pre o → Back limit (w ∷ s) all o
+along : (limit : ℕ) (w : Want) (s : List Want) (all pre : List Token) (o : Step)
+    → ((bs : List Token) → Spells limit (open_count s) w (all ++ bs) (pre ++ bs)) → Back limit s pre o → Back limit (w ∷ s) all o
 along limit w s all pre refused f k = tt
-along limit w s all pre (to t) f k = (omega (arith, k.0, fewer w s), λ bs r h. (pre ++ bs, f bs, k.1 bs (omega (arith, r, fewer w s)) h))
+along limit w s all pre (to t) f k =
+    (omega (arith, k.0, fewer w s), λ bs r h. (pre ++ bs, f bs, k.1 bs (omega (arith, r, fewer w s)) h))
 along limit w s all pre (opens t) f k = λ bs r h. (pre ++ bs, f bs, k bs (omega (arith, r, fewer w s)) h)
 
 -- the same where the first token alone is read
@@ -288,69 +40,110 @@ end_is t b bs e = ap (λ (x : Token). kw_end ∷ x ∷ bs) (same_is t b e)
 is_end : (t b : Token) (bs : List Token) → same t kw_end ≡ true → kw_end ∷ b ∷ bs ≡ t ∷ b ∷ bs
 is_end t b bs e = ap (λ (x : Token). x ∷ b ∷ bs) (same_is t kw_end e)
 
-unit_step : (limit : ℕ) (b : Token) (s : List Want) (o : Step) → UnitBack limit b o → Back limit (m.unit ∷ s) (b ∷ []) (followed o s)
+unit_step : (limit : ℕ) (b : Token) (s : List Want) (o : Step) → UnitBack limit b o
+    → Back limit (m.unit ∷ s) (b ∷ []) (followed o s)
 unit_step limit b s refused k = tt
 unit_step limit b s (to ws) k = (k.0 s, λ bs r h. let u = k.1 s bs r h in (u.rest, (u.tree, u.fits, u.text), u.later))
 unit_step limit b s (opens ws) k = λ bs r h. let u = k s bs r h in (u.rest, (u.tree, u.fits, u.text), u.later)
 
-sequence_with : (limit : ℕ) (s : List Want) (bs : List Token) → UnitFirst limit (m.sequence_tail ∷ s) bs → All limit (m.sequence ∷ s) bs
+sequence_with : (limit : ℕ) (s : List Want) (bs : List Token) → UnitFirst limit (m.sequence_tail ∷ s) bs
+    → All limit (m.sequence ∷ s) bs
 sequence_with limit s bs u =
-    let v = u.later in
-    (v.0, (sequence u.tree v.1.0 v.1.1, omega (arith, u.fits, v.1.2), u.text ∙ ap (λ (l : List Token). g.unit_onto u.tree l) v.1.3), v.2)
+    let v = u.later in (
+      v.0,
+      (sequence u.tree v.1.0 v.1.1, omega (arith, u.fits, v.1.2), u.text ∙ ap (λ (l : List Token). g.unit_onto u.tree l) v.1.3),
+      v.2,
+    )
 
-sequence_step : (limit : ℕ) (b : Token) (s : List Want) (o : Step) → UnitBack limit b o → Back limit (m.sequence ∷ s) (b ∷ []) (followed o (m.sequence_tail ∷ s))
+sequence_step : (limit : ℕ) (b : Token) (s : List Want) (o : Step) → UnitBack limit b o
+    → Back limit (m.sequence ∷ s) (b ∷ []) (followed o (m.sequence_tail ∷ s))
 sequence_step limit b s refused k = tt
-sequence_step limit b s (to ws) k = (k.0 (m.sequence_tail ∷ s), λ bs r h. sequence_with limit s (b ∷ bs) (k.1 (m.sequence_tail ∷ s) bs r h))
+sequence_step limit b s (to ws) k =
+    (k.0 (m.sequence_tail ∷ s), λ bs r h. sequence_with limit s (b ∷ bs) (k.1 (m.sequence_tail ∷ s) bs r h))
 sequence_step limit b s (opens ws) k = λ bs r h. sequence_with limit s (b ∷ bs) (k (m.sequence_tail ∷ s) bs r h)
 
-statement_with : (limit : ℕ) (s : List Want) (bs : List Token) → All limit (m.sequence ∷ m.statement_tail ∷ s) bs → All limit (m.statement ∷ s) bs
+statement_with : (limit : ℕ) (s : List Want) (bs : List Token) → All limit (m.sequence ∷ m.statement_tail ∷ s) bs
+    → All limit (m.statement ∷ s) bs
 statement_with limit s bs h =
-    let v = h.2 in
-    (v.0, (statement h.1.0 v.1.0, omega (arith, h.1.1, v.1.1), h.1.2 ∙ ap (λ (l : List Token). g.sequence_onto h.1.0 l) v.1.2), v.2)
+    let v = h.2 in (
+      v.0,
+      (statement h.1.0 v.1.0, omega (arith, h.1.1, v.1.1), h.1.2 ∙ ap (λ (l : List Token). g.sequence_onto h.1.0 l) v.1.2),
+      v.2,
+    )
 
-statement_step : (limit : ℕ) (b : Token) (s : List Want) (o : Step) → UnitBack limit b o → Back limit (m.statement ∷ s) (b ∷ []) (followed o (m.sequence_tail ∷ m.statement_tail ∷ s))
+statement_step : (limit : ℕ) (b : Token) (s : List Want) (o : Step) → UnitBack limit b o
+    → Back limit (m.statement ∷ s) (b ∷ []) (followed o (m.sequence_tail ∷ m.statement_tail ∷ s))
 statement_step limit b s refused k = tt
-statement_step limit b s (to ws) k = (k.0 (m.sequence_tail ∷ m.statement_tail ∷ s), λ bs r h. statement_with limit s (b ∷ bs) (sequence_with limit (m.statement_tail ∷ s) (b ∷ bs) (k.1 (m.sequence_tail ∷ m.statement_tail ∷ s) bs r h)))
-statement_step limit b s (opens ws) k = λ bs r h. statement_with limit s (b ∷ bs) (sequence_with limit (m.statement_tail ∷ s) (b ∷ bs) (k (m.sequence_tail ∷ m.statement_tail ∷ s) bs r h))
+statement_step limit b s (to ws) k = (
+  k.0 (m.sequence_tail ∷ m.statement_tail ∷ s),
+  λ bs r h. statement_with limit s (b ∷ bs)
+      (sequence_with limit (m.statement_tail ∷ s) (b ∷ bs) (k.1 (m.sequence_tail ∷ m.statement_tail ∷ s) bs r h)),
+)
+statement_step limit b s (opens ws) k = λ bs r h. statement_with limit s (b ∷ bs)
+    (sequence_with limit (m.statement_tail ∷ s) (b ∷ bs) (k (m.sequence_tail ∷ m.statement_tail ∷ s) bs r h))
 
-behind_semicolon : (limit : ℕ) (s : List Want) (bs : List Token) → All limit (m.sequence ∷ s) bs → All limit (m.after_semicolon ∷ s) bs
+behind_semicolon : (limit : ℕ) (s : List Want) (bs : List Token) → All limit (m.sequence ∷ s) bs
+    → All limit (m.after_semicolon ∷ s) bs
 behind_semicolon limit s bs h = (h.0, inr h.1, h.2)
 
-semicolon_step : (limit : ℕ) (b : Token) (s : List Want) (o p : Step) → UnitBack limit b o → Back limit s (b ∷ []) p → Back limit (m.after_semicolon ∷ s) (b ∷ []) (unit_or o s p)
+semicolon_step : (limit : ℕ) (b : Token) (s : List Want) (o p : Step) → UnitBack limit b o → Back limit s (b ∷ []) p
+    → Back limit (m.after_semicolon ∷ s) (b ∷ []) (unit_or o s p)
 semicolon_step limit b s refused p k j = along limit m.after_semicolon s (b ∷ []) (b ∷ []) p (λ bs. inl refl) j
-semicolon_step limit b s (to ws) p k j = (k.0 (m.sequence_tail ∷ s), λ bs r h. behind_semicolon limit s (b ∷ bs) (sequence_with limit s (b ∷ bs) (k.1 (m.sequence_tail ∷ s) bs r h)))
-semicolon_step limit b s (opens ws) p k j = λ bs r h. behind_semicolon limit s (b ∷ bs) (sequence_with limit s (b ∷ bs) (k (m.sequence_tail ∷ s) bs r h))
+semicolon_step limit b s (to ws) p k j = (
+  k.0 (m.sequence_tail ∷ s),
+  λ bs r h. behind_semicolon limit s (b ∷ bs) (sequence_with limit s (b ∷ bs) (k.1 (m.sequence_tail ∷ s) bs r h)),
+)
+semicolon_step limit b s (opens ws) p k j =
+    λ bs r h. behind_semicolon limit s (b ∷ bs) (sequence_with limit s (b ∷ bs) (k (m.sequence_tail ∷ s) bs r h))
 
-one_more_unit : (limit k : ℕ) (q : SequenceTree) (bs rest : List Token) → g.sequence_depth q + k ≤ limit → bs ≡ g.sequence_onto q rest → Spells limit k m.sequence_tail (Symbol symbol.Semicolon ∷ bs) rest
+one_more_unit : (limit k : ℕ) (q : SequenceTree) (bs rest : List Token) → g.sequence_depth q + k ≤ limit
+    → bs ≡ g.sequence_onto q rest → Spells limit k m.sequence_tail (Symbol symbol.Semicolon ∷ bs) rest
 one_more_unit limit k (sequence u us c) bs rest d e = (units u us, c, d, ap (λ (l : List Token). Symbol symbol.Semicolon ∷ l) e)
 
-after_tail : (limit k : ℕ) (bs rest : List Token) → k ≤ limit → Spells limit k m.after_semicolon bs rest → Spells limit k m.sequence_tail (Symbol symbol.Semicolon ∷ bs) rest
+after_tail : (limit k : ℕ) (bs rest : List Token) → k ≤ limit → Spells limit k m.after_semicolon bs rest
+    → Spells limit k m.sequence_tail (Symbol symbol.Semicolon ∷ bs) rest
 after_tail limit k bs rest r (inl e) = (no_units, true, omega (arith, r), ap (λ (l : List Token). Symbol symbol.Semicolon ∷ l) e)
 after_tail limit k bs rest r (inr p) = one_more_unit limit k p.0 bs rest p.1 p.2
 
-then_back : (limit k : ℕ) (t : StatementTree) (bs r1 r2 : List Token) → g.statement_depth t + k ≤ limit → bs ≡ g.statement_onto t r1 → Spells limit k m.after_then r1 r2 → Spells limit k m.branches (Keyword keyword.Then ∷ bs) r2
-then_back limit k t bs r1 r2 d e (inl p) = (then_only t p.0, d, ap (λ (l : List Token). Keyword keyword.Then ∷ l) (e ∙ ap (λ (l : List Token). g.statement_onto t l) p.1))
-then_back limit k t bs r1 r2 d e (inr p) = (both t p.0 p.1, omega (arith, d, p.2), ap (λ (l : List Token). Keyword keyword.Then ∷ l) (e ∙ ap (λ (l : List Token). g.statement_onto t l) p.3))
+then_back : (limit k : ℕ) (t : StatementTree) (bs r1 r2 : List Token) → g.statement_depth t + k ≤ limit
+    → bs ≡ g.statement_onto t r1 → Spells limit k m.after_then r1 r2 → Spells limit k m.branches (Keyword keyword.Then ∷ bs) r2
+then_back limit k t bs r1 r2 d e (inl p) = (
+  then_only t p.0,
+  d,
+  ap (λ (l : List Token). Keyword keyword.Then ∷ l) (e ∙ ap (λ (l : List Token). g.statement_onto t l) p.1),
+)
+then_back limit k t bs r1 r2 d e (inr p) = (
+  both t p.0 p.1,
+  omega (arith, d, p.2),
+  ap (λ (l : List Token). Keyword keyword.Then ∷ l) (e ∙ ap (λ (l : List Token). g.statement_onto t l) p.3),
+)
 
-relation_back : (limit k : ℕ) (n : List ℕ) (bs rest : List Token) → Spells limit k m.relation_tail bs rest → Spells limit k m.relation (Identifier n ∷ bs) rest
+relation_back : (limit k : ℕ) (n : List ℕ) (bs rest : List Token) → Spells limit k m.relation_tail bs rest
+    → Spells limit k m.relation (Identifier n ∷ bs) rest
 relation_back limit k n bs rest (inl p) = (excludes n p.0 p.1, ap (λ (l : List Token). Identifier n ∷ l) p.2)
 relation_back limit k n bs rest (inr p) = (implies n p.0, ap (λ (l : List Token). Identifier n ∷ l) p.1)
 
-ended_back : (limit : ℕ) (t b : Token) (s : List Want) (bs : List Token) → b ∷ bs ≡ kw_end ∷ bs → All limit (m.ended t ∷ s) bs → All limit (m.may_end t ∷ s) (b ∷ bs)
+ended_back : (limit : ℕ) (t b : Token) (s : List Want) (bs : List Token) → b ∷ bs ≡ kw_end ∷ bs
+    → All limit (m.ended t ∷ s) bs → All limit (m.may_end t ∷ s) (b ∷ bs)
 ended_back limit t b s bs e h = ended_cases limit t b s bs h.0 e h.1 h.2
   where
-    ended_cases : (limit : ℕ) (t b : Token) (s : List Want) (bs rest : List Token) → b ∷ bs ≡ kw_end ∷ bs → Spells limit (open_count s) (m.ended t) bs rest → All limit s rest → All limit (m.may_end t ∷ s) (b ∷ bs)
+    ended_cases : (limit : ℕ) (t b : Token) (s : List Want) (bs rest : List Token) → b ∷ bs ≡ kw_end ∷ bs
+        → Spells limit (open_count s) (m.ended t) bs rest → All limit s rest → All limit (m.may_end t ∷ s) (b ∷ bs)
     ended_cases limit t b s bs rest e (inl f) h = (rest, (true, e ∙ ap (λ (l : List Token). kw_end ∷ l) f), h)
     ended_cases limit t b s bs rest e (inr f) h = (rest, (false, e ∙ sym f), h)
 
-weak_text : (c : Bool) (b : Token) (bs rest : List Token) → b ∷ bs ≡ kw_end ∷ bs → bs ≡ g.token_if c (Keyword keyword.Weak) (Keyword keyword.Abort ∷ rest) → (w : WeakEndTree) × (b ∷ bs ≡ g.weak_end_onto w rest)
+weak_text : (c : Bool) (b : Token) (bs rest : List Token) → b ∷ bs ≡ kw_end ∷ bs
+    → bs ≡ g.token_if c (Keyword keyword.Weak) (Keyword keyword.Abort ∷ rest) → (w : WeakEndTree)
+    × (b ∷ bs ≡ g.weak_end_onto w rest)
 weak_text true b bs rest e f = (end_weak_abort, e ∙ ap (λ (l : List Token). kw_end ∷ l) f)
 weak_text false b bs rest e f = (end_abort, e ∙ ap (λ (l : List Token). kw_end ∷ l) f)
 
-ended_weak_back : (limit : ℕ) (b : Token) (s : List Want) (bs : List Token) → b ∷ bs ≡ kw_end ∷ bs → All limit (m.ended_weak ∷ s) bs → All limit (m.may_end_weak ∷ s) (b ∷ bs)
+ended_weak_back : (limit : ℕ) (b : Token) (s : List Want) (bs : List Token) → b ∷ bs ≡ kw_end ∷ bs
+    → All limit (m.ended_weak ∷ s) bs → All limit (m.may_end_weak ∷ s) (b ∷ bs)
 ended_weak_back limit b s bs e h = weak_cases limit b s bs h.0 e h.1 h.2
   where
-    weak_cases : (limit : ℕ) (b : Token) (s : List Want) (bs rest : List Token) → b ∷ bs ≡ kw_end ∷ bs → Spells limit (open_count s) m.ended_weak bs rest → All limit s rest → All limit (m.may_end_weak ∷ s) (b ∷ bs)
+    weak_cases : (limit : ℕ) (b : Token) (s : List Want) (bs rest : List Token) → b ∷ bs ≡ kw_end ∷ bs
+        → Spells limit (open_count s) m.ended_weak bs rest → All limit s rest → All limit (m.may_end_weak ∷ s) (b ∷ bs)
     weak_cases limit b s bs rest e (inl f) h = (rest, weak_text f.0 b bs rest e f.1, h)
     weak_cases limit b s bs rest e (inr f) h = (rest, (left_out, e ∙ sym f), h)
 
@@ -378,95 +171,359 @@ module_back limit s bs h =
       rest = i.0;
       fits = d.1.1;
       fit = i.1.1;
-      text = ap (λ (l : List Token). Keyword keyword.Module ∷ l) (h.1.1 ∙ ap (λ (l : List Token). Identifier h.1.0 ∷ l) (a.1 ∙ ap (λ (l : List Token). Symbol symbol.Colon ∷ l) (b.1.1 ∙ ap (λ (l : List Token). g.declarations_onto b.1.0 l) (d.1.2 ∙ ap (λ (l : List Token). g.statement_onto d.1.0 l) (e.1 ∙ ap (λ (l : List Token). kw_end ∷ l) (f.1 ∙ ap (λ (l : List Token). Keyword keyword.Module ∷ l) i.1.2))))));
+      text = ap (λ (l : List Token). Keyword keyword.Module ∷ l)
+          (h.1.1 ∙ ap (λ (l : List Token). Identifier h.1.0 ∷ l)
+          (a.1 ∙ ap (λ (l : List Token). Symbol symbol.Colon ∷ l)
+          (b.1.1 ∙ ap (λ (l : List Token). g.declarations_onto b.1.0 l)
+          (d.1.2 ∙ ap (λ (l : List Token). g.statement_onto d.1.0 l)
+          (e.1 ∙ ap (λ (l : List Token). kw_end ∷ l) (f.1 ∙ ap (λ (l : List Token). Keyword keyword.Module ∷ l) i.1.2))))));
       behind = i.2;
     }
 
 -- the same where what is wanted takes room that is there
-roomy : (limit : ℕ) (w : Want) (s : List Want) (pre : List Token) (o : Step) → ((bs : List Token) → open_count s ≤ limit → Spells limit (open_count s) w bs bs) → Back limit s pre o → Back limit (w ∷ s) pre o
+roomy : (limit : ℕ) (w : Want) (s : List Want) (pre : List Token) (o : Step)
+    → ((bs : List Token) → open_count s ≤ limit → Spells limit (open_count s) w bs bs) → Back limit s pre o
+    → Back limit (w ∷ s) pre o
 roomy limit w s pre refused f k = tt
-roomy limit w s pre (to t) f k = (omega (arith, k.0, fewer w s), λ bs r h. let q : open_count s ≤ limit = omega (arith, r, fewer w s) in (pre ++ bs, f (pre ++ bs) q, k.1 bs q h))
-roomy limit w s pre (opens t) f k = λ bs r h. let q : open_count s ≤ limit = omega (arith, r, fewer w s) in (pre ++ bs, f (pre ++ bs) q, k bs q h)
+roomy limit w s pre (to t) f k = (
+  omega (arith, k.0, fewer w s),
+  λ bs r h. let q : open_count s ≤ limit = omega (arith, r, fewer w s) in (pre ++ bs, f (pre ++ bs) q, k.1 bs q h),
+)
+roomy limit w s pre (opens t) f k = λ bs r h. let q : open_count s ≤ limit = omega (arith, r, fewer w s) in
+    (pre ++ bs, f (pre ++ bs) q, k bs q h)
 
-tail_skip : (limit : ℕ) (s : List Want) (b : Token) (o : Step) → Back limit s (b ∷ []) o → Back limit (m.sequence_tail ∷ s) (b ∷ []) o
+tail_skip : (limit : ℕ) (s : List Want) (b : Token) (o : Step) → Back limit s (b ∷ []) o
+    → Back limit (m.sequence_tail ∷ s) (b ∷ []) o
 tail_skip limit s b o k = roomy limit m.sequence_tail s (b ∷ []) o (λ bs r. (no_units, false, omega (arith, r), refl)) k
 
-tail_skip_end : (limit : ℕ) (s : List Want) (b : Token) (o : Step) → Back limit s (kw_end ∷ b ∷ []) o → Back limit (m.sequence_tail ∷ s) (kw_end ∷ b ∷ []) o
-tail_skip_end limit s b o k = roomy limit m.sequence_tail s (kw_end ∷ b ∷ []) o (λ bs r. (no_units, false, omega (arith, r), refl)) k
+tail_skip_end : (limit : ℕ) (s : List Want) (b : Token) (o : Step) → Back limit s (kw_end ∷ b ∷ []) o
+    → Back limit (m.sequence_tail ∷ s) (kw_end ∷ b ∷ []) o
+tail_skip_end limit s b o k =
+    roomy limit m.sequence_tail s (kw_end ∷ b ∷ []) o (λ bs r. (no_units, false, omega (arith, r), refl)) k
 
-side_skip : (limit : ℕ) (s : List Want) (b : Token) (o : Step) → Back limit s (b ∷ []) o → Back limit (m.statement_tail ∷ s) (b ∷ []) o
+side_skip : (limit : ℕ) (s : List Want) (b : Token) (o : Step) → Back limit s (b ∷ []) o
+    → Back limit (m.statement_tail ∷ s) (b ∷ []) o
 side_skip limit s b o k = roomy limit m.statement_tail s (b ∷ []) o (λ bs r. (no_sequences, omega (arith, r), refl)) k
 
-side_skip_end : (limit : ℕ) (s : List Want) (b : Token) (o : Step) → Back limit s (kw_end ∷ b ∷ []) o → Back limit (m.statement_tail ∷ s) (kw_end ∷ b ∷ []) o
-side_skip_end limit s b o k = roomy limit m.statement_tail s (kw_end ∷ b ∷ []) o (λ bs r. (no_sequences, omega (arith, r), refl)) k
+side_skip_end : (limit : ℕ) (s : List Want) (b : Token) (o : Step) → Back limit s (kw_end ∷ b ∷ []) o
+    → Back limit (m.statement_tail ∷ s) (kw_end ∷ b ∷ []) o
+side_skip_end limit s b o k =
+    roomy limit m.statement_tail s (kw_end ∷ b ∷ []) o (λ bs r. (no_sequences, omega (arith, r), refl)) k
 
-modules_skip : (limit : ℕ) (s : List Want) (b : Token) (o : Step) → Back limit s (b ∷ []) o → Back limit (m.modules ∷ s) (b ∷ []) o
+modules_skip : (limit : ℕ) (s : List Want) (b : Token) (o : Step) → Back limit s (b ∷ []) o
+    → Back limit (m.modules ∷ s) (b ∷ []) o
 modules_skip limit s b o k = roomy limit m.modules s (b ∷ []) o (λ bs r. ([], omega (arith, r), refl)) k
 
-modules_skip_end : (limit : ℕ) (s : List Want) (b : Token) (o : Step) → Back limit s (kw_end ∷ b ∷ []) o → Back limit (m.modules ∷ s) (kw_end ∷ b ∷ []) o
+modules_skip_end : (limit : ℕ) (s : List Want) (b : Token) (o : Step) → Back limit s (kw_end ∷ b ∷ []) o
+    → Back limit (m.modules ∷ s) (kw_end ∷ b ∷ []) o
 modules_skip_end limit s b o k = roomy limit m.modules s (kw_end ∷ b ∷ []) o (λ bs r. ([], omega (arith, r), refl)) k
 
 mutual
   pub back : (limit : ℕ) (s : List Want) (b : Token) → Back limit s (b ∷ []) (step s b)
   back limit [] b = tt
-  back limit (m.one t ∷ s) b = back_if limit (m.one t ∷ s) (b ∷ []) (same t b) (to s) refused (λ e. (omega arith, λ bs r h. (bs, first_is t b bs e, h))) tt
-  back limit (m.may t ∷ s) b = back_if limit (m.may t ∷ s) (b ∷ []) (same t b) (to s) (step s b) (λ e. (omega arith, λ bs r h. (bs, (true, first_is t b bs e), h))) (along limit (m.may t) s (b ∷ []) (b ∷ []) (step s b) (λ bs. (false, refl)) (back limit s b))
+  back limit (m.one t ∷ s) b = back_if limit (m.one t ∷ s) (b ∷ []) (same t b) (to s) refused
+      (λ e. (omega arith, λ bs r h. (bs, first_is t b bs e, h))) tt
+  back limit (m.may t ∷ s) b =
+      back_if limit (m.may t ∷ s) (b ∷ []) (same t b) (to s) (step s b)
+      (λ e. (omega arith, λ bs r h. (bs, (true, first_is t b bs e), h)))
+      (along limit (m.may t) s (b ∷ []) (b ∷ []) (step s b) (λ bs. (false, refl)) (back limit s b))
   back limit (m.name ∷ s) (Identifier n) = (omega arith, λ bs r h. (bs, (n, refl), h))
   back limit (m.name ∷ s) _ = tt
-  back limit (m.later_names ∷ s) b = back_if limit (m.later_names ∷ s) (b ∷ []) (same (Symbol symbol.Comma) b) (to (m.name ∷ m.later_names ∷ s)) (step s b) (λ e. (omega arith, λ bs r h. let a = h.2 in (a.0, (h.1.0 ∷ a.1.0, first_is (Symbol symbol.Comma) b bs e ∙ ap (λ (l : List Token). Symbol symbol.Comma ∷ l) (h.1.1 ∙ ap (λ (l : List Token). Identifier h.1.0 ∷ l) a.1.1)), a.2))) (along limit m.later_names s (b ∷ []) (b ∷ []) (step s b) (λ bs. ([], refl)) (back limit s b))
-  back limit (m.later_members ∷ s) b = back_if limit (m.later_members ∷ s) (b ∷ []) (same (Symbol symbol.Hash) b) (to (m.name ∷ m.later_members ∷ s)) (step s b) (λ e. (omega arith, λ bs r h. let a = h.2 in (a.0, (h.1.0 ∷ a.1.0, first_is (Symbol symbol.Hash) b bs e ∙ ap (λ (l : List Token). Symbol symbol.Hash ∷ l) (h.1.1 ∙ ap (λ (l : List Token). Identifier h.1.0 ∷ l) a.1.1)), a.2))) (along limit m.later_members s (b ∷ []) (b ∷ []) (step s b) (λ bs. ([], refl)) (back limit s b))
-  back limit (m.relation ∷ s) (Identifier n) = (omega arith, λ bs r h. (h.0, relation_back limit (open_count s) n bs h.0 h.1, h.2))
+  back limit (m.later_names ∷ s) b =
+      back_if limit (m.later_names ∷ s) (b ∷ []) (same (Symbol symbol.Comma) b) (to (m.name ∷ m.later_names ∷ s))
+      (step s b) (λ e. (
+        omega arith,
+        λ bs r h. let a = h.2 in (
+          a.0,
+          (
+            h.1.0 ∷ a.1.0,
+            first_is (Symbol symbol.Comma) b bs e
+                ∙ ap (λ (l : List Token). Symbol symbol.Comma ∷ l) (h.1.1 ∙ ap (λ (l : List Token). Identifier h.1.0 ∷ l) a.1.1),
+          ),
+          a.2,
+        ),
+      )) (along limit m.later_names s (b ∷ []) (b ∷ []) (step s b) (λ bs. ([], refl)) (back limit s b))
+  back limit (m.later_members ∷ s) b =
+      back_if limit (m.later_members ∷ s) (b ∷ []) (same (Symbol symbol.Hash) b) (to (m.name ∷ m.later_members ∷ s))
+      (step s b) (λ e. (
+        omega arith,
+        λ bs r h. let a = h.2 in (
+          a.0,
+          (
+            h.1.0 ∷ a.1.0,
+            first_is (Symbol symbol.Hash) b bs e
+                ∙ ap (λ (l : List Token). Symbol symbol.Hash ∷ l) (h.1.1 ∙ ap (λ (l : List Token). Identifier h.1.0 ∷ l) a.1.1),
+          ),
+          a.2,
+        ),
+      )) (along limit m.later_members s (b ∷ []) (b ∷ []) (step s b) (λ bs. ([], refl)) (back limit s b))
+  back limit (m.relation ∷ s) (Identifier n) =
+      (omega arith, λ bs r h. (h.0, relation_back limit (open_count s) n bs h.0 h.1, h.2))
   back limit (m.relation ∷ s) _ = tt
-  back limit (m.relation_tail ∷ s) (Symbol symbol.Hash) = (omega arith, λ bs r h. let a = h.2 in (a.0, inl (h.1.0, a.1.0, ap (λ (l : List Token). Symbol symbol.Hash ∷ l) (h.1.1 ∙ ap (λ (l : List Token). Identifier h.1.0 ∷ l) a.1.1)), a.2))
-  back limit (m.relation_tail ∷ s) (Symbol symbol.Implies) = (omega arith, λ bs r h. (h.0, inr (h.1.0, ap (λ (l : List Token). Symbol symbol.Implies ∷ l) h.1.1), h.2))
+  back limit (m.relation_tail ∷ s) (Symbol symbol.Hash) = (
+    omega arith,
+    λ bs r h. let a = h.2 in (
+      a.0,
+      inl (
+        h.1.0,
+        a.1.0,
+        ap (λ (l : List Token). Symbol symbol.Hash ∷ l) (h.1.1 ∙ ap (λ (l : List Token). Identifier h.1.0 ∷ l) a.1.1),
+      ),
+      a.2,
+    ),
+  )
+  back limit (m.relation_tail ∷ s) (Symbol symbol.Implies) =
+      (omega arith, λ bs r h. (h.0, inr (h.1.0, ap (λ (l : List Token). Symbol symbol.Implies ∷ l) h.1.1), h.2))
   back limit (m.relation_tail ∷ s) _ = tt
-  back limit (m.later_relations ∷ s) b = back_if limit (m.later_relations ∷ s) (b ∷ []) (same (Symbol symbol.Comma) b) (to (m.relation ∷ m.later_relations ∷ s)) (step s b) (λ e. (omega arith, λ bs r h. let a = h.2 in (a.0, (h.1.0 ∷ a.1.0, first_is (Symbol symbol.Comma) b bs e ∙ ap (λ (l : List Token). Symbol symbol.Comma ∷ l) (h.1.1 ∙ ap (λ (l : List Token). g.relation_onto h.1.0 l) a.1.1)), a.2))) (along limit m.later_relations s (b ∷ []) (b ∷ []) (step s b) (λ bs. ([], refl)) (back limit s b))
-  back limit (m.declarations ∷ s) (Keyword keyword.Input) = (omega arith, λ bs r h. let a = h.2 in let b = a.2 in let d = b.2 in (d.0, (input (record { first = h.1.0; later = a.1.0 }) ∷ d.1.0, ap (λ (l : List Token). Keyword keyword.Input ∷ l) (h.1.1 ∙ ap (λ (l : List Token). Identifier h.1.0 ∷ l) (a.1.1 ∙ ap (λ (l : List Token). g.later_names_onto a.1.0 l) (b.1 ∙ ap (λ (l : List Token). Symbol symbol.Semicolon ∷ l) d.1.1)))), d.2))
-  back limit (m.declarations ∷ s) (Keyword keyword.Output) = (omega arith, λ bs r h. let a = h.2 in let b = a.2 in let d = b.2 in (d.0, (output (record { first = h.1.0; later = a.1.0 }) ∷ d.1.0, ap (λ (l : List Token). Keyword keyword.Output ∷ l) (h.1.1 ∙ ap (λ (l : List Token). Identifier h.1.0 ∷ l) (a.1.1 ∙ ap (λ (l : List Token). g.later_names_onto a.1.0 l) (b.1 ∙ ap (λ (l : List Token). Symbol symbol.Semicolon ∷ l) d.1.1)))), d.2))
-  back limit (m.declarations ∷ s) (Keyword keyword.Relation) = (omega arith, λ bs r h. let a = h.2 in let b = a.2 in let d = b.2 in (d.0, (relations h.1.0 a.1.0 ∷ d.1.0, ap (λ (l : List Token). Keyword keyword.Relation ∷ l) (h.1.1 ∙ ap (λ (l : List Token). g.relation_onto h.1.0 l) (a.1.1 ∙ ap (λ (l : List Token). g.later_relations_onto a.1.0 l) (b.1 ∙ ap (λ (l : List Token). Symbol symbol.Semicolon ∷ l) d.1.1)))), d.2))
-  back limit (m.declarations ∷ s) b = along limit m.declarations s (b ∷ []) (b ∷ []) (step s b) (λ bs. ([], refl)) (back limit s b)
-  back limit (m.renamings ∷ s) b = back_if limit (m.renamings ∷ s) (b ∷ []) (same (Symbol symbol.OpenBracket) b) (to (m.one (Keyword keyword.Signal) ∷ m.name ∷ m.one (Symbol symbol.Slash) ∷ m.name ∷ m.later_renamings ∷ m.one (Symbol symbol.CloseBracket) ∷ s)) (step s b) (λ e. (omega arith, λ bs r h. let a = h.2 in let n = a.2 in let d = n.2 in let f = d.2 in let i = f.2 in (i.0, (record { outer = a.1.0; inner = d.1.0 } ∷ f.1.0, first_is (Symbol symbol.OpenBracket) b bs e ∙ ap (λ (l : List Token). Symbol symbol.OpenBracket ∷ l) (h.1 ∙ ap (λ (l : List Token). Keyword keyword.Signal ∷ l) (a.1.1 ∙ ap (λ (l : List Token). Identifier a.1.0 ∷ l) (n.1 ∙ ap (λ (l : List Token). Symbol symbol.Slash ∷ l) (d.1.1 ∙ ap (λ (l : List Token). Identifier d.1.0 ∷ l) (f.1.1 ∙ ap (λ (l : List Token). g.later_renamings_onto f.1.0 l) i.1)))))), i.2))) (along limit m.renamings s (b ∷ []) (b ∷ []) (step s b) (λ bs. ([], refl)) (back limit s b))
-  back limit (m.later_renamings ∷ s) b = back_if limit (m.later_renamings ∷ s) (b ∷ []) (same (Symbol symbol.Comma) b) (to (m.name ∷ m.one (Symbol symbol.Slash) ∷ m.name ∷ m.later_renamings ∷ s)) (step s b) (λ e. (omega arith, λ bs r h. let n = h.2 in let d = n.2 in let f = d.2 in (f.0, (record { outer = h.1.0; inner = d.1.0 } ∷ f.1.0, first_is (Symbol symbol.Comma) b bs e ∙ ap (λ (l : List Token). Symbol symbol.Comma ∷ l) (h.1.1 ∙ ap (λ (l : List Token). Identifier h.1.0 ∷ l) (n.1 ∙ ap (λ (l : List Token). Symbol symbol.Slash ∷ l) (d.1.1 ∙ ap (λ (l : List Token). Identifier d.1.0 ∷ l) f.1.1)))), f.2))) (along limit m.later_renamings s (b ∷ []) (b ∷ []) (step s b) (λ bs. ([], refl)) (back limit s b))
+  back limit (m.later_relations ∷ s) b =
+      back_if limit (m.later_relations ∷ s) (b ∷ []) (same (Symbol symbol.Comma) b)
+      (to (m.relation ∷ m.later_relations ∷ s)) (step s b)
+      (λ e. (
+        omega arith,
+        λ bs r h. let a = h.2 in (
+          a.0,
+          (
+            h.1.0 ∷ a.1.0,
+            first_is (Symbol symbol.Comma) b bs e
+                ∙ ap (λ (l : List Token). Symbol symbol.Comma ∷ l)
+                (h.1.1 ∙ ap (λ (l : List Token). g.relation_onto h.1.0 l) a.1.1),
+          ),
+          a.2,
+        ),
+      )) (along limit m.later_relations s (b ∷ []) (b ∷ []) (step s b) (λ bs. ([], refl)) (back limit s b))
+  back limit (m.declarations ∷ s) (Keyword keyword.Input) = (
+    omega arith,
+    λ bs r h. let a = h.2 in let b = a.2 in let d = b.2 in (
+      d.0,
+      (
+        input (record { first = h.1.0; later = a.1.0 }) ∷ d.1.0,
+        ap (λ (l : List Token). Keyword keyword.Input ∷ l)
+            (h.1.1 ∙ ap (λ (l : List Token). Identifier h.1.0 ∷ l)
+            (a.1.1 ∙ ap (λ (l : List Token). g.later_names_onto a.1.0 l)
+            (b.1 ∙ ap (λ (l : List Token). Symbol symbol.Semicolon ∷ l) d.1.1))),
+      ),
+      d.2,
+    ),
+  )
+  back limit (m.declarations ∷ s) (Keyword keyword.Output) = (
+    omega arith,
+    λ bs r h. let a = h.2 in let b = a.2 in let d = b.2 in (
+      d.0,
+      (
+        output (record { first = h.1.0; later = a.1.0 }) ∷ d.1.0,
+        ap (λ (l : List Token). Keyword keyword.Output ∷ l)
+            (h.1.1 ∙ ap (λ (l : List Token). Identifier h.1.0 ∷ l)
+            (a.1.1 ∙ ap (λ (l : List Token). g.later_names_onto a.1.0 l)
+            (b.1 ∙ ap (λ (l : List Token). Symbol symbol.Semicolon ∷ l) d.1.1))),
+      ),
+      d.2,
+    ),
+  )
+  back limit (m.declarations ∷ s) (Keyword keyword.Relation) = (
+    omega arith,
+    λ bs r h. let a = h.2 in let b = a.2 in let d = b.2 in (
+      d.0,
+      (
+        relations h.1.0 a.1.0 ∷ d.1.0,
+        ap (λ (l : List Token). Keyword keyword.Relation ∷ l)
+            (h.1.1 ∙ ap (λ (l : List Token). g.relation_onto h.1.0 l)
+            (a.1.1 ∙ ap (λ (l : List Token). g.later_relations_onto a.1.0 l)
+            (b.1 ∙ ap (λ (l : List Token). Symbol symbol.Semicolon ∷ l) d.1.1))),
+      ),
+      d.2,
+    ),
+  )
+  back limit (m.declarations ∷ s) b =
+      along limit m.declarations s (b ∷ []) (b ∷ []) (step s b) (λ bs. ([], refl)) (back limit s b)
+  back limit (m.renamings ∷ s) b =
+      back_if limit (m.renamings ∷ s) (b ∷ []) (same (Symbol symbol.OpenBracket) b)
+      (to (m.one (Keyword keyword.Signal) ∷ m.name ∷ m.one (Symbol symbol.Slash) ∷ m.name ∷ m.later_renamings
+      ∷ m.one (Symbol symbol.CloseBracket)
+      ∷ s)) (step s b) (λ e. (
+        omega arith,
+        λ bs r h. let a = h.2 in let n = a.2 in let d = n.2 in let f = d.2
+            in let i = f.2 in (
+              i.0,
+              (
+                record { outer = a.1.0; inner = d.1.0 } ∷ f.1.0,
+                first_is (Symbol symbol.OpenBracket) b bs e
+                    ∙ ap (λ (l : List Token). Symbol symbol.OpenBracket ∷ l)
+                    (h.1 ∙ ap (λ (l : List Token). Keyword keyword.Signal ∷ l)
+                    (a.1.1 ∙ ap (λ (l : List Token). Identifier a.1.0 ∷ l)
+                    (n.1 ∙ ap (λ (l : List Token). Symbol symbol.Slash ∷ l)
+                    (d.1.1 ∙ ap (λ (l : List Token). Identifier d.1.0 ∷ l) (f.1.1 ∙ ap (λ (l : List Token). g.later_renamings_onto f.1.0 l) i.1))))),
+              ),
+              i.2,
+            ),
+      )) (along limit m.renamings s (b ∷ []) (b ∷ []) (step s b) (λ bs. ([], refl)) (back limit s b))
+  back limit (m.later_renamings ∷ s) b =
+      back_if limit (m.later_renamings ∷ s) (b ∷ []) (same (Symbol symbol.Comma) b)
+      (to (m.name ∷ m.one (Symbol symbol.Slash) ∷ m.name ∷ m.later_renamings ∷ s)) (step s b)
+      (λ e. (
+        omega arith,
+        λ bs r h. let n = h.2 in let d = n.2 in let f = d.2 in (
+          f.0,
+          (
+            record { outer = h.1.0; inner = d.1.0 } ∷ f.1.0,
+            first_is (Symbol symbol.Comma) b bs e
+                ∙ ap (λ (l : List Token). Symbol symbol.Comma ∷ l)
+                (h.1.1 ∙ ap (λ (l : List Token). Identifier h.1.0 ∷ l)
+                (n.1 ∙ ap (λ (l : List Token). Symbol symbol.Slash ∷ l)
+                (d.1.1 ∙ ap (λ (l : List Token). Identifier d.1.0 ∷ l) f.1.1))),
+          ),
+          f.2,
+        ),
+      )) (along limit m.later_renamings s (b ∷ []) (b ∷ []) (step s b) (λ bs. ([], refl)) (back limit s b))
   back limit (m.unit ∷ s) b = unit_step limit b s (unit_start b) (unit_back limit b)
   back limit (m.sequence ∷ s) b = sequence_step limit b s (unit_start b) (unit_back limit b)
-  back limit (m.sequence_tail ∷ s) b = back_if limit (m.sequence_tail ∷ s) (b ∷ []) (same (Symbol symbol.Semicolon) b) (to (m.after_semicolon ∷ s)) (step s b) (λ e. (omega arith, λ bs r h. (h.0, subst (λ (l : List Token). Spells limit (open_count s) m.sequence_tail l h.0) (sym (first_is (Symbol symbol.Semicolon) b bs e)) (after_tail limit (open_count s) bs h.0 r h.1), h.2))) (tail_skip limit s b (step s b) (back limit s b))
+  back limit (m.sequence_tail ∷ s) b =
+      back_if limit (m.sequence_tail ∷ s) (b ∷ []) (same (Symbol symbol.Semicolon) b) (to (m.after_semicolon ∷ s))
+      (step s b) (λ e. (
+        omega arith,
+        λ bs r h. (
+          h.0,
+          subst (λ (l : List Token). Spells limit (open_count s) m.sequence_tail l h.0)
+              (sym (first_is (Symbol symbol.Semicolon) b bs e)) (after_tail limit (open_count s) bs h.0 r h.1),
+          h.2,
+        ),
+      )) (tail_skip limit s b (step s b) (back limit s b))
   back limit (m.after_semicolon ∷ s) b = semicolon_step limit b s (unit_start b) (step s b) (unit_back limit b) (back limit s b)
   back limit (m.statement ∷ s) b = statement_step limit b s (unit_start b) (unit_back limit b)
-  back limit (m.statement_tail ∷ s) b = back_if limit (m.statement_tail ∷ s) (b ∷ []) (same (Symbol symbol.Parallel) b) (to (m.sequence ∷ m.statement_tail ∷ s)) (step s b) (λ e. (omega arith, λ bs r h. let v = h.2 in (v.0, (sequences h.1.0 v.1.0, omega (arith, h.1.1, v.1.1), first_is (Symbol symbol.Parallel) b bs e ∙ ap (λ (l : List Token). Symbol symbol.Parallel ∷ l) (h.1.2 ∙ ap (λ (l : List Token). g.sequence_onto h.1.0 l) v.1.2)), v.2))) (side_skip limit s b (step s b) (back limit s b))
-  back limit (m.branches ∷ s) (Keyword keyword.Then) = (omega arith, λ bs r h. let v = h.2 in (v.0, then_back limit (open_count s) h.1.0 bs h.0 v.0 h.1.1 h.1.2 v.1, v.2))
-  back limit (m.branches ∷ s) (Keyword keyword.Else) = (omega arith, λ bs r h. let v = h.2 in let w = v.2 in (w.0, (else_only h.1.0 w.1.0, h.1.1, ap (λ (l : List Token). Keyword keyword.Else ∷ l) (h.1.2 ∙ ap (λ (l : List Token). g.statement_onto h.1.0 l) (v.1 ∙ ap (λ (l : List Token). kw_end ∷ l) w.1.1))), w.2))
+  back limit (m.statement_tail ∷ s) b =
+      back_if limit (m.statement_tail ∷ s) (b ∷ []) (same (Symbol symbol.Parallel) b)
+      (to (m.sequence ∷ m.statement_tail ∷ s)) (step s b)
+      (λ e. (
+        omega arith,
+        λ bs r h. let v = h.2 in (
+          v.0,
+          (
+            sequences h.1.0 v.1.0,
+            omega (arith, h.1.1, v.1.1),
+            first_is (Symbol symbol.Parallel) b bs e
+                ∙ ap (λ (l : List Token). Symbol symbol.Parallel ∷ l)
+                (h.1.2 ∙ ap (λ (l : List Token). g.sequence_onto h.1.0 l) v.1.2),
+          ),
+          v.2,
+        ),
+      )) (side_skip limit s b (step s b) (back limit s b))
+  back limit (m.branches ∷ s) (Keyword keyword.Then) =
+      (omega arith, λ bs r h. let v = h.2 in (v.0, then_back limit (open_count s) h.1.0 bs h.0 v.0 h.1.1 h.1.2 v.1, v.2))
+  back limit (m.branches ∷ s) (Keyword keyword.Else) = (
+    omega arith,
+    λ bs r h. let v = h.2 in let w = v.2 in (
+      w.0,
+      (
+        else_only h.1.0 w.1.0,
+        h.1.1,
+        ap (λ (l : List Token). Keyword keyword.Else ∷ l)
+            (h.1.2 ∙ ap (λ (l : List Token). g.statement_onto h.1.0 l) (v.1 ∙ ap (λ (l : List Token). kw_end ∷ l) w.1.1)),
+      ),
+      w.2,
+    ),
+  )
   back limit (m.branches ∷ s) _ = tt
-  back limit (m.after_then ∷ s) (Keyword keyword.Else) = (omega arith, λ bs r h. let v = h.2 in let w = v.2 in (w.0, inr (h.1.0, w.1.0, h.1.1, ap (λ (l : List Token). Keyword keyword.Else ∷ l) (h.1.2 ∙ ap (λ (l : List Token). g.statement_onto h.1.0 l) (v.1 ∙ ap (λ (l : List Token). kw_end ∷ l) w.1.1))), w.2))
-  back limit (m.after_then ∷ s) (Keyword keyword.End) = (omega arith, λ bs r h. (h.0, inl (h.1.0, ap (λ (l : List Token). kw_end ∷ l) h.1.1), h.2))
+  back limit (m.after_then ∷ s) (Keyword keyword.Else) = (
+    omega arith,
+    λ bs r h. let v = h.2 in let w = v.2 in (
+      w.0,
+      inr (
+        h.1.0,
+        w.1.0,
+        h.1.1,
+        ap (λ (l : List Token). Keyword keyword.Else ∷ l)
+            (h.1.2 ∙ ap (λ (l : List Token). g.statement_onto h.1.0 l) (v.1 ∙ ap (λ (l : List Token). kw_end ∷ l) w.1.1)),
+      ),
+      w.2,
+    ),
+  )
+  back limit (m.after_then ∷ s) (Keyword keyword.End) =
+      (omega arith, λ bs r h. (h.0, inl (h.1.0, ap (λ (l : List Token). kw_end ∷ l) h.1.1), h.2))
   back limit (m.after_then ∷ s) _ = tt
-  back limit (m.loop_tail ∷ s) (Keyword keyword.Each) = (omega arith, λ bs r h. (h.0, inr (h.1.0, ap (λ (l : List Token). Keyword keyword.Each ∷ l) h.1.1), h.2))
-  back limit (m.loop_tail ∷ s) (Keyword keyword.End) = (omega arith, λ bs r h. (h.0, inl (h.1.0, ap (λ (l : List Token). kw_end ∷ l) h.1.1), h.2))
+  back limit (m.loop_tail ∷ s) (Keyword keyword.Each) =
+      (omega arith, λ bs r h. (h.0, inr (h.1.0, ap (λ (l : List Token). Keyword keyword.Each ∷ l) h.1.1), h.2))
+  back limit (m.loop_tail ∷ s) (Keyword keyword.End) =
+      (omega arith, λ bs r h. (h.0, inl (h.1.0, ap (λ (l : List Token). kw_end ∷ l) h.1.1), h.2))
   back limit (m.loop_tail ∷ s) _ = tt
-  back limit (m.may_end t ∷ s) b = back_if limit (m.may_end t ∷ s) (b ∷ []) (same kw_end b) (to (m.ended t ∷ s)) (step s b) (λ e. (omega arith, λ bs r h. ended_back limit t b s bs (first_is kw_end b bs e) h)) (along limit (m.may_end t) s (b ∷ []) (b ∷ []) (step s b) (λ bs. (false, refl)) (back limit s b))
-  back limit (m.ended t ∷ s) b = back_if limit (m.ended t ∷ s) (b ∷ []) (same t b) (to s) (step_after_end s b) (λ e. (omega arith, λ bs r h. (bs, inl (first_is t b bs e), h))) (along limit (m.ended t) s (b ∷ []) (kw_end ∷ b ∷ []) (step_after_end s b) (λ bs. inr refl) (after_back limit s b))
-  back limit (m.may_end_weak ∷ s) b = back_if limit (m.may_end_weak ∷ s) (b ∷ []) (same kw_end b) (to (m.ended_weak ∷ s)) (step s b) (λ e. (omega arith, λ bs r h. ended_weak_back limit b s bs (first_is kw_end b bs e) h)) (along limit m.may_end_weak s (b ∷ []) (b ∷ []) (step s b) (λ bs. (left_out, refl)) (back limit s b))
-  back limit (m.ended_weak ∷ s) b = back_if limit (m.ended_weak ∷ s) (b ∷ []) (same (Keyword keyword.Abort) b) (to s) (if same (Keyword keyword.Weak) b then to (m.one (Keyword keyword.Abort) ∷ s) else step_after_end s b) (λ e. (omega arith, λ bs r h. (bs, inl (false, first_is (Keyword keyword.Abort) b bs e), h)))
-      (back_if limit (m.ended_weak ∷ s) (b ∷ []) (same (Keyword keyword.Weak) b) (to (m.one (Keyword keyword.Abort) ∷ s)) (step_after_end s b) (λ e. (omega arith, λ bs r h. (h.0, inl (true, first_is (Keyword keyword.Weak) b bs e ∙ ap (λ (l : List Token). Keyword keyword.Weak ∷ l) h.1), h.2))) (along limit m.ended_weak s (b ∷ []) (kw_end ∷ b ∷ []) (step_after_end s b) (λ bs. inr refl) (after_back limit s b)))
+  back limit (m.may_end t ∷ s) b =
+      back_if limit (m.may_end t ∷ s) (b ∷ []) (same kw_end b) (to (m.ended t ∷ s)) (step s b)
+      (λ e. (omega arith, λ bs r h. ended_back limit t b s bs (first_is kw_end b bs e) h))
+      (along limit (m.may_end t) s (b ∷ []) (b ∷ []) (step s b) (λ bs. (false, refl)) (back limit s b))
+  back limit (m.ended t ∷ s) b =
+      back_if limit (m.ended t ∷ s) (b ∷ []) (same t b) (to s) (step_after_end s b)
+      (λ e. (omega arith, λ bs r h. (bs, inl (first_is t b bs e), h)))
+      (along limit (m.ended t) s (b ∷ []) (kw_end ∷ b ∷ []) (step_after_end s b) (λ bs. inr refl) (after_back limit s b))
+  back limit (m.may_end_weak ∷ s) b =
+      back_if limit (m.may_end_weak ∷ s) (b ∷ []) (same kw_end b) (to (m.ended_weak ∷ s)) (step s b)
+      (λ e. (omega arith, λ bs r h. ended_weak_back limit b s bs (first_is kw_end b bs e) h))
+      (along limit m.may_end_weak s (b ∷ []) (b ∷ []) (step s b) (λ bs. (left_out, refl)) (back limit s b))
+  back limit (m.ended_weak ∷ s) b =
+      back_if limit (m.ended_weak ∷ s) (b ∷ []) (same (Keyword keyword.Abort) b) (to s)
+      (if same (Keyword keyword.Weak) b then to (m.one (Keyword keyword.Abort) ∷ s) else step_after_end s b)
+      (λ e. (omega arith, λ bs r h. (bs, inl (false, first_is (Keyword keyword.Abort) b bs e), h)))
+      (back_if limit (m.ended_weak ∷ s) (b ∷ []) (same (Keyword keyword.Weak) b)
+      (to (m.one (Keyword keyword.Abort) ∷ s)) (step_after_end s b)
+      (λ e. (
+        omega arith,
+        λ bs r h. (
+          h.0,
+          inl (true, first_is (Keyword keyword.Weak) b bs e ∙ ap (λ (l : List Token). Keyword keyword.Weak ∷ l) h.1),
+          h.2,
+        ),
+      )) (along limit m.ended_weak s (b ∷ []) (kw_end ∷ b ∷ []) (step_after_end s b) (λ bs. inr refl) (after_back limit s b)))
   back limit (m.leave ∷ s) b = along limit m.leave s (b ∷ []) (b ∷ []) (step s b) (λ bs. refl) (back limit s b)
-  back limit (m.modules ∷ s) b = back_if limit (m.modules ∷ s) (b ∷ []) (same (Keyword keyword.Module) b) (to (module_wants s)) (step s b) (λ e. (omega arith, λ bs r h. let p = module_back limit s bs h in (p.rest, (p.first ∷ p.later, omega (arith, p.fits, p.fit), first_is (Keyword keyword.Module) b bs e ∙ p.text), p.behind))) (modules_skip limit s b (step s b) (back limit s b))
-  back limit (m.library ∷ s) b = back_if limit (m.library ∷ s) (b ∷ []) (same (Keyword keyword.Module) b) (to (module_wants s)) refused (λ e. (omega arith, λ bs r h. let p = module_back limit s bs h in (p.rest, (p.first, p.later, p.fits, p.fit, first_is (Keyword keyword.Module) b bs e ∙ p.text), p.behind))) tt
+  back limit (m.modules ∷ s) b =
+      back_if limit (m.modules ∷ s) (b ∷ []) (same (Keyword keyword.Module) b) (to (module_wants s)) (step s b)
+      (λ e. (
+        omega arith,
+        λ bs r h. let p = module_back limit s bs h in (
+          p.rest,
+          (p.first ∷ p.later, omega (arith, p.fits, p.fit), first_is (Keyword keyword.Module) b bs e ∙ p.text),
+          p.behind,
+        ),
+      )) (modules_skip limit s b (step s b) (back limit s b))
+  back limit (m.library ∷ s) b =
+      back_if limit (m.library ∷ s) (b ∷ []) (same (Keyword keyword.Module) b) (to (module_wants s)) refused
+      (λ e. (
+        omega arith,
+        λ bs r h. let p = module_back limit s bs h in
+            (p.rest, (p.first, p.later, p.fits, p.fit, first_is (Keyword keyword.Module) b bs e ∙ p.text), p.behind),
+      )) tt
 
   after_back : (limit : ℕ) (s : List Want) (b : Token) → Back limit s (kw_end ∷ b ∷ []) (step_after_end s b)
   after_back limit [] b = tt
-  after_back limit (m.one t ∷ s) b = back_if limit (m.one t ∷ s) (kw_end ∷ b ∷ []) (same t kw_end) (step s b) refused (λ e. along limit (m.one t) s (kw_end ∷ b ∷ []) (b ∷ []) (step s b) (λ bs. is_end t b bs e) (back limit s b)) tt
-  after_back limit (m.may t ∷ s) b = back_if limit (m.may t ∷ s) (kw_end ∷ b ∷ []) (same t kw_end) (step s b) (step_after_end s b) (λ e. along limit (m.may t) s (kw_end ∷ b ∷ []) (b ∷ []) (step s b) (λ bs. (true, is_end t b bs e)) (back limit s b)) (along limit (m.may t) s (kw_end ∷ b ∷ []) (kw_end ∷ b ∷ []) (step_after_end s b) (λ bs. (false, refl)) (after_back limit s b))
-  after_back limit (m.later_names ∷ s) b = along limit m.later_names s (kw_end ∷ b ∷ []) (kw_end ∷ b ∷ []) (step_after_end s b) (λ bs. ([], refl)) (after_back limit s b)
-  after_back limit (m.later_members ∷ s) b = along limit m.later_members s (kw_end ∷ b ∷ []) (kw_end ∷ b ∷ []) (step_after_end s b) (λ bs. ([], refl)) (after_back limit s b)
-  after_back limit (m.later_relations ∷ s) b = along limit m.later_relations s (kw_end ∷ b ∷ []) (kw_end ∷ b ∷ []) (step_after_end s b) (λ bs. ([], refl)) (after_back limit s b)
-  after_back limit (m.renamings ∷ s) b = along limit m.renamings s (kw_end ∷ b ∷ []) (kw_end ∷ b ∷ []) (step_after_end s b) (λ bs. ([], refl)) (after_back limit s b)
-  after_back limit (m.later_renamings ∷ s) b = along limit m.later_renamings s (kw_end ∷ b ∷ []) (kw_end ∷ b ∷ []) (step_after_end s b) (λ bs. ([], refl)) (after_back limit s b)
-  after_back limit (m.declarations ∷ s) b = along limit m.declarations s (kw_end ∷ b ∷ []) (kw_end ∷ b ∷ []) (step_after_end s b) (λ bs. ([], refl)) (after_back limit s b)
+  after_back limit (m.one t ∷ s) b = back_if limit (m.one t ∷ s) (kw_end ∷ b ∷ []) (same t kw_end) (step s b) refused
+      (λ e. along limit (m.one t) s (kw_end ∷ b ∷ []) (b ∷ []) (step s b) (λ bs. is_end t b bs e) (back limit s b)) tt
+  after_back limit (m.may t ∷ s) b =
+      back_if limit (m.may t ∷ s) (kw_end ∷ b ∷ []) (same t kw_end) (step s b) (step_after_end s b)
+      (λ e. along limit (m.may t) s (kw_end ∷ b ∷ []) (b ∷ []) (step s b) (λ bs. (true, is_end t b bs e))
+      (back limit s b)) (along limit (m.may t) s (kw_end ∷ b ∷ []) (kw_end ∷ b ∷ []) (step_after_end s b)
+      (λ bs. (false, refl)) (after_back limit s b))
+  after_back limit (m.later_names ∷ s) b = along limit m.later_names s (kw_end ∷ b ∷ []) (kw_end ∷ b ∷ [])
+      (step_after_end s b) (λ bs. ([], refl)) (after_back limit s b)
+  after_back limit (m.later_members ∷ s) b = along limit m.later_members s (kw_end ∷ b ∷ []) (kw_end ∷ b ∷ [])
+      (step_after_end s b) (λ bs. ([], refl)) (after_back limit s b)
+  after_back limit (m.later_relations ∷ s) b = along limit m.later_relations s (kw_end ∷ b ∷ []) (kw_end ∷ b ∷ [])
+      (step_after_end s b) (λ bs. ([], refl)) (after_back limit s b)
+  after_back limit (m.renamings ∷ s) b = along limit m.renamings s (kw_end ∷ b ∷ []) (kw_end ∷ b ∷ [])
+      (step_after_end s b) (λ bs. ([], refl)) (after_back limit s b)
+  after_back limit (m.later_renamings ∷ s) b = along limit m.later_renamings s (kw_end ∷ b ∷ []) (kw_end ∷ b ∷ [])
+      (step_after_end s b) (λ bs. ([], refl)) (after_back limit s b)
+  after_back limit (m.declarations ∷ s) b = along limit m.declarations s (kw_end ∷ b ∷ []) (kw_end ∷ b ∷ [])
+      (step_after_end s b) (λ bs. ([], refl)) (after_back limit s b)
   after_back limit (m.sequence_tail ∷ s) b = tail_skip_end limit s b (step_after_end s b) (after_back limit s b)
-  after_back limit (m.after_semicolon ∷ s) b = along limit m.after_semicolon s (kw_end ∷ b ∷ []) (kw_end ∷ b ∷ []) (step_after_end s b) (λ bs. inl refl) (after_back limit s b)
+  after_back limit (m.after_semicolon ∷ s) b = along limit m.after_semicolon s (kw_end ∷ b ∷ []) (kw_end ∷ b ∷ [])
+      (step_after_end s b) (λ bs. inl refl) (after_back limit s b)
   after_back limit (m.statement_tail ∷ s) b = side_skip_end limit s b (step_after_end s b) (after_back limit s b)
-  after_back limit (m.after_then ∷ s) b = back_if limit (m.after_then ∷ s) (kw_end ∷ b ∷ []) (same (Keyword keyword.Present) b) (to s) (step s b) (λ e. (omega arith, λ bs r h. (bs, inl (true, end_is (Keyword keyword.Present) b bs e), h))) (along limit m.after_then s (kw_end ∷ b ∷ []) (b ∷ []) (step s b) (λ bs. inl (false, refl)) (back limit s b))
-  after_back limit (m.loop_tail ∷ s) b = back_if limit (m.loop_tail ∷ s) (kw_end ∷ b ∷ []) (same (Keyword keyword.Loop) b) (to s) (step s b) (λ e. (omega arith, λ bs r h. (bs, inl (true, end_is (Keyword keyword.Loop) b bs e), h))) (along limit m.loop_tail s (kw_end ∷ b ∷ []) (b ∷ []) (step s b) (λ bs. inl (false, refl)) (back limit s b))
-  after_back limit (m.leave ∷ s) b = along limit m.leave s (kw_end ∷ b ∷ []) (kw_end ∷ b ∷ []) (step_after_end s b) (λ bs. refl) (after_back limit s b)
+  after_back limit (m.after_then ∷ s) b =
+      back_if limit (m.after_then ∷ s) (kw_end ∷ b ∷ []) (same (Keyword keyword.Present) b) (to s) (step s b)
+      (λ e. (omega arith, λ bs r h. (bs, inl (true, end_is (Keyword keyword.Present) b bs e), h)))
+      (along limit m.after_then s (kw_end ∷ b ∷ []) (b ∷ []) (step s b) (λ bs. inl (false, refl)) (back limit s b))
+  after_back limit (m.loop_tail ∷ s) b =
+      back_if limit (m.loop_tail ∷ s) (kw_end ∷ b ∷ []) (same (Keyword keyword.Loop) b) (to s) (step s b)
+      (λ e. (omega arith, λ bs r h. (bs, inl (true, end_is (Keyword keyword.Loop) b bs e), h)))
+      (along limit m.loop_tail s (kw_end ∷ b ∷ []) (b ∷ []) (step s b) (λ bs. inl (false, refl)) (back limit s b))
+  after_back limit (m.leave ∷ s) b =
+      along limit m.leave s (kw_end ∷ b ∷ []) (kw_end ∷ b ∷ []) (step_after_end s b) (λ bs. refl) (after_back limit s b)
   after_back limit (m.modules ∷ s) b = modules_skip_end limit s b (step_after_end s b) (after_back limit s b)
   after_back limit (m.name ∷ s) b = tt
   after_back limit (m.relation ∷ s) b = tt

@@ -15,7 +15,8 @@ use Rattle.est_syntax.specs.Machine.{Want, Step, Outcome, refused, to, opens, ri
 -- behind an `end` that closes something round it there is no keyword that makes a pair with it
 abbrev pub NoPair : List Token → Type 0
 NoPair [] = ⊥
-NoPair (b ∷ bs) = (same (Keyword keyword.Suspend) b ≡ false) × (same (Keyword keyword.Abort) b ≡ false) × (same (Keyword keyword.Weak) b ≡ false)
+NoPair (b ∷ bs) = (same (Keyword keyword.Suspend) b ≡ false) × (same (Keyword keyword.Abort) b ≡ false)
+    × (same (Keyword keyword.Weak) b ≡ false)
 
 -- an `end` closes what is wanted behind
 abbrev pub Closes : List Want → List Token → Type 0
@@ -113,39 +114,50 @@ statement_skips s (_ ∷ bs) h = absurd h
 abbrev pub either : ℕ → Token → List Token → Step → Step → Bool → Outcome
 either limit b bs here other x = go_on limit (if x then here else other) (b ∷ bs) (λ t. m.run limit t bs)
 
-pub may_over : (limit : ℕ) (t : Token) (s : List Want) (bs : List Token) → Skips t bs → m.run limit (m.may t ∷ s) bs ≡ m.run limit s bs
+pub may_over : (limit : ℕ) (t : Token) (s : List Want) (bs : List Token) → Skips t bs
+    → m.run limit (m.may t ∷ s) bs ≡ m.run limit s bs
 may_over limit t s [] h = refl
 may_over limit t s (b ∷ bs) h = ap (either limit b bs (to s) (step s b)) h
 
-pub names_over : (limit : ℕ) (s : List Want) (bs : List Token) → Skips (Symbol symbol.Comma) bs → m.run limit (m.later_names ∷ s) bs ≡ m.run limit s bs
+pub names_over : (limit : ℕ) (s : List Want) (bs : List Token) → Skips (Symbol symbol.Comma) bs
+    → m.run limit (m.later_names ∷ s) bs ≡ m.run limit s bs
 names_over limit s [] h = refl
 names_over limit s (b ∷ bs) h = ap (either limit b bs (to (m.name ∷ m.later_names ∷ s)) (step s b)) h
 
-pub members_over : (limit : ℕ) (s : List Want) (bs : List Token) → Skips (Symbol symbol.Hash) bs → m.run limit (m.later_members ∷ s) bs ≡ m.run limit s bs
+pub members_over : (limit : ℕ) (s : List Want) (bs : List Token) → Skips (Symbol symbol.Hash) bs
+    → m.run limit (m.later_members ∷ s) bs ≡ m.run limit s bs
 members_over limit s [] h = refl
 members_over limit s (b ∷ bs) h = ap (either limit b bs (to (m.name ∷ m.later_members ∷ s)) (step s b)) h
 
-pub relations_over : (limit : ℕ) (s : List Want) (bs : List Token) → Skips (Symbol symbol.Comma) bs → m.run limit (m.later_relations ∷ s) bs ≡ m.run limit s bs
+pub relations_over : (limit : ℕ) (s : List Want) (bs : List Token) → Skips (Symbol symbol.Comma) bs
+    → m.run limit (m.later_relations ∷ s) bs ≡ m.run limit s bs
 relations_over limit s [] h = refl
 relations_over limit s (b ∷ bs) h = ap (either limit b bs (to (m.relation ∷ m.later_relations ∷ s)) (step s b)) h
 
-pub renamings_over : (limit : ℕ) (s : List Want) (bs : List Token) → Skips (Symbol symbol.OpenBracket) bs → m.run limit (m.renamings ∷ s) bs ≡ m.run limit s bs
+pub renamings_over : (limit : ℕ) (s : List Want) (bs : List Token) → Skips (Symbol symbol.OpenBracket) bs
+    → m.run limit (m.renamings ∷ s) bs ≡ m.run limit s bs
 renamings_over limit s [] h = refl
-renamings_over limit s (b ∷ bs) h = ap (either limit b bs (to (m.one (Keyword keyword.Signal) ∷ m.name ∷ m.one (Symbol symbol.Slash) ∷ m.name ∷ m.later_renamings ∷ m.one (Symbol symbol.CloseBracket) ∷ s)) (step s b)) h
+renamings_over limit s (b ∷ bs) h =
+    ap (either limit b bs (to (m.one (Keyword keyword.Signal) ∷ m.name ∷ m.one (Symbol symbol.Slash) ∷ m.name
+    ∷ m.later_renamings ∷ m.one (Symbol symbol.CloseBracket) ∷ s)) (step s b)) h
 
-pub sequence_over : (limit : ℕ) (s : List Want) (bs : List Token) → Skips (Symbol symbol.Semicolon) bs → m.run limit (m.sequence_tail ∷ s) bs ≡ m.run limit s bs
+pub sequence_over : (limit : ℕ) (s : List Want) (bs : List Token) → Skips (Symbol symbol.Semicolon) bs
+    → m.run limit (m.sequence_tail ∷ s) bs ≡ m.run limit s bs
 sequence_over limit s [] h = refl
 sequence_over limit s (b ∷ bs) h = ap (either limit b bs (to (m.after_semicolon ∷ s)) (step s b)) h
 
-pub statement_over : (limit : ℕ) (s : List Want) (bs : List Token) → Skips (Symbol symbol.Parallel) bs → m.run limit (m.statement_tail ∷ s) bs ≡ m.run limit s bs
+pub statement_over : (limit : ℕ) (s : List Want) (bs : List Token) → Skips (Symbol symbol.Parallel) bs
+    → m.run limit (m.statement_tail ∷ s) bs ≡ m.run limit s bs
 statement_over limit s [] h = refl
 statement_over limit s (b ∷ bs) h = ap (either limit b bs (to (m.sequence ∷ m.statement_tail ∷ s)) (step s b)) h
 
-pub end_over : (limit : ℕ) (t : Token) (s : List Want) (bs : List Token) → Skips kw_end bs → m.run limit (m.may_end t ∷ s) bs ≡ m.run limit s bs
+pub end_over : (limit : ℕ) (t : Token) (s : List Want) (bs : List Token) → Skips kw_end bs
+    → m.run limit (m.may_end t ∷ s) bs ≡ m.run limit s bs
 end_over limit t s [] h = refl
 end_over limit t s (b ∷ bs) h = ap (either limit b bs (to (m.ended t ∷ s)) (step s b)) h
 
-pub weak_end_over : (limit : ℕ) (s : List Want) (bs : List Token) → Skips kw_end bs → m.run limit (m.may_end_weak ∷ s) bs ≡ m.run limit s bs
+pub weak_end_over : (limit : ℕ) (s : List Want) (bs : List Token) → Skips kw_end bs
+    → m.run limit (m.may_end_weak ∷ s) bs ≡ m.run limit s bs
 weak_end_over limit s [] h = refl
 weak_end_over limit s (b ∷ bs) h = ap (either limit b bs (to (m.ended_weak ∷ s)) (step s b)) h
 
@@ -154,7 +166,8 @@ leave_over limit s [] = refl
 leave_over limit s (b ∷ bs) = refl
 
 -- behind a sequence that a `;` closes begins no unit
-semicolon_over : (limit : ℕ) (s : List Want) (bs : List Token) → AfterSequence s bs → m.run limit (m.after_semicolon ∷ s) bs ≡ m.run limit s bs
+semicolon_over : (limit : ℕ) (s : List Want) (bs : List Token) → AfterSequence s bs
+    → m.run limit (m.after_semicolon ∷ s) bs ≡ m.run limit s bs
 semicolon_over limit s [] h = absurd h
 semicolon_over limit s (Keyword keyword.End ∷ bs) h = refl
 semicolon_over limit s (Keyword keyword.Else ∷ bs) h = refl
@@ -167,20 +180,26 @@ semicolon_over limit s (_ ∷ bs) h = absurd h
 -- ---- `end` that closes what is round a unit
 
 -- a pair that is not there leaves the `end` to what is behind
-pub end_left : (limit : ℕ) (t : Token) (s : List Want) (b : Token) (bs : List Token) → same t b ≡ false → Ends s → m.run limit (m.may_end t ∷ s) (kw_end ∷ b ∷ bs) ≡ m.run limit s (kw_end ∷ b ∷ bs)
+pub end_left : (limit : ℕ) (t : Token) (s : List Want) (b : Token) (bs : List Token) → same t b ≡ false → Ends s
+    → m.run limit (m.may_end t ∷ s) (kw_end ∷ b ∷ bs) ≡ m.run limit s (kw_end ∷ b ∷ bs)
 end_left limit t s b bs e h =
     ap (either limit b bs (to s) (step_after_end s b)) e
     ∙ ap (λ o. go_on limit o (b ∷ bs) (λ u. m.run limit u bs)) (h.2 b)
     ∙ ap (λ o. go_on limit o (kw_end ∷ b ∷ bs) (λ u. m.run limit u (b ∷ bs))) (sym h.1)
 
-pub weak_end_left : (limit : ℕ) (s : List Want) (b : Token) (bs : List Token) → same (Keyword keyword.Abort) b ≡ false → same (Keyword keyword.Weak) b ≡ false → Ends s → m.run limit (m.may_end_weak ∷ s) (kw_end ∷ b ∷ bs) ≡ m.run limit s (kw_end ∷ b ∷ bs)
+pub weak_end_left : (limit : ℕ) (s : List Want) (b : Token) (bs : List Token)
+    → same (Keyword keyword.Abort) b ≡ false → same (Keyword keyword.Weak) b ≡ false → Ends s
+    → m.run limit (m.may_end_weak ∷ s) (kw_end ∷ b ∷ bs) ≡ m.run limit s (kw_end ∷ b ∷ bs)
 weak_end_left limit s b bs e f h =
-    ap (either limit b bs (to s) (if same (Keyword keyword.Weak) b then to (m.one (Keyword keyword.Abort) ∷ s) else step_after_end s b)) e
+    ap (either limit b bs (to s) (if same (Keyword keyword.Weak) b then to
+    (m.one (Keyword keyword.Abort) ∷ s) else step_after_end s b)) e
     ∙ ap (either limit b bs (to (m.one (Keyword keyword.Abort) ∷ s)) (step_after_end s b)) f
     ∙ ap (λ o. go_on limit o (b ∷ bs) (λ u. m.run limit u bs)) (h.2 b)
     ∙ ap (λ o. go_on limit o (kw_end ∷ b ∷ bs) (λ u. m.run limit u (b ∷ bs))) (sym h.1)
 
-pub open_skips : (s : List Want) (bs : List Token) → AfterUnit s bs → (P : List Token → Type 0) → ((bs : List Token) → Skips kw_end bs → P bs) → ((b : Token) (bs : List Token) → NoPair (b ∷ bs) → Ends s → P (kw_end ∷ b ∷ bs)) → P bs
+pub open_skips : (s : List Want) (bs : List Token) → AfterUnit s bs → (P : List Token → Type 0)
+    → ((bs : List Token) → Skips kw_end bs → P bs)
+    → ((b : Token) (bs : List Token) → NoPair (b ∷ bs) → Ends s → P (kw_end ∷ b ∷ bs)) → P bs
 open_skips s [] h P f g = f [] tt
 open_skips s (Keyword keyword.End ∷ []) h P f g = absurd h.0
 open_skips s (Keyword keyword.End ∷ b ∷ bs) h P f g = g b bs h.0 h.1
@@ -194,46 +213,63 @@ open_skips s (_ ∷ bs) h P f g = absurd h
 
 -- ---- each part of a tree
 
-delay_part : (limit : ℕ) (i : Bool) (n : List ℕ) (s : List Want) (bs : List Token) → m.run limit (m.may (Keyword keyword.Immediate) ∷ m.name ∷ s) (g.token_if i (Keyword keyword.Immediate) (Identifier n ∷ bs)) ≡ m.run limit s bs
+delay_part : (limit : ℕ) (i : Bool) (n : List ℕ) (s : List Want) (bs : List Token)
+    → m.run limit (m.may (Keyword keyword.Immediate) ∷ m.name ∷ s)
+    (g.token_if i (Keyword keyword.Immediate) (Identifier n ∷ bs)) ≡ m.run limit s bs
 delay_part limit true n s bs = refl
 delay_part limit false n s bs = refl
 
-pub run_delay : (limit : ℕ) (d : DelayTree) (s : List Want) (bs : List Token) → m.run limit (m.may (Keyword keyword.Immediate) ∷ m.name ∷ s) (g.delay_onto d bs) ≡ m.run limit s bs
+pub run_delay : (limit : ℕ) (d : DelayTree) (s : List Want) (bs : List Token)
+    → m.run limit (m.may (Keyword keyword.Immediate) ∷ m.name ∷ s) (g.delay_onto d bs) ≡ m.run limit s bs
 run_delay limit d s bs = delay_part limit d.immediate d.signal s bs
 
-pub run_names : (limit : ℕ) (ns : List (List ℕ)) (s : List Want) (bs : List Token) → Skips (Symbol symbol.Comma) bs → m.run limit (m.later_names ∷ s) (g.later_names_onto ns bs) ≡ m.run limit s bs
+pub run_names : (limit : ℕ) (ns : List (List ℕ)) (s : List Want) (bs : List Token) → Skips (Symbol symbol.Comma) bs
+    → m.run limit (m.later_names ∷ s) (g.later_names_onto ns bs) ≡ m.run limit s bs
 run_names limit [] s bs h = names_over limit s bs h
 run_names limit (n ∷ ns) s bs h = run_names limit ns s bs h
 
-pub later_renamings_over : (limit : ℕ) (s : List Want) (bs : List Token) → Skips (Symbol symbol.Comma) bs → m.run limit (m.later_renamings ∷ s) bs ≡ m.run limit s bs
+pub later_renamings_over : (limit : ℕ) (s : List Want) (bs : List Token) → Skips (Symbol symbol.Comma) bs
+    → m.run limit (m.later_renamings ∷ s) bs ≡ m.run limit s bs
 later_renamings_over limit s [] h = refl
-later_renamings_over limit s (b ∷ bs) h = ap (either limit b bs (to (m.name ∷ m.one (Symbol symbol.Slash) ∷ m.name ∷ m.later_renamings ∷ s)) (step s b)) h
+later_renamings_over limit s (b ∷ bs) h =
+    ap (either limit b bs (to (m.name ∷ m.one (Symbol symbol.Slash) ∷ m.name ∷ m.later_renamings ∷ s)) (step s b)) h
 
-later_renamings : (limit : ℕ) (rs : List RenamingTree) (s : List Want) (bs : List Token) → m.run limit (m.later_renamings ∷ m.one (Symbol symbol.CloseBracket) ∷ s) (g.later_renamings_onto rs (Symbol symbol.CloseBracket ∷ bs)) ≡ m.run limit s bs
-later_renamings limit [] s bs = later_renamings_over limit (m.one (Symbol symbol.CloseBracket) ∷ s) (Symbol symbol.CloseBracket ∷ bs) refl
+later_renamings : (limit : ℕ) (rs : List RenamingTree) (s : List Want) (bs : List Token)
+    → m.run limit (m.later_renamings ∷ m.one (Symbol symbol.CloseBracket) ∷ s)
+    (g.later_renamings_onto rs (Symbol symbol.CloseBracket ∷ bs)) ≡ m.run limit s bs
+later_renamings limit [] s bs =
+    later_renamings_over limit (m.one (Symbol symbol.CloseBracket) ∷ s) (Symbol symbol.CloseBracket ∷ bs) refl
 later_renamings limit (r ∷ rs) s bs = later_renamings limit rs s bs
 
-run_renamings : (limit : ℕ) (rs : List RenamingTree) (s : List Want) (bs : List Token) → Skips (Symbol symbol.OpenBracket) bs → m.run limit (m.renamings ∷ s) (g.renamings_onto rs bs) ≡ m.run limit s bs
+run_renamings : (limit : ℕ) (rs : List RenamingTree) (s : List Want) (bs : List Token)
+    → Skips (Symbol symbol.OpenBracket) bs → m.run limit (m.renamings ∷ s) (g.renamings_onto rs bs) ≡ m.run limit s bs
 run_renamings limit [] s bs h = renamings_over limit s bs h
 run_renamings limit (r ∷ rs) s bs h = later_renamings limit rs s bs
 
-run_token_if : (limit : ℕ) (t : Token) (c : Bool) (s : List Want) (bs : List Token) → same t t ≡ true → Skips t bs → m.run limit (m.may t ∷ s) (g.token_if c t bs) ≡ m.run limit s bs
+run_token_if : (limit : ℕ) (t : Token) (c : Bool) (s : List Want) (bs : List Token) → same t t ≡ true → Skips t bs
+    → m.run limit (m.may t ∷ s) (g.token_if c t bs) ≡ m.run limit s bs
 run_token_if limit t true s bs e h = ap (either limit t bs (to s) (step s t)) e
 run_token_if limit t false s bs e h = may_over limit t s bs h
 
-run_end_if : (limit : ℕ) (t : Token) (c : Bool) (s : List Want) (bs : List Token) → same t t ≡ true → ((b : Token) (bs : List Token) → NoPair (b ∷ bs) → same t b ≡ false) → AfterUnit s bs → m.run limit (m.may_end t ∷ s) (g.end_if c t bs) ≡ m.run limit s bs
+run_end_if : (limit : ℕ) (t : Token) (c : Bool) (s : List Want) (bs : List Token) → same t t ≡ true
+    → ((b : Token) (bs : List Token) → NoPair (b ∷ bs) → same t b ≡ false) → AfterUnit s bs
+    → m.run limit (m.may_end t ∷ s) (g.end_if c t bs) ≡ m.run limit s bs
 run_end_if limit t true s bs e f h = ap (either limit t bs (to s) (step_after_end s t)) e
 run_end_if limit t false s bs e f h =
-    open_skips s bs h (λ cs. m.run limit (m.may_end t ∷ s) cs ≡ m.run limit s cs) (λ cs k. end_over limit t s cs k) (λ b cs p k. end_left limit t s b cs (f b cs p) k)
+    open_skips s bs h (λ cs. m.run limit (m.may_end t ∷ s) cs ≡ m.run limit s cs) (λ cs k. end_over limit t s cs k)
+    (λ b cs p k. end_left limit t s b cs (f b cs p) k)
 
-run_weak_end : (limit : ℕ) (c : WeakEndTree) (s : List Want) (bs : List Token) → AfterUnit s bs → m.run limit (m.may_end_weak ∷ s) (g.weak_end_onto c bs) ≡ m.run limit s bs
+run_weak_end : (limit : ℕ) (c : WeakEndTree) (s : List Want) (bs : List Token) → AfterUnit s bs
+    → m.run limit (m.may_end_weak ∷ s) (g.weak_end_onto c bs) ≡ m.run limit s bs
 run_weak_end limit end_abort s bs h = refl
 run_weak_end limit end_weak_abort s bs h = refl
 run_weak_end limit left_out s bs h =
-    open_skips s bs h (λ cs. m.run limit (m.may_end_weak ∷ s) cs ≡ m.run limit s cs) (λ cs k. weak_end_over limit s cs k) (λ b cs p k. weak_end_left limit s b cs p.1 p.2 k)
+    open_skips s bs h (λ cs. m.run limit (m.may_end_weak ∷ s) cs ≡ m.run limit s cs)
+    (λ cs k. weak_end_over limit s cs k) (λ b cs p k. weak_end_left limit s b cs p.1 p.2 k)
 
 -- the step that opens a unit, where there is room
-pub open_part : (limit : ℕ) (s : List Want) (b : Token) (bs : List Token) → open_count s ≤ limit → go_on limit (opens s) (b ∷ bs) (λ t. m.run limit t bs) ≡ m.run limit s bs
+pub open_part : (limit : ℕ) (s : List Want) (b : Token) (bs : List Token) → open_count s ≤ limit
+    → go_on limit (opens s) (b ∷ bs) (λ t. m.run limit t bs) ≡ m.run limit s bs
 open_part limit s b bs h = ap (λ (x : Bool). if x then m.run limit s bs else deep (b ∷ bs)) (le-leb (open_count s) limit h)
 
 leave_after : (s : List Want) (bs : List Token) → AfterUnit s bs → AfterUnit (m.leave ∷ s) bs
@@ -258,28 +294,34 @@ after_no_pair s (Symbol symbol.Parallel ∷ bs) h = (refl, refl, refl)
 after_no_pair s (Symbol symbol.Semicolon ∷ bs) h = (refl, refl, refl)
 after_no_pair s (_ ∷ bs) h = absurd h
 
-pub no_pair_if : (t : Token) (c : Bool) (s : List Want) (bs : List Token) → NoPair (t ∷ bs) → AfterUnit s bs → NoPair (g.token_if c t bs)
+pub no_pair_if : (t : Token) (c : Bool) (s : List Want) (bs : List Token) → NoPair (t ∷ bs) → AfterUnit s bs
+    → NoPair (g.token_if c t bs)
 no_pair_if t true s bs p h = p
 no_pair_if t false s bs p h = after_no_pair s bs h
 
-pub behind_units : (us : UnitsTree) (c : Bool) (s : List Want) (bs : List Token) → AfterSequence s bs → AfterUnit (m.sequence_tail ∷ s) (g.units_onto us (g.token_if c (Symbol symbol.Semicolon) bs))
+pub behind_units : (us : UnitsTree) (c : Bool) (s : List Want) (bs : List Token) → AfterSequence s bs
+    → AfterUnit (m.sequence_tail ∷ s) (g.units_onto us (g.token_if c (Symbol symbol.Semicolon) bs))
 behind_units no_units true s bs h = tt
 behind_units no_units false s bs h = unit_from_sequence s bs h
 behind_units (units u us) c s bs h = tt
 
-pub behind_sequences : (qs : SequencesTree) (s : List Want) (bs : List Token) → AfterStatement s bs → AfterSequence (m.statement_tail ∷ s) (g.sequences_onto qs bs)
+pub behind_sequences : (qs : SequencesTree) (s : List Want) (bs : List Token) → AfterStatement s bs
+    → AfterSequence (m.statement_tail ∷ s) (g.sequences_onto qs bs)
 behind_sequences no_sequences s bs h = sequence_from_statement s bs h
 behind_sequences (sequences q qs) s bs h = tt
 
-pub sequence_is : (limit : ℕ) (s : List Want) (bs : List Token) → m.run limit (m.sequence ∷ s) bs ≡ m.run limit (m.unit ∷ m.sequence_tail ∷ s) bs
+pub sequence_is : (limit : ℕ) (s : List Want) (bs : List Token)
+    → m.run limit (m.sequence ∷ s) bs ≡ m.run limit (m.unit ∷ m.sequence_tail ∷ s) bs
 sequence_is limit s [] = refl
 sequence_is limit s (b ∷ bs) = refl
 
-pub statement_is : (limit : ℕ) (s : List Want) (bs : List Token) → m.run limit (m.statement ∷ s) bs ≡ m.run limit (m.sequence ∷ m.statement_tail ∷ s) bs
+pub statement_is : (limit : ℕ) (s : List Want) (bs : List Token)
+    → m.run limit (m.statement ∷ s) bs ≡ m.run limit (m.sequence ∷ m.statement_tail ∷ s) bs
 statement_is limit s [] = refl
 statement_is limit s (b ∷ bs) = refl
 
-unit_behind : (limit : ℕ) (u : UnitTree) (s : List Want) (bs : List Token) → m.run limit (m.after_semicolon ∷ s) (g.unit_onto u bs) ≡ m.run limit (m.unit ∷ m.sequence_tail ∷ s) (g.unit_onto u bs)
+unit_behind : (limit : ℕ) (u : UnitTree) (s : List Want) (bs : List Token)
+    → m.run limit (m.after_semicolon ∷ s) (g.unit_onto u bs) ≡ m.run limit (m.unit ∷ m.sequence_tail ∷ s) (g.unit_onto u bs)
 unit_behind limit nothing s bs = refl
 unit_behind limit pause s bs = refl
 unit_behind limit halt s bs = refl
@@ -299,7 +341,8 @@ unit_behind limit (signal ns t c) s bs = refl
 unit_behind limit (run n rs) s bs = refl
 unit_behind limit (group t) s bs = refl
 
-no_declaration : (limit : ℕ) (u : UnitTree) (s : List Want) (bs : List Token) → m.run limit (m.declarations ∷ m.statement ∷ s) (g.unit_onto u bs) ≡ m.run limit (m.statement ∷ s) (g.unit_onto u bs)
+no_declaration : (limit : ℕ) (u : UnitTree) (s : List Want) (bs : List Token)
+    → m.run limit (m.declarations ∷ m.statement ∷ s) (g.unit_onto u bs) ≡ m.run limit (m.statement ∷ s) (g.unit_onto u bs)
 no_declaration limit nothing s bs = refl
 no_declaration limit pause s bs = refl
 no_declaration limit halt s bs = refl
@@ -327,7 +370,8 @@ abbrev framed : Token → List Want → List Want
 framed t s = m.one kw_end ∷ m.may t ∷ m.leave ∷ s
 
 mutual
-  pub run_unit : (limit : ℕ) (u : UnitTree) (s : List Want) (bs : List Token) → AfterUnit s bs → g.unit_depth u + open_count s ≤ limit → m.run limit (m.unit ∷ s) (g.unit_onto u bs) ≡ m.run limit s bs
+  pub run_unit : (limit : ℕ) (u : UnitTree) (s : List Want) (bs : List Token) → AfterUnit s bs
+      → g.unit_depth u + open_count s ≤ limit → m.run limit (m.unit ∷ s) (g.unit_onto u bs) ≡ m.run limit s bs
   run_unit limit nothing s bs h r = refl
   run_unit limit pause s bs h r = refl
   run_unit limit halt s bs h r = refl
@@ -335,83 +379,221 @@ mutual
   run_unit limit (sustain n) s bs h r = refl
   run_unit limit (exit n) s bs h r = refl
   run_unit limit (await d) s bs h r = run_delay limit d s bs
-  run_unit limit (run n rs) s bs h r = run_renamings limit rs s bs (after_skips (Symbol symbol.OpenBracket) (record { no_end = refl; no_else = refl; no_when = refl; no_each = refl; no_close = refl; no_parallel = refl; no_semicolon = refl }) s bs h)
+  run_unit limit (run n rs) s bs h r =
+      run_renamings limit rs s bs (after_skips (Symbol symbol.OpenBracket)
+      (record {
+        no_end = refl;
+        no_else = refl;
+        no_when = refl;
+        no_each = refl;
+        no_close = refl;
+        no_parallel = refl;
+        no_semicolon = refl;
+      }) s bs h)
   run_unit limit (present n b) s bs h r =
-      open_part limit (m.name ∷ m.branches ∷ m.leave ∷ s) (Keyword keyword.Present) (Identifier n ∷ g.branches_onto b bs) (omega (arith, r))
+      open_part limit (m.name ∷ m.branches ∷ m.leave ∷ s) (Keyword keyword.Present)
+      (Identifier n ∷ g.branches_onto b bs) (omega (arith, r))
       ∙ run_branches limit b (m.leave ∷ s) bs (leave_after s bs h) (omega (arith, r)) ∙ leave_over limit s bs
   run_unit limit (suspend t d c) s bs h r =
-      open_part limit (m.statement ∷ delayed (m.may_end (Keyword keyword.Suspend)) s) (Keyword keyword.Suspend) (g.statement_onto t (Keyword keyword.When ∷ g.delay_onto d (g.end_if c (Keyword keyword.Suspend) bs))) (omega (arith, r))
-      ∙ run_statement limit t (delayed (m.may_end (Keyword keyword.Suspend)) s) (Keyword keyword.When ∷ g.delay_onto d (g.end_if c (Keyword keyword.Suspend) bs)) tt (omega (arith, r))
+      open_part limit (m.statement ∷ delayed (m.may_end (Keyword keyword.Suspend)) s) (Keyword keyword.Suspend)
+      (g.statement_onto t (Keyword keyword.When ∷ g.delay_onto d (g.end_if c (Keyword keyword.Suspend) bs))) (omega (arith, r))
+      ∙ run_statement limit t (delayed (m.may_end (Keyword keyword.Suspend)) s)
+      (Keyword keyword.When ∷ g.delay_onto d (g.end_if c (Keyword keyword.Suspend) bs)) tt (omega (arith, r))
       ∙ run_delay limit d (m.may_end (Keyword keyword.Suspend) ∷ m.leave ∷ s) (g.end_if c (Keyword keyword.Suspend) bs)
-      ∙ run_end_if limit (Keyword keyword.Suspend) c (m.leave ∷ s) bs refl (λ b cs p. p.0) (leave_after s bs h) ∙ leave_over limit s bs
+      ∙ run_end_if limit (Keyword keyword.Suspend) c (m.leave ∷ s) bs refl (λ b cs p. p.0) (leave_after s bs h)
+      ∙ leave_over limit s bs
   run_unit limit (abort t d c) s bs h r =
-      open_part limit (m.statement ∷ delayed (m.may_end (Keyword keyword.Abort)) s) (Keyword keyword.Abort) (g.statement_onto t (Keyword keyword.When ∷ g.delay_onto d (g.end_if c (Keyword keyword.Abort) bs))) (omega (arith, r))
-      ∙ run_statement limit t (delayed (m.may_end (Keyword keyword.Abort)) s) (Keyword keyword.When ∷ g.delay_onto d (g.end_if c (Keyword keyword.Abort) bs)) tt (omega (arith, r))
+      open_part limit (m.statement ∷ delayed (m.may_end (Keyword keyword.Abort)) s) (Keyword keyword.Abort)
+      (g.statement_onto t (Keyword keyword.When ∷ g.delay_onto d (g.end_if c (Keyword keyword.Abort) bs))) (omega (arith, r))
+      ∙ run_statement limit t (delayed (m.may_end (Keyword keyword.Abort)) s)
+      (Keyword keyword.When ∷ g.delay_onto d (g.end_if c (Keyword keyword.Abort) bs)) tt (omega (arith, r))
       ∙ run_delay limit d (m.may_end (Keyword keyword.Abort) ∷ m.leave ∷ s) (g.end_if c (Keyword keyword.Abort) bs)
-      ∙ run_end_if limit (Keyword keyword.Abort) c (m.leave ∷ s) bs refl (λ b cs p. p.1) (leave_after s bs h) ∙ leave_over limit s bs
+      ∙ run_end_if limit (Keyword keyword.Abort) c (m.leave ∷ s) bs refl (λ b cs p. p.1) (leave_after s bs h)
+      ∙ leave_over limit s bs
   run_unit limit (weak_abort t d c) s bs h r =
-      open_part limit (m.one (Keyword keyword.Abort) ∷ m.statement ∷ delayed m.may_end_weak s) (Keyword keyword.Weak) (Keyword keyword.Abort ∷ g.statement_onto t (Keyword keyword.When ∷ g.delay_onto d (g.weak_end_onto c bs))) (omega (arith, r))
-      ∙ run_statement limit t (delayed m.may_end_weak s) (Keyword keyword.When ∷ g.delay_onto d (g.weak_end_onto c bs)) tt (omega (arith, r))
+      open_part limit (m.one (Keyword keyword.Abort) ∷ m.statement ∷ delayed m.may_end_weak s) (Keyword keyword.Weak)
+      (Keyword keyword.Abort ∷ g.statement_onto t (Keyword keyword.When ∷ g.delay_onto d (g.weak_end_onto c bs)))
+      (omega (arith, r))
+      ∙ run_statement limit t (delayed m.may_end_weak s)
+      (Keyword keyword.When ∷ g.delay_onto d (g.weak_end_onto c bs)) tt (omega (arith, r))
       ∙ run_delay limit d (m.may_end_weak ∷ m.leave ∷ s) (g.weak_end_onto c bs)
       ∙ run_weak_end limit c (m.leave ∷ s) bs (leave_after s bs h) ∙ leave_over limit s bs
   run_unit limit (repeat t c) s bs h r =
-      open_part limit (m.statement ∷ m.loop_tail ∷ m.leave ∷ s) (Keyword keyword.Loop) (g.statement_onto t (kw_end ∷ g.token_if c (Keyword keyword.Loop) bs)) (omega (arith, r))
-      ∙ run_statement limit t (m.loop_tail ∷ m.leave ∷ s) (kw_end ∷ g.token_if c (Keyword keyword.Loop) bs) (no_pair_if (Keyword keyword.Loop) c s bs (refl, refl, refl) h, (m.may (Keyword keyword.Loop) ∷ m.leave ∷ s, refl, λ b. refl)) (omega (arith, r))
-      ∙ run_token_if limit (Keyword keyword.Loop) c (m.leave ∷ s) bs refl (after_skips (Keyword keyword.Loop) (record { no_end = refl; no_else = refl; no_when = refl; no_each = refl; no_close = refl; no_parallel = refl; no_semicolon = refl }) s bs h) ∙ leave_over limit s bs
+      open_part limit (m.statement ∷ m.loop_tail ∷ m.leave ∷ s) (Keyword keyword.Loop)
+      (g.statement_onto t (kw_end ∷ g.token_if c (Keyword keyword.Loop) bs)) (omega (arith, r))
+      ∙ run_statement limit t (m.loop_tail ∷ m.leave ∷ s) (kw_end ∷ g.token_if c (Keyword keyword.Loop) bs) (
+        no_pair_if (Keyword keyword.Loop) c s bs (refl, refl, refl) h,
+        (m.may (Keyword keyword.Loop) ∷ m.leave ∷ s, refl, λ b. refl),
+      ) (omega (arith, r))
+      ∙ run_token_if limit (Keyword keyword.Loop) c (m.leave ∷ s) bs refl
+      (after_skips (Keyword keyword.Loop)
+      (record {
+        no_end = refl;
+        no_else = refl;
+        no_when = refl;
+        no_each = refl;
+        no_close = refl;
+        no_parallel = refl;
+        no_semicolon = refl;
+      }) s bs h) ∙ leave_over limit s bs
   run_unit limit (repeat_each t n) s bs h r =
-      open_part limit (m.statement ∷ m.loop_tail ∷ m.leave ∷ s) (Keyword keyword.Loop) (g.statement_onto t (Keyword keyword.Each ∷ Identifier n ∷ bs)) (omega (arith, r))
-      ∙ run_statement limit t (m.loop_tail ∷ m.leave ∷ s) (Keyword keyword.Each ∷ Identifier n ∷ bs) tt (omega (arith, r)) ∙ leave_over limit s bs
+      open_part limit (m.statement ∷ m.loop_tail ∷ m.leave ∷ s) (Keyword keyword.Loop)
+      (g.statement_onto t (Keyword keyword.Each ∷ Identifier n ∷ bs)) (omega (arith, r))
+      ∙ run_statement limit t (m.loop_tail ∷ m.leave ∷ s) (Keyword keyword.Each ∷ Identifier n ∷ bs) tt
+      (omega (arith, r)) ∙ leave_over limit s bs
   run_unit limit (every d t c) s bs h r =
-      open_part limit (m.may (Keyword keyword.Immediate) ∷ m.name ∷ m.one (Keyword keyword.Do) ∷ m.statement ∷ framed (Keyword keyword.Every) s) (Keyword keyword.Every) (g.delay_onto d (Keyword keyword.Do ∷ (g.statement_onto t (kw_end ∷ g.token_if c (Keyword keyword.Every) bs)))) (omega (arith, r))
-      ∙ run_delay limit d (m.one (Keyword keyword.Do) ∷ m.statement ∷ framed (Keyword keyword.Every) s) (Keyword keyword.Do ∷ (g.statement_onto t (kw_end ∷ g.token_if c (Keyword keyword.Every) bs)))
-      ∙ run_statement limit t (framed (Keyword keyword.Every) s) (kw_end ∷ g.token_if c (Keyword keyword.Every) bs) (no_pair_if (Keyword keyword.Every) c s bs (refl, refl, refl) h, (m.may (Keyword keyword.Every) ∷ m.leave ∷ s, refl, λ b. refl)) (omega (arith, r))
-      ∙ run_token_if limit (Keyword keyword.Every) c (m.leave ∷ s) bs refl (after_skips (Keyword keyword.Every) (record { no_end = refl; no_else = refl; no_when = refl; no_each = refl; no_close = refl; no_parallel = refl; no_semicolon = refl }) s bs h) ∙ leave_over limit s bs
+      open_part limit (m.may (Keyword keyword.Immediate) ∷ m.name ∷ m.one (Keyword keyword.Do) ∷ m.statement
+      ∷ framed (Keyword keyword.Every) s) (Keyword keyword.Every)
+      (g.delay_onto d (Keyword keyword.Do ∷ (g.statement_onto t (kw_end ∷ g.token_if c (Keyword keyword.Every) bs))))
+      (omega (arith, r))
+      ∙ run_delay limit d (m.one (Keyword keyword.Do) ∷ m.statement ∷ framed (Keyword keyword.Every) s)
+      (Keyword keyword.Do ∷ (g.statement_onto t (kw_end ∷ g.token_if c (Keyword keyword.Every) bs)))
+      ∙ run_statement limit t (framed (Keyword keyword.Every) s) (kw_end ∷ g.token_if c (Keyword keyword.Every) bs) (
+        no_pair_if (Keyword keyword.Every) c s bs (refl, refl, refl) h,
+        (m.may (Keyword keyword.Every) ∷ m.leave ∷ s, refl, λ b. refl),
+      ) (omega (arith, r))
+      ∙ run_token_if limit (Keyword keyword.Every) c (m.leave ∷ s) bs refl
+      (after_skips (Keyword keyword.Every)
+      (record {
+        no_end = refl;
+        no_else = refl;
+        no_when = refl;
+        no_each = refl;
+        no_close = refl;
+        no_parallel = refl;
+        no_semicolon = refl;
+      }) s bs h) ∙ leave_over limit s bs
   run_unit limit (trap n t c) s bs h r =
-      open_part limit (m.name ∷ m.one (Keyword keyword.In) ∷ m.statement ∷ framed (Keyword keyword.Trap) s) (Keyword keyword.Trap) (Identifier n ∷ Keyword keyword.In ∷ (g.statement_onto t (kw_end ∷ g.token_if c (Keyword keyword.Trap) bs))) (omega (arith, r))
-      ∙ run_statement limit t (framed (Keyword keyword.Trap) s) (kw_end ∷ g.token_if c (Keyword keyword.Trap) bs) (no_pair_if (Keyword keyword.Trap) c s bs (refl, refl, refl) h, (m.may (Keyword keyword.Trap) ∷ m.leave ∷ s, refl, λ b. refl)) (omega (arith, r))
-      ∙ run_token_if limit (Keyword keyword.Trap) c (m.leave ∷ s) bs refl (after_skips (Keyword keyword.Trap) (record { no_end = refl; no_else = refl; no_when = refl; no_each = refl; no_close = refl; no_parallel = refl; no_semicolon = refl }) s bs h) ∙ leave_over limit s bs
+      open_part limit (m.name ∷ m.one (Keyword keyword.In) ∷ m.statement ∷ framed (Keyword keyword.Trap) s)
+      (Keyword keyword.Trap) (Identifier n ∷ Keyword keyword.In
+      ∷ (g.statement_onto t (kw_end ∷ g.token_if c (Keyword keyword.Trap) bs))) (omega (arith, r))
+      ∙ run_statement limit t (framed (Keyword keyword.Trap) s) (kw_end ∷ g.token_if c (Keyword keyword.Trap) bs) (
+        no_pair_if (Keyword keyword.Trap) c s bs (refl, refl, refl) h,
+        (m.may (Keyword keyword.Trap) ∷ m.leave ∷ s, refl, λ b. refl),
+      ) (omega (arith, r))
+      ∙ run_token_if limit (Keyword keyword.Trap) c (m.leave ∷ s) bs refl
+      (after_skips (Keyword keyword.Trap)
+      (record {
+        no_end = refl;
+        no_else = refl;
+        no_when = refl;
+        no_each = refl;
+        no_close = refl;
+        no_parallel = refl;
+        no_semicolon = refl;
+      }) s bs h) ∙ leave_over limit s bs
   run_unit limit (signal ns t c) s bs h r =
-      open_part limit (m.name ∷ m.later_names ∷ m.one (Keyword keyword.In) ∷ m.statement ∷ framed (Keyword keyword.Signal) s) (Keyword keyword.Signal) (g.names_onto ns (Keyword keyword.In ∷ (g.statement_onto t (kw_end ∷ g.token_if c (Keyword keyword.Signal) bs)))) (omega (arith, r))
-      ∙ run_names limit ns.later (m.one (Keyword keyword.In) ∷ m.statement ∷ framed (Keyword keyword.Signal) s) (Keyword keyword.In ∷ (g.statement_onto t (kw_end ∷ g.token_if c (Keyword keyword.Signal) bs))) refl
-      ∙ run_statement limit t (framed (Keyword keyword.Signal) s) (kw_end ∷ g.token_if c (Keyword keyword.Signal) bs) (no_pair_if (Keyword keyword.Signal) c s bs (refl, refl, refl) h, (m.may (Keyword keyword.Signal) ∷ m.leave ∷ s, refl, λ b. refl)) (omega (arith, r))
-      ∙ run_token_if limit (Keyword keyword.Signal) c (m.leave ∷ s) bs refl (after_skips (Keyword keyword.Signal) (record { no_end = refl; no_else = refl; no_when = refl; no_each = refl; no_close = refl; no_parallel = refl; no_semicolon = refl }) s bs h) ∙ leave_over limit s bs
+      open_part limit (m.name ∷ m.later_names ∷ m.one (Keyword keyword.In) ∷ m.statement
+      ∷ framed (Keyword keyword.Signal) s) (Keyword keyword.Signal)
+      (g.names_onto ns (Keyword keyword.In
+      ∷ (g.statement_onto t (kw_end ∷ g.token_if c (Keyword keyword.Signal) bs)))) (omega (arith, r))
+      ∙ run_names limit ns.later (m.one (Keyword keyword.In) ∷ m.statement ∷ framed (Keyword keyword.Signal) s)
+      (Keyword keyword.In ∷ (g.statement_onto t (kw_end ∷ g.token_if c (Keyword keyword.Signal) bs))) refl
+      ∙ run_statement limit t (framed (Keyword keyword.Signal) s) (kw_end ∷ g.token_if c (Keyword keyword.Signal) bs) (
+        no_pair_if (Keyword keyword.Signal) c s bs (refl, refl, refl) h,
+        (m.may (Keyword keyword.Signal) ∷ m.leave ∷ s, refl, λ b. refl),
+      ) (omega (arith, r))
+      ∙ run_token_if limit (Keyword keyword.Signal) c (m.leave ∷ s) bs refl
+      (after_skips (Keyword keyword.Signal)
+      (record {
+        no_end = refl;
+        no_else = refl;
+        no_when = refl;
+        no_each = refl;
+        no_close = refl;
+        no_parallel = refl;
+        no_semicolon = refl;
+      }) s bs h) ∙ leave_over limit s bs
   run_unit limit (group t) s bs h r =
-      open_part limit (m.statement ∷ m.one (Symbol symbol.CloseBracket) ∷ m.leave ∷ s) (Symbol symbol.OpenBracket) (g.statement_onto t (Symbol symbol.CloseBracket ∷ bs)) (omega (arith, r))
-      ∙ run_statement limit t (m.one (Symbol symbol.CloseBracket) ∷ m.leave ∷ s) (Symbol symbol.CloseBracket ∷ bs) tt (omega (arith, r)) ∙ leave_over limit s bs
+      open_part limit (m.statement ∷ m.one (Symbol symbol.CloseBracket) ∷ m.leave ∷ s) (Symbol symbol.OpenBracket)
+      (g.statement_onto t (Symbol symbol.CloseBracket ∷ bs)) (omega (arith, r))
+      ∙ run_statement limit t (m.one (Symbol symbol.CloseBracket) ∷ m.leave ∷ s) (Symbol symbol.CloseBracket ∷ bs) tt
+      (omega (arith, r)) ∙ leave_over limit s bs
 
-  run_branches : (limit : ℕ) (b : BranchesTree) (s : List Want) (bs : List Token) → AfterUnit s bs → g.branches_depth b + open_count s ≤ limit → m.run limit (m.branches ∷ s) (g.branches_onto b bs) ≡ m.run limit s bs
+  run_branches : (limit : ℕ) (b : BranchesTree) (s : List Want) (bs : List Token) → AfterUnit s bs
+      → g.branches_depth b + open_count s ≤ limit → m.run limit (m.branches ∷ s) (g.branches_onto b bs) ≡ m.run limit s bs
   run_branches limit (then_only t c) s bs h r =
-      run_statement limit t (m.after_then ∷ s) (kw_end ∷ g.token_if c (Keyword keyword.Present) bs) (no_pair_if (Keyword keyword.Present) c s bs (refl, refl, refl) h, (m.may (Keyword keyword.Present) ∷ s, refl, λ b. refl)) r
-      ∙ run_token_if limit (Keyword keyword.Present) c s bs refl (after_skips (Keyword keyword.Present) (record { no_end = refl; no_else = refl; no_when = refl; no_each = refl; no_close = refl; no_parallel = refl; no_semicolon = refl }) s bs h)
+      run_statement limit t (m.after_then ∷ s) (kw_end ∷ g.token_if c (Keyword keyword.Present) bs) (
+        no_pair_if (Keyword keyword.Present) c s bs (refl, refl, refl) h,
+        (m.may (Keyword keyword.Present) ∷ s, refl, λ b. refl),
+      ) r
+      ∙ run_token_if limit (Keyword keyword.Present) c s bs refl
+      (after_skips (Keyword keyword.Present)
+      (record {
+        no_end = refl;
+        no_else = refl;
+        no_when = refl;
+        no_each = refl;
+        no_close = refl;
+        no_parallel = refl;
+        no_semicolon = refl;
+      }) s bs h)
   run_branches limit (else_only t c) s bs h r =
-      run_statement limit t (m.one kw_end ∷ m.may (Keyword keyword.Present) ∷ s) (kw_end ∷ g.token_if c (Keyword keyword.Present) bs) (no_pair_if (Keyword keyword.Present) c s bs (refl, refl, refl) h, (m.may (Keyword keyword.Present) ∷ s, refl, λ b. refl)) r
-      ∙ run_token_if limit (Keyword keyword.Present) c s bs refl (after_skips (Keyword keyword.Present) (record { no_end = refl; no_else = refl; no_when = refl; no_each = refl; no_close = refl; no_parallel = refl; no_semicolon = refl }) s bs h)
+      run_statement limit t (m.one kw_end ∷ m.may (Keyword keyword.Present) ∷ s)
+      (kw_end ∷ g.token_if c (Keyword keyword.Present) bs) (
+        no_pair_if (Keyword keyword.Present) c s bs (refl, refl, refl) h,
+        (m.may (Keyword keyword.Present) ∷ s, refl, λ b. refl),
+      ) r
+      ∙ run_token_if limit (Keyword keyword.Present) c s bs refl
+      (after_skips (Keyword keyword.Present)
+      (record {
+        no_end = refl;
+        no_else = refl;
+        no_when = refl;
+        no_each = refl;
+        no_close = refl;
+        no_parallel = refl;
+        no_semicolon = refl;
+      }) s bs h)
   run_branches limit (both t e c) s bs h r =
-      run_statement limit t (m.after_then ∷ s) (Keyword keyword.Else ∷ g.statement_onto e (kw_end ∷ g.token_if c (Keyword keyword.Present) bs)) tt (omega (arith, r))
-      ∙ run_statement limit e (m.one kw_end ∷ m.may (Keyword keyword.Present) ∷ s) (kw_end ∷ g.token_if c (Keyword keyword.Present) bs) (no_pair_if (Keyword keyword.Present) c s bs (refl, refl, refl) h, (m.may (Keyword keyword.Present) ∷ s, refl, λ b. refl)) (omega (arith, r))
-      ∙ run_token_if limit (Keyword keyword.Present) c s bs refl (after_skips (Keyword keyword.Present) (record { no_end = refl; no_else = refl; no_when = refl; no_each = refl; no_close = refl; no_parallel = refl; no_semicolon = refl }) s bs h)
+      run_statement limit t (m.after_then ∷ s)
+      (Keyword keyword.Else ∷ g.statement_onto e (kw_end ∷ g.token_if c (Keyword keyword.Present) bs)) tt (omega (arith, r))
+      ∙ run_statement limit e (m.one kw_end ∷ m.may (Keyword keyword.Present) ∷ s)
+      (kw_end ∷ g.token_if c (Keyword keyword.Present) bs) (
+        no_pair_if (Keyword keyword.Present) c s bs (refl, refl, refl) h,
+        (m.may (Keyword keyword.Present) ∷ s, refl, λ b. refl),
+      ) (omega (arith, r))
+      ∙ run_token_if limit (Keyword keyword.Present) c s bs refl
+      (after_skips (Keyword keyword.Present)
+      (record {
+        no_end = refl;
+        no_else = refl;
+        no_when = refl;
+        no_each = refl;
+        no_close = refl;
+        no_parallel = refl;
+        no_semicolon = refl;
+      }) s bs h)
 
-  run_sequence : (limit : ℕ) (q : SequenceTree) (s : List Want) (bs : List Token) → AfterSequence s bs → g.sequence_depth q + open_count s ≤ limit → m.run limit (m.sequence ∷ s) (g.sequence_onto q bs) ≡ m.run limit s bs
+  run_sequence : (limit : ℕ) (q : SequenceTree) (s : List Want) (bs : List Token) → AfterSequence s bs
+      → g.sequence_depth q + open_count s ≤ limit → m.run limit (m.sequence ∷ s) (g.sequence_onto q bs) ≡ m.run limit s bs
   run_sequence limit (sequence u us c) s bs h r =
       sequence_is limit s (g.unit_onto u (g.units_onto us (g.token_if c (Symbol symbol.Semicolon) bs)))
-      ∙ run_unit limit u (m.sequence_tail ∷ s) (g.units_onto us (g.token_if c (Symbol symbol.Semicolon) bs)) (behind_units us c s bs h) (omega (arith, r))
+      ∙ run_unit limit u (m.sequence_tail ∷ s) (g.units_onto us (g.token_if c (Symbol symbol.Semicolon) bs))
+      (behind_units us c s bs h) (omega (arith, r))
       ∙ run_units limit us c s bs h (omega (arith, r))
 
-  run_units : (limit : ℕ) (us : UnitsTree) (c : Bool) (s : List Want) (bs : List Token) → AfterSequence s bs → g.units_depth us + open_count s ≤ limit → m.run limit (m.sequence_tail ∷ s) (g.units_onto us (g.token_if c (Symbol symbol.Semicolon) bs)) ≡ m.run limit s bs
+  run_units : (limit : ℕ) (us : UnitsTree) (c : Bool) (s : List Want) (bs : List Token) → AfterSequence s bs
+      → g.units_depth us + open_count s ≤ limit
+      → m.run limit (m.sequence_tail ∷ s) (g.units_onto us (g.token_if c (Symbol symbol.Semicolon) bs)) ≡ m.run limit s bs
   run_units limit no_units true s bs h r = semicolon_over limit s bs h
   run_units limit no_units false s bs h r = sequence_over limit s bs (sequence_skips s bs h)
   run_units limit (units u us) c s bs h r =
       unit_behind limit u s (g.units_onto us (g.token_if c (Symbol symbol.Semicolon) bs))
-      ∙ run_unit limit u (m.sequence_tail ∷ s) (g.units_onto us (g.token_if c (Symbol symbol.Semicolon) bs)) (behind_units us c s bs h) (omega (arith, r))
+      ∙ run_unit limit u (m.sequence_tail ∷ s) (g.units_onto us (g.token_if c (Symbol symbol.Semicolon) bs))
+      (behind_units us c s bs h) (omega (arith, r))
       ∙ run_units limit us c s bs h (omega (arith, r))
 
-  pub run_statement : (limit : ℕ) (t : StatementTree) (s : List Want) (bs : List Token) → AfterStatement s bs → g.statement_depth t + open_count s ≤ limit → m.run limit (m.statement ∷ s) (g.statement_onto t bs) ≡ m.run limit s bs
+  pub run_statement : (limit : ℕ) (t : StatementTree) (s : List Want) (bs : List Token) → AfterStatement s bs
+      → g.statement_depth t + open_count s ≤ limit → m.run limit (m.statement ∷ s) (g.statement_onto t bs) ≡ m.run limit s bs
   run_statement limit (statement q qs) s bs h r =
       statement_is limit s (g.sequence_onto q (g.sequences_onto qs bs))
       ∙ run_sequence limit q (m.statement_tail ∷ s) (g.sequences_onto qs bs) (behind_sequences qs s bs h) (omega (arith, r))
       ∙ run_sequences limit qs s bs h (omega (arith, r))
 
-  run_sequences : (limit : ℕ) (qs : SequencesTree) (s : List Want) (bs : List Token) → AfterStatement s bs → g.sequences_depth qs + open_count s ≤ limit → m.run limit (m.statement_tail ∷ s) (g.sequences_onto qs bs) ≡ m.run limit s bs
+  run_sequences : (limit : ℕ) (qs : SequencesTree) (s : List Want) (bs : List Token) → AfterStatement s bs
+      → g.sequences_depth qs + open_count s ≤ limit
+      → m.run limit (m.statement_tail ∷ s) (g.sequences_onto qs bs) ≡ m.run limit s bs
   run_sequences limit no_sequences s bs h r = statement_over limit s bs (statement_skips s bs h)
   run_sequences limit (sequences q qs) s bs h r =
       run_sequence limit q (m.statement_tail ∷ s) (g.sequences_onto qs bs) (behind_sequences qs s bs h) (omega (arith, r))
@@ -419,46 +601,72 @@ mutual
 
 -- ---- modules
 
-run_members : (limit : ℕ) (ns : List (List ℕ)) (s : List Want) (bs : List Token) → Skips (Symbol symbol.Hash) bs → m.run limit (m.later_members ∷ s) (g.later_members_onto ns bs) ≡ m.run limit s bs
+run_members : (limit : ℕ) (ns : List (List ℕ)) (s : List Want) (bs : List Token) → Skips (Symbol symbol.Hash) bs
+    → m.run limit (m.later_members ∷ s) (g.later_members_onto ns bs) ≡ m.run limit s bs
 run_members limit [] s bs h = members_over limit s bs h
 run_members limit (n ∷ ns) s bs h = run_members limit ns s bs h
 
-run_relation : (limit : ℕ) (r : RelationTree) (s : List Want) (bs : List Token) → Skips (Symbol symbol.Hash) bs → m.run limit (m.relation ∷ s) (g.relation_onto r bs) ≡ m.run limit s bs
+run_relation : (limit : ℕ) (r : RelationTree) (s : List Want) (bs : List Token) → Skips (Symbol symbol.Hash) bs
+    → m.run limit (m.relation ∷ s) (g.relation_onto r bs) ≡ m.run limit s bs
 run_relation limit (excludes a b ns) s bs h = run_members limit ns s bs h
 run_relation limit (implies a b) s bs h = refl
 
-behind_relations : (rs : List RelationTree) (bs : List Token) → Skips (Symbol symbol.Hash) (g.later_relations_onto rs (Symbol symbol.Semicolon ∷ bs))
+behind_relations : (rs : List RelationTree) (bs : List Token)
+    → Skips (Symbol symbol.Hash) (g.later_relations_onto rs (Symbol symbol.Semicolon ∷ bs))
 behind_relations [] bs = refl
 behind_relations (r ∷ rs) bs = refl
 
-run_relations : (limit : ℕ) (rs : List RelationTree) (s : List Want) (bs : List Token) → m.run limit (m.later_relations ∷ s) (g.later_relations_onto rs (Symbol symbol.Semicolon ∷ bs)) ≡ m.run limit s (Symbol symbol.Semicolon ∷ bs)
+run_relations : (limit : ℕ) (rs : List RelationTree) (s : List Want) (bs : List Token)
+    → m.run limit (m.later_relations ∷ s) (g.later_relations_onto rs (Symbol symbol.Semicolon ∷ bs)) ≡ m.run limit s
+    (Symbol symbol.Semicolon ∷ bs)
 run_relations limit [] s bs = relations_over limit s (Symbol symbol.Semicolon ∷ bs) refl
 run_relations limit (r ∷ rs) s bs =
-    run_relation limit r (m.later_relations ∷ s) (g.later_relations_onto rs (Symbol symbol.Semicolon ∷ bs)) (behind_relations rs bs) ∙ run_relations limit rs s bs
+    run_relation limit r (m.later_relations ∷ s) (g.later_relations_onto rs (Symbol symbol.Semicolon ∷ bs))
+    (behind_relations rs bs) ∙ run_relations limit rs s bs
 
-run_declaration : (limit : ℕ) (d : DeclarationTree) (s : List Want) (bs : List Token) → m.run limit (m.declarations ∷ s) (g.declaration_onto d bs) ≡ m.run limit (m.declarations ∷ s) bs
-run_declaration limit (input ns) s bs = run_names limit ns.later (m.one (Symbol symbol.Semicolon) ∷ m.declarations ∷ s) (Symbol symbol.Semicolon ∷ bs) refl
-run_declaration limit (output ns) s bs = run_names limit ns.later (m.one (Symbol symbol.Semicolon) ∷ m.declarations ∷ s) (Symbol symbol.Semicolon ∷ bs) refl
+run_declaration : (limit : ℕ) (d : DeclarationTree) (s : List Want) (bs : List Token)
+    → m.run limit (m.declarations ∷ s) (g.declaration_onto d bs) ≡ m.run limit (m.declarations ∷ s) bs
+run_declaration limit (input ns) s bs =
+    run_names limit ns.later (m.one (Symbol symbol.Semicolon) ∷ m.declarations ∷ s) (Symbol symbol.Semicolon ∷ bs) refl
+run_declaration limit (output ns) s bs =
+    run_names limit ns.later (m.one (Symbol symbol.Semicolon) ∷ m.declarations ∷ s) (Symbol symbol.Semicolon ∷ bs) refl
 run_declaration limit (relations r rs) s bs =
-    run_relation limit r (m.later_relations ∷ m.one (Symbol symbol.Semicolon) ∷ m.declarations ∷ s) (g.later_relations_onto rs (Symbol symbol.Semicolon ∷ bs)) (behind_relations rs bs)
+    run_relation limit r (m.later_relations ∷ m.one (Symbol symbol.Semicolon) ∷ m.declarations ∷ s)
+    (g.later_relations_onto rs (Symbol symbol.Semicolon ∷ bs)) (behind_relations rs bs)
     ∙ run_relations limit rs (m.one (Symbol symbol.Semicolon) ∷ m.declarations ∷ s) bs
 
-no_more_declarations : (limit : ℕ) (t : StatementTree) (s : List Want) (bs : List Token) → m.run limit (m.declarations ∷ m.statement ∷ s) (g.statement_onto t bs) ≡ m.run limit (m.statement ∷ s) (g.statement_onto t bs)
-no_more_declarations limit (statement (sequence u us c) qs) s bs = no_declaration limit u s (g.units_onto us (g.token_if c (Symbol symbol.Semicolon) (g.sequences_onto qs bs)))
+no_more_declarations : (limit : ℕ) (t : StatementTree) (s : List Want) (bs : List Token)
+    → m.run limit (m.declarations ∷ m.statement ∷ s) (g.statement_onto t bs) ≡ m.run limit (m.statement ∷ s)
+    (g.statement_onto t bs)
+no_more_declarations limit (statement (sequence u us c) qs) s bs =
+    no_declaration limit u s (g.units_onto us (g.token_if c (Symbol symbol.Semicolon) (g.sequences_onto qs bs)))
 
-run_declarations : (limit : ℕ) (ds : List DeclarationTree) (t : StatementTree) (s : List Want) (bs : List Token) → m.run limit (m.declarations ∷ m.statement ∷ s) (g.declarations_onto ds (g.statement_onto t bs)) ≡ m.run limit (m.statement ∷ s) (g.statement_onto t bs)
+run_declarations : (limit : ℕ) (ds : List DeclarationTree) (t : StatementTree) (s : List Want) (bs : List Token)
+    → m.run limit (m.declarations ∷ m.statement ∷ s) (g.declarations_onto ds (g.statement_onto t bs)) ≡ m.run limit
+    (m.statement ∷ s) (g.statement_onto t bs)
 run_declarations limit [] t s bs = no_more_declarations limit t s bs
-run_declarations limit (d ∷ ds) t s bs = run_declaration limit d (m.statement ∷ s) (g.declarations_onto ds (g.statement_onto t bs)) ∙ run_declarations limit ds t s bs
+run_declarations limit (d ∷ ds) t s bs = run_declaration limit d (m.statement ∷ s)
+    (g.declarations_onto ds (g.statement_onto t bs)) ∙ run_declarations limit ds t s bs
 
-run_module : (limit : ℕ) (p : ModuleTree) (s : List Want) (bs : List Token) → g.statement_depth p.body + open_count s ≤ limit → m.run limit (m.modules ∷ s) (g.module_onto p bs) ≡ m.run limit (m.modules ∷ s) bs
+run_module : (limit : ℕ) (p : ModuleTree) (s : List Want) (bs : List Token)
+    → g.statement_depth p.body + open_count s ≤ limit
+    → m.run limit (m.modules ∷ s) (g.module_onto p bs) ≡ m.run limit (m.modules ∷ s) bs
 run_module limit p s bs r =
-    run_declarations limit p.declarations p.body (m.one kw_end ∷ m.one (Keyword keyword.Module) ∷ m.modules ∷ s) (kw_end ∷ Keyword keyword.Module ∷ bs)
-    ∙ run_statement limit p.body (m.one kw_end ∷ m.one (Keyword keyword.Module) ∷ m.modules ∷ s) (kw_end ∷ Keyword keyword.Module ∷ bs) ((refl, refl, refl), (m.one (Keyword keyword.Module) ∷ m.modules ∷ s, refl, λ b. refl)) r
+    run_declarations limit p.declarations p.body (m.one kw_end ∷ m.one (Keyword keyword.Module) ∷ m.modules ∷ s)
+    (kw_end ∷ Keyword keyword.Module ∷ bs)
+    ∙ run_statement limit p.body (m.one kw_end ∷ m.one (Keyword keyword.Module) ∷ m.modules ∷ s)
+    (kw_end ∷ Keyword keyword.Module ∷ bs) (
+      (refl, refl, refl),
+      (m.one (Keyword keyword.Module) ∷ m.modules ∷ s, refl, λ b. refl),
+    ) r
 
-run_modules : (limit : ℕ) (ps : List ModuleTree) → g.modules_depth ps ≤ limit → m.run limit (m.modules ∷ []) (g.modules_onto ps []) ≡ right
+run_modules : (limit : ℕ) (ps : List ModuleTree) → g.modules_depth ps ≤ limit
+    → m.run limit (m.modules ∷ []) (g.modules_onto ps []) ≡ right
 run_modules limit [] r = refl
-run_modules limit (p ∷ ps) r = run_module limit p [] (g.modules_onto ps []) (omega (arith, r)) ∙ run_modules limit ps (omega (arith, r))
+run_modules limit (p ∷ ps) r =
+    run_module limit p [] (g.modules_onto ps []) (omega (arith, r)) ∙ run_modules limit ps (omega (arith, r))
 
 -- each library's spelling is taken whole, where there is room for it
 pub run_library : (limit : ℕ) (l : LibraryTree) → g.library_depth l ≤ limit → m.run limit (m.library ∷ []) (g.spelling l) ≡ right
-run_library limit l r = run_module limit l.first [] (g.modules_onto l.later []) (omega (arith, r)) ∙ run_modules limit l.later (omega (arith, r))
+run_library limit l r =
+    run_module limit l.first [] (g.modules_onto l.later []) (omega (arith, r)) ∙ run_modules limit l.later (omega (arith, r))

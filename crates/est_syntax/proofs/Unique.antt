@@ -39,25 +39,34 @@ pair t (b ∷ c ∷ bs) k = if same kw_end b then (if same t c then k true bs el
 abbrev weak_pair : List Token → (WeakEndTree → List Token → Answer) → Answer
 weak_pair [] k = k left_out []
 weak_pair (b ∷ []) k = k left_out (b ∷ [])
-weak_pair (b ∷ c ∷ bs) k = if same kw_end b then (if same (Keyword keyword.Abort) c then k end_abort bs else (if same (Keyword keyword.Weak) c then expect (Keyword keyword.Abort) bs (λ r. k end_weak_abort r) else k left_out (b ∷ c ∷ bs))) else k left_out (b ∷ c ∷ bs)
+weak_pair (b ∷ c ∷ bs) k =
+    if same kw_end b then (if same (Keyword keyword.Abort) c then k end_abort bs
+    else (if same (Keyword keyword.Weak) c then expect (Keyword keyword.Abort) bs
+    (λ r. k end_weak_abort r) else k left_out (b ∷ c ∷ bs))) else k left_out (b ∷ c ∷ bs)
 
 abbrev later_names : ℕ → List Token → (List (List ℕ) → List Token → Answer) → Answer
 later_names zero bs k = None
-later_names (suc n) bs k = maybe (Symbol symbol.Comma) bs (λ x r. if x then name r (λ m q. later_names n q (λ ms p. k (m ∷ ms) p)) else k [] r)
+later_names (suc n) bs k =
+    maybe (Symbol symbol.Comma) bs (λ x r. if x then name r (λ m q. later_names n q (λ ms p. k (m ∷ ms) p)) else k [] r)
 
 abbrev later_members : ℕ → List Token → (List (List ℕ) → List Token → Answer) → Answer
 later_members zero bs k = None
-later_members (suc n) bs k = maybe (Symbol symbol.Hash) bs (λ x r. if x then name r (λ m q. later_members n q (λ ms p. k (m ∷ ms) p)) else k [] r)
+later_members (suc n) bs k =
+    maybe (Symbol symbol.Hash) bs (λ x r. if x then name r (λ m q. later_members n q (λ ms p. k (m ∷ ms) p)) else k [] r)
 
 abbrev renaming : List Token → (RenamingTree → List Token → Answer) → Answer
 renaming bs k = name bs (λ m r. expect (Symbol symbol.Slash) r (λ q. name q (λ n p. k (record { outer = m; inner = n }) p)))
 
 abbrev later_renamings : ℕ → List Token → (List RenamingTree → List Token → Answer) → Answer
 later_renamings zero bs k = None
-later_renamings (suc n) bs k = maybe (Symbol symbol.Comma) bs (λ x r. if x then renaming r (λ m q. later_renamings n q (λ ms p. k (m ∷ ms) p)) else k [] r)
+later_renamings (suc n) bs k = maybe (Symbol symbol.Comma) bs
+    (λ x r. if x then renaming r (λ m q. later_renamings n q (λ ms p. k (m ∷ ms) p)) else k [] r)
 
 abbrev renamings : ℕ → List Token → (List RenamingTree → List Token → Answer) → Answer
-renamings n bs k = maybe (Symbol symbol.OpenBracket) bs (λ x r. if x then expect (Keyword keyword.Signal) r (λ q. renaming q (λ m p. later_renamings n p (λ ms o. expect (Symbol symbol.CloseBracket) o (λ i. k (m ∷ ms) i)))) else k [] r)
+renamings n bs k = maybe (Symbol symbol.OpenBracket) bs
+    (λ x r. if x then expect (Keyword keyword.Signal) r
+    (λ q. renaming q (λ m p. later_renamings n p
+    (λ ms o. expect (Symbol symbol.CloseBracket) o (λ i. k (m ∷ ms) i)))) else k [] r)
 
 abbrev again : Token → List Token → (Bool → List Token → Answer) → Answer
 again t bs k = expect kw_end bs (λ r. maybe t r k)
@@ -87,13 +96,23 @@ abbrev mutual
   unit (suc n) (Keyword keyword.Await ∷ bs) k = delay bs (λ d r. k (await d) r)
   unit (suc n) (Keyword keyword.Run ∷ bs) k = name bs (λ m r. renamings n r (λ ms q. k (run m ms) q))
   unit (suc n) (Keyword keyword.Present ∷ bs) k = name bs (λ m r. branches n r (λ b q. k (present m b) q))
-  unit (suc n) (Keyword keyword.Suspend ∷ bs) k = stmt n bs (λ t r. watched r (λ d q. pair (Keyword keyword.Suspend) q (λ c p. k (suspend t d c) p)))
-  unit (suc n) (Keyword keyword.Abort ∷ bs) k = stmt n bs (λ t r. watched r (λ d q. pair (Keyword keyword.Abort) q (λ c p. k (abort t d c) p)))
-  unit (suc n) (Keyword keyword.Weak ∷ bs) k = expect (Keyword keyword.Abort) bs (λ o. stmt n o (λ t r. watched r (λ d q. weak_pair q (λ c p. k (weak_abort t d c) p))))
-  unit (suc n) (Keyword keyword.Loop ∷ bs) k = stmt n bs (λ t r. maybe (Keyword keyword.Each) r (λ x q. if x then name q (λ m p. k (repeat_each t m) p) else again (Keyword keyword.Loop) q (λ c p. k (repeat t c) p)))
-  unit (suc n) (Keyword keyword.Every ∷ bs) k = delay bs (λ d o. expect (Keyword keyword.Do) o (λ i. stmt n i (λ t r. again (Keyword keyword.Every) r (λ c q. k (every d t c) q))))
-  unit (suc n) (Keyword keyword.Trap ∷ bs) k = name bs (λ m o. expect (Keyword keyword.In) o (λ i. stmt n i (λ t r. again (Keyword keyword.Trap) r (λ c q. k (trap m t c) q))))
-  unit (suc n) (Keyword keyword.Signal ∷ bs) k = name bs (λ m o. later_names n o (λ ms j. expect (Keyword keyword.In) j (λ i. stmt n i (λ t r. again (Keyword keyword.Signal) r (λ c q. k (signal (record { first = m; later = ms }) t c) q)))))
+  unit (suc n) (Keyword keyword.Suspend ∷ bs) k =
+      stmt n bs (λ t r. watched r (λ d q. pair (Keyword keyword.Suspend) q (λ c p. k (suspend t d c) p)))
+  unit (suc n) (Keyword keyword.Abort ∷ bs) k =
+      stmt n bs (λ t r. watched r (λ d q. pair (Keyword keyword.Abort) q (λ c p. k (abort t d c) p)))
+  unit (suc n) (Keyword keyword.Weak ∷ bs) k = expect (Keyword keyword.Abort) bs
+      (λ o. stmt n o (λ t r. watched r (λ d q. weak_pair q (λ c p. k (weak_abort t d c) p))))
+  unit (suc n) (Keyword keyword.Loop ∷ bs) k =
+      stmt n bs (λ t r. maybe (Keyword keyword.Each) r
+      (λ x q. if x then name q (λ m p. k (repeat_each t m) p) else again (Keyword keyword.Loop) q (λ c p. k (repeat t c) p)))
+  unit (suc n) (Keyword keyword.Every ∷ bs) k =
+      delay bs (λ d o. expect (Keyword keyword.Do) o
+      (λ i. stmt n i (λ t r. again (Keyword keyword.Every) r (λ c q. k (every d t c) q))))
+  unit (suc n) (Keyword keyword.Trap ∷ bs) k = name bs
+      (λ m o. expect (Keyword keyword.In) o (λ i. stmt n i (λ t r. again (Keyword keyword.Trap) r (λ c q. k (trap m t c) q))))
+  unit (suc n) (Keyword keyword.Signal ∷ bs) k =
+      name bs (λ m o. later_names n o (λ ms j. expect (Keyword keyword.In) j
+      (λ i. stmt n i (λ t r. again (Keyword keyword.Signal) r (λ c q. k (signal (record { first = m; later = ms }) t c) q)))))
   unit (suc n) (Symbol symbol.OpenBracket ∷ bs) k = stmt n bs (λ t r. expect (Symbol symbol.CloseBracket) r (λ q. k (group t) q))
   unit (suc n) _ k = None
 
@@ -103,7 +122,8 @@ abbrev mutual
       then stmt n r (λ t q. maybe (Keyword keyword.Else) q (λ y p. if y
       then stmt n p (λ e o. again (Keyword keyword.Present) o (λ c i. k (both t e c) i))
       else again (Keyword keyword.Present) p (λ c i. k (then_only t c) i)))
-      else expect (Keyword keyword.Else) r (λ q. stmt n q (λ e p. again (Keyword keyword.Present) p (λ c i. k (else_only e c) i))))
+      else expect (Keyword keyword.Else) r
+      (λ q. stmt n q (λ e p. again (Keyword keyword.Present) p (λ c i. k (else_only e c) i))))
 
   seq : ℕ → List Token → (SequenceTree → List Token → Answer) → Answer
   seq zero bs k = None
@@ -111,7 +131,9 @@ abbrev mutual
 
   tail : ℕ → List Token → (UnitsTree → Bool → List Token → Answer) → Answer
   tail zero bs k = None
-  tail (suc n) bs k = maybe (Symbol symbol.Semicolon) bs (λ x r. if x then (if starts r then unit n r (λ u q. tail n q (λ us c p. k (units u us) c p)) else k no_units true r) else k no_units false r)
+  tail (suc n) bs k = maybe (Symbol symbol.Semicolon) bs
+      (λ x r. if x then (if starts r then unit n r (λ u q. tail n q (λ us c p. k (units u us) c p))
+      else k no_units true r) else k no_units false r)
 
   stmt : ℕ → List Token → (StatementTree → List Token → Answer) → Answer
   stmt zero bs k = None
@@ -119,28 +141,44 @@ abbrev mutual
 
   side : ℕ → List Token → (SequencesTree → List Token → Answer) → Answer
   side zero bs k = None
-  side (suc n) bs k = maybe (Symbol symbol.Parallel) bs (λ x r. if x then seq n r (λ q p. side n p (λ qs o. k (sequences q qs) o)) else k no_sequences r)
+  side (suc n) bs k = maybe (Symbol symbol.Parallel) bs
+      (λ x r. if x then seq n r (λ q p. side n p (λ qs o. k (sequences q qs) o)) else k no_sequences r)
 
 abbrev relation : ℕ → List Token → (RelationTree → List Token → Answer) → Answer
-relation n bs k = name bs (λ a r. maybe (Symbol symbol.Implies) r (λ x q. if x then name q (λ b p. k (implies a b) p) else expect (Symbol symbol.Hash) q (λ p. name p (λ b o. later_members n o (λ ns i. k (excludes a b ns) i)))))
+relation n bs k = name bs (λ a r. maybe (Symbol symbol.Implies) r
+    (λ x q. if x then name q (λ b p. k (implies a b) p) else expect (Symbol symbol.Hash) q
+    (λ p. name p (λ b o. later_members n o (λ ns i. k (excludes a b ns) i)))))
 
 abbrev later_relations : ℕ → List Token → (List RelationTree → List Token → Answer) → Answer
 later_relations zero bs k = None
-later_relations (suc n) bs k = maybe (Symbol symbol.Comma) bs (λ x r. if x then relation n r (λ a q. later_relations n q (λ zs p. k (a ∷ zs) p)) else k [] r)
+later_relations (suc n) bs k = maybe (Symbol symbol.Comma) bs
+    (λ x r. if x then relation n r (λ a q. later_relations n q (λ zs p. k (a ∷ zs) p)) else k [] r)
 
 abbrev declarations : ℕ → List Token → (List DeclarationTree → List Token → Answer) → Answer
 declarations zero bs k = None
 declarations (suc n) bs k =
-    maybe (Keyword keyword.Input) bs (λ x r. if x then name r (λ a q. later_names n q (λ zs p. expect (Symbol symbol.Semicolon) p (λ o. declarations n o (λ ds i. k (input (record { first = a; later = zs }) ∷ ds) i))))
-    else maybe (Keyword keyword.Output) r (λ y q. if y then name q (λ a p. later_names n p (λ zs o. expect (Symbol symbol.Semicolon) o (λ i. declarations n i (λ ds j. k (output (record { first = a; later = zs }) ∷ ds) j))))
-    else maybe (Keyword keyword.Relation) q (λ z p. if z then relation n p (λ a o. later_relations n o (λ zs i. expect (Symbol symbol.Semicolon) i (λ j. declarations n j (λ ds l. k (relations a zs ∷ ds) l)))) else k [] p)))
+    maybe (Keyword keyword.Input) bs (λ x r. if x then name r
+    (λ a q. later_names n q (λ zs p. expect (Symbol symbol.Semicolon) p
+    (λ o. declarations n o (λ ds i. k (input (record { first = a; later = zs }) ∷ ds) i))))
+    else maybe (Keyword keyword.Output) r
+    (λ y q. if y then name q (λ a p. later_names n p
+    (λ zs o. expect (Symbol symbol.Semicolon) o
+    (λ i. declarations n i (λ ds j. k (output (record { first = a; later = zs }) ∷ ds) j))))
+    else maybe (Keyword keyword.Relation) q
+    (λ z p. if z then relation n p (λ a o. later_relations n o
+    (λ zs i. expect (Symbol symbol.Semicolon) i (λ j. declarations n j (λ ds l. k (relations a zs ∷ ds) l)))) else k [] p)))
 
 abbrev module_from : ℕ → List Token → (ModuleTree → List Token → Answer) → Answer
-module_from n bs k = name bs (λ a r. expect (Symbol symbol.Colon) r (λ q. declarations n q (λ ds p. stmt n p (λ t o. expect kw_end o (λ i. expect (Keyword keyword.Module) i (λ j. k (record { name = a; declarations = ds; body = t }) j))))))
+module_from n bs k =
+    name bs (λ a r. expect (Symbol symbol.Colon) r
+    (λ q. declarations n q (λ ds p. stmt n p
+    (λ t o. expect kw_end o (λ i. expect (Keyword keyword.Module) i
+    (λ j. k (record { name = a; declarations = ds; body = t }) j))))))
 
 abbrev modules : ℕ → List Token → (List ModuleTree → List Token → Answer) → Answer
 modules zero bs k = None
-modules (suc n) bs k = maybe (Keyword keyword.Module) bs (λ x r. if x then module_from n r (λ p q. modules n q (λ ps o. k (p ∷ ps) o)) else k [] r)
+modules (suc n) bs k = maybe (Keyword keyword.Module) bs
+    (λ x r. if x then module_from n r (λ p q. modules n q (λ ps o. k (p ∷ ps) o)) else k [] r)
 
 abbrev finished : List ModuleTree → List Token → Answer
 finished (p ∷ ps) [] = Some (record { first = p; later = ps })
@@ -200,11 +238,13 @@ maybe_not : (t : Token) (bs : List Token) (k : Bool → List Token → Answer) �
 maybe_not t [] k h = refl
 maybe_not t (b ∷ bs) k h = if_false (same t b) (k true bs) (k false (b ∷ bs)) h
 
-maybe_is : (t : Token) (c : Bool) (bs : List Token) (k : Bool → List Token → Answer) → same t t ≡ true → Skips t bs → maybe t (g.token_if c t bs) k ≡ k c bs
+maybe_is : (t : Token) (c : Bool) (bs : List Token) (k : Bool → List Token → Answer) → same t t ≡ true → Skips t bs
+    → maybe t (g.token_if c t bs) k ≡ k c bs
 maybe_is t true bs k e h = if_true (same t t) (k true bs) (k false (t ∷ bs)) e
 maybe_is t false bs k e h = maybe_not t bs k h
 
-delay_parts : (i : Bool) (n : List ℕ) (bs : List Token) (k : DelayTree → List Token → Answer) → delay (g.token_if i (Keyword keyword.Immediate) (Identifier n ∷ bs)) k ≡ k (record { immediate = i; signal = n }) bs
+delay_parts : (i : Bool) (n : List ℕ) (bs : List Token) (k : DelayTree → List Token → Answer)
+    → delay (g.token_if i (Keyword keyword.Immediate) (Identifier n ∷ bs)) k ≡ k (record { immediate = i; signal = n }) bs
 delay_parts true n bs k = refl
 delay_parts false n bs k = refl
 
@@ -216,38 +256,48 @@ pair_not t [] k h = refl
 pair_not t (b ∷ []) k h = refl
 pair_not t (b ∷ c ∷ bs) k h = if_false (same kw_end b) _ (k false (b ∷ c ∷ bs)) h
 
-pair_is : (t : Token) (c : Bool) (s : List Want) (bs : List Token) (k : Bool → List Token → Answer) → same t t ≡ true → ((b : Token) (bs : List Token) → NoPair (b ∷ bs) → same t b ≡ false) → AfterUnit s bs → pair t (g.end_if c t bs) k ≡ k c bs
+pair_is : (t : Token) (c : Bool) (s : List Want) (bs : List Token) (k : Bool → List Token → Answer) → same t t ≡ true
+    → ((b : Token) (bs : List Token) → NoPair (b ∷ bs) → same t b ≡ false) → AfterUnit s bs → pair t (g.end_if c t bs) k ≡ k c bs
 pair_is t true s bs k e f a = if_true (same t t) (k true bs) (k false (kw_end ∷ t ∷ bs)) e
-pair_is t false s bs k e f a = open_skips s bs a (λ cs. pair t cs k ≡ k false cs) (λ cs h. pair_not t cs k h) (λ b cs p h. if_false (same t b) (k true cs) (k false (kw_end ∷ b ∷ cs)) (f b cs p))
+pair_is t false s bs k e f a = open_skips s bs a (λ cs. pair t cs k ≡ k false cs) (λ cs h. pair_not t cs k h)
+    (λ b cs p h. if_false (same t b) (k true cs) (k false (kw_end ∷ b ∷ cs)) (f b cs p))
 
 weak_not : (bs : List Token) (k : WeakEndTree → List Token → Answer) → Skips kw_end bs → weak_pair bs k ≡ k left_out bs
 weak_not [] k h = refl
 weak_not (b ∷ []) k h = refl
 weak_not (b ∷ c ∷ bs) k h = if_false (same kw_end b) _ (k left_out (b ∷ c ∷ bs)) h
 
-weak_is : (c : WeakEndTree) (s : List Want) (bs : List Token) (k : WeakEndTree → List Token → Answer) → AfterUnit s bs → weak_pair (g.weak_end_onto c bs) k ≡ k c bs
+weak_is : (c : WeakEndTree) (s : List Want) (bs : List Token) (k : WeakEndTree → List Token → Answer)
+    → AfterUnit s bs → weak_pair (g.weak_end_onto c bs) k ≡ k c bs
 weak_is end_abort s bs k a = refl
 weak_is end_weak_abort s bs k a = refl
-weak_is left_out s bs k a = open_skips s bs a (λ cs. weak_pair cs k ≡ k left_out cs) (λ cs h. weak_not cs k h) (λ b cs p h. if_false (same (Keyword keyword.Abort) b) _ _ p.1 ∙ if_false (same (Keyword keyword.Weak) b) _ _ p.2)
+weak_is left_out s bs k a = open_skips s bs a (λ cs. weak_pair cs k ≡ k left_out cs) (λ cs h. weak_not cs k h)
+    (λ b cs p h. if_false (same (Keyword keyword.Abort) b) _ _ p.1 ∙ if_false (same (Keyword keyword.Weak) b) _ _ p.2)
 
-names_are : (ns : List (List ℕ)) (n : ℕ) (bs : List Token) (k : List (List ℕ) → List Token → Answer) → suc (length ns) ≤ n → Skips (Symbol symbol.Comma) bs → later_names n (g.later_names_onto ns bs) k ≡ k ns bs
+names_are : (ns : List (List ℕ)) (n : ℕ) (bs : List Token) (k : List (List ℕ) → List Token → Answer)
+    → suc (length ns) ≤ n → Skips (Symbol symbol.Comma) bs → later_names n (g.later_names_onto ns bs) k ≡ k ns bs
 names_are ns zero bs k h a = absurd (no_room (length ns) h)
 names_are [] (suc n) bs k h a = maybe_not (Symbol symbol.Comma) bs _ a
 names_are (x ∷ ns) (suc n) bs k h a = names_are ns n bs (λ ms p. k (x ∷ ms) p) (omega (arith, h)) a
 
-members_are : (ns : List (List ℕ)) (n : ℕ) (bs : List Token) (k : List (List ℕ) → List Token → Answer) → suc (length ns) ≤ n → Skips (Symbol symbol.Hash) bs → later_members n (g.later_members_onto ns bs) k ≡ k ns bs
+members_are : (ns : List (List ℕ)) (n : ℕ) (bs : List Token) (k : List (List ℕ) → List Token → Answer)
+    → suc (length ns) ≤ n → Skips (Symbol symbol.Hash) bs → later_members n (g.later_members_onto ns bs) k ≡ k ns bs
 members_are ns zero bs k h a = absurd (no_room (length ns) h)
 members_are [] (suc n) bs k h a = maybe_not (Symbol symbol.Hash) bs _ a
 members_are (x ∷ ns) (suc n) bs k h a = members_are ns n bs (λ ms p. k (x ∷ ms) p) (omega (arith, h)) a
 
-later_renamings_are : (rs : List RenamingTree) (n : ℕ) (bs : List Token) (k : List RenamingTree → List Token → Answer) → suc (length rs) ≤ n → Skips (Symbol symbol.Comma) bs → later_renamings n (g.later_renamings_onto rs bs) k ≡ k rs bs
+later_renamings_are : (rs : List RenamingTree) (n : ℕ) (bs : List Token)
+    (k : List RenamingTree → List Token → Answer) → suc (length rs) ≤ n → Skips (Symbol symbol.Comma) bs
+    → later_renamings n (g.later_renamings_onto rs bs) k ≡ k rs bs
 later_renamings_are rs zero bs k h a = absurd (no_room (length rs) h)
 later_renamings_are [] (suc n) bs k h a = maybe_not (Symbol symbol.Comma) bs _ a
 later_renamings_are (x ∷ rs) (suc n) bs k h a = later_renamings_are rs n bs (λ ms p. k (x ∷ ms) p) (omega (arith, h)) a
 
-renamings_are : (rs : List RenamingTree) (n : ℕ) (bs : List Token) (k : List RenamingTree → List Token → Answer) → suc (length rs) ≤ n → Skips (Symbol symbol.OpenBracket) bs → renamings n (g.renamings_onto rs bs) k ≡ k rs bs
+renamings_are : (rs : List RenamingTree) (n : ℕ) (bs : List Token) (k : List RenamingTree → List Token → Answer)
+    → suc (length rs) ≤ n → Skips (Symbol symbol.OpenBracket) bs → renamings n (g.renamings_onto rs bs) k ≡ k rs bs
 renamings_are [] n bs k h a = maybe_not (Symbol symbol.OpenBracket) bs _ a
-renamings_are (x ∷ rs) n bs k h a = later_renamings_are rs n (Symbol symbol.CloseBracket ∷ bs) (λ ms o. expect (Symbol symbol.CloseBracket) o (λ i. k (x ∷ ms) i)) (omega (arith, h)) refl
+renamings_are (x ∷ rs) n bs k h a = later_renamings_are rs n (Symbol symbol.CloseBracket ∷ bs)
+    (λ ms o. expect (Symbol symbol.CloseBracket) o (λ i. k (x ∷ ms) i)) (omega (arith, h)) refl
 
 starts_unit : (u : UnitTree) (bs : List Token) → starts (g.unit_onto u bs) ≡ true
 starts_unit nothing bs = refl
@@ -283,14 +333,18 @@ no_start s (_ ∷ bs) h = absurd h
 abbrev round : List Want
 round = m.one kw_end ∷ []
 
-closes : (t : Token) (c : Bool) (s : List Want) (bs : List Token) → NoPair (t ∷ bs) → AfterUnit s bs → AfterStatement round (kw_end ∷ g.token_if c t bs)
+closes : (t : Token) (c : Bool) (s : List Want) (bs : List Token) → NoPair (t ∷ bs) → AfterUnit s bs
+    → AfterStatement round (kw_end ∷ g.token_if c t bs)
 closes t c s bs p a = (no_pair_if t c s bs p a, ([], refl, λ b. refl))
 
-again_is : (t : Token) → NeverAfter t → same t t ≡ true → (c : Bool) (s : List Want) (bs : List Token) (k : Bool → List Token → Answer) → AfterUnit s bs → again t (kw_end ∷ g.token_if c t bs) k ≡ k c bs
+again_is : (t : Token) → NeverAfter t → same t t ≡ true
+    → (c : Bool) (s : List Want) (bs : List Token) (k : Bool → List Token → Answer) → AfterUnit s bs
+    → again t (kw_end ∷ g.token_if c t bs) k ≡ k c bs
 again_is t e f c s bs k a = maybe_is t c bs k f (after_skips t e s bs a)
 
 mutual
-  unit_is : (u : UnitTree) (n : ℕ) (s : List Want) (bs : List Token) (k : UnitTree → List Token → Answer) → suc (inner_size u) ≤ n → AfterUnit s bs → unit n (g.unit_onto u bs) k ≡ k u bs
+  unit_is : (u : UnitTree) (n : ℕ) (s : List Want) (bs : List Token) (k : UnitTree → List Token → Answer)
+      → suc (inner_size u) ≤ n → AfterUnit s bs → unit n (g.unit_onto u bs) k ≡ k u bs
   unit_is u zero s bs k h a = absurd (no_room (inner_size u) h)
   unit_is nothing (suc n) s bs k h a = refl
   unit_is pause (suc n) s bs k h a = refl
@@ -299,61 +353,203 @@ mutual
   unit_is (sustain x) (suc n) s bs k h a = refl
   unit_is (exit x) (suc n) s bs k h a = refl
   unit_is (await d) (suc n) s bs k h a = delay_is d bs (λ d r. k (await d) r)
-  unit_is (run x rs) (suc n) s bs k h a = renamings_are rs n bs (λ ms q. k (run x ms) q) (omega (arith, h)) (after_skips (Symbol symbol.OpenBracket) (record { no_end = refl; no_else = refl; no_when = refl; no_each = refl; no_close = refl; no_parallel = refl; no_semicolon = refl }) s bs a)
+  unit_is (run x rs) (suc n) s bs k h a =
+      renamings_are rs n bs (λ ms q. k (run x ms) q) (omega (arith, h))
+      (after_skips (Symbol symbol.OpenBracket)
+      (record {
+        no_end = refl;
+        no_else = refl;
+        no_when = refl;
+        no_each = refl;
+        no_close = refl;
+        no_parallel = refl;
+        no_semicolon = refl;
+      }) s bs a)
   unit_is (present x b) (suc n) s bs k h a = branches_is b n s bs (λ b q. k (present x b) q) (omega (arith, h)) a
-  unit_is (suspend t d c) (suc n) s bs k h a = stmt_is t n round (Keyword keyword.When ∷ g.delay_onto d (g.end_if c (Keyword keyword.Suspend) bs)) (λ t r. watched r (λ d q. pair (Keyword keyword.Suspend) q (λ c p. k (suspend t d c) p))) (omega (arith, h)) tt ∙ delay_is d (g.end_if c (Keyword keyword.Suspend) bs) (λ d q. pair (Keyword keyword.Suspend) q (λ c p. k (suspend t d c) p)) ∙ pair_is (Keyword keyword.Suspend) c s bs (λ c p. k (suspend t d c) p) refl (λ b cs p. p.0) a
-  unit_is (abort t d c) (suc n) s bs k h a = stmt_is t n round (Keyword keyword.When ∷ g.delay_onto d (g.end_if c (Keyword keyword.Abort) bs)) (λ t r. watched r (λ d q. pair (Keyword keyword.Abort) q (λ c p. k (abort t d c) p))) (omega (arith, h)) tt ∙ delay_is d (g.end_if c (Keyword keyword.Abort) bs) (λ d q. pair (Keyword keyword.Abort) q (λ c p. k (abort t d c) p)) ∙ pair_is (Keyword keyword.Abort) c s bs (λ c p. k (abort t d c) p) refl (λ b cs p. p.1) a
-  unit_is (weak_abort t d c) (suc n) s bs k h a = stmt_is t n round (Keyword keyword.When ∷ g.delay_onto d (g.weak_end_onto c bs)) (λ t r. watched r (λ d q. weak_pair q (λ c p. k (weak_abort t d c) p))) (omega (arith, h)) tt ∙ delay_is d (g.weak_end_onto c bs) (λ d q. weak_pair q (λ c p. k (weak_abort t d c) p)) ∙ weak_is c s bs (λ c p. k (weak_abort t d c) p) a
-  unit_is (repeat t c) (suc n) s bs k h a = stmt_is t n round (kw_end ∷ g.token_if c (Keyword keyword.Loop) bs) (λ t r. maybe (Keyword keyword.Each) r (λ x q. if x then name q (λ m p. k (repeat_each t m) p) else again (Keyword keyword.Loop) q (λ c p. k (repeat t c) p))) (omega (arith, h)) (closes (Keyword keyword.Loop) c s bs (refl, refl, refl) a) ∙ again_is (Keyword keyword.Loop) (record { no_end = refl; no_else = refl; no_when = refl; no_each = refl; no_close = refl; no_parallel = refl; no_semicolon = refl }) refl c s bs (λ c p. k (repeat t c) p) a
-  unit_is (repeat_each t x) (suc n) s bs k h a = stmt_is t n round (Keyword keyword.Each ∷ Identifier x ∷ bs) (λ t r. maybe (Keyword keyword.Each) r (λ x q. if x then name q (λ m p. k (repeat_each t m) p) else again (Keyword keyword.Loop) q (λ c p. k (repeat t c) p))) (omega (arith, h)) tt
-  unit_is (every d t c) (suc n) s bs k h a = delay_is d (Keyword keyword.Do ∷ (g.statement_onto t (kw_end ∷ g.token_if c (Keyword keyword.Every) bs))) (λ d o. expect (Keyword keyword.Do) o (λ i. stmt n i (λ t r. again (Keyword keyword.Every) r (λ c q. k (every d t c) q)))) ∙ stmt_is t n round (kw_end ∷ g.token_if c (Keyword keyword.Every) bs) (λ t r. again (Keyword keyword.Every) r (λ c q. k (every d t c) q)) (omega (arith, h)) (closes (Keyword keyword.Every) c s bs (refl, refl, refl) a) ∙ again_is (Keyword keyword.Every) (record { no_end = refl; no_else = refl; no_when = refl; no_each = refl; no_close = refl; no_parallel = refl; no_semicolon = refl }) refl c s bs (λ c q. k (every d t c) q) a
-  unit_is (trap x t c) (suc n) s bs k h a = stmt_is t n round (kw_end ∷ g.token_if c (Keyword keyword.Trap) bs) (λ t r. again (Keyword keyword.Trap) r (λ c q. k (trap x t c) q)) (omega (arith, h)) (closes (Keyword keyword.Trap) c s bs (refl, refl, refl) a) ∙ again_is (Keyword keyword.Trap) (record { no_end = refl; no_else = refl; no_when = refl; no_each = refl; no_close = refl; no_parallel = refl; no_semicolon = refl }) refl c s bs (λ c q. k (trap x t c) q) a
-  unit_is (signal ns t c) (suc n) s bs k h a = names_are ns.later n (Keyword keyword.In ∷ (g.statement_onto t (kw_end ∷ g.token_if c (Keyword keyword.Signal) bs))) (λ ms j. expect (Keyword keyword.In) j (λ i. stmt n i (λ t r. again (Keyword keyword.Signal) r (λ c q. k (signal (record { first = ns.first; later = ms }) t c) q)))) (omega (arith, h)) refl ∙ stmt_is t n round (kw_end ∷ g.token_if c (Keyword keyword.Signal) bs) (λ t r. again (Keyword keyword.Signal) r (λ c q. k (signal ns t c) q)) (omega (arith, h)) (closes (Keyword keyword.Signal) c s bs (refl, refl, refl) a) ∙ again_is (Keyword keyword.Signal) (record { no_end = refl; no_else = refl; no_when = refl; no_each = refl; no_close = refl; no_parallel = refl; no_semicolon = refl }) refl c s bs (λ c q. k (signal ns t c) q) a
-  unit_is (group t) (suc n) s bs k h a = stmt_is t n round (Symbol symbol.CloseBracket ∷ bs) (λ t r. expect (Symbol symbol.CloseBracket) r (λ q. k (group t) q)) (omega (arith, h)) tt
+  unit_is (suspend t d c) (suc n) s bs k h a =
+      stmt_is t n round (Keyword keyword.When ∷ g.delay_onto d (g.end_if c (Keyword keyword.Suspend) bs))
+      (λ t r. watched r (λ d q. pair (Keyword keyword.Suspend) q (λ c p. k (suspend t d c) p))) (omega (arith, h)) tt
+      ∙ delay_is d (g.end_if c (Keyword keyword.Suspend) bs)
+      (λ d q. pair (Keyword keyword.Suspend) q (λ c p. k (suspend t d c) p))
+      ∙ pair_is (Keyword keyword.Suspend) c s bs (λ c p. k (suspend t d c) p) refl (λ b cs p. p.0) a
+  unit_is (abort t d c) (suc n) s bs k h a =
+      stmt_is t n round (Keyword keyword.When ∷ g.delay_onto d (g.end_if c (Keyword keyword.Abort) bs))
+      (λ t r. watched r (λ d q. pair (Keyword keyword.Abort) q (λ c p. k (abort t d c) p))) (omega (arith, h)) tt
+      ∙ delay_is d (g.end_if c (Keyword keyword.Abort) bs)
+      (λ d q. pair (Keyword keyword.Abort) q (λ c p. k (abort t d c) p))
+      ∙ pair_is (Keyword keyword.Abort) c s bs (λ c p. k (abort t d c) p) refl (λ b cs p. p.1) a
+  unit_is (weak_abort t d c) (suc n) s bs k h a =
+      stmt_is t n round (Keyword keyword.When ∷ g.delay_onto d (g.weak_end_onto c bs))
+      (λ t r. watched r (λ d q. weak_pair q (λ c p. k (weak_abort t d c) p))) (omega (arith, h)) tt
+      ∙ delay_is d (g.weak_end_onto c bs) (λ d q. weak_pair q (λ c p. k (weak_abort t d c) p))
+      ∙ weak_is c s bs (λ c p. k (weak_abort t d c) p) a
+  unit_is (repeat t c) (suc n) s bs k h a =
+      stmt_is t n round (kw_end ∷ g.token_if c (Keyword keyword.Loop) bs)
+      (λ t r. maybe (Keyword keyword.Each) r
+      (λ x q. if x then name q (λ m p. k (repeat_each t m) p)
+      else again (Keyword keyword.Loop) q (λ c p. k (repeat t c) p))) (omega (arith, h))
+      (closes (Keyword keyword.Loop) c s bs (refl, refl, refl) a)
+      ∙ again_is (Keyword keyword.Loop)
+      (record {
+        no_end = refl;
+        no_else = refl;
+        no_when = refl;
+        no_each = refl;
+        no_close = refl;
+        no_parallel = refl;
+        no_semicolon = refl;
+      }) refl c s bs (λ c p. k (repeat t c) p) a
+  unit_is (repeat_each t x) (suc n) s bs k h a =
+      stmt_is t n round (Keyword keyword.Each ∷ Identifier x ∷ bs)
+      (λ t r. maybe (Keyword keyword.Each) r
+      (λ x q. if x then name q (λ m p. k (repeat_each t m) p) else again (Keyword keyword.Loop) q
+      (λ c p. k (repeat t c) p))) (omega (arith, h)) tt
+  unit_is (every d t c) (suc n) s bs k h a =
+      delay_is d (Keyword keyword.Do ∷ (g.statement_onto t (kw_end ∷ g.token_if c (Keyword keyword.Every) bs)))
+      (λ d o. expect (Keyword keyword.Do) o
+      (λ i. stmt n i (λ t r. again (Keyword keyword.Every) r (λ c q. k (every d t c) q))))
+      ∙ stmt_is t n round (kw_end ∷ g.token_if c (Keyword keyword.Every) bs)
+      (λ t r. again (Keyword keyword.Every) r (λ c q. k (every d t c) q)) (omega (arith, h))
+      (closes (Keyword keyword.Every) c s bs (refl, refl, refl) a)
+      ∙ again_is (Keyword keyword.Every)
+      (record {
+        no_end = refl;
+        no_else = refl;
+        no_when = refl;
+        no_each = refl;
+        no_close = refl;
+        no_parallel = refl;
+        no_semicolon = refl;
+      }) refl c s bs (λ c q. k (every d t c) q) a
+  unit_is (trap x t c) (suc n) s bs k h a =
+      stmt_is t n round (kw_end ∷ g.token_if c (Keyword keyword.Trap) bs)
+      (λ t r. again (Keyword keyword.Trap) r (λ c q. k (trap x t c) q)) (omega (arith, h))
+      (closes (Keyword keyword.Trap) c s bs (refl, refl, refl) a)
+      ∙ again_is (Keyword keyword.Trap)
+      (record {
+        no_end = refl;
+        no_else = refl;
+        no_when = refl;
+        no_each = refl;
+        no_close = refl;
+        no_parallel = refl;
+        no_semicolon = refl;
+      }) refl c s bs (λ c q. k (trap x t c) q) a
+  unit_is (signal ns t c) (suc n) s bs k h a =
+      names_are ns.later n (Keyword keyword.In
+      ∷ (g.statement_onto t (kw_end ∷ g.token_if c (Keyword keyword.Signal) bs)))
+      (λ ms j. expect (Keyword keyword.In) j
+      (λ i. stmt n i (λ t r. again (Keyword keyword.Signal) r
+      (λ c q. k (signal (record { first = ns.first; later = ms }) t c) q)))) (omega (arith, h)) refl
+      ∙ stmt_is t n round (kw_end ∷ g.token_if c (Keyword keyword.Signal) bs)
+      (λ t r. again (Keyword keyword.Signal) r (λ c q. k (signal ns t c) q)) (omega (arith, h))
+      (closes (Keyword keyword.Signal) c s bs (refl, refl, refl) a)
+      ∙ again_is (Keyword keyword.Signal)
+      (record {
+        no_end = refl;
+        no_else = refl;
+        no_when = refl;
+        no_each = refl;
+        no_close = refl;
+        no_parallel = refl;
+        no_semicolon = refl;
+      }) refl c s bs (λ c q. k (signal ns t c) q) a
+  unit_is (group t) (suc n) s bs k h a = stmt_is t n round (Symbol symbol.CloseBracket ∷ bs)
+      (λ t r. expect (Symbol symbol.CloseBracket) r (λ q. k (group t) q)) (omega (arith, h)) tt
 
-  branches_is : (b : BranchesTree) (n : ℕ) (s : List Want) (bs : List Token) (k : BranchesTree → List Token → Answer) → branches_size b ≤ n → AfterUnit s bs → branches n (g.branches_onto b bs) k ≡ k b bs
+  branches_is : (b : BranchesTree) (n : ℕ) (s : List Want) (bs : List Token) (k : BranchesTree → List Token → Answer)
+      → branches_size b ≤ n → AfterUnit s bs → branches n (g.branches_onto b bs) k ≡ k b bs
   branches_is (then_only t c) zero s bs k h a = absurd (no_room (stmt_size t) h)
   branches_is (else_only t c) zero s bs k h a = absurd (no_room (stmt_size t) h)
   branches_is (both t e c) zero s bs k h a = absurd (no_room (stmt_size t + stmt_size e) h)
   branches_is (then_only t c) (suc n) s bs k h a =
-      stmt_is t n round (kw_end ∷ g.token_if c (Keyword keyword.Present) bs) (λ t q. maybe (Keyword keyword.Else) q (λ y p. if y then stmt n p (λ e o. again (Keyword keyword.Present) o (λ c i. k (both t e c) i)) else again (Keyword keyword.Present) p (λ c i. k (then_only t c) i))) (omega (arith, h)) (closes (Keyword keyword.Present) c s bs (refl, refl, refl) a)
-      ∙ again_is (Keyword keyword.Present) (record { no_end = refl; no_else = refl; no_when = refl; no_each = refl; no_close = refl; no_parallel = refl; no_semicolon = refl }) refl c s bs (λ c i. k (then_only t c) i) a
+      stmt_is t n round (kw_end ∷ g.token_if c (Keyword keyword.Present) bs)
+      (λ t q. maybe (Keyword keyword.Else) q
+      (λ y p. if y then stmt n p (λ e o. again (Keyword keyword.Present) o (λ c i. k (both t e c) i))
+      else again (Keyword keyword.Present) p (λ c i. k (then_only t c) i))) (omega (arith, h))
+      (closes (Keyword keyword.Present) c s bs (refl, refl, refl) a)
+      ∙ again_is (Keyword keyword.Present)
+      (record {
+        no_end = refl;
+        no_else = refl;
+        no_when = refl;
+        no_each = refl;
+        no_close = refl;
+        no_parallel = refl;
+        no_semicolon = refl;
+      }) refl c s bs (λ c i. k (then_only t c) i) a
   branches_is (else_only e c) (suc n) s bs k h a =
-      stmt_is e n round (kw_end ∷ g.token_if c (Keyword keyword.Present) bs) (λ e p. again (Keyword keyword.Present) p (λ c i. k (else_only e c) i)) (omega (arith, h)) (closes (Keyword keyword.Present) c s bs (refl, refl, refl) a)
-      ∙ again_is (Keyword keyword.Present) (record { no_end = refl; no_else = refl; no_when = refl; no_each = refl; no_close = refl; no_parallel = refl; no_semicolon = refl }) refl c s bs (λ c i. k (else_only e c) i) a
+      stmt_is e n round (kw_end ∷ g.token_if c (Keyword keyword.Present) bs)
+      (λ e p. again (Keyword keyword.Present) p (λ c i. k (else_only e c) i)) (omega (arith, h))
+      (closes (Keyword keyword.Present) c s bs (refl, refl, refl) a)
+      ∙ again_is (Keyword keyword.Present)
+      (record {
+        no_end = refl;
+        no_else = refl;
+        no_when = refl;
+        no_each = refl;
+        no_close = refl;
+        no_parallel = refl;
+        no_semicolon = refl;
+      }) refl c s bs (λ c i. k (else_only e c) i) a
   branches_is (both t e c) (suc n) s bs k h a =
-      stmt_is t n round (Keyword keyword.Else ∷ g.statement_onto e (kw_end ∷ g.token_if c (Keyword keyword.Present) bs)) (λ t q. maybe (Keyword keyword.Else) q (λ y p. if y then stmt n p (λ e o. again (Keyword keyword.Present) o (λ c i. k (both t e c) i)) else again (Keyword keyword.Present) p (λ c i. k (then_only t c) i))) (omega (arith, h)) tt
-      ∙ stmt_is e n round (kw_end ∷ g.token_if c (Keyword keyword.Present) bs) (λ e o. again (Keyword keyword.Present) o (λ c i. k (both t e c) i)) (omega (arith, h)) (closes (Keyword keyword.Present) c s bs (refl, refl, refl) a)
-      ∙ again_is (Keyword keyword.Present) (record { no_end = refl; no_else = refl; no_when = refl; no_each = refl; no_close = refl; no_parallel = refl; no_semicolon = refl }) refl c s bs (λ c i. k (both t e c) i) a
+      stmt_is t n round (Keyword keyword.Else
+      ∷ g.statement_onto e (kw_end ∷ g.token_if c (Keyword keyword.Present) bs))
+      (λ t q. maybe (Keyword keyword.Else) q
+      (λ y p. if y then stmt n p (λ e o. again (Keyword keyword.Present) o (λ c i. k (both t e c) i)) else again
+      (Keyword keyword.Present) p (λ c i. k (then_only t c) i))) (omega (arith, h)) tt
+      ∙ stmt_is e n round (kw_end ∷ g.token_if c (Keyword keyword.Present) bs)
+      (λ e o. again (Keyword keyword.Present) o (λ c i. k (both t e c) i)) (omega (arith, h))
+      (closes (Keyword keyword.Present) c s bs (refl, refl, refl) a)
+      ∙ again_is (Keyword keyword.Present)
+      (record {
+        no_end = refl;
+        no_else = refl;
+        no_when = refl;
+        no_each = refl;
+        no_close = refl;
+        no_parallel = refl;
+        no_semicolon = refl;
+      }) refl c s bs (λ c i. k (both t e c) i) a
 
-  seq_is : (q : SequenceTree) (n : ℕ) (s : List Want) (bs : List Token) (k : SequenceTree → List Token → Answer) → seq_size q ≤ n → AfterSequence s bs → seq n (g.sequence_onto q bs) k ≡ k q bs
+  seq_is : (q : SequenceTree) (n : ℕ) (s : List Want) (bs : List Token) (k : SequenceTree → List Token → Answer)
+      → seq_size q ≤ n → AfterSequence s bs → seq n (g.sequence_onto q bs) k ≡ k q bs
   seq_is (sequence u us c) zero s bs k h a = absurd (no_room (suc (inner_size u) + units_size us) h)
   seq_is (sequence u us c) (suc n) s bs k h a =
-      unit_is u n (m.sequence_tail ∷ s) (g.units_onto us (g.token_if c (Symbol symbol.Semicolon) bs)) (λ u r. tail n r (λ us c q. k (sequence u us c) q)) (omega (arith, h)) (behind_units us c s bs a)
+      unit_is u n (m.sequence_tail ∷ s) (g.units_onto us (g.token_if c (Symbol symbol.Semicolon) bs))
+      (λ u r. tail n r (λ us c q. k (sequence u us c) q)) (omega (arith, h)) (behind_units us c s bs a)
       ∙ tail_is us c n s bs (λ us c q. k (sequence u us c) q) (omega (arith, h)) a
 
-  tail_is : (us : UnitsTree) (c : Bool) (n : ℕ) (s : List Want) (bs : List Token) (k : UnitsTree → Bool → List Token → Answer) → units_size us ≤ n → AfterSequence s bs → tail n (g.units_onto us (g.token_if c (Symbol symbol.Semicolon) bs)) k ≡ k us c bs
+  tail_is : (us : UnitsTree) (c : Bool) (n : ℕ) (s : List Want) (bs : List Token)
+      (k : UnitsTree → Bool → List Token → Answer) → units_size us ≤ n → AfterSequence s bs
+      → tail n (g.units_onto us (g.token_if c (Symbol symbol.Semicolon) bs)) k ≡ k us c bs
   tail_is no_units c zero s bs k h a = absurd (no_room 0 h)
   tail_is (units u us) c zero s bs k h a = absurd (no_room (suc (inner_size u) + units_size us) h)
   tail_is no_units true (suc n) s bs k h a = if_false (starts bs) _ _ (no_start s bs a)
   tail_is no_units false (suc n) s bs k h a = maybe_not (Symbol symbol.Semicolon) bs _ (sequence_skips s bs a)
   tail_is (units u us) c (suc n) s bs k h a =
-      if_true (starts (g.unit_onto u (g.units_onto us (g.token_if c (Symbol symbol.Semicolon) bs)))) _ _ (starts_unit u (g.units_onto us (g.token_if c (Symbol symbol.Semicolon) bs)))
-      ∙ unit_is u n (m.sequence_tail ∷ s) (g.units_onto us (g.token_if c (Symbol symbol.Semicolon) bs)) (λ u q. tail n q (λ us c p. k (units u us) c p)) (omega (arith, h)) (behind_units us c s bs a)
+      if_true (starts (g.unit_onto u (g.units_onto us (g.token_if c (Symbol symbol.Semicolon) bs)))) _ _
+      (starts_unit u (g.units_onto us (g.token_if c (Symbol symbol.Semicolon) bs)))
+      ∙ unit_is u n (m.sequence_tail ∷ s) (g.units_onto us (g.token_if c (Symbol symbol.Semicolon) bs))
+      (λ u q. tail n q (λ us c p. k (units u us) c p)) (omega (arith, h)) (behind_units us c s bs a)
       ∙ tail_is us c n s bs (λ us c p. k (units u us) c p) (omega (arith, h)) a
 
-  stmt_is : (t : StatementTree) (n : ℕ) (s : List Want) (bs : List Token) (k : StatementTree → List Token → Answer) → stmt_size t ≤ n → AfterStatement s bs → stmt n (g.statement_onto t bs) k ≡ k t bs
+  stmt_is : (t : StatementTree) (n : ℕ) (s : List Want) (bs : List Token) (k : StatementTree → List Token → Answer)
+      → stmt_size t ≤ n → AfterStatement s bs → stmt n (g.statement_onto t bs) k ≡ k t bs
   stmt_is (statement q qs) zero s bs k h a = absurd (no_room (seq_size q + sides_size qs) h)
   stmt_is (statement q qs) (suc n) s bs k h a =
-      seq_is q n (m.statement_tail ∷ s) (g.sequences_onto qs bs) (λ q r. side n r (λ qs p. k (statement q qs) p)) (omega (arith, h)) (behind_sequences qs s bs a)
+      seq_is q n (m.statement_tail ∷ s) (g.sequences_onto qs bs) (λ q r. side n r (λ qs p. k (statement q qs) p))
+      (omega (arith, h)) (behind_sequences qs s bs a)
       ∙ side_is qs n s bs (λ qs p. k (statement q qs) p) (omega (arith, h)) a
 
-  side_is : (qs : SequencesTree) (n : ℕ) (s : List Want) (bs : List Token) (k : SequencesTree → List Token → Answer) → sides_size qs ≤ n → AfterStatement s bs → side n (g.sequences_onto qs bs) k ≡ k qs bs
+  side_is : (qs : SequencesTree) (n : ℕ) (s : List Want) (bs : List Token) (k : SequencesTree → List Token → Answer)
+      → sides_size qs ≤ n → AfterStatement s bs → side n (g.sequences_onto qs bs) k ≡ k qs bs
   side_is no_sequences zero s bs k h a = absurd (no_room 0 h)
   side_is (sequences q qs) zero s bs k h a = absurd (no_room (seq_size q + sides_size qs) h)
   side_is no_sequences (suc n) s bs k h a = maybe_not (Symbol symbol.Parallel) bs _ (statement_skips s bs a)
   side_is (sequences q qs) (suc n) s bs k h a =
-      seq_is q n (m.statement_tail ∷ s) (g.sequences_onto qs bs) (λ q p. side n p (λ qs o. k (sequences q qs) o)) (omega (arith, h)) (behind_sequences qs s bs a)
+      seq_is q n (m.statement_tail ∷ s) (g.sequences_onto qs bs) (λ q p. side n p (λ qs o. k (sequences q qs) o))
+      (omega (arith, h)) (behind_sequences qs s bs a)
       ∙ side_is qs n s bs (λ qs o. k (sequences q qs) o) (omega (arith, h)) a
 
 -- ---- modules
@@ -379,24 +575,30 @@ abbrev modules_size : List ModuleTree → ℕ
 modules_size [] = 1
 modules_size (p ∷ ps) = suc (declarations_size p.declarations + stmt_size p.body + modules_size ps)
 
-relation_is : (r : RelationTree) (n : ℕ) (bs : List Token) (k : RelationTree → List Token → Answer) → relation_size r ≤ n → Skips (Symbol symbol.Hash) bs → relation n (g.relation_onto r bs) k ≡ k r bs
+relation_is : (r : RelationTree) (n : ℕ) (bs : List Token) (k : RelationTree → List Token → Answer)
+    → relation_size r ≤ n → Skips (Symbol symbol.Hash) bs → relation n (g.relation_onto r bs) k ≡ k r bs
 relation_is (excludes a b ns) n bs k h e = members_are ns n bs (λ ns i. k (excludes a b ns) i) h e
 relation_is (implies a b) n bs k h e = refl
 
-behind_relations : (rs : List RelationTree) (bs : List Token) → Skips (Symbol symbol.Hash) (g.later_relations_onto rs (Symbol symbol.Semicolon ∷ bs))
+behind_relations : (rs : List RelationTree) (bs : List Token)
+    → Skips (Symbol symbol.Hash) (g.later_relations_onto rs (Symbol symbol.Semicolon ∷ bs))
 behind_relations [] bs = refl
 behind_relations (r ∷ rs) bs = refl
 
-relations_are : (rs : List RelationTree) (n : ℕ) (bs : List Token) (k : List RelationTree → List Token → Answer) → relations_size rs ≤ n → later_relations n (g.later_relations_onto rs (Symbol symbol.Semicolon ∷ bs)) k ≡ k rs (Symbol symbol.Semicolon ∷ bs)
+relations_are : (rs : List RelationTree) (n : ℕ) (bs : List Token) (k : List RelationTree → List Token → Answer)
+    → relations_size rs ≤ n → later_relations n (g.later_relations_onto rs (Symbol symbol.Semicolon ∷ bs)) k ≡ k rs
+    (Symbol symbol.Semicolon ∷ bs)
 relations_are [] zero bs k h = absurd (no_room 0 h)
 relations_are (r ∷ rs) zero bs k h = absurd (no_room (relation_size r + relations_size rs) h)
 relations_are [] (suc n) bs k h = refl
 relations_are (r ∷ rs) (suc n) bs k h =
-    relation_is r n (g.later_relations_onto rs (Symbol symbol.Semicolon ∷ bs)) (λ a q. later_relations n q (λ zs p. k (a ∷ zs) p)) (omega (arith, h)) (behind_relations rs bs)
+    relation_is r n (g.later_relations_onto rs (Symbol symbol.Semicolon ∷ bs))
+    (λ a q. later_relations n q (λ zs p. k (a ∷ zs) p)) (omega (arith, h)) (behind_relations rs bs)
     ∙ relations_are rs n bs (λ zs p. k (r ∷ zs) p) (omega (arith, h))
 
 -- no declaration begins where a unit does
-no_word : (u : UnitTree) (bs : List Token) → Skips (Keyword keyword.Input) (g.unit_onto u bs) × Skips (Keyword keyword.Output) (g.unit_onto u bs) × Skips (Keyword keyword.Relation) (g.unit_onto u bs)
+no_word : (u : UnitTree) (bs : List Token) → Skips (Keyword keyword.Input) (g.unit_onto u bs)
+    × Skips (Keyword keyword.Output) (g.unit_onto u bs) × Skips (Keyword keyword.Relation) (g.unit_onto u bs)
 no_word nothing bs = (refl, refl, refl)
 no_word pause bs = (refl, refl, refl)
 no_word halt bs = (refl, refl, refl)
@@ -416,38 +618,65 @@ no_word (signal ns t c) bs = (refl, refl, refl)
 no_word (run n rs) bs = (refl, refl, refl)
 no_word (group t) bs = (refl, refl, refl)
 
-declarations_end : (n : ℕ) (bs : List Token) (k : List DeclarationTree → List Token → Answer) → Skips (Keyword keyword.Input) bs × Skips (Keyword keyword.Output) bs × Skips (Keyword keyword.Relation) bs → declarations (suc n) bs k ≡ k [] bs
-declarations_end n bs k e = maybe_not (Keyword keyword.Input) bs _ e.0 ∙ maybe_not (Keyword keyword.Output) bs _ e.1 ∙ maybe_not (Keyword keyword.Relation) bs _ e.2
+declarations_end : (n : ℕ) (bs : List Token) (k : List DeclarationTree → List Token → Answer)
+    → Skips (Keyword keyword.Input) bs × Skips (Keyword keyword.Output) bs × Skips (Keyword keyword.Relation) bs
+    → declarations (suc n) bs k ≡ k [] bs
+declarations_end n bs k e = maybe_not (Keyword keyword.Input) bs _ e.0 ∙ maybe_not (Keyword keyword.Output) bs _ e.1
+    ∙ maybe_not (Keyword keyword.Relation) bs _ e.2
 
-statement_word : (t : StatementTree) (bs : List Token) → Skips (Keyword keyword.Input) (g.statement_onto t bs) × Skips (Keyword keyword.Output) (g.statement_onto t bs) × Skips (Keyword keyword.Relation) (g.statement_onto t bs)
-statement_word (statement (sequence u us c) qs) bs = no_word u (g.units_onto us (g.token_if c (Symbol symbol.Semicolon) (g.sequences_onto qs bs)))
+statement_word : (t : StatementTree) (bs : List Token) → Skips (Keyword keyword.Input) (g.statement_onto t bs)
+    × Skips (Keyword keyword.Output) (g.statement_onto t bs) × Skips (Keyword keyword.Relation) (g.statement_onto t bs)
+statement_word (statement (sequence u us c) qs) bs =
+    no_word u (g.units_onto us (g.token_if c (Symbol symbol.Semicolon) (g.sequences_onto qs bs)))
 
-declarations_are : (ds : List DeclarationTree) (n : ℕ) (t : StatementTree) (bs : List Token) (k : List DeclarationTree → List Token → Answer) → declarations_size ds ≤ n → declarations n (g.declarations_onto ds (g.statement_onto t bs)) k ≡ k ds (g.statement_onto t bs)
+declarations_are : (ds : List DeclarationTree) (n : ℕ) (t : StatementTree) (bs : List Token)
+    (k : List DeclarationTree → List Token → Answer) → declarations_size ds ≤ n
+    → declarations n (g.declarations_onto ds (g.statement_onto t bs)) k ≡ k ds (g.statement_onto t bs)
 declarations_are [] zero t bs k h = absurd (no_room 0 h)
 declarations_are (d ∷ ds) zero t bs k h = absurd (no_room (declaration_size d + declarations_size ds) h)
 declarations_are [] (suc n) t bs k h = declarations_end n (g.statement_onto t bs) k (statement_word t bs)
 declarations_are (input ns ∷ ds) (suc n) t bs k h =
-    names_are ns.later n (Symbol symbol.Semicolon ∷ g.declarations_onto ds (g.statement_onto t bs)) (λ zs p. expect (Symbol symbol.Semicolon) p (λ o. declarations n o (λ ds i. k (input (record { first = ns.first; later = zs }) ∷ ds) i))) (omega (arith, h)) refl
+    names_are ns.later n (Symbol symbol.Semicolon ∷ g.declarations_onto ds (g.statement_onto t bs))
+    (λ zs p. expect (Symbol symbol.Semicolon) p
+    (λ o. declarations n o (λ ds i. k (input (record { first = ns.first; later = zs }) ∷ ds) i))) (omega (arith, h)) refl
     ∙ declarations_are ds n t bs (λ ds i. k (input ns ∷ ds) i) (omega (arith, h))
 declarations_are (output ns ∷ ds) (suc n) t bs k h =
-    names_are ns.later n (Symbol symbol.Semicolon ∷ g.declarations_onto ds (g.statement_onto t bs)) (λ zs p. expect (Symbol symbol.Semicolon) p (λ o. declarations n o (λ ds i. k (output (record { first = ns.first; later = zs }) ∷ ds) i))) (omega (arith, h)) refl
+    names_are ns.later n (Symbol symbol.Semicolon ∷ g.declarations_onto ds (g.statement_onto t bs))
+    (λ zs p. expect (Symbol symbol.Semicolon) p
+    (λ o. declarations n o (λ ds i. k (output (record { first = ns.first; later = zs }) ∷ ds) i))) (omega (arith, h)) refl
     ∙ declarations_are ds n t bs (λ ds i. k (output ns ∷ ds) i) (omega (arith, h))
 declarations_are (relations r rs ∷ ds) (suc n) t bs k h =
-    relation_is r n (g.later_relations_onto rs (Symbol symbol.Semicolon ∷ g.declarations_onto ds (g.statement_onto t bs))) (λ a o. later_relations n o (λ zs i. expect (Symbol symbol.Semicolon) i (λ j. declarations n j (λ ds l. k (relations a zs ∷ ds) l)))) (omega (arith, h)) (behind_relations rs (g.declarations_onto ds (g.statement_onto t bs)))
-    ∙ relations_are rs n (g.declarations_onto ds (g.statement_onto t bs)) (λ zs i. expect (Symbol symbol.Semicolon) i (λ j. declarations n j (λ ds l. k (relations r zs ∷ ds) l))) (omega (arith, h))
+    relation_is r n (g.later_relations_onto rs
+    (Symbol symbol.Semicolon ∷ g.declarations_onto ds (g.statement_onto t bs)))
+    (λ a o. later_relations n o (λ zs i. expect (Symbol symbol.Semicolon) i
+    (λ j. declarations n j (λ ds l. k (relations a zs ∷ ds) l)))) (omega (arith, h))
+    (behind_relations rs (g.declarations_onto ds (g.statement_onto t bs)))
+    ∙ relations_are rs n (g.declarations_onto ds (g.statement_onto t bs))
+    (λ zs i. expect (Symbol symbol.Semicolon) i (λ j. declarations n j (λ ds l. k (relations r zs ∷ ds) l))) (omega (arith, h))
     ∙ declarations_are ds n t bs (λ ds l. k (relations r rs ∷ ds) l) (omega (arith, h))
 
-module_is : (p : ModuleTree) (n : ℕ) (bs : List Token) (k : ModuleTree → List Token → Answer) → declarations_size p.declarations + stmt_size p.body ≤ n → module_from n (Identifier p.name ∷ Symbol symbol.Colon ∷ g.declarations_onto p.declarations (g.statement_onto p.body (kw_end ∷ Keyword keyword.Module ∷ bs))) k ≡ k p bs
+module_is : (p : ModuleTree) (n : ℕ) (bs : List Token) (k : ModuleTree → List Token → Answer)
+    → declarations_size p.declarations + stmt_size p.body ≤ n
+    → module_from n (Identifier p.name ∷ Symbol symbol.Colon
+    ∷ g.declarations_onto p.declarations (g.statement_onto p.body (kw_end ∷ Keyword keyword.Module ∷ bs))) k ≡ k p bs
 module_is p n bs k h =
-    declarations_are p.declarations n p.body (kw_end ∷ Keyword keyword.Module ∷ bs) (λ ds q. stmt n q (λ t o. expect kw_end o (λ i. expect (Keyword keyword.Module) i (λ j. k (record { name = p.name; declarations = ds; body = t }) j)))) (omega (arith, h))
-    ∙ stmt_is p.body n round (kw_end ∷ Keyword keyword.Module ∷ bs) (λ t o. expect kw_end o (λ i. expect (Keyword keyword.Module) i (λ j. k (record { name = p.name; declarations = p.declarations; body = t }) j))) (omega (arith, h)) ((refl, refl, refl), ([], refl, λ b. refl))
+    declarations_are p.declarations n p.body (kw_end ∷ Keyword keyword.Module ∷ bs)
+    (λ ds q. stmt n q (λ t o. expect kw_end o
+    (λ i. expect (Keyword keyword.Module) i (λ j. k (record { name = p.name; declarations = ds; body = t }) j))))
+    (omega (arith, h))
+    ∙ stmt_is p.body n round (kw_end ∷ Keyword keyword.Module ∷ bs)
+    (λ t o. expect kw_end o (λ i. expect (Keyword keyword.Module) i
+    (λ j. k (record { name = p.name; declarations = p.declarations; body = t }) j))) (omega (arith, h))
+    ((refl, refl, refl), ([], refl, λ b. refl))
 
-modules_are : (ps : List ModuleTree) (n : ℕ) (k : List ModuleTree → List Token → Answer) → modules_size ps ≤ n → modules n (g.modules_onto ps []) k ≡ k ps []
+modules_are : (ps : List ModuleTree) (n : ℕ) (k : List ModuleTree → List Token → Answer) → modules_size ps ≤ n
+    → modules n (g.modules_onto ps []) k ≡ k ps []
 modules_are [] zero k h = absurd (no_room 0 h)
 modules_are (p ∷ ps) zero k h = absurd (no_room (declarations_size p.declarations + stmt_size p.body + modules_size ps) h)
 modules_are [] (suc n) k h = refl
 modules_are (p ∷ ps) (suc n) k h =
-    module_is p n (g.modules_onto ps []) (λ p q. modules n q (λ ps o. k (p ∷ ps) o)) (omega (arith, h)) ∙ modules_are ps n (λ ps o. k (p ∷ ps) o) (omega (arith, h))
+    module_is p n (g.modules_onto ps []) (λ p q. modules n q (λ ps o. k (p ∷ ps) o)) (omega (arith, h))
+    ∙ modules_are ps n (λ ps o. k (p ∷ ps) o) (omega (arith, h))
 
 library_is : (l : LibraryTree) (n : ℕ) → modules_size (l.first ∷ l.later) ≤ n → library_of n (g.spelling l) ≡ Some l
 library_is l n h = modules_are (l.first ∷ l.later) n finished h

@@ -28,7 +28,8 @@ NotPlain (opens ws) = Unit {0}
 -- a unit without a body, or none begins there
 abbrev pub IsPlain : Token → Option UnitValue → List Token → List Token → Type 0
 IsPlain t None old new = (new ≡ old) × NotPlain (unit_start t)
-IsPlain t (Some u) old new = (t ∷ old ≡ unit_onto (unit_view u) new) × (unit_depth (unit_view u) ≡ 0) × Reads (unit_want ∷ []) (t ∷ old) new
+IsPlain t (Some u) old new =
+    (t ∷ old ≡ unit_onto (unit_view u) new) × (unit_depth (unit_view u) ≡ 0) × Reads (unit_want ∷ []) (t ∷ old) new
 
 -- the token that begins a frame
 abbrev pub frame_token : Frame → Token
@@ -76,7 +77,8 @@ frame_wants frame.Suspend = statement ∷ watched_wants (may_end (Keyword keywor
 frame_wants frame.Abort = statement ∷ watched_wants (may_end (Keyword keyword.Abort))
 frame_wants frame.WeakAbort = one (Keyword keyword.Abort) ∷ statement ∷ watched_wants may_end_weak
 frame_wants frame.Loop = statement ∷ loop_tail ∷ leave ∷ []
-frame_wants frame.Every = may (Keyword keyword.Immediate) ∷ name ∷ one (Keyword keyword.Do) ∷ statement ∷ again_wants (Keyword keyword.Every)
+frame_wants frame.Every =
+    may (Keyword keyword.Immediate) ∷ name ∷ one (Keyword keyword.Do) ∷ statement ∷ again_wants (Keyword keyword.Every)
 frame_wants frame.Trap = name ∷ one (Keyword keyword.In) ∷ statement ∷ again_wants (Keyword keyword.Trap)
 frame_wants frame.Signal = name ∷ later_names ∷ one (Keyword keyword.In) ∷ statement ∷ again_wants (Keyword keyword.Signal)
 frame_wants frame.Group = statement ∷ one (Symbol symbol.CloseBracket) ∷ leave ∷ []
@@ -111,7 +113,8 @@ body_end head.Group = false
 -- what stands before a body was read
 pub record IsHead (f : Frame) (h : Head) (old new : List Token) : Type 0 where
   pub spelt : frame_token f ∷ old ≡ head_onto h new
-  pub passes : (s : List Want) → run MOST_OPEN_UNITS (frame_wants f ++ s) old ≡ run MOST_OPEN_UNITS (statement ∷ head_wants h ++ s) new
+  pub passes : (s : List Want) → run MOST_OPEN_UNITS (frame_wants f ++ s) old ≡ run MOST_OPEN_UNITS
+      (statement ∷ head_wants h ++ s) new
   pub shorter : length new ≤ length old
 
 -- what stands behind a body was read
@@ -132,5 +135,6 @@ pub record IsTailAlways (h : Head) (body : StatementTree) (u : UnitValue) (old n
 pub record IsOpened (room : ℕ) (ends : Option Bool) (o : Opener) (u : UnitValue) (old new : List Token) : Type 0 where
   pub spelt : opener_token o ∷ old ≡ unit_onto (unit_view u) new
   pub fits : unit_depth (unit_view u) ≤ suc room
-  pub passes : (s : List Want) → Round (suc room) ends s → run MOST_OPEN_UNITS (opener_wants o ++ s) old ≡ run MOST_OPEN_UNITS s new
+  pub passes : (s : List Want) → Round (suc room) ends s
+      → run MOST_OPEN_UNITS (opener_wants o ++ s) old ≡ run MOST_OPEN_UNITS s new
   pub shorter : length new ≤ length old

@@ -57,7 +57,8 @@ later_renamings_onto (r ∷ rs) rest = Symbol symbol.Comma ∷ renaming_onto r (
 -- (`[` `signal` renaming (`,` renaming)* `]`)?
 abbrev pub renamings_onto : List RenamingTree → List Token → List Token
 renamings_onto [] rest = rest
-renamings_onto (r ∷ rs) rest = Symbol symbol.OpenBracket ∷ Keyword keyword.Signal ∷ renaming_onto r (later_renamings_onto rs (Symbol symbol.CloseBracket ∷ rest))
+renamings_onto (r ∷ rs) rest = Symbol symbol.OpenBracket ∷ Keyword keyword.Signal
+    ∷ renaming_onto r (later_renamings_onto rs (Symbol symbol.CloseBracket ∷ rest))
 
 -- ---- statements
 
@@ -72,22 +73,33 @@ abbrev mutual
   unit_onto (exit n) rest = Keyword keyword.Exit ∷ Identifier n ∷ rest
   unit_onto (await d) rest = Keyword keyword.Await ∷ delay_onto d rest
   unit_onto (present n b) rest = Keyword keyword.Present ∷ Identifier n ∷ branches_onto b rest
-  unit_onto (suspend t d c) rest = Keyword keyword.Suspend ∷ statement_onto t (Keyword keyword.When ∷ delay_onto d (end_if c (Keyword keyword.Suspend) rest))
-  unit_onto (abort t d c) rest = Keyword keyword.Abort ∷ statement_onto t (Keyword keyword.When ∷ delay_onto d (end_if c (Keyword keyword.Abort) rest))
-  unit_onto (weak_abort t d c) rest = Keyword keyword.Weak ∷ Keyword keyword.Abort ∷ statement_onto t (Keyword keyword.When ∷ delay_onto d (weak_end_onto c rest))
-  unit_onto (repeat t c) rest = Keyword keyword.Loop ∷ statement_onto t (Keyword keyword.End ∷ token_if c (Keyword keyword.Loop) rest)
+  unit_onto (suspend t d c) rest = Keyword keyword.Suspend
+      ∷ statement_onto t (Keyword keyword.When ∷ delay_onto d (end_if c (Keyword keyword.Suspend) rest))
+  unit_onto (abort t d c) rest =
+      Keyword keyword.Abort ∷ statement_onto t (Keyword keyword.When ∷ delay_onto d (end_if c (Keyword keyword.Abort) rest))
+  unit_onto (weak_abort t d c) rest = Keyword keyword.Weak ∷ Keyword keyword.Abort
+      ∷ statement_onto t (Keyword keyword.When ∷ delay_onto d (weak_end_onto c rest))
+  unit_onto (repeat t c) rest =
+      Keyword keyword.Loop ∷ statement_onto t (Keyword keyword.End ∷ token_if c (Keyword keyword.Loop) rest)
   unit_onto (repeat_each t n) rest = Keyword keyword.Loop ∷ statement_onto t (Keyword keyword.Each ∷ Identifier n ∷ rest)
-  unit_onto (every d t c) rest = Keyword keyword.Every ∷ delay_onto d (Keyword keyword.Do ∷ statement_onto t (Keyword keyword.End ∷ token_if c (Keyword keyword.Every) rest))
-  unit_onto (trap n t c) rest = Keyword keyword.Trap ∷ Identifier n ∷ Keyword keyword.In ∷ statement_onto t (Keyword keyword.End ∷ token_if c (Keyword keyword.Trap) rest)
-  unit_onto (signal ns t c) rest = Keyword keyword.Signal ∷ names_onto ns (Keyword keyword.In ∷ statement_onto t (Keyword keyword.End ∷ token_if c (Keyword keyword.Signal) rest))
+  unit_onto (every d t c) rest = Keyword keyword.Every
+      ∷ delay_onto d (Keyword keyword.Do ∷ statement_onto t (Keyword keyword.End ∷ token_if c (Keyword keyword.Every) rest))
+  unit_onto (trap n t c) rest = Keyword keyword.Trap ∷ Identifier n ∷ Keyword keyword.In
+      ∷ statement_onto t (Keyword keyword.End ∷ token_if c (Keyword keyword.Trap) rest)
+  unit_onto (signal ns t c) rest = Keyword keyword.Signal
+      ∷ names_onto ns (Keyword keyword.In ∷ statement_onto t (Keyword keyword.End ∷ token_if c (Keyword keyword.Signal) rest))
   unit_onto (run n rs) rest = Keyword keyword.Run ∷ Identifier n ∷ renamings_onto rs rest
   unit_onto (group t) rest = Symbol symbol.OpenBracket ∷ statement_onto t (Symbol symbol.CloseBracket ∷ rest)
 
   -- (`then` statement)? (`else` statement)? `end` `present`?, at least one of the two branches
   pub branches_onto : BranchesTree → List Token → List Token
-  branches_onto (then_only t c) rest = Keyword keyword.Then ∷ statement_onto t (Keyword keyword.End ∷ token_if c (Keyword keyword.Present) rest)
-  branches_onto (else_only t c) rest = Keyword keyword.Else ∷ statement_onto t (Keyword keyword.End ∷ token_if c (Keyword keyword.Present) rest)
-  branches_onto (both t e c) rest = Keyword keyword.Then ∷ statement_onto t (Keyword keyword.Else ∷ statement_onto e (Keyword keyword.End ∷ token_if c (Keyword keyword.Present) rest))
+  branches_onto (then_only t c) rest =
+      Keyword keyword.Then ∷ statement_onto t (Keyword keyword.End ∷ token_if c (Keyword keyword.Present) rest)
+  branches_onto (else_only t c) rest =
+      Keyword keyword.Else ∷ statement_onto t (Keyword keyword.End ∷ token_if c (Keyword keyword.Present) rest)
+  branches_onto (both t e c) rest = Keyword keyword.Then
+      ∷ statement_onto t (Keyword keyword.Else
+      ∷ statement_onto e (Keyword keyword.End ∷ token_if c (Keyword keyword.Present) rest))
 
   -- unit (`;` unit)* `;`?
   pub sequence_onto : SequenceTree → List Token → List Token
@@ -128,7 +140,8 @@ later_relations_onto (r ∷ rs) rest = Symbol symbol.Comma ∷ relation_onto r (
 abbrev pub declaration_onto : DeclarationTree → List Token → List Token
 declaration_onto (input ns) rest = Keyword keyword.Input ∷ names_onto ns (Symbol symbol.Semicolon ∷ rest)
 declaration_onto (output ns) rest = Keyword keyword.Output ∷ names_onto ns (Symbol symbol.Semicolon ∷ rest)
-declaration_onto (relations r rs) rest = Keyword keyword.Relation ∷ relation_onto r (later_relations_onto rs (Symbol symbol.Semicolon ∷ rest))
+declaration_onto (relations r rs) rest =
+    Keyword keyword.Relation ∷ relation_onto r (later_relations_onto rs (Symbol symbol.Semicolon ∷ rest))
 
 -- declaration*
 abbrev pub declarations_onto : List DeclarationTree → List Token → List Token
@@ -137,7 +150,8 @@ declarations_onto (d ∷ ds) rest = declaration_onto d (declarations_onto ds res
 
 -- `module` ID `:` declaration* statement `end` `module`
 abbrev pub module_onto : ModuleTree → List Token → List Token
-module_onto m rest = Keyword keyword.Module ∷ Identifier m.name ∷ Symbol symbol.Colon ∷ declarations_onto m.declarations (statement_onto m.body (Keyword keyword.End ∷ Keyword keyword.Module ∷ rest))
+module_onto m rest = Keyword keyword.Module ∷ Identifier m.name ∷ Symbol symbol.Colon
+    ∷ declarations_onto m.declarations (statement_onto m.body (Keyword keyword.End ∷ Keyword keyword.Module ∷ rest))
 
 -- module*
 abbrev pub modules_onto : List ModuleTree → List Token → List Token

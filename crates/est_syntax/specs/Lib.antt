@@ -3,6 +3,7 @@ pub mod Grammar
 pub mod Faults
 pub mod Machine
 pub mod Parsing
+pub mod Parts
 pub mod Frames
 pub mod Modules
 pub mod ParseFaults

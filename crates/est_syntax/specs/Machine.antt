@@ -71,13 +71,23 @@ unit_start (Keyword keyword.Exit) = to (name ∷ [])
 unit_start (Keyword keyword.Await) = to (may (Keyword keyword.Immediate) ∷ name ∷ [])
 unit_start (Keyword keyword.Run) = to (name ∷ renamings ∷ [])
 unit_start (Keyword keyword.Present) = opens (name ∷ branches ∷ leave ∷ [])
-unit_start (Keyword keyword.Suspend) = opens (statement ∷ one (Keyword keyword.When) ∷ may (Keyword keyword.Immediate) ∷ name ∷ may_end (Keyword keyword.Suspend) ∷ leave ∷ [])
-unit_start (Keyword keyword.Abort) = opens (statement ∷ one (Keyword keyword.When) ∷ may (Keyword keyword.Immediate) ∷ name ∷ may_end (Keyword keyword.Abort) ∷ leave ∷ [])
-unit_start (Keyword keyword.Weak) = opens (one (Keyword keyword.Abort) ∷ statement ∷ one (Keyword keyword.When) ∷ may (Keyword keyword.Immediate) ∷ name ∷ may_end_weak ∷ leave ∷ [])
+unit_start (Keyword keyword.Suspend) =
+    opens (statement ∷ one (Keyword keyword.When) ∷ may (Keyword keyword.Immediate) ∷ name
+    ∷ may_end (Keyword keyword.Suspend) ∷ leave ∷ [])
+unit_start (Keyword keyword.Abort) =
+    opens (statement ∷ one (Keyword keyword.When) ∷ may (Keyword keyword.Immediate) ∷ name
+    ∷ may_end (Keyword keyword.Abort) ∷ leave ∷ [])
+unit_start (Keyword keyword.Weak) =
+    opens (one (Keyword keyword.Abort) ∷ statement ∷ one (Keyword keyword.When) ∷ may (Keyword keyword.Immediate)
+    ∷ name ∷ may_end_weak ∷ leave ∷ [])
 unit_start (Keyword keyword.Loop) = opens (statement ∷ loop_tail ∷ leave ∷ [])
-unit_start (Keyword keyword.Every) = opens (may (Keyword keyword.Immediate) ∷ name ∷ one (Keyword keyword.Do) ∷ statement ∷ one kw_end ∷ may (Keyword keyword.Every) ∷ leave ∷ [])
-unit_start (Keyword keyword.Trap) = opens (name ∷ one (Keyword keyword.In) ∷ statement ∷ one kw_end ∷ may (Keyword keyword.Trap) ∷ leave ∷ [])
-unit_start (Keyword keyword.Signal) = opens (name ∷ later_names ∷ one (Keyword keyword.In) ∷ statement ∷ one kw_end ∷ may (Keyword keyword.Signal) ∷ leave ∷ [])
+unit_start (Keyword keyword.Every) =
+    opens (may (Keyword keyword.Immediate) ∷ name ∷ one (Keyword keyword.Do) ∷ statement ∷ one kw_end
+    ∷ may (Keyword keyword.Every) ∷ leave ∷ [])
+unit_start (Keyword keyword.Trap) =
+    opens (name ∷ one (Keyword keyword.In) ∷ statement ∷ one kw_end ∷ may (Keyword keyword.Trap) ∷ leave ∷ [])
+unit_start (Keyword keyword.Signal) =
+    opens (name ∷ later_names ∷ one (Keyword keyword.In) ∷ statement ∷ one kw_end ∷ may (Keyword keyword.Signal) ∷ leave ∷ [])
 unit_start (Symbol symbol.OpenBracket) = opens (statement ∷ one (Symbol symbol.CloseBracket) ∷ leave ∷ [])
 unit_start _ = refused
 
@@ -95,7 +105,8 @@ unit_or (opens ws) s other = opens (ws ++ sequence_tail ∷ s)
 
 -- a module, from behind its first word, and then more modules
 abbrev pub module_wants : List Want → List Want
-module_wants s = name ∷ one (Symbol symbol.Colon) ∷ declarations ∷ statement ∷ one kw_end ∷ one (Keyword keyword.Module) ∷ modules ∷ s
+module_wants s =
+    name ∷ one (Symbol symbol.Colon) ∷ declarations ∷ statement ∷ one kw_end ∷ one (Keyword keyword.Module) ∷ modules ∷ s
 
 abbrev mutual
   -- what a token leads to where so much is wanted
@@ -115,10 +126,15 @@ abbrev mutual
   step (later_relations ∷ s) b = if same (Symbol symbol.Comma) b then to (relation ∷ later_relations ∷ s) else step s b
   step (declarations ∷ s) (Keyword keyword.Input) = to (name ∷ later_names ∷ one (Symbol symbol.Semicolon) ∷ declarations ∷ s)
   step (declarations ∷ s) (Keyword keyword.Output) = to (name ∷ later_names ∷ one (Symbol symbol.Semicolon) ∷ declarations ∷ s)
-  step (declarations ∷ s) (Keyword keyword.Relation) = to (relation ∷ later_relations ∷ one (Symbol symbol.Semicolon) ∷ declarations ∷ s)
+  step (declarations ∷ s) (Keyword keyword.Relation) =
+      to (relation ∷ later_relations ∷ one (Symbol symbol.Semicolon) ∷ declarations ∷ s)
   step (declarations ∷ s) b = step s b
-  step (renamings ∷ s) b = if same (Symbol symbol.OpenBracket) b then to (one (Keyword keyword.Signal) ∷ name ∷ one (Symbol symbol.Slash) ∷ name ∷ later_renamings ∷ one (Symbol symbol.CloseBracket) ∷ s) else step s b
-  step (later_renamings ∷ s) b = if same (Symbol symbol.Comma) b then to (name ∷ one (Symbol symbol.Slash) ∷ name ∷ later_renamings ∷ s) else step s b
+  step (renamings ∷ s) b =
+      if same (Symbol symbol.OpenBracket) b then to
+      (one (Keyword keyword.Signal) ∷ name ∷ one (Symbol symbol.Slash) ∷ name ∷ later_renamings
+      ∷ one (Symbol symbol.CloseBracket) ∷ s) else step s b
+  step (later_renamings ∷ s) b =
+      if same (Symbol symbol.Comma) b then to (name ∷ one (Symbol symbol.Slash) ∷ name ∷ later_renamings ∷ s) else step s b
   step (unit ∷ s) b = followed (unit_start b) s
   step (sequence ∷ s) b = followed (unit_start b) (sequence_tail ∷ s)
   step (sequence_tail ∷ s) b = if same (Symbol symbol.Semicolon) b then to (after_semicolon ∷ s) else step s b
@@ -137,7 +153,8 @@ abbrev mutual
   step (may_end t ∷ s) b = if same kw_end b then to (ended t ∷ s) else step s b
   step (ended t ∷ s) b = if same t b then to s else step_after_end s b
   step (may_end_weak ∷ s) b = if same kw_end b then to (ended_weak ∷ s) else step s b
-  step (ended_weak ∷ s) b = if same (Keyword keyword.Abort) b then to s else (if same (Keyword keyword.Weak) b then to (one (Keyword keyword.Abort) ∷ s) else step_after_end s b)
+  step (ended_weak ∷ s) b = if same (Keyword keyword.Abort) b then to s else
+      (if same (Keyword keyword.Weak) b then to (one (Keyword keyword.Abort) ∷ s) else step_after_end s b)
   step (leave ∷ s) b = step s b
   step (modules ∷ s) b = if same (Keyword keyword.Module) b then to (module_wants s) else step s b
   step (library ∷ s) b = if same (Keyword keyword.Module) b then to (module_wants s) else refused

@@ -20,8 +20,10 @@ pub record Reads (ws : List Want) (bs rest : List Token) : Type 0 where
 
 -- the tokens stop where what is wanted does not stand: so many are left there
 abbrev pub Fails : List Want → List Token → Fault → Type 0
-Fails ws bs (Syntax n) = (rest : List Token) × (n ≡ length rest) × ((s : List Want) → run MOST_OPEN_UNITS (ws ++ s) bs ≡ wrong rest)
-Fails ws bs (TooDeep n) = (rest : List Token) × (n ≡ length rest) × ((s : List Want) → run MOST_OPEN_UNITS (ws ++ s) bs ≡ deep rest)
+Fails ws bs (Syntax n) =
+    (rest : List Token) × (n ≡ length rest) × ((s : List Want) → run MOST_OPEN_UNITS (ws ++ s) bs ≡ wrong rest)
+Fails ws bs (TooDeep n) =
+    (rest : List Token) × (n ≡ length rest) × ((s : List Want) → run MOST_OPEN_UNITS (ws ++ s) bs ≡ deep rest)
 Fails ws bs Memory = Unit {0}
 
 -- no memory was asked for
@@ -47,12 +49,15 @@ pub record Round (room : ℕ) (ends : Option Bool) (s : List Want) : Type 0 wher
 
 -- where the wants round it count, the tokens stop so
 abbrev pub FailsIn : ℕ → Option Bool → List Want → List Token → Fault → Type 0
-FailsIn room ends ws bs (Syntax n) = (rest : List Token) × (n ≡ length rest) × ((s : List Want) → Round room ends s → run MOST_OPEN_UNITS (ws ++ s) bs ≡ wrong rest)
-FailsIn room ends ws bs (TooDeep n) = (rest : List Token) × (n ≡ length rest) × ((s : List Want) → Round room ends s → run MOST_OPEN_UNITS (ws ++ s) bs ≡ deep rest)
+FailsIn room ends ws bs (Syntax n) = (rest : List Token) × (n ≡ length rest)
+    × ((s : List Want) → Round room ends s → run MOST_OPEN_UNITS (ws ++ s) bs ≡ wrong rest)
+FailsIn room ends ws bs (TooDeep n) = (rest : List Token) × (n ≡ length rest)
+    × ((s : List Want) → Round room ends s → run MOST_OPEN_UNITS (ws ++ s) bs ≡ deep rest)
 FailsIn room ends ws bs Memory = Unit {0}
 
 -- a part of a tree was read: its tokens, how deep it is, what the machine does there
-pub record IsPart (room : ℕ) (ends : Option Bool) (ws : List Want) (text : List Token) (depth : ℕ) (old new : List Token) : Type 0 where
+pub record IsPart (room : ℕ) (ends : Option Bool) (ws : List Want) (text : List Token) (depth : ℕ)
+    (old new : List Token) : Type 0 where
   pub spelt : old ≡ text
   pub fits : depth ≤ room
   pub passes : (s : List Want) → Round room ends s → run MOST_OPEN_UNITS (ws ++ s) old ≡ run MOST_OPEN_UNITS s new
@@ -65,19 +70,24 @@ pub record ReadsBefore (ends : Bool) (ws : List Want) (bs rest : List Token) : T
 
 -- where the tokens stop there
 abbrev pub FailsBefore : Bool → List Want → List Token → Fault → Type 0
-FailsBefore ends ws bs (Syntax n) = (rest : List Token) × (n ≡ length rest) × ((s : List Want) → EndsSo ends s → run MOST_OPEN_UNITS (ws ++ s) bs ≡ wrong rest)
-FailsBefore ends ws bs (TooDeep n) = (rest : List Token) × (n ≡ length rest) × ((s : List Want) → EndsSo ends s → run MOST_OPEN_UNITS (ws ++ s) bs ≡ deep rest)
+FailsBefore ends ws bs (Syntax n) = (rest : List Token) × (n ≡ length rest)
+    × ((s : List Want) → EndsSo ends s → run MOST_OPEN_UNITS (ws ++ s) bs ≡ wrong rest)
+FailsBefore ends ws bs (TooDeep n) =
+    (rest : List Token) × (n ≡ length rest) × ((s : List Want) → EndsSo ends s → run MOST_OPEN_UNITS (ws ++ s) bs ≡ deep rest)
 FailsBefore ends ws bs Memory = Unit {0}
 
 -- the renamings so far, without the closing bracket
 abbrev pub renamings_so_far : List RenamingTree → List Token → List Token
 renamings_so_far [] rest = rest
-renamings_so_far (r ∷ rs) rest = Symbol symbol.OpenBracket ∷ Keyword keyword.Signal ∷ renaming_onto r (later_renamings_onto rs rest)
+renamings_so_far (r ∷ rs) rest =
+    Symbol symbol.OpenBracket ∷ Keyword keyword.Signal ∷ renaming_onto r (later_renamings_onto rs rest)
 
 -- a declaration, or none begins there
 abbrev pub IsDeclared : Option Declaration → List Token → List Token → Type 0
-IsDeclared None old new = (new ≡ old) × Skips (Keyword keyword.Input) old × Skips (Keyword keyword.Output) old × Skips (Keyword keyword.Relation) old
-IsDeclared (Some d) old new = (old ≡ declaration_onto (declaration_view d) new) × (length new < length old) × ((s : List Want) → run MOST_OPEN_UNITS (declarations ∷ s) old ≡ run MOST_OPEN_UNITS (declarations ∷ s) new)
+IsDeclared None old new = (new ≡ old) × Skips (Keyword keyword.Input) old × Skips (Keyword keyword.Output) old
+    × Skips (Keyword keyword.Relation) old
+IsDeclared (Some d) old new = (old ≡ declaration_onto (declaration_view d) new) × (length new < length old)
+    × ((s : List Want) → run MOST_OPEN_UNITS (declarations ∷ s) old ≡ run MOST_OPEN_UNITS (declarations ∷ s) new)
 
 -- whether a unit begins there
 abbrev pub IsUnitStart : Bool → List Token → Type 0

@@ -87,15 +87,18 @@ unit_view = fold-Unit BranchesTree UnitTree SequenceTree StatementTree branches_
 
 -- the branches of a test
 abbrev pub branches_view : Branches → BranchesTree
-branches_view = fold-Branches BranchesTree UnitTree SequenceTree StatementTree branches_step unit_step sequence_step statement_step
+branches_view =
+    fold-Branches BranchesTree UnitTree SequenceTree StatementTree branches_step unit_step sequence_step statement_step
 
 -- units one after another
 abbrev pub sequence_view : Sequence → SequenceTree
-sequence_view = fold-Sequence BranchesTree UnitTree SequenceTree StatementTree branches_step unit_step sequence_step statement_step
+sequence_view =
+    fold-Sequence BranchesTree UnitTree SequenceTree StatementTree branches_step unit_step sequence_step statement_step
 
 -- sequences side by side
 abbrev pub statement_view : Statement → StatementTree
-statement_view = fold-Statement BranchesTree UnitTree SequenceTree StatementTree branches_step unit_step sequence_step statement_step
+statement_view =
+    fold-Statement BranchesTree UnitTree SequenceTree StatementTree branches_step unit_step sequence_step statement_step
 
 -- a relation between inputs
 abbrev pub relation_view : Relation → RelationTree

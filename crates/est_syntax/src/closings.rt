@@ -1,10 +1,9 @@
 //! The ends of units.
-ghost use Rattle.std.specs.Prelude.{◌≡◌, ◌≤◌, ◌∷◌, [], List, length, IfOk, IfErr};
-ghost use Rattle.est_text.specs.declared.token.Token.TheVariants.{Keyword as KeywordToken};
-ghost use Rattle.est_text.specs.declared.keyword.Keyword.TheVariants.{Immediate, When};
-ghost use Rattle.est_syntax.specs.Grammar.{token_if, end_if, weak_end_onto, delay_onto};
-ghost use Rattle.est_syntax.specs.Views.{weak_end_view, delay_view};
-ghost use Rattle.est_syntax.specs.Machine.{kw_end, one, may, may_end, may_end_weak, name as name_want};
+ghost use Rattle.std.specs.Prelude.{◌≡◌, ◌∷◌, [], IfOk, IfErr};
+ghost use Rattle.est_syntax.specs.Grammar.{weak_end_onto};
+ghost use Rattle.est_syntax.specs.Views.{weak_end_view};
+ghost use Rattle.est_syntax.specs.Machine.{may_end_weak};
+ghost use Rattle.est_syntax.specs.Parts.{end_again_onto, end_again_wants, end_pair_onto, end_pair_wants, when_onto, when_wants};
 ghost use Rattle.est_syntax.specs.Parsing.{Fails, Reads, FailsBefore, ReadsBefore, NotMemory};
 
 use crate::cursor::Cursor;
@@ -15,9 +14,9 @@ use est_text::keyword::Keyword;
 
 /// `end`, and whether the keyword stands again behind it.
 pub fn end_again(cursor: &mut Cursor, keyword: Keyword) -> Result<bool, Fault>
-    ensures spelt { IfOk result (λ again. cursor.old ≡ kw_end ∷ token_if again (KeywordToken keyword) cursor.new) }
-    ensures reads { IfOk result (λ _. Reads (one kw_end ∷ may (KeywordToken keyword) ∷ []) cursor.old cursor.new) }
-    ensures err { IfErr result (λ e. Fails (one kw_end ∷ may (KeywordToken keyword) ∷ []) cursor.old e) }
+    ensures spelt { IfOk result (λ again. cursor.old ≡ end_again_onto again keyword cursor.new) }
+    ensures reads { IfOk result (λ _. Reads (end_again_wants keyword) cursor.old cursor.new) }
+    ensures err { IfErr result (λ e. Fails (end_again_wants keyword) cursor.old e) }
     ensures memory { IfErr result NotMemory }
 {
     cursor.expect_keyword(Keyword::End)?;
@@ -26,9 +25,9 @@ pub fn end_again(cursor: &mut Cursor, keyword: Keyword) -> Result<bool, Fault>
 
 /// The test behind the body of a unit.
 pub fn watched(cursor: &mut Cursor) -> Result<Delay, Fault>
-    ensures spelt { IfOk result (λ d. cursor.old ≡ KeywordToken When ∷ delay_onto (delay_view d) cursor.new) }
-    ensures reads { IfOk result (λ _. Reads (one (KeywordToken When) ∷ may (KeywordToken Immediate) ∷ name_want ∷ []) cursor.old cursor.new) }
-    ensures err { IfErr result (λ e. Fails (one (KeywordToken When) ∷ may (KeywordToken Immediate) ∷ name_want ∷ []) cursor.old e) }
+    ensures spelt { IfOk result (λ d. cursor.old ≡ when_onto d cursor.new) }
+    ensures reads { IfOk result (λ _. Reads when_wants cursor.old cursor.new) }
+    ensures err { IfErr result (λ e. Fails when_wants cursor.old e) }
     ensures memory { IfErr result NotMemory }
 {
     cursor.expect_keyword(Keyword::When)?;
@@ -37,9 +36,10 @@ pub fn watched(cursor: &mut Cursor) -> Result<Delay, Fault>
 
 /// Whether `end` and the keyword stand there. Another `end` is left to what is round the unit, if that can go on so.
 pub fn end_pair(cursor: &mut Cursor, keyword: Keyword, ends: bool) -> Result<bool, Fault>
-    ensures spelt { IfOk result (λ written. cursor.old ≡ end_if written (KeywordToken keyword) cursor.new) }
-    ensures reads { IfOk result (λ _. ReadsBefore ends (may_end (KeywordToken keyword) ∷ []) cursor.old cursor.new) }
-    ensures err { IfErr result (λ e. FailsBefore ends (may_end (KeywordToken keyword) ∷ []) cursor.old e) }
+    ensures spelt { IfOk result (λ written. cursor.old ≡ end_pair_onto written keyword cursor.new) }
+    ensures reads { IfOk result
+        (λ _. ReadsBefore ends (end_pair_wants keyword) cursor.old cursor.new) }
+    ensures err { IfErr result (λ e. FailsBefore ends (end_pair_wants keyword) cursor.old e) }
     ensures memory { IfErr result NotMemory }
 {
     let mut ahead = cursor.fork();

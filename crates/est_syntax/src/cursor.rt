@@ -1,9 +1,9 @@
 //! A walk over tokens.
-ghost use Rattle.std.specs.Prelude.{◌≡◌, ◌≤◌, ◌∷◌, [], List, length, IsTrue, IfOk, IfErr, OnOk, MatchOption, false, true};
+ghost use Rattle.std.specs.Prelude.{◌≡◌, ◌≤◌, ◌∷◌, [], List, length, IsTrue, IfOk, IfErr, OnOk, MatchOption, false};
 ghost use Rattle.est_text.specs.declared.token.Token.TheVariants.{Keyword as KeywordToken, Identifier as IdentifierToken, Symbol as SymbolToken};
-ghost use Rattle.est_syntax.specs.Machine.{Want, one, may, name as name_want, Skips, run};
+ghost use Rattle.est_syntax.specs.Machine.{one, may, name as name_want, Skips};
 ghost use Rattle.est_syntax.specs.Parsing.{Fails, StandsFirst, NotMemory};
-ghost use Rattle.est_syntax.specs.declared.parse.TheConstants.{MOST_OPEN_UNITS};
+ghost use Rattle.est_syntax.specs.Parts.{Leads};
 ghost use Rattle.est_syntax.specs.Grammar.{tokens_of};
 
 use crate::fault::Fault;
@@ -75,7 +75,7 @@ impl<'a> Cursor<'a> {
         ensures same { result ≡ false → self.new ≡ self.old }
         ensures other { result ≡ false → Skips (KeywordToken keyword) self.old }
         ensures shorter { length self.new ≤ length self.old }
-        ensures passes { (s : List Want) → run MOST_OPEN_UNITS (may (KeywordToken keyword) ∷ s) self.old ≡ run MOST_OPEN_UNITS s self.new }
+        ensures passes { Leads (may (KeywordToken keyword) ∷ []) self.old self.new }
     {
         let Some((first, rest)) = self.left.split_first() else {
             return false;

@@ -47,7 +47,8 @@ fn relation(alloc: Global, cursor: &mut Cursor) -> Result<Relation, Fault>
 
 /// The further relations, each behind a comma.
 fn later_relations(alloc: Global, cursor: &mut Cursor) -> Result<Vec<Relation>, Fault>
-    ensures spelt { IfOk result (λ rs. cursor.old ≡ later_relations_onto (map relation_view rs.items) cursor.new) }
+    ensures spelt { IfOk result
+        (λ rs. cursor.old ≡ later_relations_onto (map relation_view rs.items) cursor.new) }
     ensures reads { IfOk result (λ _. Reads (later_relations_want ∷ []) cursor.old cursor.new) }
     ensures err { IfErr result (λ e. Fails (later_relations_want ∷ []) cursor.old e) }
 {
@@ -85,7 +86,8 @@ fn declaration(alloc: Global, cursor: &mut Cursor) -> Result<Option<Declaration>
 
 /// The declarations of a module, in the order of the text.
 pub fn declarations(alloc: Global, cursor: &mut Cursor) -> Result<Vec<Declaration>, Fault>
-    ensures spelt { IfOk result (λ ds. cursor.old ≡ declarations_onto (map declaration_view ds.items) cursor.new) }
+    ensures spelt { IfOk result
+        (λ ds. cursor.old ≡ declarations_onto (map declaration_view ds.items) cursor.new) }
     ensures reads { IfOk result (λ _. Reads (declarations_want ∷ []) cursor.old cursor.new) }
     ensures err { IfErr result (λ e. Fails (declarations_want ∷ []) cursor.old e) }
 {

@@ -64,7 +64,9 @@ pub fn draw(alloc: Global, text: &str, place: Place) -> Result<String, AllocErro
 /// A law: at the place just after a part of a text, the line is drawn on which the part ends, up to the next LF, and the
 /// caret behind what stands under that line as far as it belongs to the part.
 pub fn place_after_a_part()
-    ensures { (before rest : List ℕ) → drawn (before ++ rest) (place_after before) ≡ with_caret (after_last ends_line before ++ before_first ends_line rest) (after_last ends_line before) }
+    ensures { (before rest : List ℕ) → drawn (before ++ rest) (place_after before)
+        ≡ with_caret (after_last ends_line before ++ before_first ends_line rest)
+        (after_last ends_line before) }
 {}
 
 /// A law: under each character stands one byte, a tab under a tab and else a blank.

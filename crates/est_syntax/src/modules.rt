@@ -34,7 +34,8 @@ fn module(alloc: Global, cursor: &mut Cursor) -> Result<Module, Fault>
 
 /// The further modules.
 fn later_modules(alloc: Global, cursor: &mut Cursor) -> Result<Vec<Module>, Fault>
-    ensures ok { IfOk result (λ ps. AreAllModules (map module_view ps.items) cursor.old cursor.new) }
+    ensures ok { IfOk result
+        (λ ps. AreAllModules (map module_view ps.items) cursor.old cursor.new) }
     ensures err { IfErr result (λ e. Stops (modules_want ∷ []) cursor.old e) }
 {
     let mut modules = Vec::new(alloc);

@@ -1,12 +1,10 @@
 //! Lists of names, signals that are waited for, and renamings.
-ghost use Rattle.std.specs.Prelude.{◌≡◌, ◌≤◌, ◌∷◌, [], length, IfOk, IfErr, map};
-ghost use Rattle.est_text.specs.declared.token.Token.TheVariants.{Keyword as KeywordToken, Symbol as SymbolToken};
-ghost use Rattle.est_text.specs.declared.keyword.Keyword.TheVariants.{Immediate};
-ghost use Rattle.est_text.specs.declared.token.Symbol.TheVariants.{Slash};
+ghost use Rattle.std.specs.Prelude.{◌≡◌, ◌∷◌, [], IfOk, IfErr, map};
 ghost use Rattle.est_syntax.specs.Grammar.{later_names_onto, names_onto, delay_onto, renaming_onto, renamings_onto};
 ghost use Rattle.est_syntax.specs.Views.{delay_view, names_view, renaming_view};
-ghost use Rattle.est_syntax.specs.Machine.{one, may, name as name_want, later_names as later_names_want, renamings as renamings_want};
+ghost use Rattle.est_syntax.specs.Machine.{name as name_want, later_names as later_names_want, renamings as renamings_want};
 ghost use Rattle.est_syntax.specs.Parsing.{Fails, Reads, NotMemory};
+ghost use Rattle.est_syntax.specs.Parts.{delay_wants, renaming_wants};
 
 use crate::cursor::Cursor;
 use crate::fault::Fault;
@@ -33,7 +31,8 @@ fn later_names(alloc: Global, cursor: &mut Cursor) -> Result<Vec<Identifier>, Fa
 /// One name or more.
 pub fn names(alloc: Global, cursor: &mut Cursor) -> Result<Names, Fault>
     ensures spelt { IfOk result (λ ns. cursor.old ≡ names_onto (names_view ns) cursor.new) }
-    ensures reads { IfOk result (λ _. Reads (name_want ∷ later_names_want ∷ []) cursor.old cursor.new) }
+    ensures reads { IfOk result
+        (λ _. Reads (name_want ∷ later_names_want ∷ []) cursor.old cursor.new) }
     ensures err { IfErr result (λ e. Fails (name_want ∷ later_names_want ∷ []) cursor.old e) }
 {
     let first = cursor.expect_name()?;
@@ -44,8 +43,8 @@ pub fn names(alloc: Global, cursor: &mut Cursor) -> Result<Names, Fault>
 /// A signal that is waited for.
 pub fn delay(cursor: &mut Cursor) -> Result<Delay, Fault>
     ensures spelt { IfOk result (λ d. cursor.old ≡ delay_onto (delay_view d) cursor.new) }
-    ensures reads { IfOk result (λ _. Reads (may (KeywordToken Immediate) ∷ name_want ∷ []) cursor.old cursor.new) }
-    ensures err { IfErr result (λ e. Fails (may (KeywordToken Immediate) ∷ name_want ∷ []) cursor.old e) }
+    ensures reads { IfOk result (λ _. Reads delay_wants cursor.old cursor.new) }
+    ensures err { IfErr result (λ e. Fails delay_wants cursor.old e) }
     ensures memory { IfErr result NotMemory }
 {
     let immediate = cursor.take_keyword(Keyword::Immediate);
@@ -56,8 +55,8 @@ pub fn delay(cursor: &mut Cursor) -> Result<Delay, Fault>
 /// One renaming.
 fn renaming(cursor: &mut Cursor) -> Result<Renaming, Fault>
     ensures spelt { IfOk result (λ r. cursor.old ≡ renaming_onto (renaming_view r) cursor.new) }
-    ensures reads { IfOk result (λ _. Reads (name_want ∷ one (SymbolToken Slash) ∷ name_want ∷ []) cursor.old cursor.new) }
-    ensures err { IfErr result (λ e. Fails (name_want ∷ one (SymbolToken Slash) ∷ name_want ∷ []) cursor.old e) }
+    ensures reads { IfOk result (λ _. Reads renaming_wants cursor.old cursor.new) }
+    ensures err { IfErr result (λ e. Fails renaming_wants cursor.old e) }
     ensures memory { IfErr result NotMemory }
 {
     let outer = cursor.expect_name()?;
@@ -68,7 +67,8 @@ fn renaming(cursor: &mut Cursor) -> Result<Renaming, Fault>
 
 /// The renamings of a module that is run, if there are any.
 pub fn renamings(alloc: Global, cursor: &mut Cursor) -> Result<Vec<Renaming>, Fault>
-    ensures spelt { IfOk result (λ rs. cursor.old ≡ renamings_onto (map renaming_view rs.items) cursor.new) }
+    ensures spelt { IfOk result
+        (λ rs. cursor.old ≡ renamings_onto (map renaming_view rs.items) cursor.new) }
     ensures reads { IfOk result (λ _. Reads (renamings_want ∷ []) cursor.old cursor.new) }
     ensures err { IfErr result (λ e. Fails (renamings_want ∷ []) cursor.old e) }
 {

@@ -38,7 +38,9 @@ pub enum ParseFault {
 pub fn parse(alloc: Global, tokens: &Tokens) -> Result<Library, ParseFault>
     ensures spelt { IfOk result (λ l. tokens_of tokens.now.located ≡ spelling (library_view l)) }
     ensures depth { IfOk result (λ l. library_depth (library_view l) ≤ MOST_OPEN_UNITS) }
-    ensures takes { (l : LibraryTree) → tokens_of tokens.now.located ≡ spelling l → library_depth l ≤ MOST_OPEN_UNITS → MatchResult result (λ k. library_view k ≡ l) (λ fault. fault ≡ Memory) }
+    ensures takes { (l : LibraryTree) → tokens_of tokens.now.located ≡ spelling l
+        → library_depth l ≤ MOST_OPEN_UNITS
+        → MatchResult result (λ k. library_view k ≡ l) (λ fault. fault ≡ Memory) }
     ensures fault { IfErr result (λ fault. IsParseFault MOST_OPEN_UNITS tokens.now fault) }
 {
     let located = tokens.as_slice();

@@ -2,17 +2,11 @@
 //!
 //! The functions call one another in a circle. Each unit that holds a statement takes one from `room`, which begins at
 //! `MOST_OPEN_UNITS`, and lists are read by loops: so the recursion ends, and goes no deeper, on any text.
-//!
-//! The functions call one another in a circle. Each unit that holds a statement takes one from `room`, which begins at
-//! `MOST_OPEN_UNITS`, and lists are read by loops: so the recursion ends, and goes no deeper than that, on any text.
-ghost use Rattle.std.specs.Prelude.{◌≡◌, ◌≤◌, ◌+◌, ◌∷◌, ◌++◌, [], List, length, suc, max, None, Some, IfOk, IfErr, MatchOption, map};
-ghost use Rattle.est_text.specs.declared.token.Token.TheVariants.{Symbol as SymbolToken};
-ghost use Rattle.est_text.specs.declared.token.Symbol.TheVariants.{Semicolon};
-ghost use Rattle.est_syntax.specs.Grammar.{token_if, unit_onto, unit_depth, branches_onto, branches_depth, units_onto, units_depth, sequence_onto, sequence_depth, sequences_onto, sequences_depth, statement_onto, statement_depth};
-ghost use Rattle.est_syntax.specs.Views.{unit_view, branches_view, sequence_view, statement_view, units_of, sequences_of};
+ghost use Rattle.std.specs.Prelude.{◌∷◌, [], suc, None, Some, IfOk, IfErr};
 ghost use Rattle.est_syntax.specs.Machine.{unit as unit_want, branches as branches_want, sequence as sequence_want, sequence_tail, statement as statement_want, statement_tail};
-ghost use Rattle.est_syntax.specs.Parsing.{FailsIn, IsPart, IsUnitStart};
-ghost use Rattle.est_syntax.specs.Frames.{IsOpened, frame_token, frame_wants, opener_token, opener_wants};
+ghost use Rattle.est_syntax.specs.Parsing.{FailsIn, IsUnitStart};
+ghost use Rattle.est_syntax.specs.Parts.{IsUnit, IsBranches, AreLaterUnits, IsSequence, AreLaterSequences, IsStatement};
+ghost use Rattle.est_syntax.specs.Frames.{IsOpened, frame_wants, opener_wants};
 
 use crate::closings::end_again;
 use crate::cursor::Cursor;
@@ -27,7 +21,7 @@ use std::alloc::Global;
 /// `end`.
 #[cycle(parse)]
 fn unit(alloc: Global, cursor: &mut Cursor, room: usize, ends: bool) -> Result<Unit, Fault>
-    ensures ok { IfOk result (λ u. IsPart room (Some ends) (unit_want ∷ []) (unit_onto (unit_view u) cursor.new) (unit_depth (unit_view u)) cursor.old cursor.new) }
+    ensures ok { IfOk result (λ u. IsUnit room ends u cursor.old cursor.new) }
     ensures err { IfErr result (λ e. FailsIn room (Some ends) (unit_want ∷ []) cursor.old e) }
 {
     let here = cursor.count();
@@ -53,7 +47,8 @@ fn unit(alloc: Global, cursor: &mut Cursor, room: usize, ends: bool) -> Result<U
 #[cycle(parse)]
 fn tested(alloc: Global, cursor: &mut Cursor, room: usize) -> Result<Unit, Fault>
     ensures ok { IfOk result (λ u. IsOpened room None (Opener.Test) u cursor.old cursor.new) }
-    ensures err { IfErr result (λ e. FailsIn (suc room) None (opener_wants Opener.Test) cursor.old e) }
+    ensures err { IfErr result
+        (λ e. FailsIn (suc room) None (opener_wants Opener.Test) cursor.old e) }
 {
     let signal = cursor.expect_name()?;
     let test = branches(alloc, cursor, room)?;
@@ -69,8 +64,10 @@ fn framed(
     room: usize,
     ends: bool,
 ) -> Result<Unit, Fault>
-    ensures ok { IfOk result (λ u. IsOpened room (Some ends) (Opener.Frame frame) u cursor.old cursor.new) }
-    ensures err { IfErr result (λ e. FailsIn (suc room) (Some ends) (frame_wants frame) cursor.old e) }
+    ensures ok { IfOk result
+        (λ u. IsOpened room (Some ends) (Opener.Frame frame) u cursor.old cursor.new) }
+    ensures err { IfErr result
+        (λ e. FailsIn (suc room) (Some ends) (frame_wants frame) cursor.old e) }
 {
     let head = head_of(alloc, cursor, frame)?;
     let body = statement(alloc, cursor, room, head.takes_end())?;
@@ -80,7 +77,7 @@ fn framed(
 /// The branches of a test, and its end.
 #[cycle(parse)]
 fn branches(alloc: Global, cursor: &mut Cursor, room: usize) -> Result<Branches, Fault>
-    ensures ok { IfOk result (λ b. IsPart room None (branches_want ∷ []) (branches_onto (branches_view b) cursor.new) (branches_depth (branches_view b)) cursor.old cursor.new) }
+    ensures ok { IfOk result (λ b. IsBranches room b cursor.old cursor.new) }
     ensures err { IfErr result (λ e. FailsIn room None (branches_want ∷ []) cursor.old e) }
 {
     if !cursor.take_keyword(Keyword::Then) {
@@ -107,7 +104,7 @@ fn later_units(
     room: usize,
     ends: bool,
 ) -> Result<(Vec<Unit>, bool), Fault>
-    ensures ok { IfOk result (λ p. IsPart room (Some ends) (sequence_tail ∷ []) (units_onto (units_of (map unit_view p.0.items)) (token_if p.1 (SymbolToken Semicolon) cursor.new)) (units_depth (units_of (map unit_view p.0.items))) cursor.old cursor.new) }
+    ensures ok { IfOk result (λ p. AreLaterUnits room ends p.0.items p.1 cursor.old cursor.new) }
     ensures err { IfErr result (λ e. FailsIn room (Some ends) (sequence_tail ∷ []) cursor.old e) }
 {
     let mut units = Vec::new(alloc);
@@ -146,7 +143,7 @@ fn begins_unit(cursor: &Cursor) -> bool
 /// Units one after another.
 #[cycle(parse)]
 fn sequence(alloc: Global, cursor: &mut Cursor, room: usize, ends: bool) -> Result<Sequence, Fault>
-    ensures ok { IfOk result (λ q. IsPart room (Some ends) (sequence_want ∷ []) (sequence_onto (sequence_view q) cursor.new) (sequence_depth (sequence_view q)) cursor.old cursor.new) }
+    ensures ok { IfOk result (λ q. IsSequence room ends q cursor.old cursor.new) }
     ensures err { IfErr result (λ e. FailsIn room (Some ends) (sequence_want ∷ []) cursor.old e) }
 {
     let first = unit(alloc, cursor, room, ends)?;
@@ -167,7 +164,7 @@ fn later_sequences(
     room: usize,
     ends: bool,
 ) -> Result<Vec<Sequence>, Fault>
-    ensures ok { IfOk result (λ qs. IsPart room (Some ends) (statement_tail ∷ []) (sequences_onto (sequences_of (map sequence_view qs.items)) cursor.new) (sequences_depth (sequences_of (map sequence_view qs.items))) cursor.old cursor.new) }
+    ensures ok { IfOk result (λ qs. AreLaterSequences room ends qs.items cursor.old cursor.new) }
     ensures err { IfErr result (λ e. FailsIn room (Some ends) (statement_tail ∷ []) cursor.old e) }
 {
     let mut sequences = Vec::new(alloc);
@@ -186,7 +183,7 @@ pub fn statement(
     room: usize,
     ends: bool,
 ) -> Result<Statement, Fault>
-    ensures ok { IfOk result (λ t. IsPart room (Some ends) (statement_want ∷ []) (statement_onto (statement_view t) cursor.new) (statement_depth (statement_view t)) cursor.old cursor.new) }
+    ensures ok { IfOk result (λ t. IsStatement room ends t cursor.old cursor.new) }
     ensures err { IfErr result (λ e. FailsIn room (Some ends) (statement_want ∷ []) cursor.old e) }
 {
     let first = sequence(alloc, cursor, room, ends)?;

@@ -150,7 +150,8 @@ impl Head {
 
 /// The end of a `suspend`.
 fn suspended(cursor: &mut Cursor, body: Statement, ends: bool) -> Result<Unit, Fault>
-    ensures ok { IfOk result (λ u. IsTail ends (Head.Suspend) (statement_view body) u cursor.old cursor.new) }
+    ensures ok { IfOk result
+        (λ u. IsTail ends (Head.Suspend) (statement_view body) u cursor.old cursor.new) }
     ensures err { IfErr result (λ e. FailsBefore ends (head_wants (Head.Suspend)) cursor.old e) }
     ensures memory { IfErr result NotMemory }
 {
@@ -161,7 +162,8 @@ fn suspended(cursor: &mut Cursor, body: Statement, ends: bool) -> Result<Unit, F
 
 /// The end of an `abort`.
 fn aborted(cursor: &mut Cursor, body: Statement, ends: bool) -> Result<Unit, Fault>
-    ensures ok { IfOk result (λ u. IsTail ends (Head.Abort) (statement_view body) u cursor.old cursor.new) }
+    ensures ok { IfOk result
+        (λ u. IsTail ends (Head.Abort) (statement_view body) u cursor.old cursor.new) }
     ensures err { IfErr result (λ e. FailsBefore ends (head_wants (Head.Abort)) cursor.old e) }
     ensures memory { IfErr result NotMemory }
 {
@@ -172,7 +174,8 @@ fn aborted(cursor: &mut Cursor, body: Statement, ends: bool) -> Result<Unit, Fau
 
 /// The end of a `weak abort`.
 fn weakly_aborted(cursor: &mut Cursor, body: Statement, ends: bool) -> Result<Unit, Fault>
-    ensures ok { IfOk result (λ u. IsTail ends (Head.WeakAbort) (statement_view body) u cursor.old cursor.new) }
+    ensures ok { IfOk result
+        (λ u. IsTail ends (Head.WeakAbort) (statement_view body) u cursor.old cursor.new) }
     ensures err { IfErr result (λ e. FailsBefore ends (head_wants (Head.WeakAbort)) cursor.old e) }
     ensures memory { IfErr result NotMemory }
 {
@@ -183,7 +186,8 @@ fn weakly_aborted(cursor: &mut Cursor, body: Statement, ends: bool) -> Result<Un
 
 /// The end of a loop.
 fn looped(cursor: &mut Cursor, body: Statement) -> Result<Unit, Fault>
-    ensures ok { IfOk result (λ u. IsTailAlways (Head.Loop) (statement_view body) u cursor.old cursor.new) }
+    ensures ok { IfOk result
+        (λ u. IsTailAlways (Head.Loop) (statement_view body) u cursor.old cursor.new) }
     ensures err { IfErr result (λ e. Fails (head_wants (Head.Loop)) cursor.old e) }
     ensures memory { IfErr result NotMemory }
 {
@@ -197,7 +201,8 @@ fn looped(cursor: &mut Cursor, body: Statement) -> Result<Unit, Fault>
 
 /// The end of an `every`.
 fn repeated(cursor: &mut Cursor, signal: Delay, body: Statement) -> Result<Unit, Fault>
-    ensures ok { IfOk result (λ u. IsTailAlways (Head.Every signal) (statement_view body) u cursor.old cursor.new) }
+    ensures ok { IfOk result
+        (λ u. IsTailAlways (Head.Every signal) (statement_view body) u cursor.old cursor.new) }
     ensures err { IfErr result (λ e. Fails (head_wants (Head.Every signal)) cursor.old e) }
     ensures memory { IfErr result NotMemory }
 {
@@ -207,7 +212,8 @@ fn repeated(cursor: &mut Cursor, signal: Delay, body: Statement) -> Result<Unit,
 
 /// The end of a `trap`.
 fn trapped(cursor: &mut Cursor, name: Identifier, body: Statement) -> Result<Unit, Fault>
-    ensures ok { IfOk result (λ u. IsTailAlways (Head.Trap name) (statement_view body) u cursor.old cursor.new) }
+    ensures ok { IfOk result
+        (λ u. IsTailAlways (Head.Trap name) (statement_view body) u cursor.old cursor.new) }
     ensures err { IfErr result (λ e. Fails (head_wants (Head.Trap name)) cursor.old e) }
     ensures memory { IfErr result NotMemory }
 {
@@ -217,7 +223,8 @@ fn trapped(cursor: &mut Cursor, name: Identifier, body: Statement) -> Result<Uni
 
 /// The end of a `signal`.
 fn local(cursor: &mut Cursor, names: Names, body: Statement) -> Result<Unit, Fault>
-    ensures ok { IfOk result (λ u. IsTailAlways (Head.Signal names) (statement_view body) u cursor.old cursor.new) }
+    ensures ok { IfOk result
+        (λ u. IsTailAlways (Head.Signal names) (statement_view body) u cursor.old cursor.new) }
     ensures err { IfErr result (λ e. Fails (head_wants (Head.Signal names)) cursor.old e) }
     ensures memory { IfErr result NotMemory }
 {
@@ -227,7 +234,8 @@ fn local(cursor: &mut Cursor, names: Names, body: Statement) -> Result<Unit, Fau
 
 /// The end of a group.
 fn grouped(cursor: &mut Cursor, body: Statement) -> Result<Unit, Fault>
-    ensures ok { IfOk result (λ u. IsTailAlways (Head.Group) (statement_view body) u cursor.old cursor.new) }
+    ensures ok { IfOk result
+        (λ u. IsTailAlways (Head.Group) (statement_view body) u cursor.old cursor.new) }
     ensures err { IfErr result (λ e. Fails (head_wants (Head.Group)) cursor.old e) }
     ensures memory { IfErr result NotMemory }
 {

@@ -21,6 +21,7 @@ identifier_is_text [] h = cc
 identifier_is_text (b ∷ bs) h = IsUtf8-from_ascii (b ∷ bs) (all_small (b ∷ bs) (grind (arith, nat_tests, common_steps)))
 
 -- text is never refused
-pub text_is_read : {A E : Type 0} (bs : List ℕ) (s : A → Type 0) (q : E → Type 0) (r : Result A E) → MatchResult r s (λ e. ¬ (IsUtf8 bs) × q e) → IsUtf8 bs → IsOk r
+pub text_is_read : {A E : Type 0} (bs : List ℕ) (s : A → Type 0) (q : E → Type 0) (r : Result A E)
+    → MatchResult r s (λ e. ¬ (IsUtf8 bs) × q e) → IsUtf8 bs → IsOk r
 text_is_read bs s q (Ok x) h text = refl
 text_is_read bs s q (Err e) h text = absurd (h.0 text)

@@ -104,15 +104,22 @@ word_starts p [] h e = cc
 word_starts p (b ∷ bs) h e = record { byte = b; more = bs; whole = refl; head = head_of_letter b (first_letter b bs h) ∙ sym e }
 
 pub piece_starts : (p : Piece) (bytes rest : List ℕ) → IsPiece p bytes rest → StartsWith p bytes
-piece_starts piece.Blank bytes rest h = record { byte = h.0; more = []; whole = h.1; head = ap (λ (t : Bool). head_by t (h.0 == 37) (is_ascii_alphabetic h.0)) h.2 }
+piece_starts piece.Blank bytes rest h = record {
+  byte = h.0;
+  more = [];
+  whole = h.1;
+  head = ap (λ (t : Bool). head_by t (h.0 == 37) (is_ascii_alphabetic h.0)) h.2;
+}
 piece_starts piece.LineComment bytes rest h = record { byte = 37; more = h.0.0; whole = h.0.1; head = refl }
 piece_starts piece.BlockComment bytes rest h = record { byte = 37; more = 123 ∷ (h.0 ++ 125 ∷ 37 ∷ []); whole = h.1; head = refl }
 piece_starts (piece.Token (token.Keyword k)) bytes rest h = word_starts (piece.Token (token.Keyword k)) bytes h.0 refl
 piece_starts (piece.Token (token.Identifier name)) bytes rest h = word_starts (piece.Token (token.Identifier name)) bytes h.0 refl
-piece_starts (piece.Token (token.Symbol s)) bytes rest h = let b = symbol_begins s in record { byte = b.byte; more = b.more; whole = h ∙ b.whole; head = b.head }
+piece_starts (piece.Token (token.Symbol s)) bytes rest h = let b = symbol_begins s in
+    record { byte = b.byte; more = b.more; whole = h ∙ b.whole; head = b.head }
 
 -- a piece begins as the text does at whose front it stands
-pub same_head : (b : ℕ) (bs : List ℕ) (p : Piece) (bytes rest : List ℕ) → IsPiece p bytes rest → b ∷ bs ≡ bytes ++ rest → head_of b ≡ head_of_piece p
+pub same_head : (b : ℕ) (bs : List ℕ) (p : Piece) (bytes rest : List ℕ) → IsPiece p bytes rest
+    → b ∷ bs ≡ bytes ++ rest → head_of b ≡ head_of_piece p
 same_head b bs p bytes rest h e =
     let s = piece_starts p bytes rest h in
     let all : b ∷ bs ≡ s.byte ∷ (s.more ++ rest) = e ∙ ap (λ (l : List ℕ). l ++ rest) s.whole in
@@ -120,7 +127,8 @@ same_head b bs p bytes rest h e =
     ap head_of same ∙ s.head
 
 -- two pieces at the front of one text begin alike
-pub same_heads : (p q : Piece) (bytes rest others more : List ℕ) → IsPiece p bytes rest → IsPiece q others more → bytes ++ rest ≡ others ++ more → head_of_piece p ≡ head_of_piece q
+pub same_heads : (p q : Piece) (bytes rest others more : List ℕ) → IsPiece p bytes rest → IsPiece q others more
+    → bytes ++ rest ≡ others ++ more → head_of_piece p ≡ head_of_piece q
 same_heads p q bytes rest others more h k e =
     let s = piece_starts p bytes rest h in
     sym s.head ∙ same_head s.byte (s.more ++ rest) q others more k (sym (ap (λ (l : List ℕ). l ++ rest) s.whole) ∙ e)

@@ -50,11 +50,14 @@ same_comment (c ∷ cs) (d ∷ ds) m n h k e =
     let more = same_comment cs ds m n (later_none c cs h) (later_none d ds k) rest in
     cc
 
-same_block : (bytes rest others more : List ℕ) → IsBlockComment bytes → IsBlockComment others → bytes ++ rest ≡ others ++ more → bytes ≡ others
+same_block : (bytes rest others more : List ℕ) → IsBlockComment bytes → IsBlockComment others
+    → bytes ++ rest ≡ others ++ more → bytes ≡ others
 same_block bytes rest others more h k e =
-    let whole : 37 ∷ 123 ∷ ((h.0 ++ 125 ∷ 37 ∷ []) ++ rest) ≡ 37 ∷ 123 ∷ ((k.0 ++ 125 ∷ 37 ∷ []) ++ more) = sym (ap (λ (l : List ℕ). l ++ rest) h.1) ∙ e ∙ ap (λ (l : List ℕ). l ++ more) k.1 in
+    let whole : 37 ∷ 123 ∷ ((h.0 ++ 125 ∷ 37 ∷ []) ++ rest) ≡ 37 ∷ 123 ∷ ((k.0 ++ 125 ∷ 37 ∷ []) ++ more) =
+    sym (ap (λ (l : List ℕ). l ++ rest) h.1) ∙ e ∙ ap (λ (l : List ℕ). l ++ more) k.1 in
     let inner : (h.0 ++ 125 ∷ 37 ∷ []) ++ rest ≡ (k.0 ++ 125 ∷ 37 ∷ []) ++ more = cc in
-    let one = same_comment h.0 k.0 rest more h.2 k.2 (sym (append_assoc h.0 (125 ∷ 37 ∷ []) rest) ∙ inner ∙ append_assoc k.0 (125 ∷ 37 ∷ []) more) in
+    let one = same_comment h.0 k.0 rest more h.2 k.2
+    (sym (append_assoc h.0 (125 ∷ 37 ∷ []) rest) ∙ inner ∙ append_assoc k.0 (125 ∷ 37 ∷ []) more) in
     h.1 ∙ ap (λ (l : List ℕ). 37 ∷ 123 ∷ (l ++ 125 ∷ 37 ∷ [])) one ∙ sym k.1
 
 -- ---- line comments
@@ -62,41 +65,53 @@ same_block bytes rest others more h k e =
 line_within : (bytes : List ℕ) → IsLineComment bytes → list_all is_in_line bytes ≡ true
 line_within bytes h = subst (λ (l : List ℕ). list_all is_in_line l ≡ true) (sym h.1) h.3
 
-same_line : (bytes rest others more : List ℕ) → IsLineComment bytes → StopsAt is_in_line rest → IsLineComment others → StopsAt is_in_line more → bytes ++ rest ≡ others ++ more → bytes ≡ others
-same_line bytes rest others more h s k t e = same_run is_in_line bytes others rest more (line_within bytes h) (line_within others k) s t e
+same_line : (bytes rest others more : List ℕ) → IsLineComment bytes → StopsAt is_in_line rest → IsLineComment others
+    → StopsAt is_in_line more → bytes ++ rest ≡ others ++ more → bytes ≡ others
+same_line bytes rest others more h s k t e =
+    same_run is_in_line bytes others rest more (line_within bytes h) (line_within others k) s t e
 
 -- a comment is of one kind
-line_or_block : (bytes rest others more : List ℕ) → IsLineComment bytes → StopsAt is_in_line rest → IsBlockComment others → bytes ++ rest ≡ others ++ more → ⊥
+line_or_block : (bytes rest others more : List ℕ) → IsLineComment bytes → StopsAt is_in_line rest
+    → IsBlockComment others → bytes ++ rest ≡ others ++ more → ⊥
 line_or_block bytes rest others more h s k e =
-    let whole : 37 ∷ 123 ∷ ((k.0 ++ 125 ∷ 37 ∷ []) ++ more) ≡ 37 ∷ (h.0 ++ rest) = sym (ap (λ (l : List ℕ). l ++ more) k.1) ∙ sym e ∙ ap (λ (l : List ℕ). l ++ rest) h.1 in
+    let whole : 37 ∷ 123 ∷ ((k.0 ++ 125 ∷ 37 ∷ []) ++ more) ≡ 37 ∷ (h.0 ++ rest) =
+    sym (ap (λ (l : List ℕ). l ++ more) k.1) ∙ sym e ∙ ap (λ (l : List ℕ). l ++ rest) h.1 in
     let inner : 123 ∷ ((k.0 ++ 125 ∷ 37 ∷ []) ++ more) ≡ h.0 ++ rest = cc in
     brace_in_line h.0 rest ((k.0 ++ 125 ∷ 37 ∷ []) ++ more) inner h.2 s
 
 -- ---- words and symbols
 
-same_word : (bytes rest others more : List ℕ) → is_identifier bytes ≡ true → StopsAt is_identifier_byte rest → is_identifier others ≡ true → StopsAt is_identifier_byte more → bytes ++ rest ≡ others ++ more → bytes ≡ others
-same_word bytes rest others more h s k t e = same_run is_identifier_byte bytes others rest more (all_in_word bytes h) (all_in_word others k) s t e
+same_word : (bytes rest others more : List ℕ) → is_identifier bytes ≡ true → StopsAt is_identifier_byte rest
+    → is_identifier others ≡ true → StopsAt is_identifier_byte more → bytes ++ rest ≡ others ++ more → bytes ≡ others
+same_word bytes rest others more h s k t e =
+    same_run is_identifier_byte bytes others rest more (all_in_word bytes h) (all_in_word others k) s t e
 
-same_symbol : (s t : Symbol) (bytes rest others more : List ℕ) → bytes ≡ symbol_text s → others ≡ symbol_text t → bytes ++ rest ≡ others ++ more → s ≡ t
+same_symbol : (s t : Symbol) (bytes rest others more : List ℕ) → bytes ≡ symbol_text s → others ≡ symbol_text t
+    → bytes ++ rest ≡ others ++ more → s ≡ t
 same_symbol s t bytes rest others more h k e =
     let b = symbol_begins s in
     let c = symbol_begins t in
-    let whole : b.byte ∷ (b.more ++ rest) ≡ c.byte ∷ (c.more ++ more) = sym (ap (λ (l : List ℕ). l ++ rest) (h ∙ b.whole)) ∙ e ∙ ap (λ (l : List ℕ). l ++ more) (k ∙ c.whole) in
+    let whole : b.byte ∷ (b.more ++ rest) ≡ c.byte ∷ (c.more ++ more) =
+    sym (ap (λ (l : List ℕ). l ++ rest) (h ∙ b.whole)) ∙ e ∙ ap (λ (l : List ℕ). l ++ more) (k ∙ c.whole) in
     let same : b.byte ≡ c.byte = cc in
     let some : Some s ≡ Some t = sym b.only ∙ ap symbol_with same ∙ c.only in
     cc
 
 -- ---- pieces
 
-same_keyword : (j k : Keyword) (bytes others : List ℕ) → keyword_of bytes ≡ Some j → keyword_of others ≡ Some k → bytes ≡ others → j ≡ k
+same_keyword : (j k : Keyword) (bytes others : List ℕ) → keyword_of bytes ≡ Some j → keyword_of others ≡ Some k
+    → bytes ≡ others → j ≡ k
 same_keyword j k bytes others h g e = let some : Some j ≡ Some k = sym h ∙ ap keyword_of e ∙ g in cc
 
 no_keyword : (k : Keyword) (bytes others : List ℕ) → keyword_of bytes ≡ Some k → keyword_of others ≡ None → bytes ≡ others → ⊥
 no_keyword k bytes others h g e = let some : Some k ≡ None = sym h ∙ ap keyword_of e ∙ g in cc
 
-one_token : (t u : Token) (bytes rest others more : List ℕ) → head_of_piece (piece.Token t) ≡ head_of_piece (piece.Token u) → IsSpelling t bytes rest → IsSpelling u others more → bytes ++ rest ≡ others ++ more → (t ≡ u) × (bytes ≡ others)
+one_token : (t u : Token) (bytes rest others more : List ℕ)
+    → head_of_piece (piece.Token t) ≡ head_of_piece (piece.Token u) → IsSpelling t bytes rest
+    → IsSpelling u others more → bytes ++ rest ≡ others ++ more → (t ≡ u) × (bytes ≡ others)
 one_token (token.Keyword i) (token.Keyword j) bytes rest others more a h k e =
-    let same = same_word bytes rest others more h.0 h.2 k.0 k.2 e in (ap token.Keyword (same_keyword i j bytes others h.1 k.1 same), same)
+    let same = same_word bytes rest others more h.0 h.2 k.0 k.2 e in
+    (ap token.Keyword (same_keyword i j bytes others h.1 k.1 same), same)
 one_token (token.Keyword i) (token.Identifier name) bytes rest others more a h k e =
     absurd (no_keyword i bytes others h.1 k.1 (same_word bytes rest others more h.0 h.2 k.0 k.2 e))
 one_token (token.Identifier name) (token.Keyword j) bytes rest others more a h k e =
@@ -131,13 +146,17 @@ no_token t piece.LineComment g e = percent_head t e
 no_token t piece.BlockComment g e = percent_head t e
 no_token t (piece.Token u) g e = g
 
-one_kind : (p q : Piece) (bytes rest others more : List ℕ) → head_of_piece p ≡ head_of_piece q → IsPiece p bytes rest → IsPiece q others more → bytes ++ rest ≡ others ++ more → (p ≡ q) × (bytes ≡ others)
+one_kind : (p q : Piece) (bytes rest others more : List ℕ) → head_of_piece p ≡ head_of_piece q → IsPiece p bytes rest
+    → IsPiece q others more → bytes ++ rest ≡ others ++ more → (p ≡ q) × (bytes ≡ others)
 one_kind piece.Blank piece.Blank bytes rest others more a h k e =
     let whole : h.0 ∷ rest ≡ k.0 ∷ more = sym (ap (λ (l : List ℕ). l ++ rest) h.1) ∙ e ∙ ap (λ (l : List ℕ). l ++ more) k.1 in
     (refl, h.1 ∙ ap (λ (b : ℕ). b ∷ []) (first_is h.0 rest k.0 more whole) ∙ sym k.1)
-one_kind piece.LineComment piece.LineComment bytes rest others more a h k e = (refl, same_line bytes rest others more h.0 h.1 k.0 k.1 e)
-one_kind piece.LineComment piece.BlockComment bytes rest others more a h k e = absurd (line_or_block bytes rest others more h.0 h.1 k e)
-one_kind piece.BlockComment piece.LineComment bytes rest others more a h k e = absurd (line_or_block others more bytes rest k.0 k.1 h (sym e))
+one_kind piece.LineComment piece.LineComment bytes rest others more a h k e =
+    (refl, same_line bytes rest others more h.0 h.1 k.0 k.1 e)
+one_kind piece.LineComment piece.BlockComment bytes rest others more a h k e =
+    absurd (line_or_block bytes rest others more h.0 h.1 k e)
+one_kind piece.BlockComment piece.LineComment bytes rest others more a h k e =
+    absurd (line_or_block others more bytes rest k.0 k.1 h (sym e))
 one_kind piece.BlockComment piece.BlockComment bytes rest others more a h k e = (refl, same_block bytes rest others more h k e)
 one_kind (piece.Token t) (piece.Token u) bytes rest others more a h k e =
     let one = one_token t u bytes rest others more a h k e in (ap piece.Token one.0, one.1)
@@ -146,8 +165,10 @@ one_kind p (piece.Token u) bytes rest others more a h k e = absurd (no_token u p
 one_kind p q bytes rest others more a h k e = cc
 
 -- two pieces at the front of one text are one piece
-pub one_piece : (p q : Piece) (bytes rest others more : List ℕ) → IsPiece p bytes rest → IsPiece q others more → bytes ++ rest ≡ others ++ more → (p ≡ q) × (bytes ≡ others)
-one_piece p q bytes rest others more h k e = one_kind p q bytes rest others more (same_heads p q bytes rest others more h k e) h k e
+pub one_piece : (p q : Piece) (bytes rest others more : List ℕ) → IsPiece p bytes rest → IsPiece q others more
+    → bytes ++ rest ≡ others ++ more → (p ≡ q) × (bytes ≡ others)
+one_piece p q bytes rest others more h k e =
+    one_kind p q bytes rest others more (same_heads p q bytes rest others more h k e) h k e
 
 -- ---- cuts
 
@@ -161,7 +182,8 @@ nothing_ends p bytes more e h =
     let all : [] ≡ s.byte ∷ (s.more ++ more) = e ∙ ap (λ (l : List ℕ). l ++ more) s.whole in
     cc
 
-one_way : (cs ds : List Cut) (text rest other : List ℕ) → ArePieces text cs rest → Ends rest → ArePieces text ds other → Ends other → (cs ≡ ds) × (rest ≡ other)
+one_way : (cs ds : List Cut) (text rest other : List ℕ) → ArePieces text cs rest → Ends rest
+    → ArePieces text ds other → Ends other → (cs ≡ ds) × (rest ≡ other)
 one_way [] [] text rest other h s k t = (refl, sym h ∙ k)
 one_way [] (d ∷ ds) text rest other h s k t = absurd (s d.is d.bytes k.0 (sym h ∙ k.1) k.2)
 one_way (c ∷ cs) [] text rest other h s k t = absurd (t c.is c.bytes h.0 (sym k ∙ h.1) h.2)
@@ -182,7 +204,8 @@ one_way (c ∷ cs) (d ∷ ds) text rest other h s k t =
 pub cuts_are_one : (text : List ℕ) (cs ds : List Cut) → ArePieces text cs [] → ArePieces text ds [] → cs ≡ ds
 cuts_are_one text cs ds h k = (one_way cs ds text [] [] h nothing_ends k nothing_ends).0
 
-pub tokens_are_one : (text : List ℕ) (tokens others : List Located) → AreTokens text tokens → AreTokens text others → tokens ≡ others
+pub tokens_are_one : (text : List ℕ) (tokens others : List Located) → AreTokens text tokens → AreTokens text others
+    → tokens ≡ others
 tokens_are_one text tokens others h k = h.2 ∙ ap (tokens_from 0) (cuts_are_one text h.0 k.0 h.1 k.1) ∙ sym k.2
 
 pub faults_are_one : (text : List ℕ) (at other : ℕ) → IsFirstFault text at → IsFirstFault text other → at ≡ other

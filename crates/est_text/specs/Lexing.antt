@@ -7,7 +7,8 @@ use Rattle.est_text.specs.declared.lex.LexFault.TheVariants.{Lexical, Memory}
 
 -- pieces go as far as this byte, counted from 0, and no piece stands there
 abbrev pub IsFirstFault : List ℕ → ℕ → Type 0
-IsFirstFault text at = (cs : List Cut) × (rest : List ℕ) × ArePieces text cs rest × IsFault rest × (at + length rest ≡ length text)
+IsFirstFault text at =
+    (cs : List Cut) × (rest : List ℕ) × ArePieces text cs rest × IsFault rest × (at + length rest ≡ length text)
 
 -- why a text has no tokens: the first fault, by line and column; want of memory says nothing of the text
 abbrev pub IsLexFault : List ℕ → LexFault → Type 0

@@ -48,6 +48,11 @@ IsLineComment bytes = (cs : List ℕ) × (bytes ≡ percent ∷ cs) × StopsAt (
 abbrev pub ClosesAt : List ℕ → ℕ → Type 0
 ClosesAt bytes i = (slice_index bytes i ≡ close_brace) × (slice_index bytes (i + 1) ≡ percent)
 
+-- `}%` stands there, and nowhere before
+abbrev pub IsFirstClose : List ℕ → ℕ → Type 0
+IsFirstClose bytes at =
+    (at + 1 < length bytes) × ClosesAt bytes at × ((i : ℕ) → i < at → ¬ (ClosesAt bytes i))
+
 -- `%{`, up to the next `}%`: comments do not nest
 abbrev pub IsBlockComment : List ℕ → Type 0
 IsBlockComment bytes = (cs : List ℕ) × (bytes ≡ percent ∷ open_brace ∷ cs ++ close_brace ∷ percent ∷ [])
@@ -56,8 +61,10 @@ IsBlockComment bytes = (cs : List ℕ) × (bytes ≡ percent ∷ open_brace ∷ 
 -- The bytes spell the token, where the rest follows (Berry, Language Primer). A word is the longest match: no byte of an
 -- identifier follows it. No symbol begins another, so the longest match of a symbol is itself.
 abbrev pub IsSpelling : Token → List ℕ → List ℕ → Type 0
-IsSpelling (token.Keyword k) bytes rest = IsTrue (is_identifier bytes) × (keyword_of bytes ≡ Some k) × StopsAt is_identifier_byte rest
-IsSpelling (token.Identifier name) bytes rest = IsTrue (is_identifier bytes) × (keyword_of bytes ≡ None) × StopsAt is_identifier_byte rest × (name ≡ bytes)
+IsSpelling (token.Keyword k) bytes rest =
+    IsTrue (is_identifier bytes) × (keyword_of bytes ≡ Some k) × StopsAt is_identifier_byte rest
+IsSpelling (token.Identifier name) bytes rest =
+    IsTrue (is_identifier bytes) × (keyword_of bytes ≡ None) × StopsAt is_identifier_byte rest × (name ≡ bytes)
 IsSpelling (token.Symbol s) bytes rest = bytes ≡ symbol_text s
 
 -- The bytes are such a piece, where the rest follows. A line comment goes to the end of its line.

@@ -5,7 +5,8 @@ use Rattle.est_text.specs.declared.place.Place.{Place}
 
 -- the place behind one more byte: a line ends with LF (this project's own form)
 abbrev pub next_place : Place → ℕ → Place
-next_place p b = if b == line_feed then record { line = p.line + 1; column = 1 } else record { line = p.line; column = p.column + 1 }
+next_place p b =
+    if b == line_feed then record { line = p.line + 1; column = 1 } else record { line = p.line; column = p.column + 1 }
 
 -- the place just after a text: a line and a column, both from 1, the column in bytes (this project's own form)
 abbrev pub place_after : List ℕ → Place

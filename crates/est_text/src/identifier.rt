@@ -17,15 +17,15 @@ pub struct Identifier {
 }
 
 impl Model for Identifier {
-    ghost use Rattle.std.specs.Prelude.{List, ℕ, ◌-◌, ◌++◌, length, take, replicate, IsTrue};
-    ghost use Rattle.est_text.specs.Identifiers.{is_identifier, IsFilled};
+    ghost use Rattle.std.specs.Prelude.{List, ℕ, ◌-◌, ◌++◌, length, take, replicate};
+    ghost use Rattle.est_text.specs.Identifiers.{HoldsIdentifier};
     ghost use Rattle.est_text.specs.declared.identifier.TheConstants.{IDENTIFIER_BYTES};
 
     ghost Value = { List ℕ };
 
     ghost view = { λ n. take n.count n.bytes };
 
-    ghost invariant = { λ n. IsFilled IDENTIFIER_BYTES n.bytes n.count × IsTrue (is_identifier (take n.count n.bytes)) };
+    ghost invariant = { λ n. HoldsIdentifier n.bytes n.count };
 
     ghost inverse = { λ s. record { bytes = s ++ replicate (IDENTIFIER_BYTES - length s) 0; count = length s } };
 }

@@ -56,7 +56,8 @@ fn add(
 pub fn lex(alloc: Global, text: &str) -> Result<Tokens<'_>, LexFault>
     ensures source { IfOk result (λ tokens. tokens.source ≡ text.now) }
     ensures tokens { IfOk result (λ tokens. AreTokens text.now tokens.located) }
-    ensures takes { (all : List LocatedValue) → AreTokens text.now all → MatchResult result (λ tokens. tokens.located ≡ all) (λ fault. fault ≡ Memory) }
+    ensures takes { (all : List LocatedValue) → AreTokens text.now all
+        → MatchResult result (λ tokens. tokens.located ≡ all) (λ fault. fault ≡ Memory) }
     ensures fault { IfErr result (λ fault. IsLexFault text.now fault) }
 {
     // The end of a text of so many bytes would have no number. There is no memory for one.

@@ -2,7 +2,7 @@
 ghost use Rattle.std.specs.Prelude.{◌≡◌, ◌≤◌, ◌<◌, ◌+◌, ℕ, length, take, drop, IsTrue, IfSome, IfNone};
 ghost use Rattle.std.specs.List.{list_all};
 ghost use Rattle.est_text.specs.Identifiers.{is_identifier_byte};
-ghost use Rattle.est_text.specs.Pieces.{is_blank, is_in_line, StopsAt, ClosesAt};
+ghost use Rattle.est_text.specs.Pieces.{is_blank, is_in_line, StopsAt, ClosesAt, IsFirstClose};
 
 use crate::identifier::is_identifier_byte;
 
@@ -41,7 +41,7 @@ pub(crate) fn line_len(rest: &[u8]) -> usize
 
 /// Where the first `}%` stands.
 pub(crate) fn close_at(rest: &[u8]) -> Option<usize>
-    ensures found { IfSome result (λ at. (at + 1 < length rest.now) × ClosesAt rest.now at × ((i : ℕ) → i < at → ¬ (ClosesAt rest.now i))) }
+    ensures found { IfSome result (λ at. IsFirstClose rest.now at) }
     ensures none { IfNone result ((i : ℕ) → i + 1 < length rest.now → ¬ (ClosesAt rest.now i)) }
 {
     let mut at = 0;

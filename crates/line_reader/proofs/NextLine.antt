@@ -16,7 +16,8 @@ no_end_inside [] others h = no_end_first 10 others refl h
 no_end_inside (x ∷ xs) others h = no_end_inside xs others (no_end_later x (xs ++ 10 ∷ others) h)
 
 -- what stands before the first LF, and what stands after it
-around_first_end : (one other after rest : List ℕ) → HasNoEnd one → HasNoEnd other → one ++ 10 ∷ after ≡ other ++ 10 ∷ rest → (one ≡ other) × (after ≡ rest)
+around_first_end : (one other after rest : List ℕ) → HasNoEnd one → HasNoEnd other
+    → one ++ 10 ∷ after ≡ other ++ 10 ∷ rest → (one ≡ other) × (after ≡ rest)
 around_first_end [] [] after rest f g e = let same : after ≡ rest = cc in (refl, same)
 around_first_end [] (b ∷ bs) after rest f g e = let same : 10 ≡ b = cc in absurd (no_end_first b bs same g)
 around_first_end (a ∷ later) [] after rest f g e = let same : 10 ≡ a = cc in absurd (no_end_first a later same f)
@@ -29,7 +30,8 @@ around_first_end (a ∷ later) (b ∷ bs) after rest f g e =
     (whole, both.1)
 
 -- bytes have one next line at most
-pub one_next_line : (bytes line others other rest : List ℕ) → IsNext bytes line others → IsNext bytes other rest → (line ≡ other) × (others ≡ rest)
+pub one_next_line : (bytes line others other rest : List ℕ) → IsNext bytes line others → IsNext bytes other rest
+    → (line ≡ other) × (others ≡ rest)
 one_next_line bytes line others other rest p q =
     elim p.ended [
       | inl a ↦ elim q.ended [
@@ -43,7 +45,8 @@ one_next_line bytes line others other rest p q =
     ]
 
 -- a front without an LF ends before the first
-end_inside : (line others front rest : List ℕ) → HasNoEnd front → length line < length front → line ++ 10 ∷ others ≡ front ++ rest → ⊥
+end_inside : (line others front rest : List ℕ) → HasNoEnd front → length line < length front
+    → line ++ 10 ∷ others ≡ front ++ rest → ⊥
 end_inside [] others [] rest none longer e = omega arith
 end_inside [] others (b ∷ bs) rest none longer e = let same : 10 ≡ b = cc in no_end_first b bs same none
 end_inside (a ∷ later) others [] rest none longer e = omega arith

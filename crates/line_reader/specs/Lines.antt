@@ -45,7 +45,8 @@ IsReading bytes (Err TooLong) line others = IsTooLong bytes
 IsReading bytes (Err Read) line others = others ≡ bytes
 
 -- the same over what is held and what the reader has left, where that is known
-abbrev pub Gives : (held : List ℕ) → (left : Option (List ℕ)) → Result Line LineFault → (line more : List ℕ) → (after : Option (List ℕ)) → Type 0
+abbrev pub Gives : (held : List ℕ) → (left : Option (List ℕ)) → Result Line LineFault → (line more : List ℕ)
+    → (after : Option (List ℕ)) → Type 0
 Gives held None answer line more after = ⊤
 Gives held (Some bytes) answer line more None = ⊥
 Gives held (Some bytes) answer line more (Some others) = IsReading (held ++ bytes) answer line (more ++ others)

@@ -1,4 +1,5 @@
--- A connection: lines are cut from what is read, answered in turn, and what they are answered is written (this project's own form).
+-- A connection: lines are cut from what is read, answered in turn, and what they are answered is written (this
+-- project's own form).
 use Rattle.std.specs.Prelude.{◌≡◌, ℕ, List, [], ◌∷◌, ◌++◌, ◌⊎◌, Option, Some, None, ⊤, map}
 use Rattle.std.specs.List.{concat}
 use Rattle.line_reader.specs.Lines.{IsNext, IsTooLong, Cuts}
@@ -31,7 +32,8 @@ IsOverLong None = ⊤
 IsOverLong (Some bytes) = IsTooLong bytes
 
 -- the next line was answered by this text
-pub record AnswersLine {A : Type 0} (tells : A → List ℕ → List ℕ → A → Type 0) (before : BetweenLines A) (line text : List ℕ) (after : BetweenLines A) : Type 0 where
+pub record AnswersLine {A : Type 0} (tells : A → List ℕ → List ℕ → A → Type 0) (before : BetweenLines A)
+    (line text : List ℕ) (after : BetweenLines A) : Type 0 where
   pub takes : TakesLine before.ahead line after.ahead
   pub told : tells before.desk line text after.desk
 
@@ -41,9 +43,11 @@ pub record Exchange : Type 0 where
   pub text : List ℕ
 
 -- lines are answered one after the other
-abbrev pub Runs : {A : Type 0} → (tells : A → List ℕ → List ℕ → A → Type 0) → BetweenLines A → List Exchange → BetweenLines A → Type 0
+abbrev pub Runs : {A : Type 0} → (tells : A → List ℕ → List ℕ → A → Type 0) → BetweenLines A → List Exchange
+    → BetweenLines A → Type 0
 Runs tells before [] after = before ≡ after
-Runs {A} tells before (e ∷ later) after = (next : BetweenLines A) × AnswersLine tells before e.line e.text next × Runs tells next later after
+Runs {A} tells before (e ∷ later) after =
+    (next : BetweenLines A) × AnswersLine tells before e.line e.text next × Runs tells next later after
 
 -- the texts of the answers, in turn
 abbrev pub texts : List Exchange → List ℕ
@@ -74,11 +78,13 @@ pub record IsSilent {A : Type 0} (last : BetweenLines A) (desk : A) (more : List
   pub nothing : more ≡ []
 
 -- how a connection ends after its last answer, and what more is to be written then
-abbrev pub Ends : {A : Type 0} → (fails : A → List ℕ → A → Type 0) → (refusal : List ℕ) → (last : BetweenLines A) → Why → (desk : A) → (more : List ℕ) → Type 0
+abbrev pub Ends : {A : Type 0} → (fails : A → List ℕ → A → Type 0) → (refusal : List ℕ) → (last : BetweenLines A)
+    → Why → (desk : A) → (more : List ℕ) → Type 0
 Ends fails refusal last Closed desk more = NothingAhead last.ahead × IsSilent last desk more
 Ends fails refusal last TooLong desk more = RefusesLine refusal last desk more
 Ends fails refusal last ReadFault desk more = IsSilent last desk more
-Ends fails refusal last WriteFault desk more = IsSilent last desk more ⊎ (RefusesLine refusal last desk more ⊎ (FindsNoMemory fails last desk × (more ≡ [])))
+Ends fails refusal last WriteFault desk more =
+    IsSilent last desk more ⊎ (RefusesLine refusal last desk more ⊎ (FindsNoMemory fails last desk × (more ≡ [])))
 Ends fails refusal last Memory desk more = FindsNoMemory fails last desk × (more ≡ [])
 
 -- what is written: the text up to what waits, or a front of it where the writer failed
@@ -86,8 +92,11 @@ abbrev pub Puts : Why → (before after : Option (List ℕ)) → (text left : Li
 Puts WriteFault before after text left = WritesFront before after text
 Puts _ before after text left = WritesUpTo before after text left
 
--- lines are answered, and then the connection ends so; what waited, the answers and what comes more is written, but for what is left
-pub record Serves {A : Type 0} (tells : A → List ℕ → List ℕ → A → Type 0) (fails : A → List ℕ → A → Type 0) (refusal : List ℕ) (before : BetweenLines A) (why : Why) (desk : A) (written after : Option (List ℕ)) (waiting left : List ℕ) : Type 0 where
+-- lines are answered, and then the connection ends so; what waited, the answers and what comes more is written, but for
+-- what is left
+pub record Serves {A : Type 0} (tells : A → List ℕ → List ℕ → A → Type 0) (fails : A → List ℕ → A → Type 0)
+    (refusal : List ℕ) (before : BetweenLines A) (why : Why) (desk : A) (written after : Option (List ℕ))
+    (waiting left : List ℕ) : Type 0 where
   pub exchanges : List Exchange
   pub last : BetweenLines A
   pub more : List ℕ

@@ -61,8 +61,8 @@ fn read_line<R: Read>(
     lines.next_line(reader)
 }
 
-/// The next line, as `LineReader::next_line` gives it. Where it asks for a read, what waits is written out first: a writer that fails leaves the
-/// reader as it was.
+/// The next line, as `LineReader::next_line` gives it. Where it asks for a read, what waits is written out first: a
+/// writer that fails leaves the reader as it was.
 ///
 /// # Errors
 ///

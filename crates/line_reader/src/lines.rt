@@ -85,8 +85,8 @@ fn read_from<R: Read>(
     reader.read(&mut bytes[at..])
 }
 
-/// A reader of lines, with all its room. Each byte is looked for an LF once, however the reads are cut, and bytes move only where the buffer
-/// is full.
+/// A reader of lines, with all its room. Each byte is looked for an LF once, however the reads are cut, and bytes move
+/// only where the buffer is full.
 #[derive(Drop)]
 pub struct LineReader {
     /// The buffer.
@@ -268,13 +268,14 @@ impl LineReader {
         }
     }
 
-    /// The next line of what is held and what the reader has left, however it is cut into reads. It takes no memory. After the end or a fault
-    /// each later call answers the same, and reads nothing. It reads nothing either where a whole line is held.
+    /// The next line of what is held and what the reader has left, however it is cut into reads. It takes no memory.
+    /// After the end or a fault each later call answers the same, and reads nothing. It reads nothing either where a
+    /// whole line is held.
     ///
     /// # Errors
     ///
-    /// `TooLong` where more than 65,536 bytes stand before the next LF, or the end. `Read` where no whole line is held and the reader failed or
-    /// was read 1,000,000 times.
+    /// `TooLong` where more than 65,536 bytes stand before the next LF, or the end. `Read` where no whole line is held
+    /// and the reader failed or was read 1,000,000 times.
     pub fn next_line<R: Read>(&mut self, reader: &mut MeteredReader<R>) -> Result<Line, LineFault>
         ensures again { IfSome self.old.ending (λ e. (result ≡ answer_after e)
             × (self.new ≡ self.old) × (reader.new ≡ reader.old)) }
@@ -310,7 +311,8 @@ impl LineReader {
     }
 }
 
-/// Bytes have one next line at most, with one rest, and none where more bytes than a line may have stand before an LF, or the end.
+/// Bytes have one next line at most, with one rest, and none where more bytes than a line may have stand before an LF,
+/// or the end.
 pub fn bytes_have_one_next_line()
     ensures one { (bytes line others other rest : List ℕ) → IsNext bytes line others
         → IsNext bytes other rest → (line ≡ other) × (others ≡ rest) }

@@ -150,9 +150,9 @@ fn answer_all<R: Read, W: Write, A: Answerer>(
     }
 }
 
-/// Serves a connection to its end: each line that the reader gives is answered by the desk, in turn. Answers wait until no whole line is held,
-/// or no more have room, and are written before the next read and before the end. An over-long line is answered by `refusal`, and ends the
-/// connection.
+/// Serves a connection to its end: each line that the reader gives is answered by the desk, in turn. Answers wait until
+/// no whole line is held, or no more have room, and are written before the next read and before the end. An over-long
+/// line is answered by `refusal`, and ends the connection.
 pub fn serve<R: Read, W: Write, A: Answerer>(
     alloc: Global,
     reader: &mut MeteredReader<R>,

@@ -40,7 +40,8 @@ no_more (a ∷ xs) (b ∷ ys) e h =
     omega (arith, heads, tails, size-cons a xs, size-cons b ys)
 
 -- a part that lacks a place has fewer
-fewer : (xs ys : List Bool) (k : ℕ) → length xs ≡ length ys → ((i : ℕ) → IsIn xs i → IsIn ys i) → slice_index_or xs k false ≡ false → IsIn ys k → size xs < size ys
+fewer : (xs ys : List Bool) (k : ℕ) → length xs ≡ length ys → ((i : ℕ) → IsIn xs i → IsIn ys i)
+    → slice_index_or xs k false ≡ false → IsIn ys k → size xs < size ys
 fewer [] [] k e h out in_b = absurd (false≢true in_b)
 fewer [] (b ∷ ys) k e h out in_b = absurd (omega (arith, e))
 fewer (a ∷ xs) [] k e h out in_b = absurd (omega (arith, e))
@@ -59,7 +60,8 @@ not_true true h = absurd (h refl)
 not_true false h = refl
 
 -- a module that is run leads to fewer places than its runner, unless it is recursive
-fewer_below : (rows : List (List ℕ)) (p q m n : ℕ) → IsRankOf rows p m → IsRankOf rows q n → IsRun rows p q → (IsRecursive rows q → ⊥) → n < m
+fewer_below : (rows : List (List ℕ)) (p q m n : ℕ) → IsRankOf rows p m → IsRankOf rows q n → IsRun rows p q
+    → (IsRecursive rows q → ⊥) → n < m
 fewer_below rows p q m n above below run none =
     let less = fewer below.set above.set q (below.reach.each ∙ sym above.reach.each)
     (λ i x. (above.reach.exact i).1 (through run ((below.reach.exact i).0 x)))
@@ -68,12 +70,14 @@ fewer_below rows p q m n above below run none =
     omega (arith, less, above.counted, below.counted)
 
 -- the places of modules that are sorted by rank are in a bottom-up order
-pub sorted_is_bottom_up : (rows : List (List ℕ)) (xs ys : List Ranked) → AreRanked rows (length rows) xs → NoneIsRecursive rows → IsPermutation xs ys → IsNonDecreasingBy (λ (m : Ranked). m.rank) ys
+pub sorted_is_bottom_up : (rows : List (List ℕ)) (xs ys : List Ranked) → AreRanked rows (length rows) xs
+    → NoneIsRecursive rows → IsPermutation xs ys → IsNonDecreasingBy (λ (m : Ranked). m.rank) ys
     → IsBottomUp rows (map (λ (m : Ranked). m.place) ys)
 sorted_is_bottom_up rows xs ys ranked none same sorted =
     let some : Ranked = record { place = 0; rank = 0 } in
     let place : Ranked → ℕ = λ m. m.place in
-    let each : All (λ (m : Ranked). IsRankOf rows m.place m.rank) ys = All-permutation (λ (m : Ranked). IsRankOf rows m.place m.rank) xs ys same ranked.ranks in
+    let each : All (λ (m : Ranked). IsRankOf rows m.place m.rank) ys =
+    All-permutation (λ (m : Ranked). IsRankOf rows m.place m.rank) xs ys same ranked.ranks in
     record {
       each_once = subst (λ ps. IsPermutation ps (map place ys)) ranked.places (IsPermutation-map place xs ys same);
       after_runs = λ i j i_in j_in run.
@@ -82,7 +86,8 @@ sorted_is_bottom_up rows xs ys ranked none same sorted =
           let ri = All-get_or (λ (m : Ranked). IsRankOf rows m.place m.rank) ys i some li each in
           let rj = All-get_or (λ (m : Ranked). IsRankOf rows m.place m.rank) ys j some lj each in
           let there : IsRun rows (get_or ys i some).place (get_or ys j some).place =
-          subst (λ n. IsRun rows n (get_or ys j some).place) (get_or-map place ys i some 0 li) (subst (λ n. IsRun rows (slice_index (map place ys) i) n) (get_or-map place ys j some 0 lj) run) in
+          subst (λ n. IsRun rows n (get_or ys j some).place) (get_or-map place ys i some 0 li)
+          (subst (λ n. IsRun rows (slice_index (map place ys) i) n) (get_or-map place ys j some 0 lj) run) in
           let less = fewer_below rows _ _ _ _ ri rj there (none (get_or ys j some).place) in
           elim (cases_lt j i) [
             | inl l ↦ l
@@ -91,19 +96,25 @@ sorted_is_bottom_up rows xs ys ranked none same sorted =
     }
 
 range_more : (n : ℕ) → range_with_len 0 (n + 1) ≡ range_with_len 0 n ++ n ∷ []
-range_more n = sym (map-id (range_with_len 0 (n + 1))) ∙ map-range_with_len_more (λ (k : ℕ). k) 0 n n (omega arith) ∙ ap (λ (ks : List ℕ). ks ++ n ∷ []) (map-id (range_with_len 0 n))
+range_more n = sym (map-id (range_with_len 0 (n + 1))) ∙ map-range_with_len_more (λ (k : ℕ). k) 0 n n (omega arith)
+    ∙ ap (λ (ks : List ℕ). ks ++ n ∷ []) (map-id (range_with_len 0 n))
 
 -- one more module, with its rank
-pub ranked_more : (rows : List (List ℕ)) (n rank : ℕ) (xs ys : List Ranked) (set : List Bool) → ys ≡ xs ++ record { place = n; rank = rank } ∷ [] → AreRanked rows n xs → IsReach rows n set → rank ≡ size set → AreRanked rows (n + 1) ys
+pub ranked_more : (rows : List (List ℕ)) (n rank : ℕ) (xs ys : List Ranked) (set : List Bool)
+    → ys ≡ xs ++ record { place = n; rank = rank } ∷ [] → AreRanked rows n xs → IsReach rows n set → rank ≡ size set
+    → AreRanked rows (n + 1) ys
 ranked_more rows n rank xs ys set e h reach counted =
     let one : Ranked = record { place = n; rank = rank } in
     subst (λ zs. AreRanked rows (n + 1) zs) (sym e) (record {
       places = map_push (λ (m : Ranked). m.place) xs one ∙ ap (λ (ks : List ℕ). ks ++ n ∷ []) h.places ∙ sym (range_more n);
-      ranks = All-push (λ (m : Ranked). IsRankOf rows m.place m.rank) xs one h.ranks (record { set = set; reach = reach; counted = counted });
+      ranks = All-push (λ (m : Ranked). IsRankOf rows m.place m.rank) xs one h.ranks
+          (record { set = set; reach = reach; counted = counted });
     })
 
 -- none up to this one is recursive
-pub none_more : (rows : List (List ℕ)) (n : ℕ) (set : List Bool) → ((before : ℕ) → before < n → IsRecursive rows before → ⊥) → IsReach rows n set → slice_index_or set n false ≡ false → (before : ℕ) → before < n + 1 → IsRecursive rows before → ⊥
+pub none_more : (rows : List (List ℕ)) (n : ℕ) (set : List Bool)
+    → ((before : ℕ) → before < n → IsRecursive rows before → ⊥) → IsReach rows n set
+    → slice_index_or set n false ≡ false → (before : ℕ) → before < n + 1 → IsRecursive rows before → ⊥
 none_more rows n set none reach out before l h = elim (cases_lt before n) [
   | inl lower ↦ none before lower h
   | inr g ↦

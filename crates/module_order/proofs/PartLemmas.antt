@@ -13,14 +13,20 @@ use Rattle.module_order.proofs.SolutionLemmas.{each_stands}
 abbrev AfterRuns : List (List ℕ) → List ℕ → Type 0
 AfterRuns rows part = (i run : ℕ) → i < length part → IsRun rows (slice_index part i) run → Contains (take i part) run
 
-after_push : (rows : List (List ℕ)) (part : List ℕ) (x : ℕ) → AfterRuns rows part → ((run : ℕ) → IsRun rows x run → Contains part run) → AfterRuns rows (part ++ x ∷ [])
+after_push : (rows : List (List ℕ)) (part : List ℕ) (x : ℕ) → AfterRuns rows part
+    → ((run : ℕ) → IsRun rows x run → Contains part run) → AfterRuns rows (part ++ x ∷ [])
 after_push rows part x h last i run l is = elim (cases_lt i (length part)) [
   | inl lower ↦
-      let same : slice_index (part ++ x ∷ []) i ≡ slice_index part i = sym (get_or-take (length part) (part ++ x ∷ []) i 0 lower) ∙ ap (λ ys. get_or ys i 0) (take-append-le (length part) part (x ∷ []) (omega arith) ∙ take_all (length part) part (omega arith)) in
-      subst (λ ys. Contains ys run) (sym (take-append-le i part (x ∷ []) (omega (arith, lower)))) (h i run lower (subst (λ n. IsRun rows n run) same is))
+      let same : slice_index (part ++ x ∷ []) i ≡ slice_index part i =
+      sym (get_or-take (length part) (part ++ x ∷ []) i 0 lower)
+      ∙ ap (λ ys. get_or ys i 0) (take-append-le (length part) part (x ∷ []) (omega arith)
+      ∙ take_all (length part) part (omega arith)) in
+      subst (λ ys. Contains ys run) (sym (take-append-le i part (x ∷ []) (omega (arith, lower))))
+      (h i run lower (subst (λ n. IsRun rows n run) same is))
   | inr g ↦
       let e : length part ≡ i = omega (arith, g, l, length_push part x) in
-      let front : take i (part ++ x ∷ []) ≡ part = take-append-le i part (x ∷ []) (omega (arith, e)) ∙ take_all i part (omega (arith, e)) in
+      let front : take i (part ++ x ∷ []) ≡ part =
+      take-append-le i part (x ∷ []) (omega (arith, e)) ∙ take_all i part (omega (arith, e)) in
       subst (λ ys. Contains ys run) (sym front) (last run (subst (λ n. IsRun rows n run) (get_or_push part x 0 i e) is))
 ]
 
@@ -47,28 +53,36 @@ kept test (x ∷ xs) y h e = elim (Contains-append_cases (x ∷ []) xs y h) [
 ]
 
 -- what is needed is the module itself, or what it leads to
-needed_is : (rows : List (List ℕ)) (place : ℕ) (set : List Bool) → IsReach rows place set → (other : ℕ) → is_needed set place other ≡ true → (other ≡ place) ⊎ Leads rows place other
-needed_is rows place set h other e = elim (or_cases (other == place) (nat_lt other (length set) && slice_index_or set other false) e) [
-  | inl same ↦ inl (eqb-true other place same)
-  | inr in_set ↦ inr ((h.exact other).0 (and_parts (nat_lt other (length set)) (slice_index_or set other false) in_set).1)
-]
+needed_is : (rows : List (List ℕ)) (place : ℕ) (set : List Bool) → IsReach rows place set → (other : ℕ)
+    → is_needed set place other ≡ true → (other ≡ place) ⊎ Leads rows place other
+needed_is rows place set h other e =
+    elim (or_cases (other == place) (nat_lt other (length set) && slice_index_or set other false) e) [
+      | inl same ↦ inl (eqb-true other place same)
+      | inr in_set ↦ inr ((h.exact other).0 (and_parts (nat_lt other (length set)) (slice_index_or set other false) in_set).1)
+    ]
 
 or_right : (x y : Bool) → y ≡ true → (x || y) ≡ true
 or_right true y e = refl
 or_right false y e = e
 
-reached_is_needed : (rows : List (List ℕ)) (place : ℕ) (set : List Bool) → IsReach rows place set → (other : ℕ) → Leads rows place other → is_needed set place other ≡ true
+reached_is_needed : (rows : List (List ℕ)) (place : ℕ) (set : List Bool) → IsReach rows place set → (other : ℕ)
+    → Leads rows place other → is_needed set place other ≡ true
 reached_is_needed rows place set h other leads =
     let inside : IsIn set other = (h.exact other).1 leads in
     let l : other < length set = in_bounds set other inside in
-    or_right (other == place) (nat_lt other (length set) && slice_index_or set other false) (and_from (nat_lt other (length set)) (slice_index_or set other false) (lt-ltb other (length set) l) inside)
+    or_right (other == place) (nat_lt other (length set) && slice_index_or set other false)
+    (and_from (nat_lt other (length set)) (slice_index_or set other false) (lt-ltb other (length set) l) inside)
 
 itself_is_needed : (place : ℕ) (set : List Bool) → is_needed set place place ≡ true
-itself_is_needed place set = or_left (place == place) (nat_lt place (length set) && slice_index_or set place false) (search (rules, tests))
+itself_is_needed place set =
+    or_left (place == place) (nat_lt place (length set) && slice_index_or set place false) (search (rules, tests))
 
-one_more : (rows : List (List ℕ)) (part : List ℕ) (x : ℕ) (b : Bool) {c : Bool} → c ≡ b → AfterRuns rows part → (c ≡ true → (run : ℕ) → IsRun rows x run → Contains part run) → AfterRuns rows (part ++ cond c (x ∷ []) [])
-one_more rows part x true e h last = subst (λ (b : Bool). AfterRuns rows (part ++ cond b (x ∷ []) [])) (sym e) (after_push rows part x h (last e))
-one_more rows part x false e h last = subst (λ (b : Bool). AfterRuns rows (part ++ cond b (x ∷ []) [])) (sym e) (subst (λ ys. AfterRuns rows ys) (sym (append-nil part)) h)
+one_more : (rows : List (List ℕ)) (part : List ℕ) (x : ℕ) (b : Bool) {c : Bool} → c ≡ b → AfterRuns rows part
+    → (c ≡ true → (run : ℕ) → IsRun rows x run → Contains part run) → AfterRuns rows (part ++ cond c (x ∷ []) [])
+one_more rows part x true e h last =
+    subst (λ (b : Bool). AfterRuns rows (part ++ cond b (x ∷ []) [])) (sym e) (after_push rows part x h (last e))
+one_more rows part x false e h last = subst (λ (b : Bool). AfterRuns rows (part ++ cond b (x ∷ []) [])) (sym e)
+    (subst (λ ys. AfterRuns rows ys) (sym (append-nil part)) h)
 
 none_first : (rows : List (List ℕ)) (test : ℕ → Bool) (order : List ℕ) → AfterRuns rows (filter test (take 0 order))
 none_first rows test [] i run l is = absurd (omega (arith, l))
@@ -80,7 +94,8 @@ in_front order k j x l there e =
     subst (λ n. Contains (take k order) n) (get_or-take k order j 0 l ∙ e) (Contains-get_or (take k order) j 0 long)
 
 -- the kept ones of the first places of the order stand after those that they run
-front : (rows : List (List ℕ)) (order : List ℕ) (set : List Bool) (place : ℕ) → IsBottomUp rows order → IsReach rows place set → (k : ℕ) → k ≤ length order → AfterRuns rows (filter (is_needed set place) (take k order))
+front : (rows : List (List ℕ)) (order : List ℕ) (set : List Bool) (place : ℕ) → IsBottomUp rows order
+    → IsReach rows place set → (k : ℕ) → k ≤ length order → AfterRuns rows (filter (is_needed set place) (take k order))
 front rows order set place up reach zero l = none_first rows (is_needed set place) order
 front rows order set place up reach (suc k) l =
     let test = is_needed set place in
@@ -91,7 +106,8 @@ front rows order set place up reach (suc k) l =
     (subst (λ ys. AfterRuns rows ys) (sym (filter_more test order k 0 (omega (arith, l))))
     (one_more rows (filter test (take k order)) x (test x) refl before (λ passes run is.
     let stands = each_stands rows order up run is.there in
-    let earlier : stands.0 < k = up.after_runs k stands.0 (omega (arith, l)) stands.1 (subst (λ r. IsRun rows x r) (sym stands.2) is) in
+    let earlier : stands.0 < k =
+    up.after_runs k stands.0 (omega (arith, l)) stands.1 (subst (λ r. IsRun rows x r) (sym stands.2) is) in
     let stands_before : Contains (take k order) run = in_front order k stands.0 run earlier stands.1 stands.2 in
     let leads : Leads rows place run = elim (needed_is rows place set reach x passes) [
       | inl same ↦ once (subst (λ n. IsRun rows n run) same is)
@@ -99,12 +115,18 @@ front rows order set place up reach (suc k) l =
     ] in
     kept test (take k order) run stands_before (reached_is_needed rows place set reach run leads))))
 
-pub is_part : (rows : List (List ℕ)) (order : List ℕ) (set : List Bool) (place : ℕ) → IsBottomUp rows order → IsReach rows place set → place < length rows → IsPartFor rows place (filter (is_needed set place) order)
+pub is_part : (rows : List (List ℕ)) (order : List ℕ) (set : List Bool) (place : ℕ) → IsBottomUp rows order
+    → IsReach rows place set → place < length rows → IsPartFor rows place (filter (is_needed set place) order)
 is_part rows order set place up reach l =
     let stands = each_stands rows order up place l in
     let in_order : Contains order place = subst (λ n. Contains order n) stands.2 (Contains-get_or order stands.0 0 stands.1) in
     record {
       has = kept (is_needed set place) order place in_order (itself_is_needed place set);
-      needed = All-from_get_or (λ other. (other ≡ place) ⊎ Leads rows place other) (filter (is_needed set place) order) 0 (λ i i_in. needed_is rows place set reach _ (All-get_or (λ x. is_needed set place x ≡ true) (filter (is_needed set place) order) i 0 i_in (filter_passes (is_needed set place) order)));
-      after_runs = subst (λ ys. AfterRuns rows (filter (is_needed set place) ys)) (take_all (length order) order (omega arith)) (front rows order set place up reach (length order) (omega arith));
+      needed = All-from_get_or (λ other. (other ≡ place) ⊎ Leads rows place other)
+          (filter (is_needed set place) order) 0
+          (λ i i_in. needed_is rows place set reach _
+          (All-get_or (λ x. is_needed set place x ≡ true) (filter (is_needed set place) order) i 0 i_in
+          (filter_passes (is_needed set place) order)));
+      after_runs = subst (λ ys. AfterRuns rows (filter (is_needed set place) ys))
+          (take_all (length order) order (omega arith)) (front rows order set place up reach (length order) (omega arith));
     }

@@ -23,7 +23,11 @@ grows_on : (s t u : Search) → Grows s t → Grows t u → Grows s u
 grows_on s t u a b = record {
   same = b.same ∙ a.same;
   keeps = λ p h. b.keeps p (a.keeps p h);
-  noted = λ p h. elim (b.noted p h) [ inl x ↦ (elim (a.noted p x) [ inl y ↦ inl y | inr y ↦ inr (b.waits p y) ]) | inr x ↦ inr x ];
+  noted = λ p h. elim (b.noted p h) [
+    | inl x ↦
+        (elim (a.noted p x) [ inl y ↦ inl y | inr y ↦ inr (b.waits p y) ])
+    | inr x ↦ inr x
+  ];
   waits = λ p h. b.waits p (a.waits p h);
   added = λ p h. elim (b.added p h) [
     | inl x ↦ (elim (a.added p x) [ inl y ↦ inl y | inr y ↦ inr (y.0, b.keeps p y.1) ])
@@ -52,23 +56,31 @@ set_in seen p q l h = elim (cases_eq q p) [
   | inr d ↦ get_or-set_other seen p q true false d ∙ h
 ]
 
-grows_new : (s : Search) (p : ℕ) → p < length s.seen → slice_index_or s.seen p false ≡ false → Grows s (record { seen = slice_set s.seen p true; waiting = s.waiting ++ p ∷ [] })
+grows_new : (s : Search) (p : ℕ) → p < length s.seen → slice_index_or s.seen p false ≡ false
+    → Grows s (record { seen = slice_set s.seen p true; waiting = s.waiting ++ p ∷ [] })
 grows_new s p l e = record {
   same = length-set s.seen p true;
   keeps = λ q h. set_in s.seen p q l h;
-  noted = λ q h. elim (in_set s.seen p q h) [ inl x ↦ inl x | inr x ↦ inr (subst (λ n. Contains (s.waiting ++ p ∷ []) n) x (Contains-push s.waiting p)) ];
+  noted = λ q h. elim (in_set s.seen p q h)
+      [ inl x ↦ inl x | inr x ↦ inr (subst (λ n. Contains (s.waiting ++ p ∷ []) n) x (Contains-push s.waiting p)) ];
   waits = λ q h. Contains-append_left s.waiting (p ∷ []) q h;
   added = λ q h. elim (Contains-push_cases s.waiting p q h) [
     | inl x ↦ inl x
-    | inr x ↦ inr (subst (λ n. (n < length s.seen) × IsIn (slice_set s.seen p true) n) x (l, get_or-set_same s.seen p true false l))
+    | inr x ↦
+        inr (subst (λ n. (n < length s.seen) × IsIn (slice_set s.seen p true) n) x (l, get_or-set_same s.seen p true false l))
   ];
   work =
-      let counted : count_by (λ b. not b) (slice_set s.seen p true) + (if not (slice_index_or s.seen p false) then 1 else 0) ≡ count_by (λ b. not b) s.seen + 0 = sum_by-set (λ b. if not b then 1 else 0) s.seen p true false l in
-      let one : count_by (λ b. not b) (slice_set s.seen p true) + 1 ≡ count_by (λ b. not b) s.seen + 0 = subst (λ b. count_by (λ b. not b) (slice_set s.seen p true) + (if not b then 1 else 0) ≡ count_by (λ b. not b) s.seen + 0) e counted in
+      let counted : count_by (λ b. not b) (slice_set s.seen p true) +
+      (if not (slice_index_or s.seen p false) then 1 else 0) ≡ count_by (λ b. not b) s.seen + 0 =
+      sum_by-set (λ b. if not b then 1 else 0) s.seen p true false l in
+      let one : count_by (λ b. not b) (slice_set s.seen p true) + 1 ≡ count_by (λ b. not b) s.seen + 0 =
+      subst (λ b. count_by (λ b. not b) (slice_set s.seen p true) + (if not b then 1 else 0) ≡ count_by
+      (λ b. not b) s.seen + 0) e counted in
       omega (arith, one, length_push s.waiting p);
 }
 
-grows_by : (s : Search) (p : ℕ) (b : Bool) → is_new s.seen p ≡ b → Grows s (if b then record { seen = slice_set s.seen p true; waiting = s.waiting ++ p ∷ [] } else s)
+grows_by : (s : Search) (p : ℕ) (b : Bool) → is_new s.seen p ≡ b
+    → Grows s (if b then record { seen = slice_set s.seen p true; waiting = s.waiting ++ p ∷ [] } else s)
 grows_by s p true h = let is = new_is s.seen p h in grows_new s p is.0 is.1
 grows_by s p false h = grows_none s
 
@@ -81,7 +93,8 @@ grows s (p ∷ row) = grows_on s (visited s p) (followed (visited s p) row) (gro
 
 -- what a set has is there
 pub in_bounds : (set : List Bool) (p : ℕ) → IsIn set p → p < length set
-in_bounds set p h = elim (cases_lt p (length set)) [ inl l ↦ l | inr past ↦ absurd (false≢true (sym (get_or_past set p false past) ∙ h)) ]
+in_bounds set p h =
+    elim (cases_lt p (length set)) [ inl l ↦ l | inr past ↦ absurd (false≢true (sym (get_or_past set p false past) ∙ h)) ]
 
 is_true : (b : Bool) → not b ≡ false → b ≡ true
 is_true true h = refl
@@ -90,14 +103,17 @@ is_true false h = absurd (false≢true (sym h))
 nat_lt_false : (p n : ℕ) → nat_lt p n ≡ false → p < n → ⊥
 nat_lt_false p n h l = search (rules, h, l)
 
-visited_by : (s : Search) (p : ℕ) (b : Bool) → is_new s.seen p ≡ b → p < length s.seen → IsIn (if b then record { seen = slice_set s.seen p true; waiting = s.waiting ++ p ∷ [] } else s).seen p
+visited_by : (s : Search) (p : ℕ) (b : Bool) → is_new s.seen p ≡ b → p < length s.seen
+    → IsIn (if b then record { seen = slice_set s.seen p true; waiting = s.waiting ++ p ∷ [] } else s).seen p
 visited_by s p true h l = get_or-set_same s.seen p true false l
 visited_by s p false h l = elim (and_cases (nat_lt p (length s.seen)) (not (slice_index_or s.seen p false)) h) [
   | inl past ↦ absurd (nat_lt_false p (length s.seen) past l)
   | inr old ↦ is_true _ old
 ]
 
-only_by : (s : Search) (p q : ℕ) (b : Bool) → IsIn (if b then record { seen = slice_set s.seen p true; waiting = s.waiting ++ p ∷ [] } else s).seen q → IsIn s.seen q ⊎ (p ≡ q)
+only_by : (s : Search) (p q : ℕ) (b : Bool)
+    → IsIn (if b then record { seen = slice_set s.seen p true; waiting = s.waiting ++ p ∷ [] } else s).seen q
+    → IsIn s.seen q ⊎ (p ≡ q)
 only_by s p q true h = in_set s.seen p q h
 only_by s p q false h = inl h
 
@@ -105,7 +121,11 @@ only_by s p q false h = inl h
 row_only : (s : Search) (row : List ℕ) (q : ℕ) → IsIn (followed s row).seen q → IsIn s.seen q ⊎ Contains row q
 row_only s [] q h = inl h
 row_only s (p ∷ row) q h = elim (row_only (visited s p) row q h) [
-  | inl x ↦ (elim (only_by s p q (is_new s.seen p) x) [ inl y ↦ inl y | inr e ↦ inr (Contains-append_left (p ∷ []) row q (subst (λ n. Contains (p ∷ []) n) e (Contains-push [] p))) ])
+  | inl x ↦ (elim (only_by s p q (is_new s.seen p) x) [
+    | inl y ↦ inl y
+    | inr e ↦ inr (Contains-append_left (p ∷ []) row q
+        (subst (λ n. Contains (p ∷ []) n) e (Contains-push [] p)))
+  ])
   | inr x ↦ inr (Contains-append_right (p ∷ []) row q x)
 ]
 
@@ -118,7 +138,9 @@ row_all s [] q h l = absurd (none_in_empty q h)
 row_all s (p ∷ row) q h l = elim (Contains-append_cases (p ∷ []) row q h) [
   | inl x ↦ (elim (Contains-push_cases [] p q x) [
     | inl y ↦ absurd (none_in_empty q y)
-    | inr e ↦ (grows (visited s p) row).keeps q (subst (λ n. IsIn (visited s p).seen n) e (visited_by s p (is_new s.seen p) refl (subst (λ n. n < length s.seen) (sym e) l)))
+    | inr e ↦ (grows (visited s p) row).keeps q
+        (subst (λ n. IsIn (visited s p).seen n) e
+        (visited_by s p (is_new s.seen p) refl (subst (λ n. n < length s.seen) (sym e) l)))
   ])
   | inr x ↦ row_all (visited s p) row q x (subst (λ n. q < n) (sym (grows_one s p).same) l)
 ]
@@ -134,10 +156,12 @@ none_in_none n p h =
     false≢true (sym (get_or-replicate n p false false (omega (arith, there, length-replicate n false))) ∙ h)
 
 -- at first only the first place waits
-pub search_begins : (rows : List (List ℕ)) (first n : ℕ) → n ≡ length rows → first < n → IsSearching rows first (record { seen = replicate n false; waiting = first ∷ [] })
+pub search_begins : (rows : List (List ℕ)) (first n : ℕ) → n ≡ length rows → first < n
+    → IsSearching rows first (record { seen = replicate n false; waiting = first ∷ [] })
 search_begins rows first n e l = record {
   each = length-replicate n false ∙ e;
-  there = λ p h. elim (Contains-push_cases [] first p h) [ inl y ↦ absurd (none_in_empty p y) | inr x ↦ subst (λ k. k < length rows) x (omega (arith, l, e)) ];
+  there = λ p h. elim (Contains-push_cases [] first p h)
+      [ inl y ↦ absurd (none_in_empty p y) | inr x ↦ subst (λ k. k < length rows) x (omega (arith, l, e)) ];
   met = λ p h. elim (Contains-push_cases [] first p h) [ inl y ↦ absurd (none_in_empty p y) | inr x ↦ inl (sym x) ];
   sound = λ p h. absurd (none_in_none n p h);
   complete = λ p h. elim h [
@@ -150,7 +174,8 @@ met_still : (first : ℕ) (s t : Search) → ((p : ℕ) → IsIn s.seen p → Is
 met_still first s t keeps p h = elim h [ inl e ↦ inl e | inr x ↦ inr (keeps p x) ]
 
 -- the runs of the place that waited last are followed
-pub search_goes_on : (rows : List (List ℕ)) (first : ℕ) (s : Search) (next : ℕ) → IsSearching rows first (record { seen = s.seen; waiting = s.waiting ++ next ∷ [] })
+pub search_goes_on : (rows : List (List ℕ)) (first : ℕ) (s : Search) (next : ℕ)
+    → IsSearching rows first (record { seen = s.seen; waiting = s.waiting ++ next ∷ [] })
     → IsSearching rows first (followed s (slice_index_or rows next []))
 search_goes_on rows first s next h =
     let row = slice_index_or rows next [] in
@@ -160,7 +185,8 @@ search_goes_on rows first s next h =
     let next_waits : Contains (s.waiting ++ next ∷ []) next = Contains-push s.waiting next in
     record {
       each = g.same ∙ h.each;
-      there = λ p x. elim (g.added p x) [ inl y ↦ h.there p (Contains-append_left s.waiting (next ∷ []) p y) | inr y ↦ omega (arith, y.0, h.each) ];
+      there = λ p x. elim (g.added p x)
+          [ inl y ↦ h.there p (Contains-append_left s.waiting (next ∷ []) p y) | inr y ↦ omega (arith, y.0, h.each) ];
       met = λ p x. elim (g.added p x) [
         | inl y ↦ met_still first before t g.keeps p (h.met p (Contains-append_left s.waiting (next ∷ []) p y))
         | inr y ↦ inr y.1
@@ -186,18 +212,21 @@ search_goes_on rows first s next h =
               | inr f ↦ inr (λ r run. g.keeps r (f r run))
               | inl w ↦ (elim (Contains-push_cases s.waiting next p w) [
                 | inl z ↦ inl (g.waits p z)
-                | inr e ↦ inr (λ r run. row_all s row r (subst (λ n. Contains (slice_index_or rows n []) r) (sym e) run.named) (omega (arith, run.there, h.each)))
+                | inr e ↦ inr (λ r run. row_all s row r
+                    (subst (λ n. Contains (slice_index_or rows n []) r) (sym e) run.named) (omega (arith, run.there, h.each)))
               ])
             ])
           ];
     }
 
 -- following the runs of the place that waited last leaves less to do
-pub less_to_do : (s : Search) (row : List ℕ) (next : ℕ) → left_to_do (followed s row) < left_to_do (record { seen = s.seen; waiting = s.waiting ++ next ∷ [] })
+pub less_to_do : (s : Search) (row : List ℕ) (next : ℕ)
+    → left_to_do (followed s row) < left_to_do (record { seen = s.seen; waiting = s.waiting ++ next ∷ [] })
 less_to_do s row next = omega (arith, (grows s row).work, length_push s.waiting next)
 
 -- where nothing waits, whatever a met place leads to is seen
-closed : (rows : List (List ℕ)) (first : ℕ) (s : Search) → s.waiting ≡ [] → IsSearching rows first s → {a b : ℕ} → Leads rows a b → IsMet first s a → IsIn s.seen b
+closed : (rows : List (List ℕ)) (first : ℕ) (s : Search) → s.waiting ≡ [] → IsSearching rows first s → {a b : ℕ}
+    → Leads rows a b → IsMet first s a → IsIn s.seen b
 closed rows first s none h (once {a = a} {b = b} run) m = elim (h.complete a m) [
   | inl w ↦ absurd (none_in_empty a (subst (λ ws. Contains ws a) none w))
   | inr f ↦ f b run
@@ -208,28 +237,37 @@ closed rows first s none h (through {a = a} {b = b} run rest) m = elim (h.comple
 ]
 
 -- where nothing waits, the places that the first leads to are seen, and no others
-pub search_ends : (rows : List (List ℕ)) (first : ℕ) (s : Search) → s.waiting ≡ [] → IsSearching rows first s → IsReach rows first s.seen
+pub search_ends : (rows : List (List ℕ)) (first : ℕ) (s : Search) → s.waiting ≡ [] → IsSearching rows first s
+    → IsReach rows first s.seen
 search_ends rows first s none h = record {
   each = h.each;
   exact = λ p. (λ x. h.sound p x, λ x. closed rows first s none h x (inl refl));
 }
 
 -- what stands in the row at a place
-pub row_at : (runs : List (Vec ℕ Global)) (i : ℕ) (row : Vec ℕ Global) → i < length runs → row ≡ get_or runs i row → row.items ≡ slice_index_or (rows_of runs) i []
+pub row_at : (runs : List (Vec ℕ Global)) (i : ℕ) (row : Vec ℕ Global) → i < length runs → row ≡ get_or runs i row
+    → row.items ≡ slice_index_or (rows_of runs) i []
 row_at runs i row l e = ap (λ (v : Vec ℕ Global). v.items) e ∙ sym (get_or-map (λ (v : Vec ℕ Global). v.items) runs i row [] l)
 
 -- the place that waited last is there
-pub next_is_there : (rows : List (List ℕ)) (first : ℕ) (seen : List Bool) (before after : List ℕ) (next : ℕ) → before ≡ after ++ next ∷ [] → IsSearching rows first (record { seen = seen; waiting = before }) → next < length rows
-next_is_there rows first seen before after next e h = h.there next (subst (λ ws. Contains ws next) (sym e) (Contains-push after next))
+pub next_is_there : (rows : List (List ℕ)) (first : ℕ) (seen : List Bool) (before after : List ℕ) (next : ℕ)
+    → before ≡ after ++ next ∷ [] → IsSearching rows first (record { seen = seen; waiting = before }) → next < length rows
+next_is_there rows first seen before after next e h =
+    h.there next (subst (λ ws. Contains ws next) (sym e) (Contains-push after next))
 
 -- the step of the search, and what is left after it
-pub search_step : (rows : List (List ℕ)) (first : ℕ) (seen : List Bool) (before after row : List ℕ) (next : ℕ) (t : Search) → before ≡ after ++ next ∷ [] → row ≡ slice_index_or rows next []
-    → t ≡ followed (record { seen = seen; waiting = after }) row → IsSearching rows first (record { seen = seen; waiting = before }) → IsSearching rows first t
+pub search_step : (rows : List (List ℕ)) (first : ℕ) (seen : List Bool) (before after row : List ℕ) (next : ℕ)
+    (t : Search) → before ≡ after ++ next ∷ [] → row ≡ slice_index_or rows next []
+    → t ≡ followed (record { seen = seen; waiting = after }) row
+    → IsSearching rows first (record { seen = seen; waiting = before }) → IsSearching rows first t
 search_step rows first seen before after row next t e at is h =
     subst (λ u. IsSearching rows first u) (sym (is ∙ ap (followed (record { seen = seen; waiting = after })) at))
-    (search_goes_on rows first (record { seen = seen; waiting = after }) next (subst (λ ws. IsSearching rows first (record { seen = seen; waiting = ws })) e h))
+    (search_goes_on rows first (record { seen = seen; waiting = after }) next
+    (subst (λ ws. IsSearching rows first (record { seen = seen; waiting = ws })) e h))
 
-pub step_is_less : (seen : List Bool) (before after row : List ℕ) (next : ℕ) (t : Search) → before ≡ after ++ next ∷ [] → t ≡ followed (record { seen = seen; waiting = after }) row → left_to_do t < left_to_do (record { seen = seen; waiting = before })
+pub step_is_less : (seen : List Bool) (before after row : List ℕ) (next : ℕ) (t : Search)
+    → before ≡ after ++ next ∷ [] → t ≡ followed (record { seen = seen; waiting = after }) row
+    → left_to_do t < left_to_do (record { seen = seen; waiting = before })
 step_is_less seen before after row next t e is =
     let less = less_to_do (record { seen = seen; waiting = after }) row next in
     omega (arith, less, ap left_to_do is, ap (λ ws. left_to_do (record { seen = seen; waiting = ws })) e)

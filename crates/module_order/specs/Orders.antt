@@ -1,4 +1,5 @@
--- Orders of modules in which each stands after those that it runs (a topological order; Knuth, The Art of Computer Programming, 2.2.3).
+-- Orders of modules in which each stands after those that it runs (a topological order; Knuth, The Art of Computer
+-- Programming, 2.2.3).
 use Rattle.std.specs.Prelude.{◌≡◌, ◌⊎◌, ℕ, ◌<◌, ⊤, List, length, take, slice_index, All, Contains, IsPermutation}
 use Rattle.std.specs.List.{range_with_len}
 use Rattle.module_order.specs.Runs.{IsRun, Leads, IsRecursive}
@@ -8,7 +9,8 @@ use Rattle.module_order.specs.declared.fault.OrderFault.TheVariants.{Recursive, 
 -- each place once, and each module after all that it runs
 pub record IsBottomUp (rows : List (List ℕ)) (order : List ℕ) : Type 0 where
   pub each_once : IsPermutation (range_with_len 0 (length rows)) order
-  pub after_runs : (i j : ℕ) → i < length order → j < length order → IsRun rows (slice_index order i) (slice_index order j) → j < i
+  pub after_runs : (i j : ℕ) → i < length order → j < length order
+      → IsRun rows (slice_index order i) (slice_index order j) → j < i
 
 -- the module is recursive, and none before it is
 pub record IsFirstRecursive (rows : List (List ℕ)) (place : ℕ) : Type 0 where

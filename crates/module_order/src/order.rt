@@ -40,12 +40,11 @@ struct Ranked {
     rank: usize,
 }
 
-/// The modules in an order in which each stands after all that it runs. `runs` has, for each module, the places of those that it runs; a
-/// number that is no place is passed over.
+/// The modules in an order in which each stands after all that it runs. `runs` has, for each module, the places of
+/// those that it runs; a number that is no place is passed over.
 ///
-/// # Errors
-/// `Recursive` with the place of the first module from which a chain of one or more runs leads back to it, where there is one; or memory
-/// was refused.
+/// # Errors `Recursive` with the place of the first module from which a chain of one or more runs leads back to it,
+/// where there is one; or memory was refused.
 pub fn order_modules(alloc: Global, runs: &[Vec<usize>]) -> Result<Order, OrderFault>
     ensures bottom_up { IfOk result (λ order. IsBottomUp (rows_of runs.now) order) }
     ensures ok { OnOk result (NoneIsRecursive (rows_of runs.now)) }
@@ -59,7 +58,8 @@ pub fn order_modules(alloc: Global, runs: &[Vec<usize>]) -> Result<Order, OrderF
 
 // Each module with its rank, in the order of their places.
 fn rank_modules(alloc: Global, runs: &[Vec<usize>]) -> Result<Vec<Ranked>, OrderFault>
-    ensures ranked { IfOk result (λ ranked. AreRanked (rows_of runs.now) (length runs.now) ranked.items) }
+    ensures ranked { IfOk result
+        (λ ranked. AreRanked (rows_of runs.now) (length runs.now) ranked.items) }
     ensures ok { OnOk result (NoneIsRecursive (rows_of runs.now)) }
     ensures err { IfErr result (λ fault. IsFaultOf (rows_of runs.now) fault) }
 {
@@ -95,7 +95,8 @@ fn places_of(alloc: Global, ranked: &[Ranked]) -> Result<Vec<usize>, AllocError>
     Ok(places)
 }
 
-/// The module at a place and all that it leads to, in an order of all modules: what has to be worked out for that module, and no more.
+/// The module at a place and all that it leads to, in an order of all modules: what has to be worked out for that
+/// module, and no more.
 ///
 /// # Errors
 /// Memory was refused.

@@ -10,7 +10,7 @@ use Rattle.est_relations.specs.Offers.{PendingInputs, IsFirstImplied, ReadyAnswe
 use Rattle.est_relations.specs.declared.relations.Relation.{Relation}
 use Rattle.est_relations.proofs.Answering.{all_hold}
 use Rattle.est_meaning.specs.Rounds.{judged_outputs}
-use Rattle.est_meaning.proofs.Uniqueness.{one_reaction}
+use Rattle.est_meaning.proofs.OneReactionAtMost.{one_reaction}
 use Rattle.reactor_core.specs.declared.entry.Load.{Load as LoadEntry}
 use Rattle.reactor_core.specs.declared.entry.PastInstant.{PastInstant}
 use Rattle.reactor_core.specs.declared.entry.Action.{Action}

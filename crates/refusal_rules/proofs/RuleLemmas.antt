@@ -4,12 +4,14 @@ use Rattle.std.specs.Prelude.{Result, Ok, Err}
 use Rattle.refusal_rules.specs.Rules.{Rule, Rules, Says, Unless, Naming, accept, ◌▸◌, ◌▸▸◌, Refuses, Passes, Answers, RefusesAt, PassBefore, AllPass, FirstRefuses, IsDefinite, AllDefinite}
 
 -- the rule refuses
-pub refuse : {R : Type 0} {rule : Rule R} {Refused : R → Type 0} {Next : Type 0} (refusal : R) → rule.refuses refusal → Refused refusal
+pub refuse : {R : Type 0} {rule : Rule R} {Refused : R → Type 0} {Next : Type 0} (refusal : R) → rule.refuses refusal
+    → Refused refusal
     → Refuses rule Refused ⊎ Passes rule Next
 refuse refusal given answered = inl (record { refusal = refusal; given = given; answered = answered })
 
 -- the rule lets pass, and what follows answers
-pub pass : {R : Type 0} {rule : Rule R} {Refused : R → Type 0} {Next : Type 0} → rule.passes → Next → Refuses rule Refused ⊎ Passes rule Next
+pub pass : {R : Type 0} {rule : Rule R} {Refused : R → Type 0} {Next : Type 0} → rule.passes → Next
+    → Refuses rule Refused ⊎ Passes rule Next
 pass passed next = inr (record { passed = passed; next = next })
 
 -- two lists, the one after the other
@@ -31,7 +33,8 @@ pub answered : {R : Type 0} (rules : Rules R) (Refused : R → Type 0) (Accepted
     → ((refusal : R) → Refused refusal → Known) → (Accepted → Known) → Answers rules Refused Accepted → Known
 answered accept Refused Accepted Known refused accepted h = accepted h
 answered (rule ▸ later) Refused Accepted Known refused accepted (inl refuses) = refused refuses.refusal refuses.answered
-answered (rule ▸ later) Refused Accepted Known refused accepted (inr passes) = answered later Refused Accepted Known refused accepted passes.next
+answered (rule ▸ later) Refused Accepted Known refused accepted (inr passes) =
+    answered later Refused Accepted Known refused accepted passes.next
 
 -- where the answer is no refusal, each rule lets pass, and the command is accepted
 pub all_passed : {R : Type 0} (rules : Rules R) (Refused : R → Type 0) (Accepted : Type 0)
@@ -43,7 +46,8 @@ all_passed (rule ▸ later) Refused Accepted none (inr passes) =
     ((passes.passed, rest.0), rest.1)
 
 -- where each rule lets pass, the command is accepted
-pub accepted : {R : Type 0} (rules : Rules R) (Refused : R → Type 0) (Accepted : Type 0) → AllPass rules → Accepted → Answers rules Refused Accepted
+pub accepted : {R : Type 0} (rules : Rules R) (Refused : R → Type 0) (Accepted : Type 0) → AllPass rules → Accepted
+    → Answers rules Refused Accepted
 accepted accept Refused Accepted all h = h
 accepted (rule ▸ later) Refused Accepted all h = pass all.0 (accepted later Refused Accepted all.1 h)
 
@@ -58,7 +62,8 @@ refused_at (rule ▸ later) Refused Accepted (suc place) refusal refuses passed 
 -- the answer is the refusal of the first rule that refuses
 pub refused : {R : Type 0} (rules : Rules R) (Refused : R → Type 0) (Accepted : Type 0) (refusal : R)
     → FirstRefuses rules refusal → Refused refusal → Answers rules Refused Accepted
-refused rules Refused Accepted refusal first h = refused_at rules Refused Accepted first.place refusal first.refuses first.passed h
+refused rules Refused Accepted refusal first h =
+    refused_at rules Refused Accepted first.place refusal first.refuses first.passed h
 
 -- the answer is the refusal of the first rule that refuses, or each rule lets pass and the command is accepted
 pub first_or_none : {R : Type 0} (rules : Rules R) (Refused : R → Type 0) (Accepted : Type 0) → Answers rules Refused Accepted
@@ -68,7 +73,11 @@ first_or_none (rule ▸ later) Refused Accepted (inl refuses) =
     inl (refuses.refusal, record { place = zero; refuses = refuses.given; passed = record {} }, refuses.answered)
 first_or_none (rule ▸ later) Refused Accepted (inr passes) =
     ⊎_elim
-    (λ first. inl (first.0, record { place = suc first.1.place; refuses = first.1.refuses; passed = (passes.passed, first.1.passed) }, first.2))
+    (λ first. inl (
+      first.0,
+      record { place = suc first.1.place; refuses = first.1.refuses; passed = (passes.passed, first.1.passed) },
+      first.2,
+    ))
     (λ none. inr ((passes.passed, none.0), none.1))
     (first_or_none later Refused Accepted passes.next)
 
@@ -77,13 +86,15 @@ pub silent_before : {R : Type 0} (rules : Rules R) → AllDefinite rules → (pl
     → PassBefore rules place → earlier < place → RefusesAt rules earlier refusal → ⊥
 silent_before accept definite place earlier refusal passed before refuses = refuses
 silent_before (rule ▸ later) definite zero earlier refusal passed before refuses = absurd (omega arith)
-silent_before (rule ▸ later) definite (suc place) zero refusal passed before refuses = definite.0.exclusive refusal refuses passed.0
+silent_before (rule ▸ later) definite (suc place) zero refusal passed before refuses =
+    definite.0.exclusive refusal refuses passed.0
 silent_before (rule ▸ later) definite (suc place) (suc earlier) refusal passed before refuses =
     silent_before later definite.1 place earlier refusal passed.1 (omega arith) refuses
 
 -- definite rules give one answer
 pub one_answer : {R A : Type 0} (rules : Rules R) → AllDefinite rules → (given : A) (a b : Result A R)
-    → Answers rules (λ refusal. a ≡ Err refusal) (a ≡ Ok given) → Answers rules (λ refusal. b ≡ Err refusal) (b ≡ Ok given) → a ≡ b
+    → Answers rules (λ refusal. a ≡ Err refusal) (a ≡ Ok given)
+    → Answers rules (λ refusal. b ≡ Err refusal) (b ≡ Ok given) → a ≡ b
 one_answer accept definite given a b x y = x ∙ sym y
 one_answer (rule ▸ later) definite given a b (inl x) (inl y) =
     x.answered ∙ ap Err (definite.0.one x.refusal y.refusal x.given y.given) ∙ sym y.answered
@@ -98,7 +109,8 @@ pub unless : {R : Type 0} {refusal : R} {Fact : Type 0} → IsDefinite (Unless F
 unless = record { exclusive = λ refusal given fact. given.1 fact; one = λ a b x y. x.0 ∙ sym y.0 }
 
 -- a rule that names the one thing for which the fact holds
-pub naming : {R Thing : Type 0} {refusal : Thing → R} {Fact : Thing → Type 0} → ((one other : Thing) → Fact one → Fact other → one ≡ other)
+pub naming : {R Thing : Type 0} {refusal : Thing → R} {Fact : Thing → Type 0}
+    → ((one other : Thing) → Fact one → Fact other → one ≡ other)
     → IsDefinite (Naming refusal Fact)
 naming {refusal = refusal} one = record {
   exclusive = λ _ given none. none given.0 given.2;

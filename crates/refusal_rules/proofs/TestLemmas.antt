@@ -19,4 +19,5 @@ answers_first ((refusal, false) ∷ later) = pass (λ never. cc) (answers_first 
 -- and the only one
 pub is_first_true : {R : Type 0} (tests : List (R × Bool)) (answer : Result (Unit {0}) R)
     → Answers (tested tests) (λ refusal. answer ≡ Err refusal) (answer ≡ Ok (record {})) → answer ≡ first_true tests
-is_first_true tests answer h = one_answer (tested tests) (all_definite tests) (record {}) answer (first_true tests) h (answers_first tests)
+is_first_true tests answer h =
+    one_answer (tested tests) (all_definite tests) (record {}) answer (first_true tests) h (answers_first tests)

@@ -43,8 +43,8 @@ pub record Passes {R : Type 0} (rule : Rule R) (Next : Type 0) : Type 0 where
   pub passed : rule.passes
   pub next : Next
 
--- the answer by these rules: the refusal of the first that doesn't let pass, or the command is accepted, where all do. Refused says
--- what it is to be answered with a refusal, and Accepted what it is to be accepted
+-- the answer by these rules: the refusal of the first that doesn't let pass, or the command is accepted, where all do.
+-- Refused says what it is to be answered with a refusal, and Accepted what it is to be accepted
 abbrev pub Answers : {R : Type 0} → Rules R → (Refused : R → Type 0) → (Accepted : Type 0) → Type 0
 Answers accept Refused Accepted = Accepted
 Answers (rule ▸ later) Refused Accepted = Refuses rule Refused ⊎ Passes rule (Answers later Refused Accepted)

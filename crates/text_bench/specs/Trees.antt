@@ -77,4 +77,5 @@ pub record CountsTreeOf (text : List ℕ) (count : TreeCount) : Type 0 where
 -- why a text has no tree: it has no tokens, or its tokens are no library that fits
 abbrev pub IsTextFault : List ℕ → TextFault → Type 0
 IsTextFault text (Lex fault) = IsLexFault text fault
-IsTextFault text (Parse fault) = (tokens : TokenList) × (tokens.source ≡ text) × AreTokens text tokens.located × IsParseFault MOST_OPEN_UNITS tokens fault
+IsTextFault text (Parse fault) =
+    (tokens : TokenList) × (tokens.source ≡ text) × AreTokens text tokens.located × IsParseFault MOST_OPEN_UNITS tokens fault

@@ -131,7 +131,8 @@ fn units_of_library(library: &Library) -> u64
 /// The numbers of a library.
 fn counted_tree(library: &Library) -> TreeCount
     ensures modules { result.modules ≡ library_modules (library_view library.now) % 2 ^ 64 }
-    ensures declarations { result.declarations ≡ library_declarations (library_view library.now) % 2 ^ 64 }
+    ensures declarations { result.declarations
+        ≡ library_declarations (library_view library.now) % 2 ^ 64 }
     ensures units { result.units ≡ library_units (library_view library.now) % 2 ^ 64 }
 {
     TreeCount {
@@ -152,7 +153,7 @@ fn both(alloc: Global, text: &str) -> Result<(Count, TreeCount), TextFault>
     Ok((counted(&tokens), counted_tree(&library)))
 }
 
-/// The same once and then again up to so many times.
+/// The same once and then again up to so many times, or the first of its faults.
 pub fn parse_again(
     alloc: Global,
     text: &str,

@@ -3,7 +3,7 @@ use Rattle.std.specs.Prelude.{◌≡◌, ℕ, true, false, List, Some, None, Ok,
 use Rattle.est_kernel.specs.Bits.{bits}
 use Rattle.est_kernel.specs.Interfaces.{inputs_of}
 use Rattle.est_kernel.specs.declared.interface.Declaration.{Declaration}
-use Rattle.est_relations.specs.Offers.{PendingInputs, place_of, IsOutputName, IsPendingName, KeepsExclusions, OfferAnswer}
+use Rattle.est_relations.specs.Offers.{pending_inputs, place_of, IsOutputName, IsPendingName, KeepsExclusions, OfferAnswer}
 use Rattle.est_relations.specs.declared.relations.Relation.{Relation}
 use Rattle.est_relations.specs.declared.refusal.Refusal.{Refusal}
 use Rattle.est_relations.specs.declared.refusal.Refusal.TheVariants.{UnknownSignal, NotInput, AlreadyOffered}
@@ -21,13 +21,11 @@ RefusesName interface mask name NotInput = IsOutputName interface name
 RefusesName interface mask name AlreadyOffered = IsPendingName interface mask name
 RefusesName interface mask name _ = ⊥
 
--- the pending inputs of this mask
-abbrev pub pending_inputs : List Declaration → List Relation → (mask : ℕ) → PendingInputs
-pending_inputs interface relations mask = record { interface = interface; relations = relations; mask = mask }
-
 -- the input of the name joins the pending ones, which are these afterwards
-pub record JoinsAs (interface : List Declaration) (relations : List Relation) (mask : ℕ) (name : List ℕ) (after : ℕ) : Type 0 where
-  pub answer : OfferAnswer (pending_inputs interface relations mask) name (Ok (record {})) (pending_inputs interface relations after)
+pub record JoinsAs (interface : List Declaration) (relations : List Relation) (mask : ℕ) (name : List ℕ)
+    (after : ℕ) : Type 0 where
+  pub answer : OfferAnswer (pending_inputs interface relations mask) name (Ok (record {}))
+      (pending_inputs interface relations after)
   pub kept : KeepsExclusions interface relations after
 
 -- why the name may not come

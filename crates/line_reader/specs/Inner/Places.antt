@@ -17,7 +17,8 @@ SameAhead held (Some bytes) more None = ⊥
 SameAhead held (Some bytes) more (Some others) = held ++ bytes ≡ more ++ others
 
 -- a read added to what is held, or gave up; at 0 bytes no known byte is left
-abbrev pub Adds : (held : List ℕ) → (left : Option (List ℕ)) → (count : Option ℕ) → (more : List ℕ) → (after : Option (List ℕ)) → Type 0
+abbrev pub Adds : (held : List ℕ) → (left : Option (List ℕ)) → (count : Option ℕ) → (more : List ℕ)
+    → (after : Option (List ℕ)) → Type 0
 Adds held left None more after = (more ≡ held) × SameAhead held left more after
 Adds held left (Some n) more after = SameAhead held left more after × (n ≡ 0 → (more ≡ held) × IsAtEnd after)
 

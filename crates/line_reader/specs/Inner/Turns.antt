@@ -24,13 +24,17 @@ IsNextOf before (Err fault.TooLong) line after = IsOverLong before
 IsNextOf before (Err fault.Read) line after = ⊤
 
 -- a line is answered, and its answer waits or is written
-pub record Answers {A : Type 0} (tells : A → List ℕ → List ℕ → A → Type 0) (before after : BetweenLines A) (written later : Option (List ℕ)) (waiting left : List ℕ) : Type 0 where
+pub record Answers {A : Type 0} (tells : A → List ℕ → List ℕ → A → Type 0) (before after : BetweenLines A)
+    (written later : Option (List ℕ)) (waiting left : List ℕ) : Type 0 where
   pub line : List ℕ
   pub text : List ℕ
   pub answered : AnswersLine tells before line text after
   pub puts : WritesUpTo written later (waiting ++ text) left
 
 -- a turn answers a line, or is the end of the connection
-abbrev pub Turns : {A : Type 0} → (tells : A → List ℕ → List ℕ → A → Type 0) → (fails : A → List ℕ → A → Type 0) → (refusal : List ℕ) → BetweenLines A → Result ⊤ Why → BetweenLines A → (written later : Option (List ℕ)) → (waiting left : List ℕ) → Type 0
+abbrev pub Turns : {A : Type 0} → (tells : A → List ℕ → List ℕ → A → Type 0) → (fails : A → List ℕ → A → Type 0)
+    → (refusal : List ℕ) → BetweenLines A → Result ⊤ Why → BetweenLines A → (written later : Option (List ℕ))
+    → (waiting left : List ℕ) → Type 0
 Turns tells fails refusal before (Ok _) after written later waiting left = Answers tells before after written later waiting left
-Turns tells fails refusal before (Err why) after written later waiting left = Serves tells fails refusal before why after.desk written later waiting left
+Turns tells fails refusal before (Err why) after written later waiting left =
+    Serves tells fails refusal before why after.desk written later waiting left

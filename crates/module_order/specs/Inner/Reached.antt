@@ -28,7 +28,8 @@ is_new seen place = nat_lt place (length seen) && not (slice_index_or seen place
 
 -- the search after one run
 abbrev pub visited : Search → ℕ → Search
-visited s place = if is_new s.seen place then record { seen = slice_set s.seen place true; waiting = s.waiting ++ place ∷ [] } else s
+visited s place =
+    if is_new s.seen place then record { seen = slice_set s.seen place true; waiting = s.waiting ++ place ∷ [] } else s
 
 -- the search after the runs of a row
 abbrev pub followed : Search → List ℕ → Search

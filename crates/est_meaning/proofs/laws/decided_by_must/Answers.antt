@@ -1,4 +1,4 @@
-use Rattle.est_meaning.proofs.MustRules.{gives_must, gives_can, rule_has_code, must_gives, must_silent, silent_none}
+use Rattle.est_meaning.proofs.DecidedByMust.{gives_must, gives_can, rule_has_code, must_gives, must_silent, silent_none}
 use Rattle.est_meaning.proofs.laws.decided_by_must.Goals as goal
 
 pub returns : goal.returns

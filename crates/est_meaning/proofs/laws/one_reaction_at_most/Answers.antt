@@ -1,5 +1,5 @@
-use Rattle.est_meaning.proofs.SafeLoops.{safe_after}
-use Rattle.est_meaning.proofs.Uniqueness.{unique, one_reaction}
+use Rattle.est_meaning.proofs.SafeLoopLemmas.{safe_after}
+use Rattle.est_meaning.proofs.OneReactionAtMost.{unique, one_reaction}
 use Rattle.est_meaning.proofs.laws.one_reaction_at_most.Goals as goal
 
 pub returns : goal.returns

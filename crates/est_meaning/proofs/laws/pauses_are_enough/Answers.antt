@@ -1,5 +1,5 @@
-use Rattle.est_meaning.proofs.NextStates.{goes_on_from}
-use Rattle.est_meaning.proofs.SafeLoops.{safe_for}
+use Rattle.est_meaning.proofs.PausesAreEnough.{goes_on_from}
+use Rattle.est_meaning.proofs.SafeLoopLemmas.{safe_for}
 use Rattle.est_meaning.proofs.laws.pauses_are_enough.Goals as goal
 
 pub returns : goal.returns

@@ -1,4 +1,4 @@
-use Rattle.est_meaning.proofs.Learning.{learns, settles, outputs_within}
+use Rattle.est_meaning.proofs.RoundsComeToRest.{learns, settles, outputs_within}
 use Rattle.est_meaning.proofs.laws.rounds_come_to_rest.Goals as goal
 
 pub returns : goal.returns

@@ -14,7 +14,8 @@ statement-requires-clause-small c =
     small_term c.args.flat.now.interface (body_of c.args.flat.now.body) c.in_ok-interface.ensures.bound few c.args.flat.now.bound
 
 pub build-requires : goal.build-requires
-build-requires c = rw (c.in_ok-root.ensures, c.in_ok-interface.ensures.same) (closed_term c.args.flat.now.interface (body_of c.args.flat.now.body) c.args.flat.now.bound)
+build-requires c = rw (c.in_ok-root.ensures, c.in_ok-interface.ensures.same)
+    (closed_term c.args.flat.now.interface (body_of c.args.flat.now.body) c.args.flat.now.bound)
 
 pub returns-in-Err : goal.returns-in-Err
 returns-in-Err c =

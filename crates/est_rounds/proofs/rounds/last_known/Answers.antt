@@ -1,5 +1,5 @@
 use Rattle.std.proofs.Common.{◌≡◌, sym, ap, ◌∙◌, rules}
-use Rattle.est_meaning.proofs.Settled.{settled}
+use Rattle.est_meaning.proofs.SettledLemmas.{settled}
 use Rattle.est_rounds.specs.Views.{env_of}
 use Rattle.est_rounds.proofs.rounds.last_known.Goals as goal
 

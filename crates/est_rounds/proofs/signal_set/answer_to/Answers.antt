@@ -1,4 +1,3 @@
-use Rattle.std.proofs.Common.{refl}
 use Rattle.est_rounds.specs.Views.{env_of}
 use Rattle.est_rounds.proofs.signal_set.answer_to.Goals as goal
 

@@ -11,5 +11,10 @@ returns-then-not-ends-clause-err c =
     let x = c.take_keyword.new.self in
     let start : c.args.cursor.now ≡ kw_end ∷ x = sym c.fork-ahead.ensures ∙ c.if-not-take_keyword.ensures.first refl in
     let same : c.take_keyword-2.new.self ≡ x = c.if-take_keyword.ensures.same refl in
-    let no_weak = subst (Skips (Keyword Weak)) same (c.if-take_keyword-2.ensures.other refl) in
-    (x, c.count-left.ensures, λ s h. ap (run MOST_OPEN_UNITS (may_end_weak ∷ s)) start ∙ weak_ends c.args.ends c.count-left.result x c.count-left.ensures (c.if-take_keyword.ensures.other refl) no_weak c.then-not-ends.either s h)
+    let no_weak = subst (Skips (Keyword Weak)) same (c.if-take_keyword-2.ensures.other refl) in (
+      x,
+      c.count-left.ensures,
+      λ s h. ap (run MOST_OPEN_UNITS (may_end_weak ∷ s)) start
+          ∙ weak_ends c.args.ends c.count-left.result x c.count-left.ensures
+          (c.if-take_keyword.ensures.other refl) no_weak c.then-not-ends.either s h,
+    )

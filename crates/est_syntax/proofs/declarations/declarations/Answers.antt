@@ -11,10 +11,14 @@ pub declarations-preserved : goal.declarations-preserved
 declarations-preserved c =
     let items = c.declarations.declarations.items in
     let next = c.in-Some.next in
-    let d = subst (λ (o : Option Declaration). IsDeclared o c.declarations.cursor c.declaration.new.cursor) c.in-Some.is c.in_ok-next.ensures.ok in
+    let d = subst (λ (o : Option Declaration). IsDeclared o c.declarations.cursor c.declaration.new.cursor)
+    c.in-Some.is c.in_ok-next.ensures.ok in
     record {
-      spelt = one_more_declaration c.args.cursor.now c.declarations.cursor c.declaration.new.cursor (map declaration_view items) (map declaration_view c.push.new.self.items) (declaration_view next) c.declarations.invariant.spelt d.0
-          (ap (λ (k : List Declaration). map declaration_view k) c.in_ok-push.ensures.items ∙ map-append declaration_view items (next ∷ []));
+      spelt = one_more_declaration c.args.cursor.now c.declarations.cursor c.declaration.new.cursor
+          (map declaration_view items) (map declaration_view c.push.new.self.items)
+          (declaration_view next) c.declarations.invariant.spelt d.0
+          (ap (λ (k : List Declaration). map declaration_view k) c.in_ok-push.ensures.items
+          ∙ map-append declaration_view items (next ∷ []));
       passes = λ s. c.declarations.invariant.passes s ∙ d.2 s;
       shorter = omega (arith, c.declarations.invariant.shorter, d.1);
     }

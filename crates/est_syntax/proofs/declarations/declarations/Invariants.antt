@@ -9,7 +9,8 @@ use Rattle.est_syntax.proofs.declarations.declarations.Given as goal
 abbrev pub invariant-declarations : goal.invariant-declarations
 invariant-declarations l = record {
   spelt : l.fn.cursor ≡ declarations_onto (map declaration_view l.declarations.items) l.cursor;
-  passes : (s : List Want) → run MOST_OPEN_UNITS (declarations_want ∷ s) l.fn.cursor ≡ run MOST_OPEN_UNITS (declarations_want ∷ s) l.cursor;
+  passes : (s : List Want) → run MOST_OPEN_UNITS (declarations_want ∷ s) l.fn.cursor ≡ run MOST_OPEN_UNITS
+      (declarations_want ∷ s) l.cursor;
   shorter : length l.cursor ≤ length l.fn.cursor;
 }
 

@@ -12,7 +12,9 @@ members-preserved c =
     let hash : c.members.cursor ≡ Symbol Hash ∷ c.take_symbol.new.self = c.members-test.ensures.first refl in
     let all = hash ∙ ap (λ (l : List Token). Symbol Hash ∷ l) c.in_ok-name.ensures.ok in
     record {
-      spelt = one_more_member c.args.cursor.now c.take_symbol.new.self c.members.cursor c.expect_name.new.self c.members.members.items c.push.new.self.items c.in_ok-name.name c.members.invariant.spelt hash c.in_ok-name.ensures.ok c.in_ok-push.ensures.items;
+      spelt = one_more_member c.args.cursor.now c.take_symbol.new.self c.members.cursor c.expect_name.new.self
+          c.members.members.items c.push.new.self.items c.in_ok-name.name c.members.invariant.spelt hash
+          c.in_ok-name.ensures.ok c.in_ok-push.ensures.items;
       passes = λ s. c.members.invariant.passes s ∙ ap (run MOST_OPEN_UNITS (later_members ∷ s)) all;
       shorter = omega (arith, c.members.invariant.shorter, ap (length {A = Token}) all);
     }

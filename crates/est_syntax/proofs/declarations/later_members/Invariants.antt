@@ -7,7 +7,8 @@ use Rattle.est_syntax.proofs.declarations.later_members.Given as goal
 abbrev pub invariant-members : goal.invariant-members
 invariant-members l = record {
   spelt : l.fn.cursor ≡ later_members_onto l.members.items l.cursor;
-  passes : (s : List Want) → run MOST_OPEN_UNITS (later_members ∷ s) l.fn.cursor ≡ run MOST_OPEN_UNITS (later_members ∷ s) l.cursor;
+  passes : (s : List Want) → run MOST_OPEN_UNITS (later_members ∷ s) l.fn.cursor ≡ run MOST_OPEN_UNITS
+      (later_members ∷ s) l.cursor;
   shorter : length l.cursor ≤ length l.fn.cursor;
 }
 

@@ -16,8 +16,12 @@ relations-preserved c =
     let next = c.in_ok-next.next in
     let comma : c.relations.cursor ≡ Symbol Comma ∷ c.take_symbol.new.self = c.relations-test.ensures.first refl in
     record {
-      spelt = one_more_relation c.args.cursor.now c.take_symbol.new.self c.relations.cursor c.relation.new.cursor (map relation_view items) (map relation_view c.push.new.self.items) (relation_view next) c.relations.invariant.spelt comma c.in_ok-next.ensures.spelt
-          (ap (λ (k : List Relation). map relation_view k) c.in_ok-push.ensures.items ∙ map-append relation_view items (next ∷ []));
-      passes = λ s. c.relations.invariant.passes s ∙ ap (run MOST_OPEN_UNITS (later_relations ∷ s)) comma ∙ c.in_ok-next.ensures.reads.passes (later_relations ∷ s);
+      spelt = one_more_relation c.args.cursor.now c.take_symbol.new.self c.relations.cursor c.relation.new.cursor
+          (map relation_view items) (map relation_view c.push.new.self.items)
+          (relation_view next) c.relations.invariant.spelt comma c.in_ok-next.ensures.spelt
+          (ap (λ (k : List Relation). map relation_view k) c.in_ok-push.ensures.items
+          ∙ map-append relation_view items (next ∷ []));
+      passes = λ s. c.relations.invariant.passes s ∙ ap (run MOST_OPEN_UNITS (later_relations ∷ s)) comma
+          ∙ c.in_ok-next.ensures.reads.passes (later_relations ∷ s);
       shorter = omega (arith, c.relations.invariant.shorter, ap (length {A = Token}) comma, c.in_ok-next.ensures.reads.shorter);
     }

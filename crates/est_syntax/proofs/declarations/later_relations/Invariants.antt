@@ -8,7 +8,8 @@ use Rattle.est_syntax.proofs.declarations.later_relations.Given as goal
 abbrev pub invariant-relations : goal.invariant-relations
 invariant-relations l = record {
   spelt : l.fn.cursor ≡ later_relations_onto (map relation_view l.relations.items) l.cursor;
-  passes : (s : List Want) → run MOST_OPEN_UNITS (later_relations ∷ s) l.fn.cursor ≡ run MOST_OPEN_UNITS (later_relations ∷ s) l.cursor;
+  passes : (s : List Want) → run MOST_OPEN_UNITS (later_relations ∷ s) l.fn.cursor ≡ run MOST_OPEN_UNITS
+      (later_relations ∷ s) l.cursor;
   shorter : length l.cursor ≤ length l.fn.cursor;
 }
 

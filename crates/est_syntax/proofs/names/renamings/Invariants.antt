@@ -11,7 +11,8 @@ abbrev pub invariant-renamings : goal.invariant-renamings
 invariant-renamings l = record {
   spelt : l.fn.cursor ≡ renamings_so_far (map renaming_view l.renamings.items) l.cursor;
   some : 0 < length l.renamings.items;
-  passes : (s : List Want) → run MOST_OPEN_UNITS (renamings ∷ s) l.fn.cursor ≡ run MOST_OPEN_UNITS (later_renamings ∷ one (Symbol CloseBracket) ∷ s) l.cursor;
+  passes : (s : List Want) → run MOST_OPEN_UNITS (renamings ∷ s) l.fn.cursor ≡ run MOST_OPEN_UNITS
+      (later_renamings ∷ one (Symbol CloseBracket) ∷ s) l.cursor;
   shorter : length l.cursor ≤ length l.fn.cursor;
 }
 

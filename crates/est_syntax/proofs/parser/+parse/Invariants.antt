@@ -34,7 +34,8 @@ abbrev pub decreases-later_units-units : goal.decreases-later_units-units
 decreases-later_units-units l = length l.cursor
 
 abbrev pub invariant-later_sequences-sequences : goal.invariant-later_sequences-sequences
-invariant-later_sequences-sequences l = SequencesSoFar l.room l.ends (sequences_of (map sequence_view l.sequences.items)) l.fn.cursor l.cursor
+invariant-later_sequences-sequences l =
+    SequencesSoFar l.room l.ends (sequences_of (map sequence_view l.sequences.items)) l.fn.cursor l.cursor
 
 abbrev pub decreases-later_sequences-sequences : goal.decreases-later_sequences-sequences
 decreases-later_sequences-sequences l = length l.cursor

@@ -21,7 +21,8 @@ returns-then-take_keyword-clause-ok c =
     let first : c.args.cursor.now ≡ Keyword keyword.Each ∷ c.take_keyword.new.self = c.if-take_keyword.ensures.first refl in
     let all = first ∙ ap (λ (l : List Token). Keyword keyword.Each ∷ l) c.in_ok-signal.ensures.ok in
     record {
-      spelt = ap (λ (l : List Token). Keyword keyword.Loop ∷ statement_onto (statement_view c.args.body) l) all ∙ ap (λ (u : UnitTree). unit_onto u c.expect_name.new.self) (sym (repeat_each_is c.args.body c.in_ok-signal.signal));
+      spelt = ap (λ (l : List Token). Keyword keyword.Loop ∷ statement_onto (statement_view c.args.body) l) all
+          ∙ ap (λ (u : UnitTree). unit_onto u c.expect_name.new.self) (sym (repeat_each_is c.args.body c.in_ok-signal.signal));
       depth = ap unit_depth (repeat_each_is c.args.body c.in_ok-signal.signal);
       passes = λ s. ap (run MOST_OPEN_UNITS (loop_tail ∷ leave ∷ s)) all ∙ leave_over MOST_OPEN_UNITS s c.expect_name.new.self;
       shorter = omega (arith, ap (length {A = Token}) all);
@@ -30,16 +31,22 @@ returns-then-take_keyword-clause-ok c =
 pub returns-in_err-again-clause-err : goal.returns-in_err-again-clause-err
 returns-in_err-again-clause-err c =
     let p = err_from_is_err_and c.from_residual-in_err-again.result c.from_residual-in_err-again.ensures.1 in
-    rw (p.1, p.2) (fails_from (head_wants head.Loop) (one kw_end ∷ may (Keyword keyword.Loop) ∷ []) (λ s. leave ∷ s) c.args.cursor.now c.take_keyword.new.self c.in_err-again.field-0.0
-    (λ s. loop_tail_is (leave ∷ s) c.args.cursor.now (c.if-take_keyword.ensures.other refl) ∙ ap (run MOST_OPEN_UNITS (one kw_end ∷ may (Keyword keyword.Loop) ∷ leave ∷ s)) (sym (c.if-take_keyword.ensures.same refl))) c.in_err-again.ensures.err)
+    rw (p.1, p.2) (fails_from (head_wants head.Loop) (one kw_end ∷ may (Keyword keyword.Loop) ∷ [])
+    (λ s. leave ∷ s) c.args.cursor.now c.take_keyword.new.self c.in_err-again.field-0.0
+    (λ s. loop_tail_is (leave ∷ s) c.args.cursor.now (c.if-take_keyword.ensures.other refl)
+    ∙ ap (run MOST_OPEN_UNITS (one kw_end ∷ may (Keyword keyword.Loop) ∷ leave ∷ s))
+    (sym (c.if-take_keyword.ensures.same refl))) c.in_err-again.ensures.err)
 
 pub returns-clause-ok : goal.returns-clause-ok
 returns-clause-ok c =
     let same : c.take_keyword.new.self ≡ c.args.cursor.now = c.if-take_keyword.ensures.same refl in
     let all = sym same ∙ c.in_ok-again.ensures.spelt in
     record {
-      spelt = ap (λ (l : List Token). Keyword keyword.Loop ∷ statement_onto (statement_view c.args.body) l) all ∙ ap (λ (u : UnitTree). unit_onto u c.end_again.new.cursor) (sym (repeat_is c.args.body c.in_ok-again.again));
+      spelt = ap (λ (l : List Token). Keyword keyword.Loop ∷ statement_onto (statement_view c.args.body) l) all
+          ∙ ap (λ (u : UnitTree). unit_onto u c.end_again.new.cursor) (sym (repeat_is c.args.body c.in_ok-again.again));
       depth = ap unit_depth (repeat_is c.args.body c.in_ok-again.again);
-      passes = λ s. loop_tail_is (leave ∷ s) c.args.cursor.now (c.if-take_keyword.ensures.other refl) ∙ ap (run MOST_OPEN_UNITS (one kw_end ∷ may (Keyword keyword.Loop) ∷ leave ∷ s)) (sym same) ∙ c.in_ok-again.ensures.reads.passes (leave ∷ s) ∙ leave_over MOST_OPEN_UNITS s c.end_again.new.cursor;
+      passes = λ s. loop_tail_is (leave ∷ s) c.args.cursor.now (c.if-take_keyword.ensures.other refl)
+          ∙ ap (run MOST_OPEN_UNITS (one kw_end ∷ may (Keyword keyword.Loop) ∷ leave ∷ s)) (sym same)
+          ∙ c.in_ok-again.ensures.reads.passes (leave ∷ s) ∙ leave_over MOST_OPEN_UNITS s c.end_again.new.cursor;
       shorter = omega (arith, ap (length {A = Token}) same, c.in_ok-again.ensures.reads.shorter);
     }

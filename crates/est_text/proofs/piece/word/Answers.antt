@@ -8,7 +8,8 @@ returns-in_default-clause-none c =
     let rest = c.args.rest.now in
     let n = c.word_len-count.result in
     let e = rw c.split_at.ensures.front at c.from_bytes.ensures in
-    word_fault rest n c.requires.some c.requires.letter c.word_len-count.ensures.same c.word_len-count.ensures.stops (none_read (take n rest) c.from_bytes.result e c.in_default.is)
+    word_fault rest n c.requires.some c.requires.letter c.word_len-count.ensures.same c.word_len-count.ensures.stops
+    (none_read (take n rest) c.from_bytes.result e c.in_default.is)
 
 pub returns-in-Some-keyword_of-clause-found : goal.returns-in-Some-keyword_of-clause-found
 returns-in-Some-keyword_of-clause-found c =

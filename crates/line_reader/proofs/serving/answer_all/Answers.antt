@@ -5,7 +5,8 @@ pub loop-why-init : goal.loop-why-init
 loop-why-init g c = record { sound = c.requires; reaches = reach_first g.A.Answerer.tells _ _ _ }
 
 pub returns-in-Err-clause-serves : goal.returns-in-Err-clause-serves
-returns-in-Err-clause-serves g c = served _ _ _ _ _ _ _ _ _ _ _ _ _ c.loop-why.invariant.reaches (rw c.in-Err.is at c.turn.ensures.turns)
+returns-in-Err-clause-serves g c =
+    served _ _ _ _ _ _ _ _ _ _ _ _ _ c.loop-why.invariant.reaches (rw c.in-Err.is at c.turn.ensures.turns)
 
 pub loop-why-preserved : goal.loop-why-preserved
 loop-why-preserved g c = record {

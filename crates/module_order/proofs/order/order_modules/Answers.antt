@@ -10,6 +10,9 @@ use Rattle.module_order.proofs.order.order_modules.Goals as goal
 pub returns-clause-bottom_up : goal.returns-clause-bottom_up
 returns-clause-bottom_up c =
     let rows = rows_of c.args.runs.now in
-    let ranked = subst (λ n. AreRanked rows n c.in_ok-ranked.ranked.items) (sym (length-map c.args.runs.now (λ (row : Vec ℕ Global). row.items))) c.in_ok-ranked.ensures.ranked in
-    subst (λ (ps : List ℕ). IsBottomUp rows ps) (sym (c.in_ok-places.ensures ∙ ap (map (λ (m : Ranked). m.place)) c.deref.ensures.value))
-    (sorted_is_bottom_up rows c.in_ok-ranked.ranked.items c.sort_by_rank.new.ranked.items ranked c.in_ok-ranked.ensures.ok c.in_ok-sort_by_rank.ensures.same c.in_ok-sort_by_rank.ensures.sorted)
+    let ranked = subst (λ n. AreRanked rows n c.in_ok-ranked.ranked.items)
+    (sym (length-map c.args.runs.now (λ (row : Vec ℕ Global). row.items))) c.in_ok-ranked.ensures.ranked in
+    subst (λ (ps : List ℕ). IsBottomUp rows ps)
+    (sym (c.in_ok-places.ensures ∙ ap (map (λ (m : Ranked). m.place)) c.deref.ensures.value))
+    (sorted_is_bottom_up rows c.in_ok-ranked.ranked.items c.sort_by_rank.new.ranked.items ranked
+    c.in_ok-ranked.ensures.ok c.in_ok-sort_by_rank.ensures.same c.in_ok-sort_by_rank.ensures.sorted)

@@ -7,5 +7,7 @@ pub returns : goal.returns
 returns c =
     let l = c.args.library.now in
     c.loop-module.invariant
-    ∙ ap (so_far declaration_number (declaration_number l.first)) (take_all c.loop-module.module-index c.deref-module-items.result.now c.loop-module-test.false ∙ c.deref-module-items.ensures.value)
+    ∙ ap (so_far declaration_number (declaration_number l.first))
+    (take_all c.loop-module.module-index c.deref-module-items.result.now c.loop-module-test.false
+    ∙ c.deref-module-items.ensures.value)
     ∙ library_declarations_whole l

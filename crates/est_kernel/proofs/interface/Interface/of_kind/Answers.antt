@@ -17,11 +17,15 @@ loop-place-preserved c =
     declares_at c.args.kind c.args.self.now c.loop-place.place c.declaration-item.result (rw (← items) c.loop-place-test.true)
     ∙ (ap (λ (d : Declaration). same_kind d.kind c.args.kind) (sym (rw items at c.declaration-item.is)) ∙ sym c.is.ensures) in
     elim c.if-is.branch [
-      | then-is w ↦ rw w.signals-is (with_next _ _ (declares c.args.kind c.args.self.now) c.loop-place.place w.with-signals.ensures.same w.with-signals.ensures.other (at ∙ w.if-is.true) c.loop-place.invariant)
-      | else-is w ↦ rw w.signals-is (without_next _ (declares c.args.kind c.args.self.now) c.loop-place.place (at ∙ w.if-is.false) c.loop-place.invariant)
+      | then-is w ↦ rw w.signals-is (with_next _ _
+          (declares c.args.kind c.args.self.now) c.loop-place.place w.with-signals.ensures.same
+          w.with-signals.ensures.other (at ∙ w.if-is.true) c.loop-place.invariant)
+      | else-is w ↦ rw w.signals-is (without_next _ (declares c.args.kind c.args.self.now) c.loop-place.place
+          (at ∙ w.if-is.false) c.loop-place.invariant)
     ]
 
 pub returns : goal.returns
 returns c =
     let items : c.deref-declaration-items.result.now ≡ c.args.self.now = cc in
-    fun_ext (all_looked_at c.args.kind c.args.self.now _ c.loop-place.place (rw (← items) c.loop-place-test.false) c.loop-place.invariant)
+    fun_ext (all_looked_at c.args.kind c.args.self.now _ c.loop-place.place
+    (rw (← items) c.loop-place-test.false) c.loop-place.invariant)

@@ -12,4 +12,8 @@ pub number-requires : goal.number-requires
 number-requires c = omega (arith, pauses_within_limits c.args.root (sym c.limit_passed.ensures ∙ is_none _ c.in_default.not-Some))
 
 pub start_codes-requires : goal.start_codes-requires
-start_codes-requires c = record { fits = fits_within_limits c.args.interface c.args.root c.requires (sym c.limit_passed.ensures ∙ is_none _ c.in_default.not-Some) }
+start_codes-requires c =
+    record {
+      fits = fits_within_limits c.args.interface c.args.root c.requires
+          (sym c.limit_passed.ensures ∙ is_none _ c.in_default.not-Some);
+    }

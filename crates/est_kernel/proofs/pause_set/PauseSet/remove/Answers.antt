@@ -9,4 +9,5 @@ returns-clause-same c = word_same c.args.self.now.words c.args.n.index c.without
 
 pub returns-clause-others : goal.returns-clause-others
 unfolding pauses_of
-returns-clause-others c i d = word_others c.args.self.now.words c.args.n.index c.without.result (omega arith) c.without.ensures.other i d
+returns-clause-others c i d =
+    word_others c.args.self.now.words c.args.n.index c.without.result (omega arith) c.without.ensures.other i d

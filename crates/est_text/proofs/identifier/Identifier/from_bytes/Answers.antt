@@ -12,5 +12,6 @@ invariant_of-result c =
     let short : length text ≤ IDENTIFIER_BYTES = short_identifier text is in
     rw c.copy_from_slice.ensures.after (
       filled IDENTIFIER_BYTES text (length text) refl short,
-      subst (λ s. IsTrue (is_identifier s)) (sym (front text (drop (length text) (replicate IDENTIFIER_BYTES 0)) (length text) refl)) (search rules),
+      subst (λ s. IsTrue (is_identifier s))
+          (sym (front text (drop (length text) (replicate IDENTIFIER_BYTES 0)) (length text) refl)) (search rules),
     )

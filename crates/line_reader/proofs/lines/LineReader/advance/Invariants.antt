@@ -6,7 +6,8 @@ use Rattle.line_reader.proofs.lines.LineReader.advance.Given as goal
 
 abbrev pub invariant-loop-at : goal.invariant-loop-at
 invariant-loop-at g l = record {
-  ahead : SameAhead (held_bytes l.fn.self) (g.R.Read.remaining l.fn.reader.device) (held_bytes l.self) (g.R.Read.remaining l.reader.device);
+  ahead : SameAhead (held_bytes l.fn.self) (g.R.Read.remaining l.fn.reader.device) (held_bytes l.self)
+      (g.R.Read.remaining l.reader.device);
   weighs : weight l.reader.left l.self ≤ weight l.fn.reader.left l.fn.self;
   unread : ((l.reader ≡ l.fn.reader) × (held_bytes l.self ≡ held_bytes l.fn.self)) ⊎ HasNoEnd (held_bytes l.fn.self);
   unfailed : l.reader.failed ≡ l.fn.reader.failed;

@@ -100,7 +100,8 @@ pub is_word_set : (f : ℕ → Bool) → IsWordSet (record { words = words_from 
 is_word_set f = record { words = words_length f 0 32; width = words_fit f 0 32 }
 
 -- those words have these members
-pub has_members : (f : ℕ → Bool) → ((n : ℕ) → MOST_STATEMENTS ≤ n → f n ≡ false) → pauses_of (record { words = words_from f 0 32 }) ≡ f
+pub has_members : (f : ℕ → Bool) → ((n : ℕ) → MOST_STATEMENTS ≤ n → f n ≡ false)
+    → pauses_of (record { words = words_from f 0 32 }) ≡ f
 unfolding pauses_of
 has_members f out = fun_ext (λ n. elim (cases_lt n MOST_STATEMENTS) [
   | inl l ↦
@@ -121,7 +122,8 @@ pub no_pause_above : (s : Statement) (i : ℕ) → MOST_STATEMENTS ≤ i → has
 no_pause_above Nothing i l = refl
 no_pause_above (Pause n) i l = ne_eqb n.index i (λ e. absurd (omega (arith, l, e, n.in_range)))
 no_pause_above (Emit s) i l = refl
-no_pause_above (Present' t x p y q) i l = either_false (has_pause p i) (has_pause q i) (no_pause_above p i l) (no_pause_above q i l)
+no_pause_above (Present' t x p y q) i l =
+    either_false (has_pause p i) (has_pause q i) (no_pause_above p i l) (no_pause_above q i l)
 no_pause_above (Suspend' t x p) i l = no_pause_above p i l
 no_pause_above (Seq' x p y q) i l = either_false (has_pause p i) (has_pause q i) (no_pause_above p i l) (no_pause_above q i l)
 no_pause_above (Loop' x p) i l = no_pause_above p i l

@@ -10,7 +10,7 @@ use Rattle.est_meaning.specs.declared.status.Status.TheVariants.{Present, Absent
 use Rattle.est_meaning.specs.Status.{Env, status_of, with_local, verdict, by_status}
 use Rattle.est_meaning.specs.MustCan.{Acts, no_acts, just_code, either, together, acts_out_of_trap, hide, may_stay, must_then, can_then, Mode, sure, maybe, next_mode, must, can, env_within}
 use Rattle.est_meaning.specs.Knowledge.{IsBelow, KnowsLess, IsIn, IsWithin}
-use Rattle.est_meaning.proofs.CodeSets.{both_true, max_mono, out_of_trap_mono, up_to_found, code_true}
+use Rattle.est_meaning.proofs.CodeSetLemmas.{both_true, max_mono, out_of_trap_mono, up_to_found, code_true}
 
 same_within : (a : Acts) → IsWithin a a
 same_within a = record { signals = λ x h. h; codes = λ x h. h }
@@ -59,7 +59,10 @@ either_within : (a b c d : Acts) → IsWithin a c → IsWithin b d → IsWithin 
 either_within a b c d f g = record { signals = union_in _ _ _ _ f.signals g.signals; codes = either_in _ _ _ _ f.codes g.codes }
 
 together_within : (a b c d : Acts) → IsWithin a c → IsWithin b d → IsWithin (together a b) (together c d)
-together_within a b c d f g = record { signals = union_in _ _ _ _ f.signals g.signals; codes = λ k h. max_mono a.codes b.codes c.codes d.codes k f.codes g.codes h }
+together_within a b c d f g = record {
+  signals = union_in _ _ _ _ f.signals g.signals;
+  codes = λ k h. max_mono a.codes b.codes c.codes d.codes k f.codes g.codes h;
+}
 
 out_of_trap_within : (a b : Acts) → IsWithin a b → IsWithin (acts_out_of_trap a) (acts_out_of_trap b)
 out_of_trap_within a b f = record { signals = f.signals; codes = λ k h. out_of_trap_mono a.codes b.codes k f.codes h }
@@ -132,7 +135,8 @@ one_chosen Present a b f g = f
 one_chosen Absent a b f g = g
 one_chosen Unknown a b f g = one_none
 
-one_then : (x : Bool) (a b : Acts) → IsOne a.codes → IsOne b.codes → IsOne (cond x (record { signals = union a.signals b.signals; codes = b.codes }) a).codes
+one_then : (x : Bool) (a b : Acts) → IsOne a.codes → IsOne b.codes
+    → IsOne (cond x (record { signals = union a.signals b.signals; codes = b.codes }) a).codes
 one_then true a b f g = g
 one_then false a b f g = f
 
@@ -156,7 +160,8 @@ must_then_within : (a b c d : Acts) → IsOne c.codes → IsWithin a c → IsWit
 must_then_within a b c d one f g = go (a.codes 0) (c.codes 0) refl refl
   where
     go : (x y : Bool) → a.codes 0 ≡ x → c.codes 0 ≡ y
-        → IsWithin (cond x (record { signals = union a.signals b.signals; codes = b.codes }) a) (cond y (record { signals = union c.signals d.signals; codes = d.codes }) c)
+        → IsWithin (cond x (record { signals = union a.signals b.signals; codes = b.codes }) a)
+        (cond y (record { signals = union c.signals d.signals; codes = d.codes }) c)
     go true true p q = record { signals = union_in _ _ _ _ f.signals g.signals; codes = g.codes }
     go true false p q = absurd (both_ways (c.codes 0) q (f.codes 0 p))
     go false true p q = record {
@@ -174,8 +179,12 @@ can_then_within : (a b c d : Acts) → IsWithin a c → IsWithin b d → IsWithi
 can_then_within a b c d f g = go (a.codes 0) (c.codes 0) refl refl
   where
     go : (x y : Bool) → a.codes 0 ≡ x → c.codes 0 ≡ y
-        → IsWithin (cond x (record { signals = union a.signals b.signals; codes = either_code (but_zero a.codes) b.codes }) a) (cond y (record { signals = union c.signals d.signals; codes = either_code (but_zero c.codes) d.codes }) c)
-    go true true p q = record { signals = union_in _ _ _ _ f.signals g.signals; codes = either_in _ _ _ _ (but_zero_in _ _ f.codes) g.codes }
+        → IsWithin (cond x (record {
+          signals = union a.signals b.signals;
+          codes = either_code (but_zero a.codes) b.codes;
+        }) a) (cond y (record { signals = union c.signals d.signals; codes = either_code (but_zero c.codes) d.codes }) c)
+    go true true p q =
+        record { signals = union_in _ _ _ _ f.signals g.signals; codes = either_in _ _ _ _ (but_zero_in _ _ f.codes) g.codes }
     go true false p q = absurd (both_ways (c.codes 0) q (f.codes 0 p))
     go false true p q = record {
       signals = λ x h. left_union _ _ x (f.signals x h);
@@ -187,8 +196,10 @@ must_can_then : (a b c d : Acts) → IsWithin a c → (a.codes 0 ≡ true → Is
 must_can_then a b c d f g = go (a.codes 0) (c.codes 0) refl refl
   where
     go : (x y : Bool) → a.codes 0 ≡ x → c.codes 0 ≡ y
-        → IsWithin (cond x (record { signals = union a.signals b.signals; codes = b.codes }) a) (cond y (record { signals = union c.signals d.signals; codes = either_code (but_zero c.codes) d.codes }) c)
-    go true true p q = record { signals = union_in _ _ _ _ f.signals (g p).signals; codes = λ k h. right_in _ _ k ((g p).codes k h) }
+        → IsWithin (cond x (record { signals = union a.signals b.signals; codes = b.codes }) a)
+        (cond y (record { signals = union c.signals d.signals; codes = either_code (but_zero c.codes) d.codes }) c)
+    go true true p q =
+        record { signals = union_in _ _ _ _ f.signals (g p).signals; codes = λ k h. right_in _ _ k ((g p).codes k h) }
     go true false p q = absurd (both_ways (c.codes 0) q (f.codes 0 p))
     go false true p q = record {
       signals = λ x h. left_union _ _ x (f.signals x h);
@@ -196,7 +207,8 @@ must_can_then a b c d f g = go (a.codes 0) (c.codes 0) refl refl
     }
     go false false p q = f
 
-pub local_below : (e f : Env) (s : ℕ) (v w : Status) → KnowsLess e f → IsBelow v w → KnowsLess (with_local e s v) (with_local f s w)
+pub local_below : (e f : Env) (s : ℕ) (v w : Status) → KnowsLess e f → IsBelow v w
+    → KnowsLess (with_local e s v) (with_local f s w)
 unfolding with_local
 local_below e f s v w k b t = go (same_name (inner s) t)
   where
@@ -204,7 +216,8 @@ local_below e f s v w k b t = go (same_name (inner s) t)
     go true = b
     go false = k t
 
-must_can_chosen : (v : Status) (a b c d x : Acts) → IsWithin a c → IsWithin b d → IsWithin (by_status v a b no_acts) (by_status v c d x)
+must_can_chosen : (v : Status) (a b c d x : Acts) → IsWithin a c → IsWithin b d
+    → IsWithin (by_status v a b no_acts) (by_status v c d x)
 must_can_chosen Present a b c d x f g = f
 must_can_chosen Absent a b c d x f g = g
 must_can_chosen Unknown a b c d x f g = none_within x
@@ -219,7 +232,8 @@ must_can (present s p q) e = must_can_chosen (status_of e s) _ _ _ _ _ (must_can
 must_can (suspend s p) e = must_can p e
 must_can (held s p) e = must_can_chosen (status_of e s) _ _ _ _ _ (same_within (just_code 1)) (must_can p e)
 must_can (seq p q) e =
-    must_can_then _ _ _ _ (must_can p e) (λ h. subst (λ b. IsWithin (must q e) (can q (next_mode sure b) e)) (sym h) (must_can q e))
+    must_can_then _ _ _ _ (must_can p e)
+    (λ h. subst (λ b. IsWithin (must q e) (can q (next_mode sure b) e)) (sym h) (must_can q e))
 must_can (loop p) e = must_can p e
 must_can (par p q) e = together_within _ _ _ _ (must_can p e) (must_can q e)
 must_can (trap p) e = out_of_trap_within _ _ (must_can p e)
@@ -240,7 +254,8 @@ query_below e f tick k = inr refl
 query_below e f (of s) k = k s
 
 -- of a choice
-must_chosen : (v w : Status) (a b c d : Acts) → IsBelow v w → IsWithin a c → IsWithin b d → IsWithin (by_status v a b no_acts) (by_status w c d no_acts)
+must_chosen : (v w : Status) (a b c d : Acts) → IsBelow v w → IsWithin a c → IsWithin b d
+    → IsWithin (by_status v a b no_acts) (by_status w c d no_acts)
 must_chosen v w a b c d (inl h) f g = rw h (none_within _)
 must_chosen v w a b c d (inr h) f g = rw h (same w)
   where
@@ -249,7 +264,8 @@ must_chosen v w a b c d (inr h) f g = rw h (same w)
     same Absent = g
     same Unknown = same_within _
 
-can_chosen : (v w : Status) (a b x c d y : Acts) → IsBelow v w → IsWithin c a → IsWithin d b → IsWithin y x → IsWithin c x → IsWithin d x
+can_chosen : (v w : Status) (a b x c d y : Acts) → IsBelow v w → IsWithin c a → IsWithin d b → IsWithin y x
+    → IsWithin c x → IsWithin d x
     → IsWithin (by_status w c d y) (by_status v a b x)
 can_chosen v w a b x c d y (inr h) f g i j k = rw h (same w)
   where
@@ -265,7 +281,8 @@ can_chosen v w a b x c d y (inl h) f g i j k = rw h (any w)
     any Unknown = i
 
 -- what a local signal is, with more knowledge
-pub verdict_below : (b c b' c' : Bool) → (b ≡ true → b' ≡ true) → (c' ≡ true → c ≡ true) → (b' ≡ true → c' ≡ true) → IsBelow (verdict b c) (verdict b' c')
+pub verdict_below : (b c b' c' : Bool) → (b ≡ true → b' ≡ true) → (c' ≡ true → c ≡ true) → (b' ≡ true → c' ≡ true)
+    → IsBelow (verdict b c) (verdict b' c')
 verdict_below true c b' c' f g i = rw (f refl) (inr refl)
 verdict_below false true b' c' f g i = inl refl
 verdict_below false false true c' f g i = absurd (both_ways false refl (g (i refl)))
@@ -275,14 +292,16 @@ verdict_below false false false false f g i = inr refl
 pub less_same : (e : Env) → KnowsLess e e
 less_same e s = inr refl
 
-modes : (m : Mode) (b b' : Bool) → (b ≡ true → b' ≡ true) → (q : Term) (e : Env) → ((e : Env) → IsWithin (can q sure e) (can q maybe e)) → IsWithin (can q (next_mode m b') e) (can q (next_mode m b) e)
+modes : (m : Mode) (b b' : Bool) → (b ≡ true → b' ≡ true) → (q : Term) (e : Env)
+    → ((e : Env) → IsWithin (can q sure e) (can q maybe e)) → IsWithin (can q (next_mode m b') e) (can q (next_mode m b) e)
 modes sure true b' f q e h = rw (f refl) (same_within _)
 modes sure false true f q e h = h e
 modes sure false false f q e h = same_within _
 modes maybe b b' f q e h = same_within _
 
 -- the environment of a local signal's body, with more knowledge
-sure_below : (s : ℕ) (p : Term) → Monotone p → (e f : Env) → KnowsLess e f → KnowsLess (env_within sure s p e) (env_within sure s p f)
+sure_below : (s : ℕ) (p : Term) → Monotone p → (e f : Env) → KnowsLess e f
+    → KnowsLess (env_within sure s p e) (env_within sure s p f)
 sure_below s p P e f k =
     let kk = local_below e f s Unknown Unknown k (inr refl) in
     local_below e f s _ _ k (verdict_below _ _ _ _
@@ -293,7 +312,8 @@ sure_below s p P e f k =
 no_true : {A : Type 0} → false ≡ true → A
 no_true h = cc
 
-signal_down : (s : ℕ) (p : Term) → Monotone p → (m : Mode) (e f : Env) → KnowsLess e f → IsWithin (can (signal s p) m f) (can (signal s p) m e)
+signal_down : (s : ℕ) (p : Term) → Monotone p → (m : Mode) (e f : Env) → KnowsLess e f
+    → IsWithin (can (signal s p) m f) (can (signal s p) m e)
 signal_down s p P sure e f k = hide_within s _ _ (P.can_down sure _ _ (sure_below s p P e f k))
 signal_down s p P maybe e f k =
     let kk = local_below e f s Unknown Unknown k (inr refl) in
@@ -319,8 +339,10 @@ monotone (present s p q) =
     let P = monotone p in
     let Q = monotone q in
     record {
-      must_up = λ e f k. must_chosen (status_of e s) (status_of f s) _ _ _ _ (query_below e f s k) (P.must_up e f k) (Q.must_up e f k);
-      can_down = λ m e f k. can_chosen (status_of e s) (status_of f s) _ _ _ _ _ _ (query_below e f s k) (P.can_down m e f k) (Q.can_down m e f k)
+      must_up = λ e f k. must_chosen (status_of e s) (status_of f s) _ _ _ _ (query_below e f s k) (P.must_up e f k)
+          (Q.must_up e f k);
+      can_down = λ m e f k. can_chosen (status_of e s) (status_of f s) _ _ _ _ _ _ (query_below e f s k)
+          (P.can_down m e f k) (Q.can_down m e f k)
           (either_within _ _ _ _ (P.can_down maybe e f k) (Q.can_down maybe e f k))
           (then_within (P.can_down m e f k) (then_within (in_doubt p P m e) (left_within _ _)))
           (then_within (Q.can_down m e f k) (then_within (in_doubt q Q m e) (right_within _ _)));
@@ -331,11 +353,14 @@ monotone (suspend s p) = let P = monotone p in record { must_up = P.must_up; can
 monotone (held s p) =
     let P = monotone p in
     record {
-      must_up = λ e f k. must_chosen (status_of e s) (status_of f s) _ _ _ _ (query_below e f s k) (same_within (just_code 1)) (P.must_up e f k);
-      can_down = λ m e f k. can_chosen (status_of e s) (status_of f s) _ _ _ _ _ _ (query_below e f s k) (same_within (just_code 1)) (P.can_down m e f k)
+      must_up = λ e f k. must_chosen (status_of e s) (status_of f s) _ _ _ _ (query_below e f s k)
+          (same_within (just_code 1)) (P.must_up e f k);
+      can_down = λ m e f k. can_chosen (status_of e s) (status_of f s) _ _ _ _ _ _ (query_below e f s k)
+          (same_within (just_code 1)) (P.can_down m e f k)
           (stay_within _ _ (P.can_down maybe e f k)) (one_within _)
           (then_within (P.can_down m e f k) (then_within (in_doubt p P m e) (more_within _)));
-      eased = λ e. can_chosen (status_of e s) (status_of e s) _ _ _ _ _ _ (inr refl) (same_within (just_code 1)) (P.eased e) (same_within _)
+      eased = λ e. can_chosen (status_of e s) (status_of e s) _ _ _ _ _ _ (inr refl) (same_within (just_code 1))
+          (P.eased e) (same_within _)
           (one_within _) (then_within (P.eased e) (more_within _));
     }
 monotone (seq p q) =
@@ -344,7 +369,8 @@ monotone (seq p q) =
     record {
       must_up = λ e f k. must_then_within _ _ _ _ (must_one p f) (P.must_up e f k) (Q.must_up e f k);
       can_down = λ m e f k. can_then_within _ _ _ _ (P.can_down m e f k)
-          (then_within (Q.can_down (next_mode m ((must p f).codes 0)) e f k) (modes m ((must p e).codes 0) ((must p f).codes 0) ((P.must_up e f k).codes 0) q e Q.eased));
+          (then_within (Q.can_down (next_mode m ((must p f).codes 0)) e f k)
+          (modes m ((must p e).codes 0) ((must p f).codes 0) ((P.must_up e f k).codes 0) q e Q.eased));
       eased = λ e. can_then_within _ _ _ _ (P.eased e) (in_doubt q Q (next_mode sure ((must p e).codes 0)) e);
     }
 monotone (loop p) = let P = monotone p in record { must_up = P.must_up; can_down = P.can_down; eased = P.eased }

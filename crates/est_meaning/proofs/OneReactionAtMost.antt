@@ -35,7 +35,8 @@ inside_same {around = around} {k = k} g h s = record {
 }
 
 -- signals, code and rest
-pub unique : (t : Term) (e : Env) (o : Signals) (k : ℕ) (u : Term) (o' : Signals) (k' : ℕ) (u' : Term) → Gives t e o k u → Gives t e o' k' u' → IsSame o k u o' k' u'
+pub unique : (t : Term) (e : Env) (o : Signals) (k : ℕ) (u : Term) (o' : Signals) (k' : ℕ) (u' : Term)
+    → Gives t e o k u → Gives t e o' k' u' → IsSame o k u o' k' u'
 unique nothing e o k u o' k' u' g h = just_same g h
 unique pause e o k u o' k' u' g h = just_same g h
 unique (emit s) e o k u o' k' u' g h = just_same g h
@@ -48,10 +49,13 @@ unique (suspend s p) e o k u o' k' u' g h = inside_same g h (unique p e o k g.le
 unique (held s p) e o k u o' k' u' (is_held v g) (is_held w h) = just_same g h
 unique (held s p) e o k u o' k' u' (is_held v g) (is_resumed w h) = not_both (status_of e s) v w
 unique (held s p) e o k u o' k' u' (is_resumed v g) (is_held w h) = not_both (status_of e s) w v
-unique (held s p) e o k u o' k' u' (is_resumed v g) (is_resumed w h) = inside_same g h (unique p e o k g.left o' k' h.left g.gives h.gives)
-unique (seq p q) e o k u o' k' u' (goes_on d g) (goes_on c h) = inside_same g h (unique p e o k g.left o' k' h.left g.gives h.gives)
+unique (held s p) e o k u o' k' u' (is_resumed v g) (is_resumed w h) =
+    inside_same g h (unique p e o k g.left o' k' h.left g.gives h.gives)
+unique (seq p q) e o k u o' k' u' (goes_on d g) (goes_on c h) =
+    inside_same g h (unique p e o k g.left o' k' h.left g.gives h.gives)
 unique (seq p q) e o k u o' k' u' (goes_on d g) (ends_then a b v x y z) = absurd (d (unique p e o k g.left a 0 v g.gives x).code)
-unique (seq p q) e o k u o' k' u' (ends_then a b v x y z) (goes_on d g) = absurd (d (unique p e o' k' g.left a 0 v g.gives x).code)
+unique (seq p q) e o k u o' k' u' (ends_then a b v x y z) (goes_on d g) =
+    absurd (d (unique p e o' k' g.left a 0 v g.gives x).code)
 unique (seq p q) e o k u o' k' u' (ends_then a b v x y z) (ends_then a' b' v' x' y' z') =
     let first = unique p e a 0 v a' 0 v' x x' in
     let second = unique q e b k u b' k' u' y y' in
@@ -60,13 +64,16 @@ unique (seq p q) e o k u o' k' u' (ends_then a b v x y z) (ends_then a' b' v' x'
       code = second.code;
       rest = second.rest;
     }
-unique (loop p) e o k u o' k' u' g h = inside_same g.inside h.inside (unique p e o k g.inside.left o' k' h.inside.left g.inside.gives h.inside.gives)
+unique (loop p) e o k u o' k' u' g h =
+    inside_same g.inside h.inside (unique p e o k g.inside.left o' k' h.inside.left g.inside.gives h.inside.gives)
 unique (par p q) e o k u o' k' u' g h =
     let x = unique p e g.left_signals g.left_code g.left_rest h.left_signals h.left_code h.left_rest g.left_gives h.left_gives in
-    let y = unique q e g.right_signals g.right_code g.right_rest h.right_signals h.right_code h.right_rest g.right_gives h.right_gives in
+    let y = unique q e g.right_signals g.right_code g.right_rest h.right_signals h.right_code h.right_rest
+    g.right_gives h.right_gives in
     let c = ap (λ i. max i g.right_code) x.code ∙ ap (λ i. max h.left_code i) y.code in
     record {
-      signals = g.signals ∙ (ap (λ s. union s g.right_signals) x.signals ∙ (ap (λ s. union h.left_signals s) y.signals ∙ sym h.signals));
+      signals = g.signals ∙ (ap (λ s. union s g.right_signals) x.signals
+          ∙ (ap (λ s. union h.left_signals s) y.signals ∙ sym h.signals));
       code = g.code ∙ (c ∙ sym h.code);
       rest = g.rest ∙ (ap (λ i. rest_of i (par g.left_rest g.right_rest)) (g.code ∙ (c ∙ sym h.code))
           ∙ (ap (λ t. rest_of k' (par t g.right_rest)) x.rest ∙ (ap (λ t. rest_of k' (par h.left_rest t)) y.rest ∙ sym h.rest)));
@@ -88,7 +95,8 @@ unique (signal s p) e o k u o' k' u' g h =
     }
 
 -- to the inputs of an instant too
-pub one_reaction : (j : JudgedSignals) (inputs : ℕ → Bool) (t : Term) (outputs : ℕ → Bool) (u : Term) (outputs' : ℕ → Bool) (u' : Term)
+pub one_reaction : (j : JudgedSignals) (inputs : ℕ → Bool) (t : Term) (outputs : ℕ → Bool) (u : Term)
+    (outputs' : ℕ → Bool) (u' : Term)
     → Reacts j inputs t outputs u → Reacts j inputs t outputs' u' → IsSameReaction outputs u outputs' u'
 one_reaction j inputs t outputs u outputs' u' g h =
     let s = unique t (last_env j inputs t) g.signals g.code u h.signals h.code u' g.gives h.gives in

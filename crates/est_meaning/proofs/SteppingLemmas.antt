@@ -10,13 +10,14 @@ use Rattle.est_meaning.specs.Signals.{Signals, no_signals, union}
 use Rattle.est_meaning.specs.declared.status.Status.TheVariants.{Present, Absent}
 use Rattle.est_meaning.specs.Status.{Env, status_of}
 use Rattle.est_meaning.specs.Rules.{Gives, HasNoRule, rest_of, takes_first, takes_second, is_held, goes_on, ends_then}
-use Rattle.est_meaning.proofs.Uniqueness.{unique}
+use Rattle.est_meaning.proofs.OneReactionAtMost.{unique}
 use Rattle.std.proofs.lemmas.Bool.{cases_eq, ne_eqb, or_parts}
 use Rattle.est_meaning.specs.Steps.{StepsTo}
-use Rattle.est_meaning.proofs.Agree.{Agree, live_same, at_same, exclusive_same, dead_exclusive, apart_left, apart_right}
+use Rattle.est_meaning.proofs.AgreementLemmas.{Agree, live_same, at_same, exclusive_same, dead_exclusive, apart_left, apart_right}
 
 -- the same step, over pauses that agree on s
-pub steps_same : (s : Statement) (t : Term) (e : Env) (o : Signals) (k : ℕ) (a b : ℕ → Bool) → Agree s a b → StepsTo s t e o k a → StepsTo s t e o k b
+pub steps_same : (s : Statement) (t : Term) (e : Env) (o : Signals) (k : ℕ) (a b : ℕ → Bool) → Agree s a b
+    → StepsTo s t e o k a → StepsTo s t e o k b
 steps_same s t e o k a b f h = record {
   gives = subst (λ u. Gives t e o k (rest_of k u)) (at_same s a b f) h.gives;
   live = sym (live_same s a b f) ∙ h.live;
@@ -29,7 +30,8 @@ rest_in f zero x = refl
 rest_in f (suc zero) x = refl
 rest_in f (suc (suc k)) x = refl
 
-rest_chosen : (f : Term → Term) (k : ℕ) (l : Bool) (x y : Term) → l ≡ nat_eq k 1 → rest_of k (cond l (f x) y) ≡ rest_of k (f (rest_of k x))
+rest_chosen : (f : Term → Term) (k : ℕ) (l : Bool) (x y : Term) → l ≡ nat_eq k 1
+    → rest_of k (cond l (f x) y) ≡ rest_of k (f (rest_of k x))
 rest_chosen f zero l x y e = refl
 rest_chosen f (suc zero) l x y e = rw e refl
 rest_chosen f (suc (suc k)) l x y e = refl
@@ -42,7 +44,8 @@ rest_other (suc (suc k)) x y d = refl
 cond_rest : (k : ℕ) (l : Bool) (x : Term) → l ≡ nat_eq k 1 → cond l x nothing ≡ rest_of k x
 cond_rest zero l x e = rw e refl
 cond_rest (suc zero) l x e = rw e refl
-cond_rest (suc (suc k)) l x e = let f : nat_eq (suc (suc k)) 1 ≡ false = ne_eqb (suc (suc k)) 1 (λ h. absurd (omega arith)) in rw (e, f) refl
+cond_rest (suc (suc k)) l x e =
+    let f : nat_eq (suc (suc k)) 1 ≡ false = ne_eqb (suc (suc k)) 1 (λ h. absurd (omega arith)) in rw (e, f) refl
 
 or_false : (x : Bool) → (x || false) ≡ x
 or_false true = refl
@@ -56,14 +59,19 @@ and_false false = refl
 pub seq_stays : {a b : _} {p q : Statement} {t : Term} {e : Env} {o : Signals} {k : ℕ} {n : ℕ → Bool}
     → k ≢ 0 → StepsTo p t e o k n → is_live q n ≡ false → StepsTo (Seq' a p b q) (seq t (term_of q)) e o k n
 seq_stays {p = p} {q = q} {t = t} {e = e} {o = o} {k = k} {n = n} d h dead = record {
-  gives = goes_on d (record { left = rest_of k (term_at p n); gives = h.gives; rest = rest_chosen (λ u. seq u (term_of q)) k (is_live p n) (term_at p n) (term_at q n) h.live });
+  gives = goes_on d (record {
+    left = rest_of k (term_at p n);
+    gives = h.gives;
+    rest = rest_chosen (λ u. seq u (term_of q)) k (is_live p n) (term_at p n) (term_at q n) h.live;
+  });
   live = rw (dead, or_false (is_live p n)) h.live;
   exclusive = (h.exclusive, dead_exclusive q n dead, rw (dead, and_false (is_live p n)) refl);
 }
 
 -- a step of both parts
 pub seq_goes : {a b : _} {p q : Statement} {t : Term} {e : Env} {o o' : Signals} {k : ℕ} {m n : ℕ → Bool}
-    → StepsTo p t e o 0 m → StepsTo q (term_of q) e o' k n → is_live p n ≡ false → StepsTo (Seq' a p b q) (seq t (term_of q)) e (union o o') k n
+    → StepsTo p t e o 0 m → StepsTo q (term_of q) e o' k n → is_live p n ≡ false
+    → StepsTo (Seq' a p b q) (seq t (term_of q)) e (union o o') k n
 seq_goes {p = p} {q = q} {t = t} {e = e} {o = o} {o' = o'} {k = k} {m = m} {n = n} h g dead = record {
   gives = ends_then o o' nothing h.gives (rw dead g.gives) refl;
   live = rw dead g.live;
@@ -72,7 +80,8 @@ seq_goes {p = p} {q = q} {t = t} {e = e} {o = o} {o' = o'} {k = k} {m = m} {n = 
 
 -- what the second part needs after a step of the first
 pub ready : (p q p' q' : Statement) (m n : ℕ → Bool) → p' ≡ p → q' ≡ q → HasDistinctPauses p × HasDistinctPauses q × AreApart p q
-    → (is_live p m || is_live q m) ≡ false → ((i : ℕ) → has_pause p' i ≡ false → n i ≡ m i) → HasDistinctPauses q' × (is_live q' n ≡ false)
+    → (is_live p m || is_live q m) ≡ false → ((i : ℕ) → has_pause p' i ≡ false → n i ≡ m i) → HasDistinctPauses q'
+    × (is_live q' n ≡ false)
 ready p q p' q' m n ep eq num dead f =
     let f' : (i : ℕ) → has_pause p i ≡ false → n i ≡ m i = λ i h. f i (rw ep h) in
     rw eq (num.1, sym (live_same q m n (apart_right p q m n num.2 f')) ∙ (or_parts (is_live p m) (is_live q m) dead).1)
@@ -115,16 +124,19 @@ none_from (Some x) P p = tt
 
 -- the step of the first branch
 pub present_on : {a b : _} {s : _} {p q : Statement} {e : Env} {o : Signals} {k : ℕ} {n : ℕ → Bool}
-    → Present ≡ status_of e (query_of s) → StepsTo p (term_of p) e o k n → is_live q n ≡ false → StepsTo (Present' s a p b q) (present (query_of s) (term_of p) (term_of q)) e o k n
+    → Present ≡ status_of e (query_of s) → StepsTo p (term_of p) e o k n → is_live q n ≡ false
+    → StepsTo (Present' s a p b q) (present (query_of s) (term_of p) (term_of q)) e o k n
 present_on {p = p} {q = q} {e = e} {o = o} {k = k} {n = n} d h dead = record {
-  gives = takes_first (sym d) (subst (λ u. Gives (term_of p) e o k u) (rest_in (λ u. u) k (term_at p n) ∙ sym (rest_chosen (λ u. u) k (is_live p n) (term_at p n) (term_at q n) h.live)) h.gives);
+  gives = takes_first (sym d) (subst (λ u. Gives (term_of p) e o k u)
+      (rest_in (λ u. u) k (term_at p n) ∙ sym (rest_chosen (λ u. u) k (is_live p n) (term_at p n) (term_at q n) h.live)) h.gives);
   live = rw (dead, or_false (is_live p n)) h.live;
   exclusive = (h.exclusive, dead_exclusive q n dead, rw (dead, and_false (is_live p n)) refl);
 }
 
 -- the step of the second branch
 pub present_off : {a b : _} {s : _} {p q : Statement} {e : Env} {o : Signals} {k : ℕ} {n : ℕ → Bool}
-    → Absent ≡ status_of e (query_of s) → StepsTo q (term_of q) e o k n → is_live p n ≡ false → StepsTo (Present' s a p b q) (present (query_of s) (term_of p) (term_of q)) e o k n
+    → Absent ≡ status_of e (query_of s) → StepsTo q (term_of q) e o k n → is_live p n ≡ false
+    → StepsTo (Present' s a p b q) (present (query_of s) (term_of p) (term_of q)) e o k n
 present_off {p = p} {q = q} {e = e} {o = o} {k = k} {n = n} d h dead = record {
   gives = takes_second (sym d) (rw dead h.gives);
   live = rw dead h.live;
@@ -146,7 +158,10 @@ par_pauses {p = p} {q = q} {t = t} {u = u} {e = e} {o = o} {o' = o'} {i = i} {j 
     right_gives = g.gives;
     signals = refl;
     code = refl;
-    rest = ap (rest_of (max i j)) (rw (cond_rest i (is_live p n) (term_at p n) h.live, cond_rest j (is_live q n) (term_at q n) g.live) refl);
+    rest = ap (rest_of (max i j)) (rw (
+      cond_rest i (is_live p n) (term_at p n) h.live,
+      cond_rest j (is_live q n) (term_at q n) g.live,
+    ) refl);
   };
   live = rw (h.live, g.live) (one_or i j one);
   exclusive = (h.exclusive, g.exclusive);
@@ -162,7 +177,8 @@ par_pauses {p = p} {q = q} {t = t} {u = u} {e = e} {o = o} {o' = o'} {i = i} {j 
 
 -- both sides, where the whole does not pause
 pub par_ends : {a b : _} {p q : Statement} {t u : Term} {e : Env} {o o' : Signals} {i j : ℕ} {n m : ℕ → Bool}
-    → (max i j ≡ 1 → ⊥) → StepsTo p t e o i n → StepsTo q u e o' j n → is_live p m ≡ false → is_live q m ≡ false → StepsTo (Par' a p b q) (par t u) e (union o o') (max i j) m
+    → (max i j ≡ 1 → ⊥) → StepsTo p t e o i n → StepsTo q u e o' j n → is_live p m ≡ false → is_live q m ≡ false
+    → StepsTo (Par' a p b q) (par t u) e (union o o') (max i j) m
 par_ends {p = p} {q = q} {t = t} {u = u} {e = e} {o = o} {o' = o'} {i = i} {j = j} {n = n} {m = m} d h g dp dq = record {
   gives = record {
     left_signals = o;
@@ -185,7 +201,8 @@ par_ends {p = p} {q = q} {t = t} {u = u} {e = e} {o = o} {o' = o'} {i = i} {j = 
 pub present_first : {a b : _} {s : _} {p q : Statement} {t : Term} {e : Env} {o : Signals} {k : ℕ} {n : ℕ → Bool}
     → StepsTo p t e o k n → is_live q n ≡ false → StepsTo (Present' s a p b q) t e o k n
 present_first {p = p} {q = q} {t = t} {e = e} {o = o} {k = k} {n = n} h dead = record {
-  gives = subst (λ u. Gives t e o k u) (rest_in (λ u. u) k (term_at p n) ∙ sym (rest_chosen (λ u. u) k (is_live p n) (term_at p n) (term_at q n) h.live)) h.gives;
+  gives = subst (λ u. Gives t e o k u)
+      (rest_in (λ u. u) k (term_at p n) ∙ sym (rest_chosen (λ u. u) k (is_live p n) (term_at p n) (term_at q n) h.live)) h.gives;
   live = rw (dead, or_false (is_live p n)) h.live;
   exclusive = (h.exclusive, dead_exclusive q n dead, rw (dead, and_false (is_live p n)) refl);
 }
@@ -210,11 +227,16 @@ seq_second {p = p} {q = q} {n = n} h dead = record {
 
 -- a loop that ends and begins again
 pub loop_again : {a : _} {p : Statement} {t : Term} {e : Env} {o o' : Signals} {k : ℕ} {m n : ℕ → Bool}
-    → k ≢ 0 → StepsTo p t e o 0 m → StepsTo p (term_of p) e o' k n → StepsTo (Loop' a p) (seq t (loop (term_of p))) e (union o o') k n
+    → k ≢ 0 → StepsTo p t e o 0 m → StepsTo p (term_of p) e o' k n
+    → StepsTo (Loop' a p) (seq t (loop (term_of p))) e (union o o') k n
 loop_again {p = p} {t = t} {o = o} {o' = o'} {k = k} {n = n} d h g = record {
   gives = ends_then o o' nothing h.gives (record {
     not_ended = d;
-    inside = record { left = rest_of k (term_at p n); gives = g.gives; rest = rest_in (λ u. seq u (loop (term_of p))) k (term_at p n) };
+    inside = record {
+      left = rest_of k (term_at p n);
+      gives = g.gives;
+      rest = rest_in (λ u. seq u (loop (term_of p))) k (term_at p n);
+    };
   }) refl;
   live = g.live;
   exclusive = g.exclusive;
@@ -226,19 +248,25 @@ loop_none_in p e none o k u h = none o k h.inside.left h.inside.gives
 
 -- a suspended statement that stays as it is
 pub stays_held : {a : _} {s : _} {p : Statement} {e : Env} {n : ℕ → Bool} (b m : ℕ → Bool)
-    → Present ≡ status_of e (query_of s) → is_live p b ≡ true → IsExclusive p b → ((i : ℕ) → n i ≡ cond (has_pause p i) (b i) (m i))
+    → Present ≡ status_of e (query_of s) → is_live p b ≡ true → IsExclusive p b
+    → ((i : ℕ) → n i ≡ cond (has_pause p i) (b i) (m i))
     → StepsTo (Suspend' s a p) (held (query_of s) (term_at p b)) e no_signals 1 n
 stays_held {s = s} {p = p} {n = n} b m d live excl f =
     let same : Agree p b n = λ i h. sym (f i ∙ rw h refl) in
     record {
-      gives = is_held (sym d) (record { signals = refl; code = refl; rest = ap (λ u. held (query_of s) u) (sym (at_same p b n same)) });
+      gives = is_held (sym d) (record {
+        signals = refl;
+        code = refl;
+        rest = ap (λ u. held (query_of s) u) (sym (at_same p b n same));
+      });
       live = sym (live_same p b n same) ∙ live;
       exclusive = exclusive_same p b n same excl;
     }
 
 -- a side that has ended takes a step that does nothing
 pub idle : (p : Statement) (e : Env) (n : ℕ → Bool) → is_live p n ≡ false → StepsTo p nothing e no_signals 0 n
-idle p e n dead = record { gives = record { signals = refl; code = refl; rest = refl }; live = dead; exclusive = dead_exclusive p n dead }
+idle p e n dead =
+    record { gives = record { signals = refl; code = refl; rest = refl }; live = dead; exclusive = dead_exclusive p n dead }
 
 -- both sides, where the pauses of the whole are kept just where it pauses
 pub par_settles : {a b : _} {p q : Statement} {t u : Term} {e : Env} {o o' : Signals} {i j : ℕ} {n m : ℕ → Bool}
@@ -246,6 +274,7 @@ pub par_settles : {a b : _} {p q : Statement} {t u : Term} {e : Env} {o o' : Sig
     → (max i j ≢ 1 → is_live p m ≡ false) → (max i j ≢ 1 → is_live q m ≡ false)
     → StepsTo (Par' a p b q) (par t u) e (union o o') (max i j) m
 par_settles {p = p} {q = q} {i = i} {j = j} {n = n} {m = m} h g kept left right = elim (cases_eq (max i j) 1) [
-  | inl one ↦ par_pauses one (steps_same p _ _ _ _ n m (λ x _. sym (kept one x)) h) (steps_same q _ _ _ _ n m (λ x _. sym (kept one x)) g)
+  | inl one ↦ par_pauses one (steps_same p _ _ _ _ n m (λ x _. sym (kept one x)) h)
+      (steps_same q _ _ _ _ n m (λ x _. sym (kept one x)) g)
   | inr d ↦ par_ends d h g (left d) (right d)
 ]

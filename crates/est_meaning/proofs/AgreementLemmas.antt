@@ -50,7 +50,12 @@ at_same (Seq' x p y q) a b f =
     rw (live_same p a b (left_of p q a b f), at_same p a b (left_of p q a b f), at_same q a b (right_of p q a b f)) refl
 at_same (Loop' x p) a b f = ap (λ u. seq u (loop (term_of p))) (at_same p a b f)
 at_same (Par' x p y q) a b f =
-    rw (live_same p a b (left_of p q a b f), at_same p a b (left_of p q a b f), live_same q a b (right_of p q a b f), at_same q a b (right_of p q a b f)) refl
+    rw (
+      live_same p a b (left_of p q a b f),
+      at_same p a b (left_of p q a b f),
+      live_same q a b (right_of p q a b f),
+      at_same q a b (right_of p q a b f),
+    ) refl
 at_same (Trap' x p) a b f = ap (λ u. trap u) (at_same p a b f)
 at_same (Exit k) a b f = refl
 at_same (Binder' s x p) a b f = ap (λ u. signal s.index u) (at_same p a b f)
@@ -103,11 +108,14 @@ pub cleared_dead : (s : Statement) (a : ℕ → Bool) → ((i : ℕ) → has_pau
 cleared_dead Nothing a f = refl
 cleared_dead (Pause n) a f = f n.index (eq-eqb n.index n.index refl)
 cleared_dead (Emit s) a f = refl
-cleared_dead (Present' t x p y q) a f = rw (cleared_dead p a (left_of p q a (λ _. false) f), cleared_dead q a (right_of p q a (λ _. false) f)) refl
+cleared_dead (Present' t x p y q) a f =
+    rw (cleared_dead p a (left_of p q a (λ _. false) f), cleared_dead q a (right_of p q a (λ _. false) f)) refl
 cleared_dead (Suspend' t x p) a f = cleared_dead p a f
-cleared_dead (Seq' x p y q) a f = rw (cleared_dead p a (left_of p q a (λ _. false) f), cleared_dead q a (right_of p q a (λ _. false) f)) refl
+cleared_dead (Seq' x p y q) a f =
+    rw (cleared_dead p a (left_of p q a (λ _. false) f), cleared_dead q a (right_of p q a (λ _. false) f)) refl
 cleared_dead (Loop' x p) a f = cleared_dead p a f
-cleared_dead (Par' x p y q) a f = rw (cleared_dead p a (left_of p q a (λ _. false) f), cleared_dead q a (right_of p q a (λ _. false) f)) refl
+cleared_dead (Par' x p y q) a f =
+    rw (cleared_dead p a (left_of p q a (λ _. false) f), cleared_dead q a (right_of p q a (λ _. false) f)) refl
 cleared_dead (Trap' x p) a f = cleared_dead p a f
 cleared_dead (Exit k) a f = refl
 cleared_dead (Binder' s x p) a f = cleared_dead p a f

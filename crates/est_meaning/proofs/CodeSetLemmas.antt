@@ -27,7 +27,8 @@ up_to_code j (suc k) l = elim (cases_eq j (suc k)) [
 
 up_to_code_not : (j k : ℕ) → k < j → some_up_to (code j) k ≡ false
 up_to_code_not j zero l = code_at j 0 ∙ ne_eqb j 0 (λ e. absurd (omega arith))
-up_to_code_not j (suc k) l = rw (up_to_code_not j k (omega arith), code_at j (suc k), ne_eqb j (suc k) (λ e. absurd (omega arith))) refl
+up_to_code_not j (suc k) l =
+    rw (up_to_code_not j k (omega arith), code_at j (suc k), ne_eqb j (suc k) (λ e. absurd (omega arith))) refl
 
 same_test : (a b c d : ℕ) → (a ≡ b → c ≡ d) → (c ≡ d → a ≡ b) → nat_eq a b ≡ nat_eq c d
 same_test a b c d f g = elim (cases_eq a b) [
@@ -88,16 +89,25 @@ out_of_trap_at : (i k : ℕ) → codes_out_of_trap (code i) k ≡ code (code_out
 unfolding codes_out_of_trap code
 out_of_trap_at zero zero = refl
 out_of_trap_at zero (suc zero) = refl
-out_of_trap_at zero (suc (suc k)) = same_test 0 (suc (suc (suc k))) 0 (suc (suc k)) (λ h. absurd (omega arith)) (λ h. absurd (omega arith))
+out_of_trap_at zero (suc (suc k)) =
+    same_test 0 (suc (suc (suc k))) 0 (suc (suc k)) (λ h. absurd (omega arith)) (λ h. absurd (omega arith))
 out_of_trap_at (suc zero) zero = refl
 out_of_trap_at (suc zero) (suc zero) = refl
-out_of_trap_at (suc zero) (suc (suc k)) = same_test 1 (suc (suc (suc k))) 1 (suc (suc k)) (λ h. absurd (omega arith)) (λ h. absurd (omega arith))
+out_of_trap_at (suc zero) (suc (suc k)) =
+    same_test 1 (suc (suc (suc k))) 1 (suc (suc k)) (λ h. absurd (omega arith)) (λ h. absurd (omega arith))
 out_of_trap_at (suc (suc zero)) zero = refl
 out_of_trap_at (suc (suc zero)) (suc zero) = refl
-out_of_trap_at (suc (suc zero)) (suc (suc k)) = same_test 2 (suc (suc (suc k))) 0 (suc (suc k)) (λ h. absurd (omega arith)) (λ h. absurd (omega arith))
-out_of_trap_at (suc (suc (suc i))) zero = rw (ne_eqb (suc (suc (suc i))) 0 (λ h. absurd (omega arith)), ne_eqb (suc (suc (suc i))) 2 (λ h. absurd (omega arith)), ne_eqb (suc (suc i)) 0 (λ h. absurd (omega arith))) refl
-out_of_trap_at (suc (suc (suc i))) (suc zero) = same_test (suc (suc (suc i))) 1 (suc (suc i)) 1 (λ h. absurd (omega arith)) (λ h. absurd (omega arith))
-out_of_trap_at (suc (suc (suc i))) (suc (suc k)) = same_test (suc (suc (suc i))) (suc (suc (suc k))) (suc (suc i)) (suc (suc k)) (λ h. omega arith) (λ h. omega arith)
+out_of_trap_at (suc (suc zero)) (suc (suc k)) =
+    same_test 2 (suc (suc (suc k))) 0 (suc (suc k)) (λ h. absurd (omega arith)) (λ h. absurd (omega arith))
+out_of_trap_at (suc (suc (suc i))) zero = rw (
+  ne_eqb (suc (suc (suc i))) 0 (λ h. absurd (omega arith)),
+  ne_eqb (suc (suc (suc i))) 2 (λ h. absurd (omega arith)),
+  ne_eqb (suc (suc i)) 0 (λ h. absurd (omega arith)),
+) refl
+out_of_trap_at (suc (suc (suc i))) (suc zero) =
+    same_test (suc (suc (suc i))) 1 (suc (suc i)) 1 (λ h. absurd (omega arith)) (λ h. absurd (omega arith))
+out_of_trap_at (suc (suc (suc i))) (suc (suc k)) =
+    same_test (suc (suc (suc i))) (suc (suc (suc k))) (suc (suc i)) (suc (suc k)) (λ h. omega arith) (λ h. omega arith)
 
 -- a code alone, outside a trap
 pub out_of_trap_code : (i : ℕ) → codes_out_of_trap (code i) ≡ code (code_out_of_trap i)
@@ -124,15 +134,18 @@ up_to_mono a b (suc k) f h = elim (or_cases (some_up_to a k) (a (suc k)) h) [
 ]
 
 -- of larger sets the greater codes are more
-pub max_mono : (a b a' b' : Codes) (k : ℕ) → ((i : ℕ) → a i ≡ true → a' i ≡ true) → ((i : ℕ) → b i ≡ true → b' i ≡ true) → max_codes a b k ≡ true → max_codes a' b' k ≡ true
+pub max_mono : (a b a' b' : Codes) (k : ℕ) → ((i : ℕ) → a i ≡ true → a' i ≡ true)
+    → ((i : ℕ) → b i ≡ true → b' i ≡ true) → max_codes a b k ≡ true → max_codes a' b' k ≡ true
 unfolding max_codes
 max_mono a b a' b' k f g h = elim (or_cases (a k && some_up_to b k) (b k && some_up_to a k) h) [
   | inl l ↦ let p = and_parts (a k) (some_up_to b k) l in rw (f k p.0, up_to_mono b b' k g p.1) refl
-  | inr l ↦ let p = and_parts (b k) (some_up_to a k) l in both_true (a' k && some_up_to b' k) _ (rw (g k p.0, up_to_mono a a' k f p.1) refl)
+  | inr l ↦ let p = and_parts (b k) (some_up_to a k) l in
+      both_true (a' k && some_up_to b' k) _ (rw (g k p.0, up_to_mono a a' k f p.1) refl)
 ]
 
 -- of a larger set more is left outside a trap
-pub out_of_trap_mono : (a b : Codes) (k : ℕ) → ((i : ℕ) → a i ≡ true → b i ≡ true) → codes_out_of_trap a k ≡ true → codes_out_of_trap b k ≡ true
+pub out_of_trap_mono : (a b : Codes) (k : ℕ) → ((i : ℕ) → a i ≡ true → b i ≡ true) → codes_out_of_trap a k ≡ true
+    → codes_out_of_trap b k ≡ true
 unfolding codes_out_of_trap
 out_of_trap_mono a b zero f h = elim (or_cases (a 0) (a 2) h) [ inl g ↦ rw (f 0 g) refl | inr g ↦ both_true (b 0) (b 2) (f 2 g) ]
 out_of_trap_mono a b (suc zero) f h = f 1 h

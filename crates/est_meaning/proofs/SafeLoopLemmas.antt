@@ -34,12 +34,16 @@ safe_after (held s p) e o k u i (is_held v g) = rw g.rest i
 safe_after (held s p) e o k u i (is_resumed v g) = safe_rest k (held s g.left) u g.rest (safe_after p e o k g.left i g.gives)
 safe_after (seq p q) e o k u i (goes_on d g) = safe_rest k (seq g.left q) u g.rest (safe_after p e o k g.left i.0 g.gives, i.1)
 safe_after (seq p q) e o k u i (ends_then a b v x y z) = safe_after q e b k u i.1 y
-safe_after (loop p) e o k u i g = safe_rest k (seq g.inside.left (loop p)) u g.inside.rest (safe_after p e o k g.inside.left i.0 g.inside.gives, i)
+safe_after (loop p) e o k u i g =
+    safe_rest k (seq g.inside.left (loop p)) u g.inside.rest (safe_after p e o k g.inside.left i.0 g.inside.gives, i)
 safe_after (par p q) e o k u i g =
-    safe_rest k (par g.left_rest g.right_rest) u g.rest
-    (safe_after p e g.left_signals g.left_code g.left_rest i.0 g.left_gives, safe_after q e g.right_signals g.right_code g.right_rest i.1 g.right_gives)
+    safe_rest k (par g.left_rest g.right_rest) u g.rest (
+      safe_after p e g.left_signals g.left_code g.left_rest i.0 g.left_gives,
+      safe_after q e g.right_signals g.right_code g.right_rest i.1 g.right_gives,
+    )
 safe_after (trap p) e o k u i g = safe_rest k (trap g.left) u g.rest (safe_after p e o g.body_code g.left i g.gives)
-safe_after (signal s p) e o k u i g = safe_rest k (signal s g.left) u g.rest (safe_after p (env_within sure s p e) g.body_signals k g.left i g.gives)
+safe_after (signal s p) e o k u i g =
+    safe_rest k (signal s g.left) u g.rest (safe_after p (env_within sure s p e) g.body_signals k g.left i g.gives)
 
 safe_choice : (b : Bool) (t u : Term) → IsLoopSafe t → IsLoopSafe u → IsLoopSafe (cond b t u)
 safe_choice true t u h g = h
@@ -51,13 +55,17 @@ safe_paused Nothing bits i = tt
 safe_paused (Pause n) bits i = tt
 safe_paused (Emit s) bits i = tt
 safe_paused (Exit k) bits i = tt
-safe_paused (Present' t x p y q) bits i = safe_choice (is_live p bits) (term_at p bits) (term_at q bits) (safe_paused p bits i.0) (safe_paused q bits i.1)
+safe_paused (Present' t x p y q) bits i =
+    safe_choice (is_live p bits) (term_at p bits) (term_at q bits) (safe_paused p bits i.0) (safe_paused q bits i.1)
 safe_paused (Suspend' t x p) bits i = safe_paused p bits i
 safe_paused (Seq' x p y q) bits i =
-    safe_choice (is_live p bits) (seq (term_at p bits) (term_of q)) (term_at q bits) (safe_paused p bits i.0, i.1) (safe_paused q bits i.1)
+    safe_choice (is_live p bits) (seq (term_at p bits) (term_of q)) (term_at q bits) (safe_paused p bits i.0, i.1)
+    (safe_paused q bits i.1)
 safe_paused (Loop' x p) bits i = (safe_paused p bits i.0, i)
-safe_paused (Par' x p y q) bits i =
-    (safe_choice (is_live p bits) (term_at p bits) nothing (safe_paused p bits i.0) tt, safe_choice (is_live q bits) (term_at q bits) nothing (safe_paused q bits i.1) tt)
+safe_paused (Par' x p y q) bits i = (
+  safe_choice (is_live p bits) (term_at p bits) nothing (safe_paused p bits i.0) tt,
+  safe_choice (is_live q bits) (term_at q bits) nothing (safe_paused q bits i.1) tt,
+)
 safe_paused (Trap' x p) bits i = safe_paused p bits i
 safe_paused (Binder' s x p) bits i = safe_paused p bits i
 

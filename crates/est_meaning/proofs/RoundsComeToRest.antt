@@ -14,8 +14,8 @@ use Rattle.est_meaning.specs.MustCan.{sure, must, can}
 use Rattle.est_meaning.specs.Knowledge.{IsBelow, KnowsLess}
 use Rattle.est_meaning.specs.Rounds.{JudgedSignals, judged_outputs, first_env, round, env_after, how_many, last_env}
 use Rattle.est_meaning.specs.Laws.{IsWithinPlaces}
-use Rattle.est_meaning.proofs.Monotony.{verdict_below, monotone, must_can}
-use Rattle.est_meaning.proofs.Settled.{settled}
+use Rattle.est_meaning.proofs.KnowledgeIsMonotone.{verdict_below, monotone, must_can}
+use Rattle.est_meaning.proofs.SettledLemmas.{settled}
 
 -- a round keeps the order of knowledge
 round_grows : (j : JudgedSignals) (t : Term) (e f : Env) → KnowsLess e f → KnowsLess (round j t e) (round j t f)
@@ -35,13 +35,15 @@ first_below : (j : JudgedSignals) (inputs : ℕ → Bool) (t : Term) → KnowsLe
 unfolding round first_env
 first_below j inputs t (outer n) = go (j.has n) _
   where
-    go : (b : Bool) (v : Status) → IsBelow (cond b Unknown (verdict (inputs n) false)) (cond b v (cond b Unknown (verdict (inputs n) false)))
+    go : (b : Bool) (v : Status) → IsBelow (cond b Unknown (verdict (inputs n) false))
+        (cond b v (cond b Unknown (verdict (inputs n) false)))
     go true v = inl refl
     go false v = inr refl
 first_below j inputs t (inner n) = inr refl
 
 -- statuses only become more defined
-pub learns : (j : JudgedSignals) (inputs : ℕ → Bool) (t : Term) (n : ℕ) → KnowsLess (env_after n j t (first_env j inputs)) (env_after (suc n) j t (first_env j inputs))
+pub learns : (j : JudgedSignals) (inputs : ℕ → Bool) (t : Term) (n : ℕ)
+    → KnowsLess (env_after n j t (first_env j inputs)) (env_after (suc n) j t (first_env j inputs))
 learns j inputs t zero = first_below j inputs t
 learns j inputs t (suc n) = round_grows j t _ _ (learns j inputs t n)
 
@@ -62,7 +64,8 @@ fewer f g s (suc p) =
     omega (arith, a, b)
 
 -- as many members as a larger set has: the same members
-as_many : (f g : ℕ → Bool) → ((n : ℕ) → g n ≡ true → f n ≡ true) → (p : ℕ) → how_many f p ≤ how_many g p → (n : ℕ) → n < p → f n ≡ g n
+as_many : (f g : ℕ → Bool) → ((n : ℕ) → g n ≡ true → f n ≡ true) → (p : ℕ) → how_many f p ≤ how_many g p → (n : ℕ)
+    → n < p → f n ≡ g n
 as_many f g s zero h n l = absurd (omega (arith, l))
 as_many f g s (suc p) h n l =
     let a = fewer f g s p in
@@ -116,11 +119,13 @@ changes_nothing j w t e k h = fun_ext (elim [ outer n ↦ at n (j.has n) refl | 
     at : (n : ℕ) (b : Bool) → j.has n ≡ b → round j t e (outer n) ≡ e (outer n)
     at n true d =
         let same = as_many (open_in j e) (open_in j (round j t e)) (open_fewer j e (round j t e) k) j.places h n (w n d) in
-        sym (known_same (e (outer n)) (round j t e (outer n)) (k (outer n)) (when_has (j.has n) (is_unknown (e (outer n))) (is_unknown (round j t e (outer n))) d same))
+        sym (known_same (e (outer n)) (round j t e (outer n)) (k (outer n))
+        (when_has (j.has n) (is_unknown (e (outer n))) (is_unknown (round j t e (outer n))) d same))
     at n false d = kept j t e n d
 
 -- where at most k signals are open after n rounds, nothing changes after k more
-enough : (j : JudgedSignals) → IsWithinPlaces j → (inputs : ℕ → Bool) (t : Term) (k n : ℕ) → how_many (open_in j (env_after n j t (first_env j inputs))) j.places ≤ k
+enough : (j : JudgedSignals) → IsWithinPlaces j → (inputs : ℕ → Bool) (t : Term) (k n : ℕ)
+    → how_many (open_in j (env_after n j t (first_env j inputs))) j.places ≤ k
     → round j t (env_after (k + n) j t (first_env j inputs)) ≡ env_after (k + n) j t (first_env j inputs)
 enough j w inputs t zero n h =
     let c : 0 + n ≡ n = omega arith in
@@ -137,10 +142,12 @@ enough j w inputs t (suc k) n h =
     ]
 
 -- after as many rounds as there are judged signals nothing changes
-pub settles : (j : JudgedSignals) → IsWithinPlaces j → (inputs : ℕ → Bool) (t : Term) (m : ℕ) → how_many j.has j.places ≤ m → env_after m j t (first_env j inputs) ≡ last_env j inputs t
+pub settles : (j : JudgedSignals) → IsWithinPlaces j → (inputs : ℕ → Bool) (t : Term) (m : ℕ)
+    → how_many j.has j.places ≤ m → env_after m j t (first_env j inputs) ≡ last_env j inputs t
 settles j w inputs t m l =
     let rounds = how_many j.has j.places in
-    let few = fewer j.has (open_in j (first_env j inputs)) (λ n h. (and_parts (j.has n) (is_unknown (first_env j inputs (outer n))) h).0) j.places in
+    let few = fewer j.has (open_in j (first_env j inputs))
+    (λ n h. (and_parts (j.has n) (is_unknown (first_env j inputs (outer n))) h).0) j.places in
     let c : rounds + 0 ≡ rounds = omega arith in
     let still = rw c at (enough j w inputs t rounds 0 few) in
     sym (settled m rounds l j t (first_env j inputs) still)
