@@ -4,7 +4,8 @@
 usage: commands.py PROGRAM [LINES]
 
 Makes a script of LINES lines (100,000 if left out): a small module is loaded into several slots, and then offers,
-steps and looks go round them. No line is refused: the run stops if one is.
+steps and looks go round them. No line is refused: the run stops if one is. The same lines are then asked through a
+pipe, 100 at once and one at a time, each time waiting for the answers to those before the next are sent.
 """
 import json
 import subprocess
@@ -62,6 +63,22 @@ def run_python(text):
     return time.perf_counter() - start, out
 
 
+def run_ahead(program, text, ahead):
+    """The seconds that the lines take where so many are sent at once, and their answers awaited before the next."""
+    lines = text.encode().splitlines(keepends=True)
+    with subprocess.Popen([program, "script"], stdin=subprocess.PIPE, stdout=subprocess.PIPE) as asked:
+        start = time.perf_counter()
+        for first in range(0, len(lines), ahead):
+            some = lines[first : first + ahead]
+            asked.stdin.write(b"".join(some))
+            asked.stdin.flush()
+            for _ in some:
+                asked.stdout.readline()
+        seconds = time.perf_counter() - start
+        asked.stdin.close()
+    return seconds
+
+
 def main():
     program = sys.argv[1]
     count = int(sys.argv[2]) if len(sys.argv) > 2 else 100_000
@@ -75,6 +92,10 @@ def main():
     print(f"estserve: {rate:,.0f} commands a second ({seconds:.3f} s for {count:,} lines)")
     print(f"python json loop: {python_rate:,.0f} lines a second ({python_seconds:.3f} s)")
     print(f"ratio: {rate / python_rate:.2f}")
+    few = script(max(count // 5, 1))
+    lines = few.count("\n")
+    many, one = (lines / run_ahead(program, few, ahead) for ahead in (100, 1))
+    print(f"100 lines ahead: {many:,.0f} commands a second; one at a time: {one:,.0f}; ratio: {many / one:.2f}")
 
 
 if __name__ == "__main__":

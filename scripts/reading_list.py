@@ -20,11 +20,9 @@ DOCUMENT = ROOT / "docs/PROOFS.md"
 BEGIN = "<!-- reading list, written by scripts/reading_list.py -->\n"
 END = "<!-- end of the reading list -->\n"
 ROOTS = [
-    ("client_loop/src/answer.rt", "fn answer"),
-    ("client_loop/src/answer.rt", "fn hang_up"),
-    ("client_loop/src/connection.rt", "impl Connection"),
-    ("client_loop/src/connection.rt", "impl Answerer for Connection"),
+    ("client_loop/src/desk.rt", "impl Desk for Single"),
     ("client_loop/src/serving.rt", "fn serve"),
+    ("estserve/src/run.rt", "fn run"),
 ]
 
 

@@ -1,3 +1,5 @@
-pub mod Serving
-pub mod LineSteps
+pub mod Asking
 pub mod Logins
+pub mod LineSteps
+pub mod Serving
+pub mod Inner

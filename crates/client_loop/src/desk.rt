@@ -1,12 +1,8 @@
 //! What the commands of connections are asked of.
-ghost use Rattle.std.specs.Prelude.{◌↔◌, ℕ, Option, IsTrue};
-ghost use Rattle.rbac_policy.specs.declared.commands.AdminCommand.{AdminCommand};
-ghost use Rattle.rbac_policy.specs.declared.objects.Operation.{Operation};
-ghost use Rattle.rbac_policy.specs.declared.objects.Object.{Object};
-ghost use Rattle.rbac_policy.specs.Facts.{May};
-ghost use Rattle.access_core.specs.declared.command.SlotCommand.{SlotCommand};
+ghost use Rattle.std.specs.Prelude.{◌≡◌};
+ghost use Rattle.rbac_policy.specs.declared.commands.AdminCommand.TheVariants.{DeleteSession};
 ghost use Rattle.access_core.specs.declared.reply.Reply.{Reply};
-ghost use Rattle.access_core.specs.Desk.{AdminStep, DeskStep};
+ghost use Rattle.client_loop.specs.Asking.{Ask, to_policy, to_slot, to_check, DeskAnswers, IsLogoutReply};
 
 use access_core::command::SlotCommand;
 use access_core::reply::Reply;
@@ -16,36 +12,26 @@ use rbac_policy::objects::{Object, Operation};
 
 /// What the commands of connections are asked of: one desk, or many connections' way to a shared one.
 pub trait Desk {
-    /// A policy command, which this session gives, is answered by this reply, and leaves the desk so.
-    ghost admins: { Self → Option ℕ → AdminCommand → Reply → Self → Type 0 };
+    /// It is asked this, gives this reply, and is so afterwards.
+    ghost answers: { Self → Ask → Reply → Self → Type 0 };
 
-    /// A command of this session on the slot of this number is answered by this reply, and leaves the desk so.
-    ghost answers: { Self → (session number : ℕ) → SlotCommand → Reply → Self → Type 0 };
-
-    /// The session may do the operation on the object.
-    ghost allows: { Self → (session : ℕ) → Operation → Object → Type 0 };
-
-    /// Answers a policy command, which this session gives; a login is given by none.
+    /// Answers a policy command, which this session gives; a login is given by none. A logout is refused only where its session has ended,
+    /// or where memory was refused.
     fn admin(&mut self, session: Option<SessionId>, command: AdminCommand) -> Reply
-        ensures { admins self.old session command result self.new };
+        ensures answered { answers self.old (to_policy session command) result self.new }
+        ensures logout { command ≡ DeleteSession → IsLogoutReply result };
 
     /// Answers a command of this session on the slot of this number.
     fn slot(&mut self, session: SessionId, number: u64, command: SlotCommand) -> Reply
-        ensures { answers self.old session number command result self.new };
+        ensures { answers self.old (to_slot session number command) result self.new };
 
-    /// Whether the session may do the operation on the object.
-    fn check(&self, session: SessionId, operation: Operation, object: &Object) -> bool
-        ensures { IsTrue result ↔ allows self.now session operation object.now };
+    /// Answers whether the session may do the operation on the object.
+    fn check(&mut self, session: SessionId, operation: Operation, object: &Object) -> Reply
+        ensures { answers self.old (to_check session operation object.now) result self.new };
 }
 
 impl Desk for Single {
-    ghost admins = { λ before session command given after.
-        AdminStep session command before given after };
-
-    ghost answers = { λ before session number command given after.
-        DeskStep number session command before given after };
-
-    ghost allows = { λ desk session operation object. May desk.entries session operation object };
+    ghost answers = { λ before ask given after. DeskAnswers before ask given after };
 
     fn admin(&mut self, session: Option<SessionId>, command: AdminCommand) -> Reply {
         self.admin(session, command)
@@ -55,7 +41,8 @@ impl Desk for Single {
         self.slot(session, number, command)
     }
 
-    fn check(&self, session: SessionId, operation: Operation, object: &Object) -> bool {
-        self.check(session, operation, object)
+    fn check(&mut self, session: SessionId, operation: Operation, object: &Object) -> Reply {
+        let allowed = Single::check(self, session, operation, object);
+        Reply::Check { allowed }
     }
 }

@@ -1,12 +1,11 @@
 //! The rules of one connection: a client logs in, is answered line by line, and is logged out at its end.
 //!
-//! `answer` goes from the bytes of a line to the bytes of its answer, and says what becomes of the desk and of the connection's login: this is
-//! the contract that carries the program. `serving` answers the lines of any reader one after the other on any writer, and `connection` is a
-//! desk with the login that the connection to it holds.
+//! `serve` answers the lines of any reader one after the other on any writer, over a desk that it is lent, and logs the client out at the end:
+//! its contract carries the program. `desk` is what commands are asked of, and `login` a session that someone has to end.
 #![tactic(auto)]
 
-pub mod answer;
-pub mod connection;
+pub(crate) mod answer;
+pub(crate) mod client;
 pub mod desk;
 pub mod login;
 pub mod serving;

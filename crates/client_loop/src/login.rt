@@ -1,15 +1,18 @@
 //! A login, which has to be spent.
-ghost use Rattle.std.specs.Prelude.{◌≡◌, Some, None, IfErr, MatchResult};
-ghost use Rattle.rbac_policy.specs.declared.commands.AdminCommand.TheVariants.{CreateSession, DeleteSession};
-ghost use Rattle.access_core.specs.declared.refusal.Refusal.TheVariants.{NoSession};
+ghost use Rattle.std.specs.Prelude.{◌≡◌, Some, None, MatchResult};
+ghost use Rattle.rbac_policy.specs.declared.commands.AdminCommand.TheVariants.{CreateSession};
+ghost use Rattle.access_core.specs.declared.refusal.Refusal.TheVariants.{Memory};
 ghost use Rattle.access_core.specs.declared.reply.Reply.TheVariants.{Refused};
-ghost use Rattle.client_loop.specs.Logins.{LogsOut, Begins};
+ghost use Rattle.client_loop.specs.Asking.{to_policy, IsLogoutReply};
+ghost use Rattle.client_loop.specs.Logins.{session_of, after_login, after_logout, EndsSession, LogsOut, LogsOutAtLast};
 
 use crate::desk::Desk;
 use access_core::refusal::Refusal;
 use access_core::reply::Reply;
 use rbac_policy::commands::{AdminCommand, SessionId};
 use rbac_policy::names::{Name, RoleNames};
+use std::mem;
+use std::sync::Wait;
 
 /// What a logout did.
 #[derive(Clone, Copy, Debug, PartialEq, Eq)]
@@ -27,8 +30,8 @@ pub struct Login {
 
 /// Asks for a session of this user in these roles, and holds it where it was begun.
 pub fn log_in<D: Desk>(desk: &mut D, user: Name, roles: RoleNames) -> (Reply, Option<Login>)
-    ensures asked { D.admins desk.old None (CreateSession user roles) result.0 desk.new }
-    ensures held { Begins result.0 result.1 }
+    ensures asked { D.answers desk.old (to_policy None (CreateSession user roles)) result.0 desk.new }
+    ensures held { session_of result.1 ≡ after_login result.0 None }
 {
     let reply = desk.admin(None, AdminCommand::CreateSession { user, roles });
     let login = match &reply {
@@ -36,6 +39,27 @@ pub fn log_in<D: Desk>(desk: &mut D, user: Name, roles: RoleNames) -> (Reply, Op
         _ => None,
     };
     (reply, login)
+}
+
+/// Lets a place that holds no login hold what there is.
+pub(crate) fn hold(place: &mut Option<Login>, login: Option<Login>)
+    requires { place.old ≡ None }
+    ensures { place.new ≡ login }
+{
+    match mem::replace(place, login) {
+        None => {}
+        Some(Login { session: _ }) => unreachable!(),
+    }
+}
+
+/// The session of the login that is held, if one is.
+pub(crate) fn held_session(login: &Option<Login>) -> Option<SessionId>
+    ensures { result ≡ session_of login.now }
+{
+    match login {
+        Some(login) => Some(login.session),
+        None => None,
+    }
 }
 
 impl Login {
@@ -46,25 +70,59 @@ impl Login {
         self.session
     }
 
+    // The reply of the desk that is asked to end the session.
+    fn ask_end<D: Desk>(&self, desk: &mut D) -> Reply
+        ensures asked { EndsSession D.answers self.now.session desk.old result desk.new }
+        ensures reply { IsLogoutReply result }
+    {
+        desk.admin(Some(self.session), AdminCommand::DeleteSession)
+    }
+
+    /// Ends the session, and gives the reply. The login is held on where memory was refused.
+    pub(crate) fn end<D: Desk>(self, desk: &mut D) -> (Reply, Option<Login>)
+        ensures asked { EndsSession D.answers self.session desk.old result.0 desk.new }
+        ensures held { session_of result.1 ≡ after_logout result.0 (Some self.session) }
+    {
+        let reply = self.ask_end(desk);
+        let Login { session } = self;
+        let held = match &reply {
+            Reply::Changed { .. } | Reply::Refused(Refusal::NoSession) => None,
+            _ => Some(Login { session }),
+        };
+        (reply, held)
+    }
+
     /// Ends the session.
     ///
     /// # Errors
     ///
-    /// Where the desk refuses it for another reason than that the session has ended: then the login comes back.
+    /// Where memory was refused: then the login comes back.
     pub fn logout<D: Desk>(self, desk: &mut D) -> Result<Logout, (Refusal, Login)>
-        ensures asked { MatchResult result
-            (λ done. LogsOut D.admins self.session desk.old done desk.new)
-            (λ back. D.admins desk.old (Some self.session) DeleteSession (Refused back.0) desk.new) }
-        ensures back { IfErr result (λ back. (back.1 ≡ self) × (back.0 ≡ NoSession → ⊥)) }
+        ensures { MatchResult result
+            (λ done. LogsOut D.answers self.session desk.old done desk.new)
+            (λ back. (back.0 ≡ Memory) × (back.1 ≡ self)
+            × EndsSession D.answers self.session desk.old (Refused Memory) desk.new) }
     {
+        let reply = self.ask_end(desk);
         let Login { session } = self;
-        match desk.admin(Some(session), AdminCommand::DeleteSession) {
+        match reply {
             Reply::Refused(Refusal::NoSession) => Ok(Logout::WasEnded),
             Reply::Refused(refusal) => Err((refusal, Login { session })),
             _ => Ok(Logout::Ended),
         }
     }
-}
 
-#[cfg(test)]
-mod tests;
+    /// Ends the session at last: asks again for as long as memory is refused.
+    pub fn logout_at_last<R: Wait, D: Desk>(self, rt: &R, desk: &mut D) -> Logout
+        ensures { LogsOutAtLast D.answers self.session desk.old result desk.new }
+    {
+        let mut login = self;
+        for _ in rt.forever() {
+            match login.logout(desk) {
+                Ok(done) => return done,
+                Err((_, back)) => login = back,
+            }
+        }
+        unreachable!()
+    }
+}

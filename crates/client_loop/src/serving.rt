@@ -1,18 +1,30 @@
-//! A connection to its end, over any reader and writer, and whatever answers its lines.
-ghost use Rattle.std.specs.Prelude.{◌≡◌, ◌⊎◌, [], true};
+//! A connection to its end, over any reader and writer, and any desk that is lent.
+ghost use Rattle.std.specs.Prelude.{◌≡◌, true};
 ghost use Rattle.line_reader.specs.Meters.{IsStopped};
-ghost use Rattle.line_reader.specs.Serving.{between, Serves};
 ghost use Rattle.line_reader.specs.declared.serving.Why.TheVariants as why;
-ghost use Rattle.client_loop.specs.Serving.{too_long_text};
+ghost use Rattle.client_loop.specs.LineSteps.{with_login};
+ghost use Rattle.client_loop.specs.Logins.{session_of, Leaves};
+ghost use Rattle.client_loop.specs.Serving.{too_long_text, ServesLines, ServesDesk};
 
+use crate::client::Client;
+use crate::desk::Desk;
+use crate::login::Login;
 use line_reader::meter::{MeteredReader, MeteredWriter};
 use line_reader::serving;
-use line_reader::serving::{Answerer, Why};
+use line_reader::serving::Why;
 use std::alloc::Global;
 use std::io::{Read, Write};
 
 /// The answer to an over-long line.
 const TOO_LONG: &str = "{\"code\":1,\"fault\":\"TooLong\"}\n";
+
+/// How a connection ended. Whoever gets it has to spend the login that is left.
+pub struct End {
+    /// Why it ended.
+    pub why: Why,
+    /// The login that the connection held at its end, where memory was refused for its logout.
+    pub left: Option<Login>,
+}
 
 /// The answer to an over-long line, from a constant: it takes no memory.
 fn too_long_line() -> &'static [u8]
@@ -21,25 +33,55 @@ fn too_long_line() -> &'static [u8]
     TOO_LONG.as_bytes()
 }
 
-/// Serves a connection to its end: each line that the reader gives is answered by the desk, in turn. Answers are gathered, and are written
-/// before a read that could wait and before the end. An over-long line is answered TooLong, and ends the connection.
-pub fn serve<R: Read, W: Write, A: Answerer>(
+/// Answers the lines of a connection to its end, and hands out the login that it holds then.
+fn answer_lines<R: Read, W: Write, D: Desk>(
     alloc: Global,
     reader: &mut MeteredReader<R>,
     writer: &mut MeteredWriter<W>,
-    desk: &mut A,
-) -> Why
-    // or memory was refused before anything was read
-    ensures serves { Serves A.tells A.fails too_long_text
-        (between (R.remaining reader.old.device) desk.old)
-        result desk.new (W.contents writer.old.device) (W.contents writer.new.device) [] []
-        ⊎ ((result ≡ why.Memory) × (reader.new ≡ reader.old) × (writer.new ≡ writer.old)
-        × (desk.new ≡ desk.old)) }
-    ensures read_fault { result ≡ why.ReadFault → IsStopped reader.new.failed reader.new.left }
-    ensures write_fault { result ≡ why.WriteFault → writer.new.failed ≡ true }
+    desk: &mut D,
+) -> (Why, Option<Login>)
+    ensures serves { ServesLines D.answers (R.remaining reader.old.device) desk.old
+        result.0 (with_login desk.new (session_of result.1))
+        (W.contents writer.old.device) (W.contents writer.new.device) }
+    ensures read_fault { result.0 ≡ why.ReadFault → IsStopped reader.new.failed reader.new.left }
+    ensures write_fault { result.0 ≡ why.WriteFault → writer.new.failed ≡ true }
 {
-    serving::serve(alloc, reader, writer, desk, too_long_line())
+    let mut client = Client { login: None };
+    let why = serving::serve(alloc, reader, writer, &mut client, desk, too_long_line());
+    let Client { login } = client;
+    (why, login)
 }
 
-#[cfg(test)]
-mod tests;
+/// Logs out where a login is held, and hands it back where memory was refused for that.
+fn leave<D: Desk>(desk: &mut D, held: Option<Login>) -> Option<Login>
+    ensures { Leaves D.answers (session_of held) desk.old desk.new (session_of result) }
+{
+    let Some(login) = held else {
+        return None;
+    };
+    match login.logout(desk) {
+        Ok(_) => None,
+        Err((_, login)) => Some(login),
+    }
+}
+
+/// Serves a connection to its end over this desk, and logs out the login that it holds then. Each line that the reader gives is answered in
+/// turn. Answers are gathered, and are written before a read that could wait and before the end. An over-long line is answered TooLong, and
+/// ends the connection.
+pub fn serve<R: Read, W: Write, D: Desk>(
+    alloc: Global,
+    reader: &mut MeteredReader<R>,
+    writer: &mut MeteredWriter<W>,
+    desk: &mut D,
+) -> End
+    ensures serves { ServesDesk D.answers (R.remaining reader.old.device) desk.old
+        result.why desk.new (session_of result.left)
+        (W.contents writer.old.device) (W.contents writer.new.device) }
+    ensures read_fault { result.why ≡ why.ReadFault →
+        IsStopped reader.new.failed reader.new.left }
+    ensures write_fault { result.why ≡ why.WriteFault → writer.new.failed ≡ true }
+{
+    let (why, held) = answer_lines(alloc, reader, writer, desk);
+    let left = leave(desk, held);
+    End { why, left }
+}

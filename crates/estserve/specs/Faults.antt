@@ -1,5 +1,6 @@
 -- How the program ends.
-use Rattle.std.specs.Prelude.{◌≡◌, ℕ, Result, Ok, Err, ⊤}
+use Rattle.std.specs.Prelude.{◌≡◌, ℕ, List, Option, Some, None, Result, Ok, Err, ⊤, IfSome, codes}
+use Rattle.std.specs.Io.KnownBytes.{Appends}
 use Rattle.estserve.specs.declared.fault.Fault.{Fault}
 use Rattle.estserve.specs.declared.fault.Fault.TheVariants as fault
 use Rattle.line_reader.specs.declared.serving.Why.{Why}
@@ -11,6 +12,17 @@ status_of (fault.Words e) = 2
 status_of fault.Read = 1
 status_of fault.Write = 1
 status_of fault.Memory = 1
+
+-- the line that tells a fault of a device or of memory
+abbrev pub told_line : Fault → Option (List ℕ)
+told_line (fault.Words e) = None
+told_line fault.Read = Some (codes "estserve: read fault\n")
+told_line fault.Write = Some (codes "estserve: write fault\n")
+told_line fault.Memory = Some (codes "estserve: no memory\n")
+
+-- the fault's line was written; what is written of words is clap's text
+abbrev pub IsTold : Fault → (before after : Option (List ℕ)) → Type 0
+IsTold given before after = IfSome (told_line given) (λ line. Appends before after line)
 
 -- the fault of words that are no order, or of memory
 abbrev pub IsOfWords : Fault → Type 0

@@ -1,8 +1,10 @@
 //! Why the program ends with another status than 0.
-ghost use Rattle.std.specs.Prelude.{◌≡◌};
-ghost use Rattle.estserve.specs.Faults.{status_of, IsOutcome};
+ghost use Rattle.std.specs.Prelude.{◌≡◌, OnOk};
+ghost use Rattle.estserve.specs.Faults.{status_of, IsTold, IsOutcome};
 
 use line_reader::serving::Why;
+use std::io;
+use std::io::Write;
 use thiserror::Error;
 
 /// A fault of the program. Its text goes to standard error.
@@ -31,6 +33,23 @@ impl Fault {
     }
 }
 
+/// Writes the fault's text, which ends in LF: clap's where it is of the words, and else one line.
+///
+/// # Errors
+///
+/// Where it cannot be written.
+pub fn tell<E: Write>(fault: &Fault, errors: &mut E) -> io::Result<()>
+    ensures { OnOk result (IsTold fault.now (E.contents errors.old) (E.contents errors.new)) }
+{
+    match fault {
+        // The text about words ends its own lines.
+        Fault::Words(error) => write!(errors, "{error}"),
+        Fault::Read => errors.write_all(b"estserve: read fault\n"),
+        Fault::Write => errors.write_all(b"estserve: write fault\n"),
+        Fault::Memory => errors.write_all(b"estserve: no memory\n"),
+    }
+}
+
 /// What the end of a connection means for the program: a line over its limit is no fault.
 pub fn outcome(why: Why) -> Result<(), Fault>
     ensures { IsOutcome why result }
@@ -40,29 +59,5 @@ pub fn outcome(why: Why) -> Result<(), Fault>
         Why::ReadFault => Err(Fault::Read),
         Why::WriteFault => Err(Fault::Write),
         Why::Memory => Err(Fault::Memory),
-    }
-}
-
-#[cfg(test)]
-mod tests {
-    use super::*;
-    use std::test::Fail;
-
-    #[test]
-    fn statuses_of_ends(rt: HostRuntime) -> Result<(), Fail> {
-        for (why, wanted) in [
-            (Why::Closed, 0),
-            (Why::TooLong, 0),
-            (Why::ReadFault, 1),
-            (Why::WriteFault, 1),
-            (Why::Memory, 1),
-        ] {
-            let status = match outcome(why) {
-                Ok(()) => 0,
-                Err(fault) => fault.status(),
-            };
-            assert_eq!(rt; status, wanted, "{why:?}");
-        }
-        Ok(())
     }
 }

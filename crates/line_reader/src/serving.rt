@@ -18,23 +18,23 @@ use crate::replies::{Replies, WriteFault};
 use std::alloc::{AllocError, Global};
 use std::io::{Read, Write};
 
-/// What answers the lines of a connection.
-pub trait Answerer {
-    /// A line was answered by this text.
-    ghost tells: { Self → List ℕ → List ℕ → Self → Type 0 };
+/// What answers the lines of a connection, by a desk that it is lent for each of them.
+pub trait Answerer<D> {
+    /// A line was answered by this text, and left answerer and desk so.
+    ghost tells: { (Self × D) → List ℕ → List ℕ → (Self × D) → Type 0 };
 
-    /// A line was answered by nothing, since memory was refused.
-    ghost fails: { Self → List ℕ → Self → Type 0 };
+    /// A line was answered by nothing, since memory was refused, and left answerer and desk so.
+    ghost fails: { (Self × D) → List ℕ → (Self × D) → Type 0 };
 
     /// The answer to a line, which comes without its LF.
     ///
     /// # Errors
     ///
     /// Where memory was refused for the text of the answer.
-    fn answer(&mut self, alloc: Global, line: &[u8]) -> Result<Vec<u8>, AllocError>
+    fn answer(&mut self, alloc: Global, desk: &mut D, line: &[u8]) -> Result<Vec<u8>, AllocError>
         ensures { MatchResult result
-            (λ text. tells self.old line.now text.items self.new)
-            (λ _. fails self.old line.now self.new) };
+            (λ text. tells (self.old, desk.old) line.now text.items (self.new, desk.new))
+            (λ _. fails (self.old, desk.old) line.now (self.new, desk.new)) };
 }
 
 /// Why a connection ended.
@@ -80,20 +80,23 @@ fn take_line<R: Read, W: Write>(
 }
 
 /// Answers the next line, or says why the connection ends.
-fn turn<R: Read, W: Write, A: Answerer>(
+fn turn<R: Read, W: Write, D, A: Answerer<D>>(
     alloc: Global,
     lines: &mut LineReader,
     replies: &mut Replies,
     reader: &mut MeteredReader<R>,
     writer: &mut MeteredWriter<W>,
-    desk: &mut A,
+    answerer: &mut A,
+    desk: &mut D,
     refusal: &[u8],
 ) -> Result<(), Why>
     requires { IsSound lines.old.ending (held_bytes lines.old) (R.remaining reader.old.device) }
     ensures turns { Turns A.tells A.fails refusal.now
-        (between (prepend_known (held_bytes lines.old) (R.remaining reader.old.device)) desk.old)
+        (between (prepend_known (held_bytes lines.old) (R.remaining reader.old.device))
+        (answerer.old, desk.old))
         result
-        (between (prepend_known (held_bytes lines.new) (R.remaining reader.new.device)) desk.new)
+        (between (prepend_known (held_bytes lines.new) (R.remaining reader.new.device))
+        (answerer.new, desk.new))
         (W.contents writer.old.device) (W.contents writer.new.device)
         (waiting_bytes replies.old) (waiting_bytes replies.new) }
     ensures sound { OnOk result
@@ -116,7 +119,7 @@ fn turn<R: Read, W: Write, A: Answerer>(
         }
         Err(WriteFault) => return Err(Why::WriteFault),
     }
-    let Ok(text) = desk.answer(alloc, lines.line()) else {
+    let Ok(text) = answerer.answer(alloc, desk, lines.line()) else {
         return Err(Why::Memory);
     };
     let Ok(()) = replies.add(writer, text.as_slice()) else {
@@ -126,46 +129,51 @@ fn turn<R: Read, W: Write, A: Answerer>(
 }
 
 /// Answers lines until the connection ends. What is left waits.
-fn answer_all<R: Read, W: Write, A: Answerer>(
+fn answer_all<R: Read, W: Write, D, A: Answerer<D>>(
     alloc: Global,
     lines: &mut LineReader,
     replies: &mut Replies,
     reader: &mut MeteredReader<R>,
     writer: &mut MeteredWriter<W>,
-    desk: &mut A,
+    answerer: &mut A,
+    desk: &mut D,
     refusal: &[u8],
 ) -> Why
     requires { IsSound lines.old.ending (held_bytes lines.old) (R.remaining reader.old.device) }
     ensures serves { Serves A.tells A.fails refusal.now
-        (between (prepend_known (held_bytes lines.old) (R.remaining reader.old.device)) desk.old)
-        result desk.new (W.contents writer.old.device) (W.contents writer.new.device)
+        (between (prepend_known (held_bytes lines.old) (R.remaining reader.old.device))
+        (answerer.old, desk.old))
+        result (answerer.new, desk.new) (W.contents writer.old.device) (W.contents writer.new.device)
         (waiting_bytes replies.old) (waiting_bytes replies.new) }
     ensures read_fault { result ≡ why.ReadFault → IsStopped reader.new.failed reader.new.left }
     ensures write_fault { result ≡ why.WriteFault → writer.new.failed ≡ true }
 {
     loop {
-        if let Err(why) = turn(alloc, lines, replies, reader, writer, desk, refusal) {
+        if let Err(why) = turn(
+            alloc, lines, replies, reader, writer, answerer, desk, refusal,
+        ) {
             return why;
         }
     }
 }
 
-/// Serves a connection to its end: each line that the reader gives is answered by the desk, in turn. Answers wait until
-/// no whole line is held, or no more have room, and are written before the next read and before the end. An over-long
-/// line is answered by `refusal`, and ends the connection.
-pub fn serve<R: Read, W: Write, A: Answerer>(
+/// Serves a connection to its end: each line that the reader gives is answered by the desk, in turn. Answers wait until no whole line is held,
+/// or no more have room, and are written before the next read and before the end. An over-long line is answered by `refusal`, and ends the
+/// connection.
+pub fn serve<R: Read, W: Write, D, A: Answerer<D>>(
     alloc: Global,
     reader: &mut MeteredReader<R>,
     writer: &mut MeteredWriter<W>,
-    desk: &mut A,
+    answerer: &mut A,
+    desk: &mut D,
     refusal: &[u8],
 ) -> Why
     // or the buffers found no memory
     ensures serves { Serves A.tells A.fails refusal.now
-        (between (R.remaining reader.old.device) desk.old)
-        result desk.new (W.contents writer.old.device) (W.contents writer.new.device) [] []
+        (between (R.remaining reader.old.device) (answerer.old, desk.old))
+        result (answerer.new, desk.new) (W.contents writer.old.device) (W.contents writer.new.device) [] []
         ⊎ ((result ≡ why.Memory) × (reader.new ≡ reader.old) × (writer.new ≡ writer.old)
-        × (desk.new ≡ desk.old)) }
+        × (answerer.new ≡ answerer.old) × (desk.new ≡ desk.old)) }
     ensures read_fault { result ≡ why.ReadFault → IsStopped reader.new.failed reader.new.left }
     ensures write_fault { result ≡ why.WriteFault → writer.new.failed ≡ true }
 {
@@ -181,6 +189,7 @@ pub fn serve<R: Read, W: Write, A: Answerer>(
         &mut replies,
         reader,
         writer,
+        answerer,
         desk,
         refusal,
     ) {
@@ -195,8 +204,8 @@ pub fn serve<R: Read, W: Write, A: Answerer>(
 }
 
 /// Whatever answers the lines: the lines that are answered are those of the bytes in turn.
-pub fn lines_are_answered_in_turn<A: Answerer>()
-    ensures { (before after : BetweenLines A) (exchanges : List Exchange)
+pub fn lines_are_answered_in_turn<D, A: Answerer<D>>()
+    ensures { (before after : BetweenLines (A × D)) (exchanges : List Exchange)
         → Runs A.tells before exchanges after
         → KnownCuts before.ahead (map (λ e. e.line) exchanges) after.ahead }
 {}

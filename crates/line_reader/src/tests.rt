@@ -254,12 +254,17 @@ fn replies_are_written_before_a_read(rt: HostRuntime) -> Result<(), Fail> {
 #[derive(Drop)]
 struct Echo;
 
-impl Answerer for Echo {
+impl Answerer<()> for Echo {
     ghost tells = { λ _ _ _ _. ⊤ };
 
     ghost fails = { λ _ _ _. ⊤ };
 
-    fn answer(&mut self, alloc: Global, line: &[u8]) -> Result<Vec<u8>, AllocError> {
+    fn answer(
+        &mut self,
+        alloc: Global,
+        _desk: &mut (),
+        line: &[u8],
+    ) -> Result<Vec<u8>, AllocError> {
         let mut text = Vec::from_slice(alloc, line)?;
         text.extend_from_slice(b".\n")?;
         Ok(text)
@@ -274,7 +279,14 @@ fn echoed(alloc: Global, reader: TwoParts<'_>, room: usize) -> (Why, Vec<u8>) {
         step: 3,
         room,
     });
-    let why = serve(alloc, &mut reader, &mut writer, &mut Echo, b"too long\n");
+    let why = serve(
+        alloc,
+        &mut reader,
+        &mut writer,
+        &mut Echo,
+        &mut (),
+        b"too long\n",
+    );
     (why, writer.into_device().written)
 }
 

@@ -1,0 +1,8 @@
+-- A client beside the desk that it is lent, for private clauses.
+use Rattle.client_loop.specs.declared.client.Client.{Client}
+use Rattle.client_loop.specs.LineSteps.{DeskAndLogin, with_login}
+use Rattle.client_loop.specs.Logins.{session_of}
+
+-- the desk, and the session of the client's login
+abbrev pub seen_of : {D : Type 0} → (Client × D) → DeskAndLogin D
+seen_of both = with_login both.1 (session_of both.0.login)

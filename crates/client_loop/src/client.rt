@@ -1,0 +1,30 @@
+//! The client at the other end of a connection, as far as a server knows it: its login.
+ghost use Rattle.client_loop.specs.LineSteps.{Tells, TellsNothing};
+ghost use Rattle.client_loop.specs.Inner.Clients.{seen_of};
+
+use crate::answer::{Turn, respond};
+use crate::desk::Desk;
+use crate::login::{Login, hold};
+use line_reader::serving::Answerer;
+use std::alloc::{AllocError, Global};
+use wire_lines::reply::reply_line;
+
+/// The login that a connection holds, if it holds one.
+pub(crate) struct Client {
+    pub(crate) login: Option<Login>,
+}
+
+impl<D: Desk> Answerer<D> for Client {
+    ghost tells = { λ before line text after.
+        Tells D.answers line (seen_of before) text (seen_of after) };
+
+    ghost fails = { λ before line after.
+        TellsNothing D.answers line (seen_of before) (seen_of after) };
+
+    fn answer(&mut self, alloc: Global, desk: &mut D, line: &[u8]) -> Result<Vec<u8>, AllocError> {
+        let held = self.login.take();
+        let Turn { reply, login } = respond(alloc, desk, held, line);
+        hold(&mut self.login, login);
+        reply_line(alloc, &reply)
+    }
+}

@@ -1,0 +1,98 @@
+//! A run of the program, over any words and streams.
+ghost use Rattle.estserve.specs.Runs.{LogsOutLeft, RunsScript, Obeys, NamesDevices, Runs};
+ghost use Rattle.client_loop.specs.Logins.{session_of};
+
+use crate::fault::{Fault, outcome, tell};
+use crate::words::Order;
+use access_core::single::Single;
+use client_loop::login::Login;
+use client_loop::serving::{End, serve};
+use line_reader::meter::{MeteredReader, MeteredWriter};
+use line_reader::serving::Why;
+use log::sink::Writer;
+use log::{Level, Logged, info};
+use std::alloc::Global;
+use std::io::{Read, Write};
+use std::sync::Wait;
+
+/// Logs out the login that a connection left, where it left one.
+fn log_out_left<R: Wait>(rt: &R, desk: &mut Single, left: Option<Login>)
+    ensures { LogsOutLeft (session_of left) desk.old desk.new }
+{
+    match left {
+        Some(login) => {
+            login.logout_at_last(rt, desk);
+        }
+        None => {}
+    }
+}
+
+/// Writes a line on how the connection ended.
+fn log_end<E: Write>(errors: &mut E, why: Why) {
+    let log = Logged::new((), Level::Info, Writer::new(errors));
+    info!(log; "connection ended: {why:?}");
+}
+
+/// Serves the input and the output as one connection over a desk as it opens.
+fn script<R: Wait, I: Read, O: Write, E: Write>(
+    rt: &R,
+    alloc: Global,
+    input: &mut MeteredReader<I>,
+    output: &mut MeteredWriter<O>,
+    errors: &mut E,
+    log: bool,
+) -> Result<(), Fault>
+    ensures runs { RunsScript (I.remaining input.old.device) result
+        (O.contents output.old.device) (O.contents output.new.device) }
+    ensures devices { NamesDevices result input.new.failed input.new.left output.new.failed }
+{
+    let Ok(mut desk) = Single::new(alloc) else {
+        return Err(Fault::Memory);
+    };
+    let End { why, left } = serve(alloc, input, output, &mut desk);
+    log_out_left(rt, &mut desk, left);
+    if log {
+        log_end(errors, why);
+    }
+    outcome(why)
+}
+
+/// Does what the words ask for.
+fn obey<R: Wait, I: Read, O: Write, E: Write>(
+    rt: &R,
+    alloc: Global,
+    words: &[String],
+    input: &mut MeteredReader<I>,
+    output: &mut MeteredWriter<O>,
+    errors: &mut E,
+) -> Result<(), Fault>
+    ensures obeys { Obeys (I.remaining input.old.device) result
+        (O.contents output.old.device) (O.contents output.new.device) }
+    ensures devices { NamesDevices result input.new.failed input.new.left output.new.failed }
+{
+    let Order::Script { log } = Order::from_words(alloc, words)?;
+    script(rt, alloc, input, output, errors, log)
+}
+
+/// Runs the program on these words, of which the first is its own name, and gives its status. A fault is told by a line on `errors`; where that
+/// cannot be written, the status tells it alone.
+pub fn run<R: Wait, I: Read, O: Write, E: Write>(
+    rt: &R,
+    alloc: Global,
+    words: &[String],
+    input: &mut MeteredReader<I>,
+    output: &mut MeteredWriter<O>,
+    errors: &mut E,
+) -> u8
+    ensures { Runs (I.remaining input.old.device)
+        (O.contents output.old.device) (O.contents output.new.device)
+        input.new.failed input.new.left output.new.failed result }
+{
+    match obey(rt, alloc, words, input, output, errors) {
+        Ok(()) => 0,
+        Err(fault) => {
+            let _ = tell(&fault, errors);
+            fault.status()
+        }
+    }
+}
