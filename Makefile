@@ -3,6 +3,7 @@ PROGRAM := crates/estserve/out/estserve
 ENGINE := crates/est_bench/out/est_bench
 TEXTS := crates/text_bench/out/text_bench
 LOADS := crates/load_bench/out/load_bench
+POLICIES := crates/policy_bench/out/policy_bench
 
 .PHONY: help try run build abro examples documents test bench faults times
 
@@ -15,7 +16,7 @@ help:
 	@echo 'make examples  run each script and controller of examples on the program, built without proof, and compare its answers'
 	@echo 'make abro      the waves of ABRO, by the client, on the program built WITHOUT proof: about a minute'
 	@echo 'make documents write the tables of docs/PROOFS.md anew from the sources'
-	@echo 'make bench     prove and build, and then time commands, instants and the reading of texts, and see how loads take memory'
+	@echo 'make bench     prove and build, and then time commands, instants, the reading of texts and policies, and see how loads take memory'
 	@echo 'make faults    refuse each allocation of two tests in turn; no part of make test'
 	@echo 'make times     the proofs, wrong bodies and tests of make test, and a table of the time that each crate takes'
 
@@ -57,6 +58,8 @@ bench: build
 	python3 bench/texts.py $(TEXTS)
 	@python3 scripts/run.py load_bench 1 < crates/load_bench/stdin > /dev/null
 	python3 bench/loads.py $(LOADS)
+	@python3 scripts/run.py policy_bench all 1 > /dev/null
+	python3 bench/policies.py $(POLICIES)
 
 faults:
 	python3 tests/faults/run
