@@ -1,0 +1,80 @@
+//! Modules of texts, and their instants: what the tests of whole programs share.
+
+ghost use Rattle.est_meaning.specs.States.{IsState};
+ghost use Rattle.est_rounds.specs.Contract.{AreInputs};
+
+use est_kernel::interface::Interface;
+use est_kernel::kernel::Kernel;
+use est_kernel::mask::{common, with};
+use est_kernel::state::{Inputs, State};
+use est_kernel::statement::InterfaceSignal;
+use est_link::link::link;
+use est_reduce::reduce::reduce;
+use est_rounds::engine::Engine;
+use est_rounds::rounds::Rounds;
+use est_syntax::parse::parse;
+use est_text::identifier::Identifier;
+use est_text::lex::lex;
+use std::alloc::Global;
+use std::test::Fail;
+
+/// The outputs of an instant as a mask, or those that are undecided.
+pub type Shown = Result<u64, u64>;
+
+/// The kernel of the module M of a text.
+pub fn load(alloc: Global, text: &str) -> Result<Kernel, Fail> {
+    let tokens = lex(alloc, text)?;
+    let library = parse(alloc, &tokens)?;
+    let flat = match link(alloc, &library, "M") {
+        Ok(flat) => flat,
+        Err(fault) => return Err(Fail::from(format!(in alloc; "{fault:?}: {text}")?)),
+    };
+    match reduce(alloc, &flat) {
+        Ok(kernel) => Ok(kernel),
+        Err(fault) => Err(Fail::from(format!(in alloc; "{fault:?}: {text}")?)),
+    }
+}
+
+/// Those of the signals in the mask that are inputs.
+fn offered(kernel: &Kernel, present: u64) -> Inputs
+    ensures { AreInputs kernel.now result }
+{
+    Inputs {
+        signals: common(present, kernel.interface().inputs()),
+    }
+}
+
+/// One instant with these inputs. The state stays where it is undecided.
+pub fn step(kernel: &Kernel, state: &mut State, present: u64) -> Shown
+    requires { IsState kernel.now.root state.old }
+    ensures { IsState kernel.now.root state.new }
+{
+    let mut engine = Rounds::new();
+    match engine.react(kernel, &*state, &offered(kernel, present)) {
+        Ok(outcome) => {
+            *state = outcome.next;
+            Ok(outcome.outputs)
+        }
+        Err(stuck) => Err(stuck.undecided),
+    }
+}
+
+/// The signal of a name.
+fn signal_named(interface: &Interface, name: &str) -> Result<InterfaceSignal, Fail> {
+    let Some(name) = Identifier::from_text(name) else {
+        return Err(Fail::from("no identifier"));
+    };
+    match interface.find(&name) {
+        Some(signal) => Ok(signal),
+        None => Err(Fail::from("no such signal")),
+    }
+}
+
+/// The signals of names with blanks between them, as a mask.
+pub fn mask_of(interface: &Interface, names: &str) -> Result<u64, Fail> {
+    let mut mask = 0;
+    for name in names.split_whitespace() {
+        mask = with(mask, signal_named(interface, name)?.index);
+    }
+    Ok(mask)
+}
