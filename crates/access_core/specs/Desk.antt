@@ -1,5 +1,5 @@
 -- The desk: one policy list and sixteen slots, and what each command is answered there (this project's own form).
-use Rattle.std.specs.Prelude.{◌≡◌, ℕ, ◌+◌, ◌<◌, List, [], ◌∷◌, ◌++◌, Option, Some, None, Result, MatchResult, length, map, slice_get, slice_set}
+use Rattle.std.specs.Prelude.{◌≡◌, ℕ, ◌+◌, ◌<◌, List, [], ◌∷◌, ◌++◌, Option, Some, None, Result, MatchResult, length, take, map, slice_get, slice_set}
 use Rattle.std.specs.List.{range_with_len}
 use Rattle.refusal_rules.specs.Rules.{Rule, Unless, accept, ◌▸◌}
 use Rattle.rbac_policy.specs.declared.commands.AdminCommand.{AdminCommand}
@@ -28,6 +28,10 @@ use Rattle.access_core.specs.SlotStep.{SlotStep, no_session}
 pub record DeskState : Type 0 where
   pub entries : List Entry
   pub slots : List SlotState
+
+-- the desk, when the policy list had so many entries
+abbrev pub desk_at : (version : ℕ) → DeskState → DeskState
+desk_at version desk = record desk { entries = take version desk.entries }
 
 -- an empty slot of this number
 abbrev pub empty_slot : ℕ → SlotState

@@ -1,14 +1,14 @@
 //! A policy with its list, and sixteen slots, in one hand.
-ghost use Rattle.std.specs.Prelude.{◌≡◌, ◌↔◌, ◌<◌, ◌≤◌, ◌++◌, ◌∷◌, [], List, IsTrue, IfOk, MatchOption, MatchResult, length};
+ghost use Rattle.std.specs.Prelude.{◌≡◌, ◌↔◌, ◌<◌, ◌≤◌, ◌++◌, ◌∷◌, [], List, IsTrue, IfOk, MatchOption, MatchResult, length, take};
 ghost use Rattle.rbac_policy.specs.declared.commands.Entry.{Entry};
-ghost use Rattle.rbac_policy.specs.Change.{absorbed};
+ghost use Rattle.rbac_policy.specs.Change.{absorbed, policy_of};
 ghost use Rattle.rbac_policy.specs.Facts.{May};
 ghost use Rattle.rbac_policy.specs.Fits.{Fits};
 ghost use Rattle.rbac_policy.specs.StandsFor.{StandsFor};
 ghost use Rattle.refusal_rules.specs.Rules.{accept, ◌▸◌};
 ghost use Rattle.access_core.specs.Answering.{ByRules, no_memory};
 ghost use Rattle.access_core.specs.Inner.Ending.{EndsLiving};
-ghost use Rattle.access_core.specs.Desk.{DeskState, opening_desk, empty_slot, change_of, accepted_reply, HasRoomFor, list_full, Appends, AdminStep, DeskStep};
+ghost use Rattle.access_core.specs.Desk.{DeskState, AreSlots, opening_desk, desk_at, empty_slot, change_of, accepted_reply, HasRoomFor, list_full, Appends, AdminStep, DeskStep};
 
 use crate::command::SlotCommand;
 use crate::refusal::Refusal;
@@ -46,13 +46,14 @@ impl Model for Single {
 
     ghost coded = { Prim.hlevel (codes, entry.the_row.coded) };
 
+    ghost use Rattle.rbac_policy.specs.Fits.{AllFit};
     ghost use Rattle.rbac_policy.specs.StandsFor.{StandsFor};
     ghost use Rattle.rbac_policy.specs.Leaving.{LeavesRoom};
     ghost use Rattle.access_core.specs.Desk.{AreSlots, most_entries};
 
     ghost view = { λ s. record { entries = s.entries; slots = s.slots } };
 
-    ghost invariant = { λ s. StandsFor s.policy s.entries × AreSlots s.slots × LeavesRoom most_entries s.entries };
+    ghost invariant = { λ s. StandsFor s.policy s.entries × AreSlots s.slots × LeavesRoom most_entries s.entries × AllFit s.entries };
 }
 
 /// The change that the command makes of the policy; a login makes none.
@@ -179,6 +180,40 @@ fn make_slots(alloc: Global) -> [Slot; SLOTS as usize]
     ]
 }
 
+/// Answers a command on the slot of this number, which this session gives, at this policy.
+fn answer_slot(
+    policy: &Policy,
+    slots: &mut [Slot; SLOTS as usize],
+    session: SessionId,
+    number: u64,
+    command: SlotCommand,
+) -> Reply
+    requires { AreSlots slots.old }
+    ensures slots { AreSlots slots.new }
+    ensures step { (entries : List Entry) → StandsFor policy.now entries
+        → DeskStep number session command (record { entries = entries; slots = slots.old }) result (record { entries = entries; slots = slots.new }) }
+{
+    if !policy.lives(session) {
+        return Reply::Refused(Refusal::NoSession);
+    }
+    let Some(place) = find_slot(number) else {
+        return Reply::Refused(Refusal::NoSlot);
+    };
+    decide_slot(policy, &mut slots[place], session, command)
+}
+
+/// The policy of the first entries, so many of them.
+fn policy_at(entries: &[Entry], version: usize) -> Policy
+    requires { version ≤ length entries.now }
+    ensures { result ≡ policy_of (take version entries.now) }
+{
+    let mut policy = Policy::empty();
+    for entry in &entries[..version] {
+        policy.absorb(entry);
+    }
+    policy
+}
+
 impl Single {
     /// The opening policy, its list, and sixteen empty slots.
     pub fn new(alloc: Global) -> Result<Single, AllocError>
@@ -236,14 +271,24 @@ impl Single {
     pub fn slot(&mut self, session: SessionId, number: u64, command: SlotCommand) -> Reply
         ensures { DeskStep number session command self.old result self.new }
     {
-        if !self.policy.lives(session) {
-            return Reply::Refused(Refusal::NoSession);
-        }
-        let Some(place) = find_slot(number) else {
-            return Reply::Refused(Refusal::NoSlot);
-        };
-        let slot = &mut self.slots[place];
-        decide_slot(&self.policy, slot, session, command)
+        answer_slot(&self.policy, &mut self.slots, session, number, command)
+    }
+
+    /// Answers a command on the slot of this number, which this session gives, at the first entries of the policy list, so many of them.
+    /// The policy is made anew from these, so that a call takes the longer, the more they are.
+    pub fn slot_at(
+        &mut self,
+        version: usize,
+        session: SessionId,
+        number: u64,
+        command: SlotCommand,
+    ) -> Reply
+        requires { version ≤ length self.old.entries }
+        ensures step { DeskStep number session command (desk_at version self.old) result (desk_at version self.new) }
+        ensures entries { self.new.entries ≡ self.old.entries }
+    {
+        let policy = policy_at(self.entries.entries(), version);
+        answer_slot(&policy, &mut self.slots, session, number, command)
     }
 
     /// Whether the session may do the operation on the object.

@@ -4,6 +4,7 @@ use Rattle.rbac_policy.specs.declared.sizes.TheConstants.{LAST_VERSION}
 use Rattle.rbac_policy.specs.Fits.{Fits}
 use Rattle.rbac_policy.specs.StandsFor.{StandsFor}
 use Rattle.rbac_policy.proofs.Absorbing.{stands_after}
+use Rattle.rbac_policy.proofs.Growing.{fit_push}
 use Rattle.rbac_policy.specs.declared.commands.Entry.{Entry}
 use Rattle.access_core.specs.declared.refusal.Refusal.TheVariants.{Memory}
 use Rattle.access_core.specs.Desk.{DeskState, HasRoomFor}
@@ -23,8 +24,8 @@ invariant_of-self c =
     let fits : Fits entries c.args.entry = asked (few_entries entries c.args.entry c.self.invariant.2 ends room) in
     let after = stands_after policy entries c.args.entry c.self.invariant.0 fits in
     elim c.match-take_in.branch [
-      | in-Ok w ↦ (rw (w.in-Ok.ensures.0, w.in-Ok.ensures.1) after, c.self.invariant.1, rw w.in-Ok.ensures.0 (still_leaves _ entries c.args.entry c.self.invariant.2 after ends room))
-      | in-Err w ↦ (rw (w.in-Err.ensures.0, w.in-Err.ensures.1) c.self.invariant.0, c.self.invariant.1, rw w.in-Err.ensures.0 c.self.invariant.2)
+      | in-Ok w ↦ (rw (w.in-Ok.ensures.0, w.in-Ok.ensures.1) after, c.self.invariant.1, rw w.in-Ok.ensures.0 (still_leaves _ entries c.args.entry c.self.invariant.2 after ends room), rw w.in-Ok.ensures.0 (fit_push entries c.args.entry c.self.invariant.3 fits))
+      | in-Err w ↦ (rw (w.in-Err.ensures.0, w.in-Err.ensures.1) c.self.invariant.0, c.self.invariant.1, rw w.in-Err.ensures.0 c.self.invariant.2, rw w.in-Err.ensures.0 c.self.invariant.3)
     ]
 
 pub returns : goal.returns

@@ -1,0 +1,16 @@
+pub mod Following
+pub mod Moving
+pub mod Placing
+pub mod Rising
+pub mod Changes
+pub mod Copying
+pub mod Versions
+pub mod Ending
+pub mod Histories
+pub mod Slotwise
+pub mod Standing
+pub mod Pendings
+pub mod Enterings
+pub mod Accepting
+pub mod Denying
+pub mod Showing

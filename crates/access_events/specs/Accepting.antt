@@ -1,0 +1,43 @@
+-- What the laws of acceptance speak of (this project's own form).
+use Rattle.std.specs.Prelude.{◌≡◌, ℕ, true, List, Some}
+use Rattle.est_kernel.specs.Interfaces.{inputs_of}
+use Rattle.est_kernel.specs.Term.{Term}
+use Rattle.est_kernel.specs.declared.interface.Declaration.{Declaration}
+use Rattle.est_relations.specs.Offers.{place_of, IsSignalName, IsOutputName, IsPendingName, IsFirstExcluded}
+use Rattle.reactor_core.specs.declared.entry.SlotEntry.{SlotEntry}
+use Rattle.reactor_core.specs.Instants.{IsOutcome}
+use Rattle.reactor_core.specs.Meaning.{Running, pending_of}
+use Rattle.access_core.specs.declared.refusal.Refusal.TheVariants.{Behind, SessionsExhausted, Full, JournalFull, TooLarge, Memory}
+use Rattle.access_core.specs.declared.reply.Reply.{Reply}
+use Rattle.access_core.specs.declared.reply.Reply.TheVariants.{Refused}
+
+-- the reply tells of no version behind, of no list, table, number or text at its limit, and of no want of memory
+abbrev pub MeetsNoLimit : Reply → Type 0
+MeetsNoLimit (Refused (Behind found seen)) = ⊥
+MeetsNoLimit (Refused SessionsExhausted) = ⊥
+MeetsNoLimit (Refused (Full table)) = ⊥
+MeetsNoLimit (Refused JournalFull) = ⊥
+MeetsNoLimit (Refused (TooLarge limit)) = ⊥
+MeetsNoLimit (Refused Memory) = ⊥
+MeetsNoLimit _ = Unit {0}
+
+-- the name is that of an input of the interface
+pub record IsInputName (interface : List Declaration) (name : List ℕ) : Type 0 where
+  pub place : ℕ
+  pub there : place_of interface name ≡ Some place
+  pub input : inputs_of interface place ≡ true
+
+-- with the signal of this name some exclusion would be broken
+abbrev pub IsExcluded : Running → (name : List ℕ) → Type 0
+IsExcluded running name = (number : ℕ) × (signal : List ℕ) × IsFirstExcluded (pending_of running) name number signal
+
+-- the name is that of a signal that is no output and isn't pending, and no exclusion would be broken with it
+pub record CanOffer (running : Running) (name : List ℕ) : Type 0 where
+  pub signal : IsSignalName running.interface name
+  pub input : ¬ (IsOutputName running.interface name)
+  pub new : ¬ (IsPendingName running.interface running.pending name)
+  pub kept : ¬ (IsExcluded running name)
+
+-- the term that is left of the running module has a constructive reaction to the pending inputs
+abbrev pub HasReaction : List SlotEntry → Type 0
+HasReaction journal = (outputs : ℕ) × (next : Term) × IsOutcome journal outputs next

@@ -1,0 +1,10 @@
+pub mod Runs
+pub mod Since
+pub mod Rising
+pub mod Changing
+pub mod Changes
+pub mod Entering
+pub mod Accepting
+pub mod Showing
+pub mod Denying
+pub mod Laws

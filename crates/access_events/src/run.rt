@@ -1,0 +1,118 @@
+//! The run of a list of events.
+ghost use Rattle.std.specs.Prelude.{◌≡◌, IfOk, slice_index_or};
+ghost use Rattle.access_events.specs.Runs.{EndsIn, EventStep, wants_memory};
+
+use crate::event::{Event, Seat};
+use crate::hall::Hall;
+use access_core::command::SlotCommand;
+use access_core::refusal::Refusal;
+use access_core::reply::Reply;
+use access_core::slot::Slot;
+use rbac_policy::commands::Entry;
+use reactor_core::text::Text;
+use std::alloc::{AllocError, Global};
+
+/// What a run leaves: the policy list, the slots and what the seats have seen, and the reply to each event.
+#[derive(Drop)]
+pub struct World {
+    hall: Hall,
+    replies: Vec<Reply>,
+}
+
+impl World {
+    /// The accepted policy entries, the oldest first.
+    pub fn entries(&self) -> &[Entry]
+        ensures { result.now ≡ self.now.hall.entries }
+    {
+        self.hall.entries()
+    }
+
+    /// The slots, by number.
+    pub fn slots(&self) -> &[Slot]
+        ensures { result.now ≡ self.now.hall.slots }
+    {
+        self.hall.slots()
+    }
+
+    /// The newest version that the seat has seen.
+    pub fn seen(&self, seat: Seat) -> u64
+        ensures { result ≡ slice_index_or self.now.hall.seen seat 0 }
+    {
+        self.hall.seen(seat)
+    }
+
+    /// The reply to each event, in their order.
+    pub fn replies(&self) -> &[Reply]
+        ensures { result.now ≡ self.now.replies.items }
+    {
+        self.replies.as_slice()
+    }
+}
+
+/// A copy of the command, or the error where memory was refused.
+fn copy_command(alloc: Global, command: &SlotCommand) -> Result<SlotCommand, AllocError>
+    ensures { IfOk result (λ copy. copy ≡ command.now) }
+{
+    match command {
+        SlotCommand::Load { main, text } => {
+            let text = Text::copied(alloc, text.as_str())?;
+            Ok(SlotCommand::Load { main: *main, text })
+        }
+        SlotCommand::Offer { signal } => Ok(SlotCommand::Offer { signal: *signal }),
+        SlotCommand::Discard => Ok(SlotCommand::Discard),
+        SlotCommand::Step => Ok(SlotCommand::Step),
+        SlotCommand::Unload => Ok(SlotCommand::Unload),
+        SlotCommand::Look { instant } => Ok(SlotCommand::Look { instant: *instant }),
+        SlotCommand::Audit => Ok(SlotCommand::Audit),
+    }
+}
+
+/// Whether the reply is that memory was refused.
+fn wants_memory(reply: &Reply) -> bool
+    ensures { result ≡ wants_memory reply.now }
+{
+    matches!(reply, Reply::Refused(Refusal::Memory))
+}
+
+/// Answers the event. The error, where memory was refused for a copy of its command, leaves the hall as it was.
+fn answer_event(alloc: Global, hall: &mut Hall, event: &Event) -> Result<Reply, AllocError>
+    ensures { IfOk result (λ reply. EventStep event.now hall.old reply hall.new) }
+{
+    match event {
+        Event::Admin {
+            seat,
+            session,
+            command,
+        } => Ok(hall.admin(*seat, *session, command.clone()?)),
+        Event::OnSlot {
+            seat,
+            version,
+            slot,
+            session,
+            command,
+        } => {
+            let command = copy_command(alloc, command)?;
+            Ok(hall.on_slot(*seat, *version, *slot, *session, command))
+        }
+    }
+}
+
+/// The run of these events, one after the other, from the opening on.
+///
+/// # Errors
+///
+/// Where memory was refused, to an event or for what is kept of the run.
+pub fn run_events(alloc: Global, events: &[Event]) -> Result<World, AllocError>
+    ensures { IfOk result (λ world. EndsIn events.now world.replies.items world.hall) }
+{
+    let mut hall = Hall::opening(alloc)?;
+    let mut replies = Vec::new(alloc);
+    for event in events {
+        let reply = answer_event(alloc, &mut hall, event)?;
+        if wants_memory(&reply) {
+            return Err(AllocError);
+        }
+        replies.push(reply)?;
+    }
+    Ok(World { hall, replies })
+}
