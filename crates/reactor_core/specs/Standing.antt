@@ -1,6 +1,7 @@
 -- What the parts of a reactor have to do with its journal: private to its invariant.
 use Rattle.std.specs.Prelude.{◌≡◌, ℕ, List, Some, Ok, Err}
 use Rattle.est_kernel.specs.View.{term_of}
+use Rattle.est_kernel.specs.declared.state.Outcome.{Outcome}
 use Rattle.est_kernel.specs.declared.state.State.{State}
 use Rattle.est_meaning.specs.States.{IsState, state_term}
 use Rattle.est_relations.specs.Offers.{PendingInputs, KeepsExclusions, IsFirstImplied, OfferAnswer as PendingAnswer}
@@ -9,6 +10,7 @@ use Rattle.reactor_core.specs.declared.entry.PastInstant.{PastInstant}
 use Rattle.reactor_core.specs.declared.entry.Load.{Load as LoadEntry}
 use Rattle.reactor_core.specs.declared.entry.SlotEntry.{SlotEntry}
 use Rattle.reactor_core.specs.declared.loaded.Module.{Module}
+use Rattle.reactor_core.specs.declared.reactor.parts.Parts.{Parts}
 use Rattle.reactor_core.specs.declared.refusal.Refusal.{Refusal}
 use Rattle.reactor_core.specs.declared.refusal.Refusal.TheVariants.{Implied}
 use Rattle.reactor_core.specs.Faults.{refusal_of_pending}
@@ -44,6 +46,14 @@ pub record IsRunning (journal : List SlotEntry) (m : Module) (state : State) (pe
 pub record IsNext (m : Module) (state : State) (pending outputs : ℕ) (next : State) : Type 0 where
   pub fits : IsState m.kernel.root next
   pub reacts : ReactsWith m.kernel.interface (state_term m.kernel.root state) pending outputs (state_term m.kernel.root next)
+
+-- the parts of a reactor run
+abbrev pub AreRunning : Parts → Type 0
+AreRunning p = IsRunning p.journal p.loaded p.state p.pending p.instants.items
+
+-- this is the outcome of their next instant
+abbrev pub HaveOutcome : Parts → Outcome → Type 0
+HaveOutcome p o = IsNext p.loaded p.state p.pending o.outputs o.next
 
 -- the pending inputs of a module with the input of this name are these
 pub record JoinsAs (m : Module) (pending : ℕ) (name : List ℕ) (after : ℕ) : Type 0 where

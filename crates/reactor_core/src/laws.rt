@@ -26,8 +26,10 @@ pub fn one_module()
 /// A text and the name of its main module give one module, or have one first fault, and never both. Want of memory, which no
 /// definition foresees, can come at any time.
 pub fn one_load()
-    ensures given { (main text : List ℕ) (m n : GivenModule) → Gives main text m → Gives main text n → m ≡ n }
-    ensures fault { (main text : List ℕ) (a b : Refusal) → IsLoadFault main text a → IsLoadFault main text b
+    ensures given { (main text : List ℕ) (m n : GivenModule)
+        → Gives main text m → Gives main text n → m ≡ n }
+    ensures fault { (main text : List ℕ) (a b : Refusal)
+        → IsLoadFault main text a → IsLoadFault main text b
         → (a ≡ b) ⊎ (a ≡ Memory) ⊎ (b ≡ Memory) }
     ensures never_both { (main text : List ℕ) (m : GivenModule) (a : Refusal)
         → Gives main text m → IsLoadFault main text a → a ≡ Memory }
@@ -46,14 +48,16 @@ pub fn one_running()
 
 /// A journal leaves one term at most: what is left to run does not depend on how it was found.
 pub fn one_term_is_left()
-    ensures { (journal : List SlotEntry) (t u : Term) → Leaves journal t → Leaves journal u → t ≡ u }
+    ensures { (journal : List SlotEntry) (t u : Term)
+        → Leaves journal t → Leaves journal u → t ≡ u }
 {
     one_module();
 }
 
 /// A journal's next instant has one outcome at most: one set of outputs, and one term that it leaves.
 pub fn one_outcome()
-    ensures { (journal : List SlotEntry) (a b : ℕ) (t u : Term) → IsOutcome journal a t → IsOutcome journal b u
+    ensures { (journal : List SlotEntry) (a b : ℕ) (t u : Term)
+        → IsOutcome journal a t → IsOutcome journal b u
         → ((n : ℕ) → bits a n ≡ bits b n) × (t ≡ u) }
 {
     one_module();
@@ -81,6 +85,7 @@ pub fn ready_or_lacking()
 pub fn inputs_are_offered()
     ensures pending { (journal : List SlotEntry) (r : Running) (place : ℕ) → Runs journal r
         → (bits r.pending place ≡ true) ↔ IsOfferedAt journal r.interface place }
-    ensures taken { (before : List SlotEntry) (outputs : ℕ) (next : Term) (stamp : Stamp) (after : List SlotEntry)
+    ensures taken { (before : List SlotEntry) (outputs : ℕ) (next : Term) (stamp : Stamp)
+        (after : List SlotEntry)
         → AddsInstant before outputs next stamp after → TakesOffers before stamp outputs after }
 {}

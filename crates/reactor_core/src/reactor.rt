@@ -48,16 +48,18 @@ impl Model for Reactor {
 
     ghost coded = { Prim.hlevel (codes, entry.the_row.coded) };
 
-    ghost use Rattle.reactor_core.specs.Standing.{IsRunning};
+    ghost use Rattle.reactor_core.specs.Standing.{AreRunning};
 
     ghost view = { λ r. r.parts.journal };
 
-    ghost invariant = { λ r. IsRunning r.parts.journal r.parts.loaded r.parts.state r.parts.pending r.parts.instants.items };
+    ghost invariant = { λ r. AreRunning r.parts };
 }
 
 /// The n-th instant, counted from 1.
 fn instant_at(instants: &[PastInstant], n: u64) -> Option<PastInstant>
-    ensures { MatchOption result ((n ≡ 0) ⊎ (length instants.now < n)) (λ i. (0 < n) × (slice_get instants.now (n - 1) ≡ Some i)) }
+    ensures { MatchOption result
+        ((n ≡ 0) ⊎ (length instants.now < n))
+        (λ i. (0 < n) × (slice_get instants.now (n - 1) ≡ Some i)) }
 {
     if n == 0 || n > instants.len() as u64 {
         return None;

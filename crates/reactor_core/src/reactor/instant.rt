@@ -40,7 +40,7 @@ pub struct Settled {
 impl Model for Settled {
     ghost use Rattle.std.specs.Coded.{codes};
     ghost use Rattle.reactor_core.specs.contracts.entry.SlotEntry as entry;
-    ghost use Rattle.reactor_core.specs.Standing.{IsRunning, IsNext};
+    ghost use Rattle.reactor_core.specs.Standing.{AreRunning, HaveOutcome};
     ghost use Rattle.reactor_core.specs.Instants.{SettledInstant};
 
     ghost Value = { SettledInstant };
@@ -49,8 +49,7 @@ impl Model for Settled {
 
     ghost view = { λ s. record { journal = s.parts.journal; outputs = s.outcome.outputs } };
 
-    ghost invariant = { λ s. IsRunning s.parts.journal s.parts.loaded s.parts.state s.parts.pending s.parts.instants.items
-        × IsNext s.parts.loaded s.parts.state s.parts.pending s.outcome.outputs s.outcome.next };
+    ghost invariant = { λ s. AreRunning s.parts × HaveOutcome s.parts s.outcome };
 }
 
 impl Instant {

@@ -6,7 +6,7 @@ ghost use Rattle.est_meaning.specs.States.{IsState};
 ghost use Rattle.est_relations.specs.Keeping.{AreLawful};
 ghost use Rattle.est_rounds.specs.Contract.{AreInputs, HasNoReaction};
 ghost use Rattle.reactor_core.specs.Meaning.{entry};
-ghost use Rattle.reactor_core.specs.Standing.{IsRunning, IsNext, AreKept, JoinsAs, RefusesName, RefusesInstant};
+ghost use Rattle.reactor_core.specs.Standing.{AreRunning, HaveOutcome, IsNext, AreKept, JoinsAs, RefusesName, RefusesInstant};
 ghost use Rattle.reactor_core.specs.Instants.{AddsInstant};
 ghost use Rattle.reactor_core.specs.Answers.{HasRoom, RefusesEntry};
 
@@ -34,7 +34,9 @@ pub struct Parts {
 /// The pending inputs of a module with the one of this name, where it may join them.
 pub fn join(loaded: &Module, pending: u64, name: &Identifier) -> Result<u64, Refusal>
     requires { AreKept loaded.now pending }
-    ensures { MatchResult result (JoinsAs loaded.now pending name.now) (RefusesName loaded.now pending name.now) }
+    ensures { MatchResult result
+        (JoinsAs loaded.now pending name.now)
+        (RefusesName loaded.now pending name.now) }
 {
     let mut pending = Pending::resume(loaded.kernel.interface(), &loaded.relations, pending);
     pending.offer(name)?;
@@ -79,9 +81,11 @@ fn append_step(
     instant: PastInstant,
 ) -> Result<(), Refusal>
     ensures { MatchResult result
-        (λ _. HasRoom journal.old × (journal.new ≡ journal.old ++ entry stamp (Action.Step instant) ∷ [])
+        (λ _. HasRoom journal.old
+        × (journal.new ≡ journal.old ++ entry stamp (Action.Step instant) ∷ [])
         × (instants.new.items ≡ instants.old.items ++ instant ∷ []))
-        (λ e. RefusesEntry journal.old e × (journal.new ≡ journal.old) × (instants.new.items ≡ instants.old.items)) }
+        (λ e. RefusesEntry journal.old e
+        × (journal.new ≡ journal.old) × (instants.new.items ≡ instants.old.items)) }
 {
     if journal.is_full() {
         return Err(Refusal::JournalFull);
@@ -102,11 +106,12 @@ impl Parts {
     /// Adds the instant of this outcome, with its entry, or refuses it as JournalFull or Memory; then the journal stays, and the same
     /// runs.
     pub fn advance(&mut self, stamp: Stamp, outcome: Outcome) -> Result<(), Refusal>
-        requires running { IsRunning self.old.journal self.old.loaded self.old.state self.old.pending self.old.instants.items }
-        requires next { IsNext self.old.loaded self.old.state self.old.pending outcome.outputs outcome.next }
-        ensures running { IsRunning self.new.journal self.new.loaded self.new.state self.new.pending self.new.instants.items }
+        requires running { AreRunning self.old }
+        requires next { HaveOutcome self.old outcome }
+        ensures running { AreRunning self.new }
         ensures adds { MatchResult result
-            (λ _. (next : Term) × AddsInstant self.old.journal outcome.outputs next stamp self.new.journal)
+            (λ _. (next : Term)
+            × AddsInstant self.old.journal outcome.outputs next stamp self.new.journal)
             (λ e. RefusesEntry self.old.journal e × (self.new.journal ≡ self.old.journal)) }
     {
         let instant = PastInstant {
