@@ -1,0 +1,5 @@
+use Rattle.worker_threads.specs.Turns.{none_yet}
+use Rattle.worker_threads.proofs.workers.begin.Goals as goal
+
+pub returns-else-deref : goal.returns-else-deref
+returns-else-deref g c = none_yet _
