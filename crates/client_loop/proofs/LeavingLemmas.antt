@@ -2,7 +2,7 @@
 use Rattle.std.proofs.Common.{◌≡◌, ℕ, Option, Some, None, refl, ap, subst}
 use Rattle.access_core.specs.declared.reply.Reply.{Reply}
 use Rattle.access_core.specs.declared.reply.Reply.TheVariants as reply
-use Rattle.access_core.specs.declared.refusal.Refusal.TheVariants.{NoSession, Memory}
+use Rattle.access_core.specs.declared.refusal.Refusal.TheVariants.{Memory}
 use Rattle.client_loop.specs.declared.login.Logout.{Logout}
 use Rattle.client_loop.specs.declared.login.Logout.TheVariants.{Ended, WasEnded}
 use Rattle.client_loop.specs.Asking.{Ask}

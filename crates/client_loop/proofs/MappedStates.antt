@@ -1,6 +1,5 @@
 -- A connection over states of one kind is one over states of another that they stand for.
-use Rattle.std.proofs.Common.{◌≡◌, ℕ, List, [], ◌∷◌, Option, ap, inl, inr}
-use Rattle.std.specs.Prelude.{◌⊎◌}
+use Rattle.std.proofs.Common.{ℕ, List, [], ◌∷◌, Option, ap, inl, inr}
 use Rattle.line_reader.specs.declared.serving.Why.{Why}
 use Rattle.line_reader.specs.declared.serving.Why.TheVariants.{Closed, TooLong, ReadFault, WriteFault, Memory}
 use Rattle.line_reader.specs.Serving.{BetweenLines, between, Exchange, Runs, Ends, IsSilent, RefusesLine, FindsNoMemory, Serves}

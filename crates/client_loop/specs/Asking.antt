@@ -1,7 +1,6 @@
 -- What is asked of a desk, and what the desk of one server answers (this project's own form).
 use Rattle.std.specs.Prelude.{◌≡◌, ◌↔◌, ℕ, Option, Bool, IsTrue}
 use Rattle.rbac_policy.specs.declared.commands.AdminCommand.{AdminCommand}
-use Rattle.rbac_policy.specs.declared.commands.AdminCommand.TheVariants.{DeleteSession}
 use Rattle.rbac_policy.specs.declared.objects.Operation.{Operation}
 use Rattle.rbac_policy.specs.declared.objects.Object.{Object}
 use Rattle.rbac_policy.specs.Facts.{May}

@@ -2,4 +2,5 @@ pub mod Asking
 pub mod Logins
 pub mod LineSteps
 pub mod Serving
+pub mod Connections
 pub mod Inner

@@ -4,17 +4,20 @@ ghost use Rattle.client_loop.specs.Inner.Clients.{seen_of};
 
 use crate::answer::{Turn, respond};
 use crate::desk::Desk;
+use crate::gate::Gate;
 use crate::login::{Login, hold};
 use line_reader::serving::Answerer;
 use std::alloc::{AllocError, Global};
 use wire_lines::reply::reply_line;
 
-/// The login that a connection holds, if it holds one.
-pub(crate) struct Client {
+/// The login that a connection holds, if it holds one, and the worker that answers it through a gate.
+pub(crate) struct Client<'g, G> {
     pub(crate) login: Option<Login>,
+    pub(crate) gate: &'g G,
+    pub(crate) worker: usize,
 }
 
-impl<D: Desk> Answerer<D> for Client {
+impl<'g, D: Desk, G: Gate> Answerer<D> for Client<'g, G> {
     ghost tells = { λ before line text after.
         Tells D.answers line (seen_of before) text (seen_of after) };
 
@@ -22,9 +25,11 @@ impl<D: Desk> Answerer<D> for Client {
         TellsNothing D.answers line (seen_of before) (seen_of after) };
 
     fn answer(&mut self, alloc: Global, desk: &mut D, line: &[u8]) -> Result<Vec<u8>, AllocError> {
+        self.gate.before(self.worker);
         let held = self.login.take();
         let Turn { reply, login } = respond(alloc, desk, held, line);
         hold(&mut self.login, login);
+        self.gate.after(self.worker);
         reply_line(alloc, &reply)
     }
 }

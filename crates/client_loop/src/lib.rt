@@ -6,6 +6,9 @@
 
 pub(crate) mod answer;
 pub(crate) mod client;
+pub mod connections;
 pub mod desk;
+pub mod gate;
 pub mod login;
 pub mod serving;
+pub mod source;

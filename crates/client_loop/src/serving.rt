@@ -8,6 +8,7 @@ ghost use Rattle.client_loop.specs.Serving.{too_long_text, ServesLines, ServesDe
 
 use crate::client::Client;
 use crate::desk::Desk;
+use crate::gate::{Gate, OpenGate};
 use crate::login::Login;
 use line_reader::meter::{MeteredReader, MeteredWriter};
 use line_reader::serving;
@@ -34,11 +35,13 @@ fn too_long_line() -> &'static [u8]
 }
 
 /// Answers the lines of a connection to its end, and hands out the login that it holds then.
-fn answer_lines<R: Read, W: Write, D: Desk>(
+fn answer_lines<R: Read, W: Write, D: Desk, G: Gate>(
     alloc: Global,
     reader: &mut MeteredReader<R>,
     writer: &mut MeteredWriter<W>,
     desk: &mut D,
+    gate: &G,
+    worker: usize,
 ) -> (Why, Option<Login>)
     ensures serves { ServesLines D.answers (R.remaining reader.old.device) desk.old
         result.0 (with_login desk.new (session_of result.1))
@@ -46,9 +49,17 @@ fn answer_lines<R: Read, W: Write, D: Desk>(
     ensures read_fault { result.0 ≡ why.ReadFault → IsStopped reader.new.failed reader.new.left }
     ensures write_fault { result.0 ≡ why.WriteFault → writer.new.failed ≡ true }
 {
-    let mut client = Client { login: None };
+    let mut client = Client {
+        login: None,
+        gate,
+        worker,
+    };
     let why = serving::serve(alloc, reader, writer, &mut client, desk, too_long_line());
-    let Client { login } = client;
+    let Client {
+        login,
+        gate: _,
+        worker: _,
+    } = client;
     (why, login)
 }
 
@@ -63,6 +74,27 @@ fn leave<D: Desk>(desk: &mut D, held: Option<Login>) -> Option<Login>
         Ok(_) => None,
         Err((_, login)) => Some(login),
     }
+}
+
+/// Serves a connection to its end over this desk, as `serve` does, and has this worker go through the gate round each answer.
+pub fn serve_through<R: Read, W: Write, D: Desk, G: Gate>(
+    alloc: Global,
+    reader: &mut MeteredReader<R>,
+    writer: &mut MeteredWriter<W>,
+    desk: &mut D,
+    gate: &G,
+    worker: usize,
+) -> End
+    ensures serves { ServesDesk D.answers (R.remaining reader.old.device) desk.old
+        result.why desk.new (session_of result.left)
+        (W.contents writer.old.device) (W.contents writer.new.device) }
+    ensures read_fault { result.why ≡ why.ReadFault →
+        IsStopped reader.new.failed reader.new.left }
+    ensures write_fault { result.why ≡ why.WriteFault → writer.new.failed ≡ true }
+{
+    let (why, held) = answer_lines(alloc, reader, writer, desk, gate, worker);
+    let left = leave(desk, held);
+    End { why, left }
 }
 
 /// Serves a connection to its end over this desk, and logs out the login that it holds then. Each line that the reader gives is answered in
@@ -81,7 +113,5 @@ pub fn serve<R: Read, W: Write, D: Desk>(
         IsStopped reader.new.failed reader.new.left }
     ensures write_fault { result.why ≡ why.WriteFault → writer.new.failed ≡ true }
 {
-    let (why, held) = answer_lines(alloc, reader, writer, desk);
-    let left = leave(desk, held);
-    End { why, left }
+    serve_through(alloc, reader, writer, desk, &OpenGate, 0)
 }
