@@ -16,8 +16,9 @@ struct Program {
     instants: &'static [Entry],
 }
 
-/// Waits, resets and runs of modules: Berry, *The Esterel v5 Language Primer*.
-const WAITING: [Program; 6] = [
+/// Waits, resets and runs of modules: Berry, *The Esterel v5 Language Primer*; a car's belt alarm, as co-design tools had it for
+/// their example; the sender of the alternating bit protocol.
+const WAITING: [Program; 8] = [
     // ABRO: O once A and B have come, anew after each R
     Program {
         text: "module M: input A, B, R; output O; loop [await A || await B]; emit O each R end module",
@@ -100,10 +101,53 @@ const WAITING: [Program; 6] = [
             ("Click Top", Ok("Double")),
         ],
     },
+    // a belt alarm: from End5 to End10 after the key, unless the belt is put on or the key is taken
+    Program {
+        text: "module M: input KeyOn, KeyOff, BeltOn, End5, End10; output Start, Alarm; every KeyOn do \
+            abort abort emit Start; await End5; abort sustain Alarm when End10 when BeltOn when KeyOff end end module",
+        instants: &[
+            ("", Ok("")),
+            ("KeyOn", Ok("Start")),
+            ("End5", Ok("Alarm")),
+            ("", Ok("Alarm")),
+            ("BeltOn", Ok("")),
+            ("End5", Ok("")),
+            ("KeyOn", Ok("Start")),
+            ("End5", Ok("Alarm")),
+            ("End10", Ok("")),
+            ("KeyOn", Ok("Start")),
+            ("KeyOff End5", Ok("")),
+            ("KeyOn", Ok("Start")),
+            ("End5", Ok("Alarm")),
+            ("KeyOn", Ok("Start")),
+        ],
+    },
+    // the sender of the alternating bit: a frame again at each Timer, until it is acknowledged by its own bit
+    Program {
+        text: "module M: input Send, Ack0, Ack1, Timer; output Frame0, Frame1, Ready; \
+            loop run Half [signal Ack0/Ack, Frame0/Frame]; run Half [signal Ack1/Ack, Frame1/Frame] end end module \
+            module Half: input Send, Ack, Timer; output Frame, Ready; \
+            await Send; abort loop emit Frame each Timer when Ack; emit Ready end module",
+        instants: &[
+            ("", Ok("")),
+            ("Send", Ok("Frame0")),
+            ("", Ok("")),
+            ("Timer", Ok("Frame0")),
+            ("Ack1", Ok("")),
+            ("Timer Ack1", Ok("Frame0")),
+            ("Ack0", Ok("Ready")),
+            ("Ack0", Ok("")),
+            ("Send", Ok("Frame1")),
+            ("Ack0 Timer", Ok("Frame1")),
+            ("Ack1 Timer", Ok("Ready")),
+            ("Send Ack0", Ok("Frame0")),
+            ("Ack0", Ok("Ready")),
+        ],
+    },
 ];
 
-/// Programs that abort, suspend and leave: after Berry's runner and reflex game.
-const LEAVING: [Program; 4] = [
+/// Programs that abort, suspend and leave: after Berry's runner and reflex game; a mine's pump, as books on real-time systems have it.
+const LEAVING: [Program; 6] = [
     // a runner: each Morning, turns of walking until Second, running until Lap, and a jump
     Program {
         text: "module M: input Morning, Second, Lap; output Walk, Run, Jump; every Morning do \
@@ -160,6 +204,40 @@ const LEAVING: [Program; 4] = [
             ("Hold", Ok("")),
             ("Hold", Ok("")),
             ("", Ok("P")),
+        ],
+    },
+    // a mine's pump: from High to Low, but not while there is methane
+    Program {
+        text: "module M: input High, Low, Methane; output Pump, Alarm; \
+            loop await High; abort suspend sustain Pump when immediate Methane when Low end \
+            || every immediate Methane do emit Alarm end end module",
+        instants: &[
+            ("High Methane", Ok("Alarm")),
+            ("High", Ok("Pump")),
+            ("", Ok("Pump")),
+            ("Methane", Ok("Alarm")),
+            ("Methane", Ok("Alarm")),
+            ("", Ok("Pump")),
+            ("Low", Ok("")),
+            ("High Methane", Ok("Alarm")),
+            ("", Ok("Pump")),
+            ("Methane Low", Ok("Alarm")),
+            ("High", Ok("Pump")),
+        ],
+    },
+    // of two aborts in one instant the outer one counts
+    Program {
+        text: "module M: input A, B; output O, P, Q; \
+            loop abort [abort sustain O when A; emit P; halt] when B; emit Q; pause end end module",
+        instants: &[
+            ("A B", Ok("O")),
+            ("A", Ok("P")),
+            ("", Ok("")),
+            ("B", Ok("Q")),
+            ("", Ok("O")),
+            ("A B", Ok("Q")),
+            ("A", Ok("O")),
+            ("B", Ok("Q")),
         ],
     },
     // of two exits in one instant the outer one counts
