@@ -51,6 +51,7 @@ test:
 
 bench: build
 	python3 bench/commands.py $(PROGRAM)
+	python3 bench/load_commands.py $(PROGRAM)
 	python3 bench/memory.py $(PROGRAM)
 	@python3 scripts/run.py est_bench all 1 > /dev/null
 	python3 bench/instants.py $(ENGINE)
