@@ -63,8 +63,8 @@ impl<J: Naming> SlotReader<J> {
         }
     }
 
-    /// A reader that has seen this much, and whose reads are refused.
-    pub(crate) fn vacant(front: Front<J>) -> SlotReader<J>
+    /// A reader that has seen this much, and whose reads are refused: it keeps the place of one that is reading.
+    pub fn vacant(front: Front<J>) -> SlotReader<J>
         ensures { result ≡ front }
     {
         SlotReader {

@@ -1,8 +1,8 @@
 //! A caller's place at the board: what it has seen, and its own reader.
-ghost use Rattle.std.specs.Prelude.{◌≡◌, max, length, MatchResult};
+ghost use Rattle.std.specs.Prelude.{◌≡◌, ◌≤◌, max, length, MatchResult};
 ghost use Rattle.rbac_policy.specs.Facts.{IsLive, May};
 ghost use Rattle.rbac_policy.specs.Opening.{opening_entries};
-ghost use Rattle.rbac_admin.specs.PolicyLists.{Begins};
+ghost use Rattle.rbac_admin.specs.PolicyLists.{Begins, IsPolicyList};
 ghost use Rattle.policy_board.specs.Reads.{Asks, HasRead, IsUnread};
 ghost use Rattle.policy_board.specs.PolicyCommands.{seat_after};
 
@@ -97,6 +97,19 @@ impl<J: Naming> Seat<J> {
         ensures { self.new ≡ record self.old { seen = max self.old.seen version } }
     {
         self.seen = self.seen.max(version);
+    }
+
+    /// It has seen this list, which is no shorter than its seen number: so the list begins with all that it knew.
+    pub fn saw_list(&mut self, list: &Front<J>)
+        requires { self.old.seen ≤ length list.now }
+        ensures later { Begins self.old.known list.now }
+        ensures list { IsPolicyList list.now }
+        ensures seat { self.new ≡ seat_after self.old list.now }
+    {
+        let version = list.version();
+        self.known.compare(list);
+        self.known = list.again();
+        self.seen = version;
     }
 
     /// The longest list that it has read or was told of.

@@ -1,0 +1,4 @@
+pub mod Journals
+pub mod LockedState
+pub mod Conversions
+pub mod SlotCommands

@@ -1,0 +1,18 @@
+//! The refusals of the board, as those of a request.
+ghost use Rattle.std.specs.Prelude.{◌≡◌};
+ghost use Rattle.slot_table.specs.Conversions.{of_board};
+
+use access_core::refusal::Refusal;
+use policy_board::refusal::Refusal as BoardRefusal;
+
+/// The refusal of a call of the board.
+pub fn of_board(refusal: BoardRefusal) -> Refusal
+    ensures { result ≡ of_board refusal }
+{
+    match refusal {
+        BoardRefusal::Policy(refusal) => Refusal::from(refusal),
+        BoardRefusal::JournalFull => Refusal::JournalFull,
+        BoardRefusal::Behind { found, seen } => Refusal::Behind { found, seen },
+        BoardRefusal::Memory => Refusal::Memory,
+    }
+}

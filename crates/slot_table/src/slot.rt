@@ -1,0 +1,76 @@
+//! What lies under a slot's lock.
+ghost use Rattle.std.specs.Prelude.{◌≡◌, ◌<◌, []};
+ghost use Rattle.rbac_policy.specs.declared.objects.TheConstants.{SLOTS};
+ghost use Rattle.slot_table.specs.Journals.{IsLegal};
+ghost use Rattle.slot_table.specs.SlotCommands.{LockedCommand};
+
+use access_core::command::SlotCommand;
+use access_core::refusal::Refusal;
+use access_core::reply::Reply;
+use access_core::slot::{Slot, decide_slot};
+use policy_board::history::Naming;
+use policy_board::reader::SlotReader;
+use policy_board::seat::Seat;
+use rbac_policy::commands::SessionId;
+use rbac_policy::objects::SlotNumber;
+use std::alloc::Global;
+use std::marker::Model;
+use std::mem::replace;
+
+/// The slot of this number with its reader. A contract sees its journal, and the policy list that the reader has seen. The journal is legal
+/// over that list.
+#[derive(Drop)]
+pub struct LockedSlot<J: Naming, const NUMBER: u8> {
+    core: Slot,
+    reader: SlotReader<J>,
+}
+
+impl<J: Naming, const NUMBER: u8> Model for LockedSlot<J, NUMBER> {
+    ghost use Rattle.std.specs.Prelude.{◌≡◌};
+    ghost use Rattle.slot_table.specs.Journals.{IsLegal};
+    ghost use Rattle.slot_table.specs.LockedState.{LockedState};
+
+    ghost Value = { LockedState };
+
+    ghost view = { λ s. record { list = s.reader; journal = s.core.journal } };
+
+    ghost invariant = { λ s. (s.core.number ≡ NUMBER) × IsLegal s.reader NUMBER s.core.journal };
+}
+
+impl<J: Naming, const NUMBER: u8> LockedSlot<J, NUMBER> {
+    /// An empty slot, whose reader has seen what it has.
+    pub fn new(alloc: Global, reader: SlotReader<J>) -> LockedSlot<J, NUMBER>
+        requires { NUMBER < SLOTS }
+        ensures { result ≡ record { list = reader; journal = [] } }
+    {
+        LockedSlot {
+            core: Slot::new(alloc, SlotNumber::new(NUMBER).unwrap()),
+            reader,
+        }
+    }
+
+    /// Answers a command on the policy as the slot's own reader reads it.
+    pub fn command(&mut self, seat: &mut Seat<J>, session: SessionId, command: SlotCommand) -> Reply
+        ensures before { IsLegal self.old.list NUMBER self.old.journal }
+        ensures after { IsLegal self.new.list NUMBER self.new.journal }
+        ensures command { LockedCommand NUMBER session command self.old seat.old result self.new seat.new }
+    {
+        let away = SlotReader::vacant(self.reader.front().again());
+        let reading = match replace(&mut self.reader, away).enter() {
+            Ok(reading) => reading,
+            Err(reader) => {
+                self.reader = reader;
+                return Reply::Refused(Refusal::Memory);
+            }
+        };
+        let (found, seen) = (reading.front().version(), seat.seen());
+        if found < seen {
+            self.reader = reading.leave();
+            return Reply::Refused(Refusal::Behind { found, seen });
+        }
+        seat.saw_list(reading.front());
+        let reply = decide_slot(reading.policy(), &mut self.core, session, command);
+        self.reader = reading.leave();
+        reply
+    }
+}
