@@ -8,3 +8,4 @@ pub mod Accepting
 pub mod Showing
 pub mod Denying
 pub mod Laws
+pub mod OneRun

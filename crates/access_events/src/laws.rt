@@ -2,10 +2,11 @@
 ghost use Rattle.std.specs.Prelude.{◌≡◌, ℕ, List, Some, length, take, slice_get};
 ghost use Rattle.access_events.specs.Changes.{Changes};
 ghost use Rattle.access_events.specs.Laws.{EntersWhereOffered, OffersWhereAllowed, StepsWhereAllowed, LooksShowTheReaction, DenialsNameTheFirst};
+ghost use Rattle.access_events.specs.OneRun.{OneMomentFollows, OneRun, OneEnd};
 ghost use Rattle.access_events.specs.Rising.{Rises};
 ghost use Rattle.access_events.specs.Runs.{Moment, IsRun, Comes, journal_at};
 
-use reactor_core::laws::one_module;
+use reactor_core::laws::{one_load, one_module};
 
 /// Each moment of a run comes after the moments at the places before it.
 pub fn moments_come_in_order()
@@ -61,3 +62,15 @@ pub fn looks_show_the_reaction()
 pub fn denials_name_the_first_reason()
     ensures { DenialsNameTheFirst }
 {}
+
+/// A list of events has one run, want of memory aside: after the same past the same event has one reply and leaves one world, unless that reply
+/// is that memory was refused; two runs of the same events are the same, or the same up to a moment at which memory is refused to one of them;
+/// so what `run_events` answers is what the events make it.
+pub fn one_run()
+    ensures moment { OneMomentFollows }
+    ensures run { OneRun }
+    ensures end { OneEnd }
+{
+    one_module();
+    one_load();
+}
