@@ -9,3 +9,5 @@ mod bodies;
 mod faults;
 #[cfg(test)]
 mod links;
+#[cfg(test)]
+mod strangers;

@@ -10,7 +10,7 @@ use std::test::Fail;
 
 /// The kind of a fault.
 #[derive(Clone, Copy, PartialEq, Eq, Debug)]
-enum Kind {
+pub enum Kind {
     Duplicate,
     Missing,
     Recursive,
@@ -177,7 +177,7 @@ fn told(fault: LinkFault) -> Option<(Kind, Identifier)> {
 }
 
 /// Whether the fault is of this kind and has this name.
-fn is_told(fault: Option<LinkFault>, kind: Kind, name: &str) -> bool {
+pub fn is_told(fault: Option<LinkFault>, kind: Kind, name: &str) -> bool {
     match fault {
         Some(fault) => match told(fault) {
             Some((told_kind, told_name)) => told_kind == kind && told_name.as_str() == name,
@@ -188,7 +188,7 @@ fn is_told(fault: Option<LinkFault>, kind: Kind, name: &str) -> bool {
 }
 
 /// Links a text whose main module is M.
-fn link_text(alloc: Global, text: &str) -> Result<Result<Flat, LinkFault>, Fail> {
+pub fn link_text(alloc: Global, text: &str) -> Result<Result<Flat, LinkFault>, Fail> {
     let tokens = lex(alloc, text)?;
     let library = parse(alloc, &tokens)?;
     Ok(link(alloc, &library, "M"))
@@ -278,7 +278,7 @@ fn module_of(alloc: Global, size: &Size) -> Result<String, Fail> {
 }
 
 /// A chain of modules each of which runs the next twice, so many long: the last has one statement.
-fn with_runs(alloc: Global, length: usize) -> Result<String, Fail> {
+pub fn with_runs(alloc: Global, length: usize) -> Result<String, Fail> {
     let mut text = String::new(alloc);
     text.push_str("module M: run R0 end module ")?;
     for number in 0..length {
