@@ -12,21 +12,29 @@ use crate::head::{Head, head_named};
 use crate::relations::first_lawless;
 use crate::renamings::BadRename;
 use crate::runs::first_missing;
-use crate::unknown::UnknownName;
+use crate::unknown::first_unknown;
 use est_text::identifier::Identifier;
 use std::alloc::{AllocError, Global};
 
 /// The first fault of the checks that come before the order of the modules: names that are declared twice, modules
 /// that aren't there.
-pub fn fault_before_order<'a>(heads: &'a [Head<'a>], main: &Identifier) -> Option<LinkFault>
-    ensures { result ≡ fault_before_order (map program_of heads.now) main.now }
+///
+/// # Errors
+///
+/// `AllocError` where memory is refused for the names that were met.
+pub fn fault_before_order<'a>(
+    alloc: Global,
+    heads: &'a [Head<'a>],
+    main: &Identifier,
+) -> Result<Option<LinkFault>, AllocError>
+    ensures { IfOk result (λ fault. fault ≡ fault_before_order (map program_of heads.now) main.now) }
 {
-    if let Some(name) = first_duplicate(&*heads) {
-        return Some(LinkFault::DuplicateName(name));
+    if let Some(name) = first_duplicate(alloc, &*heads)? {
+        return Ok(Some(LinkFault::DuplicateName(name)));
     }
-    match first_missing(&*heads, main) {
-        Some(name) => Some(LinkFault::UnknownModule(name)),
-        None => None,
+    match first_missing(&*heads, main)? {
+        Some(name) => Ok(Some(LinkFault::UnknownModule(name))),
+        None => Ok(None),
     }
 }
 
@@ -54,17 +62,17 @@ pub fn fault_behind_order<'a>(
 ) -> Result<Option<LinkFault>, AllocError>
     ensures { IfOk result (λ fault. fault ≡ fault_behind_order (map program_of heads.now) main.now (emitted_of table.now)) }
 {
-    if let Some(name) = first_in_bodies(&BadRename { heads: &*heads }, &*heads) {
+    if let Some(name) = first_in_bodies(&BadRename { heads: &*heads }, &*heads)? {
         return Ok(Some(LinkFault::BadRename(name)));
     }
-    if let Some(name) = first_in_bodies(&UnknownName { heads: &*heads }, &*heads) {
+    if let Some(name) = first_unknown(alloc, &*heads)? {
         return Ok(Some(LinkFault::UnknownName(name)));
     }
     let emit = EmitInput {
         heads: &*heads,
         table: &*table,
     };
-    if let Some(name) = first_in_bodies(&emit, &*heads) {
+    if let Some(name) = first_in_bodies(&emit, &*heads)? {
         return Ok(Some(LinkFault::EmitInput(name)));
     }
     match lawless_number(alloc, head_named(heads, main))? {

@@ -1,87 +1,96 @@
 //! Names that are declared a second time, and `tick`.
-ghost use Rattle.std.specs.Prelude.{◌≡◌, ◌∷◌, [], map};
-ghost use Rattle.std.specs.Prelude.{◌||◌};
+ghost use Rattle.std.specs.Prelude.{◌≡◌, ◌∷◌, [], map, IfOk};
 ghost use Rattle.std.specs.List.{list_any};
 ghost use Rattle.std.specs.Str.{bytes_eq};
 ghost use Rattle.est_syntax.specs.Views.{names_view};
-ghost use Rattle.est_link.specs.Modules.{program_of, is_declared};
-ghost use Rattle.est_link.specs.Visible.{is_tick};
+ghost use Rattle.est_link.specs.Modules.{program_of};
 ghost use Rattle.est_link.specs.Duplicates.{redeclared, redeclared_in, duplicate_of, first_duplicate};
 
 use crate::check::{Check, first_in_body};
-use crate::head::{Declared, Head, is_declared};
-use crate::names::{is_tick, stands_in};
+use crate::head::{Declared, Head};
+use crate::name_set::NameSet;
+use crate::names::is_tick;
 use crate::scope::{Act, Scope};
 use est_syntax::tree::Names;
 use est_text::identifier::Identifier;
+use std::alloc::{AllocError, Global};
 
-/// The first of some names that is `tick` or stands before it, in their list or as the first name.
-fn redeclared_later(first: &Identifier, later: &[Identifier]) -> Option<Identifier>
-    ensures { result ≡ redeclared (first.now ∷ []) later.now }
+/// The first of some names that is `tick` or stands before it in the list.
+fn redeclared(alloc: Global, names: &[Identifier]) -> Result<Option<Identifier>, AllocError>
+    ensures { IfOk result (λ name. name ≡ redeclared [] names.now) }
 {
-    for index in 0..later.len() {
-        let name = later[index];
-        if is_tick(&name) || first.is(&name) || stands_in(&later[..index], &name) {
-            return Some(name);
+    let mut seen = NameSet::new(alloc);
+    for name in names {
+        if is_tick(name) || !seen.insert(name)? {
+            return Ok(Some(*name));
         }
     }
-    None
+    Ok(None)
 }
 
 /// The first name of a `signal` list that is `tick` or stands before it in the list.
-fn redeclared_name(names: &Names) -> Option<Identifier>
-    ensures { result ≡ redeclared [] (names.now.first ∷ names.now.later.items) }
+fn redeclared_name(alloc: Global, names: &Names) -> Result<Option<Identifier>, AllocError>
+    ensures { IfOk result (λ name. name ≡ redeclared [] (names.now.first ∷ names.now.later.items)) }
 {
-    if is_tick(&names.first) {
-        return Some(names.first);
-    }
-    redeclared_later(&names.first, &names.later)
+    let mut listed = Vec::new(alloc);
+    listed.push(names.first)?;
+    listed.extend_from_slice(&names.later)?;
+    redeclared(alloc, &listed)
 }
 
-fn is_redeclared(before: &[Declared], name: &Identifier) -> bool
-    ensures { result ≡ (is_tick name.now || is_declared before.now name.now) }
+/// The names of an interface, in their order.
+fn listed(alloc: Global, interface: &[Declared]) -> Result<Vec<Identifier>, AllocError>
+    ensures { IfOk result (λ names. names.items ≡ map (λ d. d.name) interface.now) }
 {
-    is_tick(name) || is_declared(before, name)
+    let mut names = Vec::new(alloc);
+    for declared in interface {
+        names.push(declared.name)?;
+    }
+    Ok(names)
 }
 
 /// The first name of an interface that is `tick` or stands before it there.
-fn redeclared_signal(interface: &[Declared]) -> Option<Identifier>
-    ensures { result ≡ redeclared [] (map (λ d. d.name) interface.now) }
+fn redeclared_signal(
+    alloc: Global,
+    interface: &[Declared],
+) -> Result<Option<Identifier>, AllocError>
+    ensures { IfOk result (λ name. name ≡ redeclared [] (map (λ d. d.name) interface.now)) }
 {
-    for index in 0..interface.len() {
-        let name = interface[index].name;
-        if is_redeclared(&interface[..index], &name) {
-            return Some(name);
-        }
-    }
-    None
+    redeclared(alloc, &listed(alloc, interface)?)
 }
 
 /// The check for `signal` lists that have a name twice, or `tick`.
 #[derive(Clone, Copy)]
-struct DuplicateLocal;
+struct DuplicateLocal {
+    alloc: Global,
+}
 
 impl Check for DuplicateLocal {
     ghost use Rattle.est_link.specs.Duplicates.{redeclared_at};
 
     ghost fault = { λ c. redeclared_at };
 
-    fn fault(&self, _home: &Head<'_>, act: &Act<'_>, _scope: &Scope<'_>) -> Option<Identifier> {
+    fn fault(
+        &self,
+        _home: &Head<'_>,
+        act: &Act<'_>,
+        _scope: &Scope<'_>,
+    ) -> Result<Option<Identifier>, AllocError> {
         match act {
-            Act::Emits(_) | Act::Tests(_) | Act::Exits(_) | Act::Runs(_, _) => None,
-            Act::Binds(names) => redeclared_name(names),
+            Act::Emits(_) | Act::Tests(_) | Act::Exits(_) | Act::Runs(_, _) => Ok(None),
+            Act::Binds(names) => redeclared_name(self.alloc, names),
         }
     }
 }
 
 /// The first signal of a module that is declared a second time, or is `tick`.
-fn redeclared_in<'a>(home: &'a Head<'a>) -> Option<Identifier>
-    ensures { result ≡ redeclared_in (program_of home.now) }
+fn redeclared_in<'a>(alloc: Global, home: &'a Head<'a>) -> Result<Option<Identifier>, AllocError>
+    ensures { IfOk result (λ name. name ≡ redeclared_in (program_of home.now)) }
 {
-    if let Some(name) = redeclared_signal(&home.interface) {
-        return Some(name);
+    if let Some(name) = redeclared_signal(alloc, &home.interface)? {
+        return Ok(Some(name));
     }
-    first_in_body(&DuplicateLocal, &*home)
+    first_in_body(&DuplicateLocal { alloc }, &*home)
 }
 
 fn is_named(heads: &[Head<'_>], name: &Identifier) -> bool
@@ -92,24 +101,35 @@ fn is_named(heads: &[Head<'_>], name: &Identifier) -> bool
 
 /// The name of a module that stands behind one of its name; else the first signal of it that is declared a second time.
 #[tactic(auto, using(crate::proofs::Lists::any_map))]
-fn duplicate_of<'a>(before: &'a [Head<'a>], home: &'a Head<'a>) -> Option<Identifier>
-    ensures { result ≡ duplicate_of (map (λ h. h.name) before.now) (program_of home.now) }
+fn duplicate_of<'a>(
+    alloc: Global,
+    before: &'a [Head<'a>],
+    home: &'a Head<'a>,
+) -> Result<Option<Identifier>, AllocError>
+    ensures { IfOk result (λ name. name ≡ duplicate_of (map (λ h. h.name) before.now) (program_of home.now)) }
 {
     if is_named(before, &home.name) {
-        return Some(home.name);
+        return Ok(Some(home.name));
     }
-    redeclared_in(home)
+    redeclared_in(alloc, home)
 }
 
 /// The first name of a library that is declared a second time, or is `tick`: of a module, of an interface, or in one
 /// `signal` list.
-pub fn first_duplicate<'a>(heads: &'a [Head<'a>]) -> Option<Identifier>
-    ensures { result ≡ first_duplicate (map program_of heads.now) }
+///
+/// # Errors
+///
+/// `AllocError` where memory is refused for the names that were met.
+pub fn first_duplicate<'a>(
+    alloc: Global,
+    heads: &'a [Head<'a>],
+) -> Result<Option<Identifier>, AllocError>
+    ensures { IfOk result (λ name. name ≡ first_duplicate (map program_of heads.now)) }
 {
     for index in 0..heads.len() {
-        if let Some(name) = duplicate_of(&heads[..index], &heads[index]) {
-            return Some(name);
+        if let Some(name) = duplicate_of(alloc, &heads[..index], &heads[index])? {
+            return Ok(Some(name));
         }
     }
-    None
+    Ok(None)
 }

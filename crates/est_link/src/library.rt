@@ -79,7 +79,7 @@ pub fn check_library<'a>(
     ensures order { IfOk result (λ order. IsOrderOf (map program_of heads.now) order) }
     ensures found { Finds (IsFirstFault (map program_of heads.now) main.now) result }
 {
-    match fault_before_order(&*heads, main) {
+    match fault_before_order(alloc, &*heads, main)? {
         Some(fault) => Err(fault),
         None => check_runs(alloc, &*heads, main),
     }

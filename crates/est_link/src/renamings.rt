@@ -12,6 +12,7 @@ use crate::head::{Head, head_named, is_declared};
 use crate::scope::{Act, Scope};
 use est_syntax::tree::Renaming;
 use est_text::identifier::Identifier;
+use std::alloc::AllocError;
 
 fn has_inner(renamings: &[Renaming], signal: &Identifier) -> bool
     ensures { result ≡ list_any (λ r. bytes_eq r.inner signal.now) renamings.now }
@@ -102,10 +103,15 @@ impl Check for BadRename<'_> {
 
     ghost fault = { λ c. bad_renaming_at (map program_of c.heads.now) };
 
-    fn fault(&self, _home: &Head<'_>, act: &Act<'_>, _scope: &Scope<'_>) -> Option<Identifier> {
+    fn fault(
+        &self,
+        _home: &Head<'_>,
+        act: &Act<'_>,
+        _scope: &Scope<'_>,
+    ) -> Result<Option<Identifier>, AllocError> {
         match act {
-            Act::Emits(_) | Act::Tests(_) | Act::Exits(_) | Act::Binds(_) => None,
-            Act::Runs(name, renamings) => bad_in_run(renamings, head_named(self.heads, name)),
+            Act::Emits(_) | Act::Tests(_) | Act::Exits(_) | Act::Binds(_) => Ok(None),
+            Act::Runs(name, renamings) => Ok(bad_in_run(renamings, head_named(self.heads, name))),
         }
     }
 }

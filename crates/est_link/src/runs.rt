@@ -1,5 +1,5 @@
 //! Modules that are asked for and aren't there.
-ghost use Rattle.std.specs.Prelude.{◌≡◌, map};
+ghost use Rattle.std.specs.Prelude.{◌≡◌, map, IfOk};
 ghost use Rattle.est_link.specs.Modules.{program_of};
 ghost use Rattle.est_link.specs.Runs.{first_missing};
 
@@ -7,6 +7,7 @@ use crate::check::{Check, first_in_bodies};
 use crate::head::{Head, head_named};
 use crate::scope::{Act, Scope};
 use est_text::identifier::Identifier;
+use std::alloc::AllocError;
 
 /// The check for runs of modules that aren't there.
 #[derive(Clone, Copy)]
@@ -22,23 +23,35 @@ impl Check for UnknownModule<'_> {
 
     ghost fault = { λ c. missing_at (map program_of c.heads.now) };
 
-    fn fault(&self, _home: &Head<'_>, act: &Act<'_>, _scope: &Scope<'_>) -> Option<Identifier> {
+    fn fault(
+        &self,
+        _home: &Head<'_>,
+        act: &Act<'_>,
+        _scope: &Scope<'_>,
+    ) -> Result<Option<Identifier>, AllocError> {
         match act {
-            Act::Emits(_) | Act::Tests(_) | Act::Exits(_) | Act::Binds(_) => None,
+            Act::Emits(_) | Act::Tests(_) | Act::Exits(_) | Act::Binds(_) => Ok(None),
             Act::Runs(name, _) => match head_named(self.heads, name) {
-                Some(_) => None,
-                None => Some(*name),
+                Some(_) => Ok(None),
+                None => Ok(Some(*name)),
             },
         }
     }
 }
 
 /// The main module where it isn't there; else the first module that is run and isn't there.
-pub fn first_missing<'a>(heads: &'a [Head<'a>], main: &Identifier) -> Option<Identifier>
-    ensures { result ≡ first_missing (map program_of heads.now) main.now }
+///
+/// # Errors
+///
+/// `AllocError`, as a check answers it.
+pub fn first_missing<'a>(
+    heads: &'a [Head<'a>],
+    main: &Identifier,
+) -> Result<Option<Identifier>, AllocError>
+    ensures { IfOk result (λ name. name ≡ first_missing (map program_of heads.now) main.now) }
 {
     match head_named(heads, main) {
         Some(_) => first_in_bodies(&UnknownModule { heads: &*heads }, &*heads),
-        None => Some(*main),
+        None => Ok(Some(*main)),
     }
 }

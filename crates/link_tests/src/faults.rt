@@ -260,7 +260,7 @@ fn faults_of(alloc: Global, text: &str) -> Result<(Option<LinkFault>, Option<Lin
     let Some(emissions) = table() else {
         return Err(Fail::from("no name"));
     };
-    let before = fault_before_order(&heads, &main);
+    let before = fault_before_order(alloc, &heads, &main)?;
     let behind = fault_behind_order(alloc, &heads, &main, &emissions)?;
     Ok((before, behind))
 }

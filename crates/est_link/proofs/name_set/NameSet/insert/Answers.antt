@@ -1,0 +1,11 @@
+use Rattle.std.proofs.Common.{Bor, List, ℕ, ◌||◌, ◌∙◌, ap}
+use Rattle.std.specs.Str.{bytes_eq}
+use Rattle.est_link.specs.NameSets.{has}
+use Rattle.est_link.proofs.NameSets.{put}
+use Rattle.est_link.proofs.name_set.NameSet.insert.Goals as goal
+
+pub returns-clause-has : goal.returns-clause-has
+returns-clause-has c = λ s.
+    let q : Bor (List ℕ) = record c.as_bytes.result { now = s } in
+    let old = has c.args.self.now s in
+    c.in_ok-insert.ensures.updates.0 q ∙ put (bytes_eq c.as_bytes.result.now s) old ∙ ap (λ n. old || bytes_eq n s) c.as_bytes.ensures
