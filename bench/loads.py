@@ -97,6 +97,7 @@ def texts():
     every = ",".join(short_names(20000, MOST_BYTES - 60))
     half = short_names(7000, MOST_BYTES)
     some = ",".join(half[:2000])
+    few = ",".join(half[:500])
     return (
         ("228 modules of 128 nested brackets that run one another", chain(228, "[" * 128, "]" * 128, "pause"), "a kernel of 0 signals"),
         ("1,600 modules in a chain", chain(1600, "", "", "pause"), "a kernel of 0 signals"),
@@ -115,8 +116,13 @@ def texts():
         ("7,000 outputs, and emissions of the last", filled("module M:output " + ",".join(half) + ";", f"emit {half[-1]};", "halt end module"), "TooLarge(Signals)"),
         ("9,900 relations over 2,000 inputs", relations(), "TooLarge(Signals)"),
         (
-            "2,000 outputs of two modules, of which one runs the other 20 times",
-            f"module M:output {some};" + "run N;" * 20 + f"halt end module module N:output {some};halt end module",
+            "500 outputs of two modules, of which one runs the other as often as a line holds",
+            filled(f"module M:output {few};", "run N;", f"halt end module module N:output {few};halt end module"),
+            "TooLarge(Signals)",
+        ),
+        (
+            "2,000 outputs of two modules, of which one runs the other as often as a line holds",
+            filled(f"module M:output {some};", "run N;", f"halt end module module N:output {some};halt end module"),
             "TooLarge(Signals)",
         ),
     )
