@@ -1,7 +1,7 @@
 //! The answers to policy commands, on policies that a server could come to.
 ghost use Rattle.std.specs.Prelude.{◌<◌};
 
-use crate::commands::{give, name, names};
+use crate::commands::{Line, follow, give, name, names};
 use est_text::identifier::Identifier;
 use rbac_admin::refusals::Refusal;
 use rbac_policy::commands::{AdminCommand, Entry, SessionId, Table};
@@ -165,6 +165,22 @@ fn grant_pair(rt: &impl Abort, role: &str, index: usize) -> AdminCommand
     }
 }
 
+/// With 256 pairs granted, a pair that a role has may be granted to another one; a pair whose last role goes, by a revocation or with the
+/// role itself, frees its place, and one that another role has doesn't.
+const PAIRS_GO: [Line; 11] = [
+    (1, "grant driver audit 0.O", "Full permissions"),
+    (1, "grant driver offer 0", ""),
+    (1, "revoke root offer 0", ""),
+    (1, "grant driver audit 0.O", "Full permissions"),
+    (1, "delrole driver", ""),
+    (1, "grant root audit 0.O", ""),
+    (1, "grant root audit 1.O", "Full permissions"),
+    (1, "revoke root audit 0.O", ""),
+    (1, "grant root audit 1.O", ""),
+    (1, "grant root audit 0.O", "Full permissions"),
+    (1, "revoke root audit 0.O", "NotGranted"),
+];
+
 #[test]
 fn full_of_permissions(rt: HostRuntime) {
     let mut policy = Policy::opening();
@@ -191,8 +207,7 @@ fn full_of_permissions(rt: HostRuntime) {
     };
     let another = grant_pair(&rt, "root", 255);
     assert_eq!(rt; give(&rt, &mut policy, Some(first), &another), Some(full));
-    let granted = grant_pair(&rt, "driver", 0);
-    assert!(rt; give(&rt, &mut policy, Some(first), &granted).is_none());
+    follow(&rt, rt.alloc(), &mut policy, &PAIRS_GO);
 }
 
 fn separation(
