@@ -1,7 +1,7 @@
 //! What a policy says of users, roles, permissions and sessions: what it is asked before a policy command is accepted.
 ghost use Rattle.std.specs.Prelude.{ℕ, Option, Some, ◌↔◌, ◌++◌, ◌∷◌, [], List, IsTrue, MatchOption, Contains};
 ghost use Rattle.rbac_policy.specs.Names.{NameText};
-ghost use Rattle.rbac_policy.specs.Separation.{IsFirstSetOf, IsFirstViolated, login_entry};
+ghost use Rattle.rbac_policy.specs.Separation.{AnswersFirstViolated, IsFirstSetOf, entry_of, login_entry};
 ghost use Rattle.rbac_policy.specs.declared.commands.AdminCommand.TheVariants.{AddActiveRole, AddInheritance, CreateDsdSet};
 ghost use Rattle.rbac_policy.specs.declared.commands.Entry.{Entry};
 ghost use Rattle.rbac_policy.specs.Facts.{IsUser, IsRole, IsSetName, IsAssigned, IsGranted, IsPairGranted, IsEdge, IsAtOrBelow, IsAuthorized, IsActive, Lives, IsLive};
@@ -141,9 +141,7 @@ impl Policy {
     /// The first separation set, in order of creation, that some living session violates, and the least session that does.
     pub fn first_violated(&self) -> Option<Violation>
         ensures { (entries : List Entry) → StandsFor self.now entries
-            → MatchOption result
-            ((set : NameText) (session : ℕ) → IsFirstViolated entries set session → ⊥)
-            (λ violation. IsFirstViolated entries violation.set violation.session) }
+            → AnswersFirstViolated entries result }
     {
         first_violation(&self.sets, &self.sessions, &None, &self.juniors)
     }
@@ -153,9 +151,7 @@ impl Policy {
     pub fn first_violated_by_login(&self, user: &Name, roles: &RoleNames) -> Option<Violation>
         ensures { (entries : List Entry) → StandsFor self.now entries → ¬ (NumbersExhausted entries)
             → ((role : NameText) → Contains roles.now role → IsAuthorized entries user.now role)
-            → MatchOption result
-            ((set : NameText) (session : ℕ) → IsFirstViolated (entries ++ login_entry user.now roles.now ∷ []) set session → ⊥)
-            (λ violation. IsFirstViolated (entries ++ login_entry user.now roles.now ∷ []) violation.set violation.session) }
+            → AnswersFirstViolated (entries ++ login_entry user.now roles.now ∷ []) result }
     {
         let coming = Some(Session {
             number: SessionId::new(self.logins.wrapping_add(1)),
@@ -170,9 +166,7 @@ impl Policy {
     pub fn first_violated_by_edge(&self, senior: &Name, junior: &Name) -> Option<Violation>
         ensures { (entries : List Entry) (by : Option ℕ) → StandsFor self.now entries
             → IsRole entries senior.now → IsRole entries junior.now
-            → MatchOption result
-            ((set : NameText) (session : ℕ) → IsFirstViolated (entries ++ record { session = by; command = AddInheritance senior.now junior.now } ∷ []) set session → ⊥)
-            (λ violation. IsFirstViolated (entries ++ record { session = by; command = AddInheritance senior.now junior.now } ∷ []) violation.set violation.session) }
+            → AnswersFirstViolated (entries ++ entry_of by (AddInheritance senior.now junior.now) ∷ []) result }
     {
         match place_of(&self.roles, senior) {
             Some(above) => match place_of(&self.roles, junior) {
@@ -191,9 +185,7 @@ impl Policy {
     pub fn first_violated_by_role(&self, session: SessionId, role: &Name) -> Option<Violation>
         ensures { (entries : List Entry) (user : NameText) → StandsFor self.now entries
             → Lives entries session user → IsAuthorized entries user role.now
-            → MatchOption result
-            ((set : NameText) (number : ℕ) → IsFirstViolated (entries ++ record { session = Some session; command = AddActiveRole role.now } ∷ []) set number → ⊥)
-            (λ violation. IsFirstViolated (entries ++ record { session = Some session; command = AddActiveRole role.now } ∷ []) violation.set violation.session) }
+            → AnswersFirstViolated (entries ++ entry_of (Some session) (AddActiveRole role.now) ∷ []) result }
     {
         match session_of(&self.sessions, session) {
             Some(found) => match place_of(&self.roles, role) {
@@ -222,9 +214,7 @@ impl Policy {
     ) -> Option<Violation>
         ensures { (entries : List Entry) (by : Option ℕ) → StandsFor self.now entries
             → ((role : NameText) → Contains roles.now role → IsRole entries role)
-            → MatchOption result
-            ((name : NameText) (session : ℕ) → IsFirstViolated (entries ++ record { session = by; command = CreateDsdSet set.now count roles.now } ∷ []) name session → ⊥)
-            (λ violation. IsFirstViolated (entries ++ record { session = by; command = CreateDsdSet set.now count roles.now } ∷ []) violation.set violation.session) }
+            → AnswersFirstViolated (entries ++ entry_of by (CreateDsdSet set.now count roles.now) ∷ []) result }
     {
         let coming = Some(DsdSet {
             name: *set,
