@@ -10,4 +10,6 @@ mod instants;
 #[cfg(test)]
 mod loads;
 #[cfg(test)]
+mod revocations;
+#[cfg(test)]
 mod slots;

@@ -1,0 +1,61 @@
+//! Commands on one slot, beside a policy that changes between them.
+use access_core::command::SlotCommand;
+use access_core::refusal::Refusal;
+use access_core::reply::Reply;
+use access_core::slot::{Slot, decide_slot};
+use est_text::identifier::Identifier;
+use rbac_policy::commands::{AdminCommand, Entry, SessionId};
+use rbac_policy::names::{Name, RoleNames};
+use rbac_policy::objects::{Object, Operation, SlotNumber};
+use rbac_policy::policy::Policy;
+use reactor_core::text::Text;
+use std::test::Fail;
+
+/// The entry of a grant of the operation on the slot to the role root, by session 1.
+fn grant(operation: Operation, slot: SlotNumber) -> Entry {
+    let role = Name::root();
+    let object = Object::Slot(slot);
+    Entry {
+        session: Some(SessionId::new(1)),
+        command: AdminCommand::GrantPermission {
+            role,
+            operation,
+            object,
+        },
+    }
+}
+
+/// A session whose user lost its role may not even be told that it may not.
+#[test]
+fn a_step_after_the_role_is_taken(rt: HostRuntime) -> Result<(), Fail> {
+    let root = SessionId::new(1);
+    let number = SlotNumber::new(0).ok_or("no slot")?;
+    let roles = RoleNames::from_vec(vec![in rt.alloc(); Name::root()]?)?;
+    let user = Name::root();
+    let mut policy = Policy::opening();
+    policy.absorb(&Entry {
+        session: None,
+        command: AdminCommand::CreateSession { user, roles },
+    });
+    policy.absorb(&grant(Operation::Load, number));
+    policy.absorb(&grant(Operation::Step, number));
+    let mut slot = Slot::new(rt.alloc(), number);
+    let load = SlotCommand::Load {
+        main: Identifier::from_text("M").ok_or("no identifier")?,
+        text: Text::copied(rt.alloc(), "module M: pause end module")?,
+    };
+    let load = decide_slot(&policy, &mut slot, root, load);
+    assert!(rt; matches!(load, Reply::Load { place: 1, .. }));
+    let step = decide_slot(&policy, &mut slot, root, SlotCommand::Step);
+    assert!(rt; matches!(step, Reply::Step { instant: 1, .. }));
+
+    let role = Name::root();
+    policy.absorb(&Entry {
+        session: Some(root),
+        command: AdminCommand::DeassignUser { user, role },
+    });
+    let step = decide_slot(&policy, &mut slot, root, SlotCommand::Step);
+    assert!(rt; matches!(step, Reply::Refused(Refusal::NoSession)));
+    assert_eq!(rt; slot.journal().len(), 2);
+    Ok(())
+}
