@@ -347,31 +347,30 @@ found_more edges set found row i place it down before = (
   ]),
 )
 
-pub found_no_more : (edges : List ℕ) (set found i place : ℕ) → (Has set i → ⊥) → (Has found place ↔ IsFound edges set i place) → Has found place ↔ IsFound edges set (i + 1) place
-found_no_more edges set found i place none before = (
-  λ h. let f = before.0 h in record { top = f.top; within = f.within; chain = f.chain; before = elim f.before [ inl l ↦ inl (omega (arith, l)) | inr e ↦ inr e ] },
+-- the same up to a later place, where the set has none between
+pub found_past : (edges : List ℕ) (set found next more place : ℕ) → next ≤ more → ((other : ℕ) → next ≤ other → other < more → Has set other → ⊥)
+    → (Has found place ↔ IsFound edges set next place) → Has found place ↔ IsFound edges set more place
+found_past edges set found next more place later none before = (
+  λ h. let f = before.0 h in record { top = f.top; within = f.within; chain = f.chain; before = elim f.before [ inl l ↦ inl (omega (arith, l, later)) | inr e ↦ inr e ] },
   λ f. elim f.before [
-    | inl l ↦ elim (cases_eq f.top i) [
-      | inl e ↦ absurd (none (subst (Has set) e f.within))
-      | inr d ↦ before.1 (record { top = f.top; within = f.within; chain = f.chain; before = inl (omega (arith, l, d)) })
+    | inl l ↦ elim (cases_lt f.top next) [
+      | inl low ↦ before.1 (record { top = f.top; within = f.within; chain = f.chain; before = inl low })
+      | inr high ↦ absurd (none f.top high l f.within)
     ]
     | inr e ↦ before.1 (record { top = f.top; within = f.within; chain = f.chain; before = inr e })
   ],
 )
 
--- a chain leads from a place of the table, or stays where it is
-begins_in_table : (edges : List ℕ) {a b : ℕ} → IsAbove edges a b → (a < length edges) ⊎ (a ≡ b)
-begins_in_table edges stay = inr refl
-begins_in_table edges (step e rest) = inl (from_table edges _ _ e)
-
-pub found_ends : (edges : List ℕ) (set found many place : ℕ) → length edges ≤ many → (Has found place ↔ IsFound edges set many place) → Has found place ↔ IsBelowSome edges set place
-found_ends edges set found many place all f = (
+-- the whole, where the set has no place from there on
+pub found_ends : (edges : List ℕ) (set found next place : ℕ) → ((other : ℕ) → next ≤ other → Has set other → ⊥)
+    → (Has found place ↔ IsFound edges set next place) → Has found place ↔ IsBelowSome edges set place
+found_ends edges set found next place none f = (
   λ h. let x = f.0 h in record { top = x.top; within = x.within; chain = x.chain },
   λ b. f.1 (record {
     top = b.top;
     within = b.within;
     chain = b.chain;
-    before = elim (begins_in_table edges b.chain) [ inl l ↦ inl (omega (arith, l)) | inr e ↦ inr e ];
+    before = elim (cases_lt b.top next) [ inl l ↦ inl l | inr high ↦ absurd (none b.top high b.within) ];
   }),
 )
 

@@ -1,4 +1,5 @@
 pub mod SetLemmas
+pub mod CountLemmas
 pub mod ChainLemmas
 pub mod EdgeLemmas
 pub mod Finding

@@ -1,5 +1,5 @@
 -- Sets of places of roles, each as the number that has a bit for each of its places (this project's own form).
-use Rattle.std.specs.Prelude.{◌≡◌, ℕ, zero, suc, ◌^◌, ◌==◌, List, [], ◌∷◌, if◌then◌else◌}
+use Rattle.std.specs.Prelude.{◌≡◌, ℕ, zero, suc, ◌<◌, ◌≤◌, ◌^◌, ◌==◌, List, [], ◌∷◌, if◌then◌else◌}
 use Rattle.std.specs.Int.{bit_at}
 use Rattle.rbac_closure.specs.declared.sets.TheConstants.{ROLES}
 use Rattle.std.specs.Int.RustNames.{bit_and, bit_or, bit_xor}
@@ -11,6 +11,12 @@ Has set place = bit_at set place ≡ 1
 -- a place is in both sets
 abbrev pub Meets : ℕ → ℕ → Type 0
 Meets a b = (place : ℕ) × Has a place × Has b place
+
+-- the place is the first of the set's from this one on
+pub record IsFirstFrom (set start place : ℕ) : Type 0 where
+  pub within : Has set place
+  pub after : start ≤ place
+  pub first : (other : ℕ) → start ≤ other → other < place → ¬ (Has set other)
 
 -- each place of the first set is in the second
 abbrev pub IsWithin : ℕ → ℕ → Type 0

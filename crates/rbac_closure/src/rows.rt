@@ -125,10 +125,10 @@ impl Rows {
         let _ = &self.juniors;
         let _ = &roles.bits;
         let mut found = roles;
-        for role in 0..ROLES {
-            if roles.has(role) {
-                found = found.union(self.below(role));
-            }
+        let mut next = 0;
+        while let Some(role) = roles.first_from(next) {
+            found = found.union(self.below(role));
+            next = role + 1;
         }
         found
     }
@@ -297,6 +297,11 @@ mod tests {
         assert!(rt; own.meets(own.with(0)) && !own.meets(RoleSet::single(0)));
         assert!(rt; !own.with(0).is_subset(own));
         assert_eq!(rt; own.with(0).common(own.with(1)), own);
+        let both = own.with(0);
+        assert_eq!(rt; both.len(), 2);
+        assert_eq!(rt; both.first_from(0), Some(0));
+        assert_eq!(rt; both.first_from(1), Some(last));
+        assert!(rt; both.first_from(ROLES).is_none());
         let mut rows = Rows::new();
         rows.add_edge(last, 0);
         assert_eq!(rt; rows.below(last), set(&[0, last]));

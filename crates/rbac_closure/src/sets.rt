@@ -1,6 +1,6 @@
 //! Sets of roles, each role being named by its place in a table.
-ghost use Rattle.std.specs.Prelude.{◌≡◌, ◌↔◌, ◌<◌, ◌^◌, ℕ, IsTrue, length};
-ghost use Rattle.rbac_closure.specs.Sets.{Has, Meets, IsWithin, with_place, without_place, either, common, places_of};
+ghost use Rattle.std.specs.Prelude.{◌≡◌, ◌↔◌, ◌<◌, ◌≤◌, ◌^◌, ℕ, IsTrue, IfSome, MatchOption, length};
+ghost use Rattle.rbac_closure.specs.Sets.{Has, Meets, IsFirstFrom, IsWithin, with_place, without_place, either, common, places_of};
 
 use std::marker::Model;
 
@@ -92,17 +92,28 @@ impl RoleSet {
     }
 
     /// How many places it has.
-    #[tactic(auto, unfolding(crate::specs::Sets::places_before))]
     pub fn len(self) -> usize
         ensures { result ≡ length (places_of self) }
     {
-        let mut count = 0;
-        for place in 0..ROLES {
-            if self.has(place) {
-                count += 1;
-            }
+        self.bits.count_ones() as usize
+    }
+
+    /// The first of its places from this one on.
+    pub fn first_from(self, start: usize) -> Option<usize>
+        requires { start ≤ ROLES }
+        ensures first { MatchOption result
+            ((place : ℕ) → start ≤ place → ¬ (Has self place)) (IsFirstFrom self start) }
+        ensures within { IfSome result (λ place. place < ROLES) }
+    {
+        let bits = self.bits;
+        if start == ROLES {
+            return None;
         }
-        count
+        let left = bits >> start;
+        if left == 0 {
+            return None;
+        }
+        Some(start + left.trailing_zeros() as usize)
     }
 
     /// Whether the set has no place.
