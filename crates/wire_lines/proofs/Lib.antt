@@ -1,3 +1,4 @@
 pub mod FloatLemmas
 pub mod KeyLemmas
 pub mod RequestLemmas
+pub mod ReplyTexts

@@ -15,6 +15,7 @@ ghost use Rattle.access_core.specs.declared.reply.Change.TheVariants as change;
 ghost use Rattle.access_core.specs.declared.refusal.Refusal.TheVariants as refusal;
 ghost use Rattle.est_text.specs.declared.place.Place.{Place};
 
+use crate::accepted::{discard_line, load_line, offer_line, step_line, unload_line};
 use access_core::refusal::{Refusal, limit_text, table_text};
 use access_core::reply::{Reply, ShownSignal};
 use est_text::identifier::Identifier;
@@ -275,17 +276,34 @@ fn memory_line(alloc: Global) -> Result<Vec<u8>, AllocError>
     Vec::from_slice(alloc, NO_MEMORY.as_bytes())
 }
 
-/// The line of a reply, with its LF. The line for want of memory is a constant.
-pub fn reply_line(alloc: Global, reply: &Reply) -> Result<Vec<u8>, AllocError>
+/// The line of a reply, by the value that it is.
+fn value_line(alloc: Global, reply: &Reply) -> Result<Vec<u8>, AllocError>
     ensures { IfOk result (λ line. line.items ≡ line_of reply.now) }
 {
-    if let Reply::Refused(Refusal::Memory) = reply {
-        return memory_line(alloc);
-    }
     let value = value(alloc, reply)?;
     let mut line = value.to_vec(alloc)?;
     line.push(b'\n')?;
     Ok(line)
+}
+
+/// The line of a reply, with its LF. The line for want of memory is a constant, and those of the commands that come most often are written as
+/// they stand.
+pub fn reply_line(alloc: Global, reply: &Reply) -> Result<Vec<u8>, AllocError>
+    ensures { IfOk result (λ line. line.items ≡ line_of reply.now) }
+{
+    match reply {
+        Reply::Refused(Refusal::Memory) => memory_line(alloc),
+        Reply::Load { place, version } => load_line(alloc, *place, *version),
+        Reply::Offer { place, version } => offer_line(alloc, *place, *version),
+        Reply::Discard { place, version } => discard_line(alloc, *place, *version),
+        Reply::Unload { place, version } => unload_line(alloc, *place, *version),
+        Reply::Step {
+            instant,
+            place,
+            version,
+        } => step_line(alloc, *instant, *place, *version),
+        _ => value_line(alloc, reply),
+    }
 }
 
 /// The lines byte for byte.
