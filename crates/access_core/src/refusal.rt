@@ -1,5 +1,5 @@
 //! Every refusal that a line can be answered by, with its number and its name.
-ghost use Rattle.std.specs.Prelude.{◌≡◌};
+ghost use Rattle.std.specs.Prelude.{◌≡◌, ◌<◌};
 ghost use Rattle.access_core.specs.Refusals.{code_of, name_of, limit_text, table_text};
 
 use crate::reply::SignalNames;
@@ -158,18 +158,59 @@ pub enum Refusal {
 }
 
 impl Refusal {
-    /// Its number and its name.
-    fn label(&self) -> (u8, &'static str)
+    /// Number and name of what is refused of a module text, or for want of memory.
+    fn label_of_text(&self) -> (u8, &'static str)
+        requires { 69 < code_of self.now }
         ensures code { result.0 ≡ code_of self.now }
         ensures name { result.1.now ≡ name_of self.now }
     {
         match self {
-            Refusal::TooLong => (1, "TooLong"),
-            Refusal::NotJson => (2, "NotJson"),
-            Refusal::NotARequest => (3, "NotARequest"),
-            Refusal::NoSession => (4, "NoSession"),
-            Refusal::AlreadyLoggedIn => (5, "AlreadyLoggedIn"),
-            Refusal::SessionsExhausted => (6, "SessionsExhausted"),
+            Refusal::Lexical { .. } => (70, "Lexical"),
+            Refusal::Syntax { .. } => (71, "Syntax"),
+            Refusal::UnknownModule { .. } => (72, "UnknownModule"),
+            Refusal::RecursiveRun { .. } => (73, "RecursiveRun"),
+            Refusal::UnknownName { .. } => (74, "UnknownName"),
+            Refusal::DuplicateName { .. } => (75, "DuplicateName"),
+            Refusal::EmitInput { .. } => (76, "EmitInput"),
+            Refusal::BadRename { .. } => (77, "BadRename"),
+            Refusal::InstantLoop => (78, "InstantLoop"),
+            Refusal::TooLarge { .. } => (79, "TooLarge"),
+            Refusal::Semantics { .. } => (80, "Semantics"),
+            Refusal::Memory => (90, "Memory"),
+            _ => unreachable!(),
+        }
+    }
+
+    /// Number and name of what a slot refuses, or of what comes after that in the table.
+    fn label_of_slot(&self) -> (u8, &'static str)
+        requires { 39 < code_of self.now }
+        ensures code { result.0 ≡ code_of self.now }
+        ensures name { result.1.now ≡ name_of self.now }
+    {
+        match self {
+            Refusal::Excluded { .. } => (40, "Excluded"),
+            Refusal::Implied { .. } => (41, "Implied"),
+            Refusal::Stuck { .. } => (50, "Stuck"),
+            Refusal::NoSlot => (60, "NoSlot"),
+            Refusal::Occupied => (61, "Occupied"),
+            Refusal::Empty => (62, "Empty"),
+            Refusal::UnknownSignal => (63, "UnknownSignal"),
+            Refusal::NotInput => (64, "NotInput"),
+            Refusal::AlreadyOffered => (65, "AlreadyOffered"),
+            Refusal::NoInstant => (66, "NoInstant"),
+            Refusal::JournalFull => (67, "JournalFull"),
+            Refusal::Behind { .. } => (68, "Behind"),
+            _ => self.label_of_text(),
+        }
+    }
+
+    /// Number and name of what the policy refuses, or of what comes after that in the table.
+    fn label_of_policy(&self) -> (u8, &'static str)
+        requires { 9 < code_of self.now }
+        ensures code { result.0 ≡ code_of self.now }
+        ensures name { result.1.now ≡ name_of self.now }
+    {
+        match self {
             Refusal::Permission { .. } => (10, "Permission"),
             Refusal::DsdViolated { .. } => (20, "DsdViolated"),
             Refusal::NotAuthorized { .. } => (21, "NotAuthorized"),
@@ -191,30 +232,23 @@ impl Refusal {
             Refusal::DsdShape => (37, "DsdShape"),
             Refusal::RoleInDsd { .. } => (38, "RoleInDsd"),
             Refusal::Full { .. } => (39, "Full"),
-            Refusal::Excluded { .. } => (40, "Excluded"),
-            Refusal::Implied { .. } => (41, "Implied"),
-            Refusal::Stuck { .. } => (50, "Stuck"),
-            Refusal::NoSlot => (60, "NoSlot"),
-            Refusal::Occupied => (61, "Occupied"),
-            Refusal::Empty => (62, "Empty"),
-            Refusal::UnknownSignal => (63, "UnknownSignal"),
-            Refusal::NotInput => (64, "NotInput"),
-            Refusal::AlreadyOffered => (65, "AlreadyOffered"),
-            Refusal::NoInstant => (66, "NoInstant"),
-            Refusal::JournalFull => (67, "JournalFull"),
-            Refusal::Behind { .. } => (68, "Behind"),
-            Refusal::Lexical { .. } => (70, "Lexical"),
-            Refusal::Syntax { .. } => (71, "Syntax"),
-            Refusal::UnknownModule { .. } => (72, "UnknownModule"),
-            Refusal::RecursiveRun { .. } => (73, "RecursiveRun"),
-            Refusal::UnknownName { .. } => (74, "UnknownName"),
-            Refusal::DuplicateName { .. } => (75, "DuplicateName"),
-            Refusal::EmitInput { .. } => (76, "EmitInput"),
-            Refusal::BadRename { .. } => (77, "BadRename"),
-            Refusal::InstantLoop => (78, "InstantLoop"),
-            Refusal::TooLarge { .. } => (79, "TooLarge"),
-            Refusal::Semantics { .. } => (80, "Semantics"),
-            Refusal::Memory => (90, "Memory"),
+            _ => self.label_of_slot(),
+        }
+    }
+
+    /// Its number and its name.
+    fn label(&self) -> (u8, &'static str)
+        ensures code { result.0 ≡ code_of self.now }
+        ensures name { result.1.now ≡ name_of self.now }
+    {
+        match self {
+            Refusal::TooLong => (1, "TooLong"),
+            Refusal::NotJson => (2, "NotJson"),
+            Refusal::NotARequest => (3, "NotARequest"),
+            Refusal::NoSession => (4, "NoSession"),
+            Refusal::AlreadyLoggedIn => (5, "AlreadyLoggedIn"),
+            Refusal::SessionsExhausted => (6, "SessionsExhausted"),
+            _ => self.label_of_policy(),
         }
     }
 
