@@ -16,7 +16,7 @@ use Rattle.est_link.specs.declared.name_set.NameSet.{NameSet}
 use Rattle.est_link.proofs.Testing.{same_bytes}
 
 -- what is so of both
-both : (a b : Bool) → IsTrue (a && b) → IsTrue a × IsTrue b
+pub both : (a b : Bool) → IsTrue (a && b) → IsTrue a × IsTrue b
 both true b h = (refl, h)
 both false b h = absurd (false≢true h)
 
@@ -27,7 +27,7 @@ bound false true d t h = refl
 bound false false true t h = refl
 bound false false false t h = absurd (false≢true h)
 
-passed_over : {X : Type 0} (b : Bool) (x : X) (o : Option X) → b ≡ false → o ≡ None → cond b (Some x) o ≡ None
+pub passed_over : {X : Type 0} (b : Bool) (x : X) (o : Option X) → b ≡ false → o ≡ None → cond b (Some x) o ≡ None
 passed_over b x o e n = ap (λ b. cond b (Some x) o) e ∙ n
 
 none_found : (p : Program) (bs : List Binder) (rs : List RenamingTree) (ds : List Declared) → IsTrue (list_all (λ (d : Declared). is_declared p.interface d.name) ds) → find (λ (d : Declared). is_unbound p bs rs d.name) ds ≡ None
@@ -37,7 +37,7 @@ none_found p bs rs (d ∷ ds) h =
     let parts = both (is_declared p.interface d.name) (list_all (λ (d : Declared). is_declared p.interface d.name) ds) h in
     passed_over (is_unbound p bs rs d.name) d _ (bound (is_renamed rs d.name) (is_local bs d.name) (is_declared p.interface d.name) (is_tick d.name) parts.0) (none_found p bs rs ds parts.1)
 
-either : (a b : Bool) → IsTrue (a || b) → IsTrue a ⊎ IsTrue b
+pub either : (a b : Bool) → IsTrue (a || b) → IsTrue a ⊎ IsTrue b
 either true b h = inl refl
 either false b h = inr h
 

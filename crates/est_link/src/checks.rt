@@ -6,7 +6,7 @@ ghost use Rattle.est_link.specs.LinkFaults.{lawless_number, fault_before_order, 
 
 use crate::check::first_in_bodies;
 use crate::duplicates::first_duplicate;
-use crate::emission::{Emission, EmitInput};
+use crate::emission::{Emission, first_refused};
 use crate::fault::LinkFault;
 use crate::head::{Head, head_named};
 use crate::relations::first_lawless;
@@ -68,11 +68,7 @@ pub fn fault_behind_order<'a>(
     if let Some(name) = first_unknown(alloc, &*heads)? {
         return Ok(Some(LinkFault::UnknownName(name)));
     }
-    let emit = EmitInput {
-        heads: &*heads,
-        table: &*table,
-    };
-    if let Some(name) = first_in_bodies(&emit, &*heads)? {
+    if let Some(name) = first_refused(alloc, &*heads, &*table)? {
         return Ok(Some(LinkFault::EmitInput(name)));
     }
     match lawless_number(alloc, head_named(heads, main))? {

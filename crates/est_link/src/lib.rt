@@ -16,6 +16,7 @@ pub mod emission;
 pub mod emissions;
 pub mod fault;
 mod flatten;
+pub mod harmless;
 pub mod head;
 pub mod heads;
 pub mod laws;

@@ -10,7 +10,8 @@ use est_syntax::tree::{Declaration, Relation};
 use est_text::identifier::Identifier;
 use std::alloc::{AllocError, Global};
 
-fn is_input_kind(kind: Kind) -> bool
+/// Whether it is that of an input.
+pub fn is_input_kind(kind: Kind) -> bool
     ensures { result ≡ is_input_kind kind }
 {
     match kind {
