@@ -1,5 +1,5 @@
 //! Reply lines, as exact bytes.
-ghost use Rattle.std.specs.Prelude.{◌≡◌, ◌++◌, ◌∷◌, [], ℕ, List, codes, decimal, IfOk, map, true};
+ghost use Rattle.std.specs.Prelude.{◌≡◌, ◌<◌, ◌++◌, ◌∷◌, [], ℕ, List, codes, decimal, IfOk, map, true};
 ghost use Rattle.std.specs.Cmp.Lexicographic.{slice_cmp};
 ghost use Rattle.std.specs.Ordering.{nat_cmp};
 ghost use Rattle.std.specs.declared.cmp.Ordering.{Ordering};
@@ -155,8 +155,50 @@ fn behind(alloc: Global, refusal: &Refusal, found: u64, seen: u64) -> Result<Val
     json!(in alloc; {"code": code, "fault": fault, "found": found, "seen": seen})
 }
 
-/// What a refusal says.
-fn refused(alloc: Global, refusal: &Refusal) -> Result<Value, AllocError>
+/// What a refusal of a module text says, or one for want of memory.
+fn refused_text(alloc: Global, refusal: &Refusal) -> Result<Value, AllocError>
+    requires { 69 < code_of refusal.now }
+    ensures { IfOk result (λ v. view v ≡ object (refusal_members refusal.now)) }
+{
+    match refusal {
+        Refusal::Lexical { place } | Refusal::Syntax { place } => at_place(alloc, refusal, place),
+        Refusal::UnknownModule { name }
+        | Refusal::RecursiveRun { name }
+        | Refusal::UnknownName { name }
+        | Refusal::DuplicateName { name }
+        | Refusal::EmitInput { name }
+        | Refusal::BadRename { name } => with_text(alloc, refusal, "name", name.as_str()),
+        Refusal::TooLarge { limit } => with_text(alloc, refusal, "limit", limit_text(limit)),
+        Refusal::Semantics { relation } => semantics(alloc, refusal, *relation),
+        _ => plain(alloc, refusal),
+    }
+}
+
+/// What a refusal of a slot says, or one that comes after those in the table.
+fn refused_on_slot(alloc: Global, refusal: &Refusal) -> Result<Value, AllocError>
+    requires { 39 < code_of refusal.now }
+    ensures { IfOk result (λ v. view v ≡ object (refusal_members refusal.now)) }
+{
+    match refusal {
+        Refusal::Excluded { relation, signal } => excluded(alloc, refusal, *relation, signal),
+        Refusal::Implied { relation, missing } => implied(alloc, refusal, *relation, missing),
+        Refusal::Stuck { undecided } => stuck(alloc, refusal, undecided.as_slice()),
+        Refusal::Behind { found, seen } => behind(alloc, refusal, *found, *seen),
+        Refusal::NoSlot
+        | Refusal::Occupied
+        | Refusal::Empty
+        | Refusal::UnknownSignal
+        | Refusal::NotInput
+        | Refusal::AlreadyOffered
+        | Refusal::NoInstant
+        | Refusal::JournalFull => plain(alloc, refusal),
+        _ => refused_text(alloc, refusal),
+    }
+}
+
+/// What a refusal of the policy says, or one that comes after those in the table.
+fn refused_by_policy(alloc: Global, refusal: &Refusal) -> Result<Value, AllocError>
+    requires { 9 < code_of refusal.now }
     ensures { IfOk result (λ v. view v ≡ object (refusal_members refusal.now)) }
 {
     match refusal {
@@ -173,44 +215,31 @@ fn refused(alloc: Global, refusal: &Refusal) -> Result<Value, AllocError>
         Refusal::DsdExists { set } | Refusal::NoDsd { set } | Refusal::RoleInDsd { set } => {
             with_text(alloc, refusal, "set", set.as_str())
         }
-        Refusal::UnknownModule { name }
-        | Refusal::RecursiveRun { name }
-        | Refusal::UnknownName { name }
-        | Refusal::DuplicateName { name }
-        | Refusal::EmitInput { name }
-        | Refusal::BadRename { name } => with_text(alloc, refusal, "name", name.as_str()),
-        Refusal::Lexical { place } | Refusal::Syntax { place } => at_place(alloc, refusal, place),
         Refusal::Full { table } => with_text(alloc, refusal, "table", table_text(table)),
-        Refusal::TooLarge { limit } => with_text(alloc, refusal, "limit", limit_text(limit)),
-        Refusal::Excluded { relation, signal } => excluded(alloc, refusal, *relation, signal),
-        Refusal::Implied { relation, missing } => implied(alloc, refusal, *relation, missing),
-        Refusal::Semantics { relation } => semantics(alloc, refusal, *relation),
-        Refusal::Stuck { undecided } => stuck(alloc, refusal, undecided.as_slice()),
-        Refusal::Behind { found, seen } => behind(alloc, refusal, *found, *seen),
-        Refusal::TooLong
-        | Refusal::NotJson
-        | Refusal::NotARequest
-        | Refusal::NoSession
-        | Refusal::AlreadyLoggedIn
-        | Refusal::SessionsExhausted
-        | Refusal::Cycle
+        Refusal::Cycle
         | Refusal::AlreadyAssigned
         | Refusal::NotAssigned
         | Refusal::AlreadyGranted
         | Refusal::NotGranted
         | Refusal::EdgeExists
         | Refusal::NoEdge
-        | Refusal::DsdShape
-        | Refusal::NoSlot
-        | Refusal::Occupied
-        | Refusal::Empty
-        | Refusal::UnknownSignal
-        | Refusal::NotInput
-        | Refusal::AlreadyOffered
-        | Refusal::NoInstant
-        | Refusal::JournalFull
-        | Refusal::InstantLoop
-        | Refusal::Memory => plain(alloc, refusal),
+        | Refusal::DsdShape => plain(alloc, refusal),
+        _ => refused_on_slot(alloc, refusal),
+    }
+}
+
+/// What a refusal says.
+fn refused(alloc: Global, refusal: &Refusal) -> Result<Value, AllocError>
+    ensures { IfOk result (λ v. view v ≡ object (refusal_members refusal.now)) }
+{
+    match refusal {
+        Refusal::TooLong
+        | Refusal::NotJson
+        | Refusal::NotARequest
+        | Refusal::NoSession
+        | Refusal::AlreadyLoggedIn
+        | Refusal::SessionsExhausted => plain(alloc, refusal),
+        _ => refused_by_policy(alloc, refusal),
     }
 }
 
