@@ -1,0 +1,7 @@
+pub mod Fronts
+pub mod Firsts
+pub mod Replayed
+pub mod Opened
+pub mod Accepting
+pub mod Walking
+pub mod Lines

@@ -1,0 +1,48 @@
+use Rattle.std.proofs.Common.{◌∙◌, List, rules, subst, sym}
+use Rattle.reactor_core.specs.declared.entry.SlotEntry.{SlotEntry}
+use Rattle.audit_report.specs.Inner.Faults.{IsFaultOf, KeepsInstant}
+use Rattle.audit_report.proofs.Replayed.{judges, fault_is, adds, otherwise}
+use Rattle.audit_report.proofs.slot_audit.replay_entry.Goals as goal
+
+pub returns-in-Refused-clause-step : goal.returns-in-Refused-clause-step
+returns-in-Refused-clause-step c = λ judged stands version.
+    let slot = c.args.slot.now in
+    let e = c.args.entry.now in
+    let step = judges judged slot.number c.new-session.result c.in-Ok.command slot.journal e _ c.decide_slot.new.slot.journal
+    c.new-session.ensures c.in-Ok.ensures (c.in-Refused.ensures.step judged stands) in
+    subst (IsFaultOf judged slot.number slot.journal e) (sym c.fault_of.ensures)
+    (fault_is judged slot.number slot.journal e c.in-Refused.refusal c.decide_slot.new.slot.journal version step)
+
+pub returns-then-keeps_instant : goal.returns-then-keeps_instant
+returns-then-keeps_instant c =
+    let slot = c.args.slot.now in
+    let e = c.args.entry.now in
+    let after = c.decide_slot.new.slot.journal in
+    let keeps : KeepsInstant after e.action =
+    subst (λ (j : List SlotEntry). KeepsInstant j e.action) (c.entries.ensures ∙ c.journal.ensures) (c.if-keeps_instant.ensures.0 (search rules)) in
+    record {
+      number = c.decide_slot.ensures.number;
+      step = λ judged stands version. adds judged slot.number slot.journal e c.decide_slot.result after version
+          (judges judged slot.number c.new-session.result c.in-Ok.command slot.journal e c.decide_slot.result after
+          c.new-session.ensures c.in-Ok.ensures (c.decide_slot.ensures.step judged stands))
+          c.in_default-decide_slot.not-Refused keeps;
+    }
+
+pub returns : goal.returns
+returns c =
+    let slot = c.args.slot.now in
+    let e = c.args.entry.now in
+    let after = c.decide_slot.new.slot.journal in
+    let loses : KeepsInstant after e.action → ⊥ = λ keeps.
+    absurd (search (
+      rules,
+      c.if-keeps_instant.ensures.1
+          (subst (λ (j : List SlotEntry). KeepsInstant j e.action) (sym (c.entries.ensures ∙ c.journal.ensures)) keeps),
+    )) in
+    record {
+      number = c.decide_slot.ensures.number;
+      step = λ judged stands version. otherwise judged slot.number slot.journal e c.decide_slot.result after version
+          (judges judged slot.number c.new-session.result c.in-Ok.command slot.journal e c.decide_slot.result after
+          c.new-session.ensures c.in-Ok.ensures (c.decide_slot.ensures.step judged stands))
+          c.in_default-decide_slot.not-Refused loses;
+    }

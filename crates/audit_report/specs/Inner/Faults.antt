@@ -1,0 +1,62 @@
+-- What comes of giving a slot the command of one entry: private to the audit of a slot.
+use Rattle.std.specs.Prelude.{◌≡◌, ℕ, ◌-◌, List, [], ◌∷◌, ◌++◌, Option, Some, None, Result, MatchResult, length, slice_get}
+use Rattle.rbac_policy.specs.declared.commands.Entry.{Entry}
+use Rattle.reactor_core.specs.declared.entry.PastInstant.{PastInstant}
+use Rattle.reactor_core.specs.declared.entry.Action.{Action}
+use Rattle.reactor_core.specs.declared.entry.Action.TheVariants.{Load, Offer, Discard, Step, Unload}
+use Rattle.reactor_core.specs.declared.entry.SlotEntry.{SlotEntry}
+use Rattle.access_core.specs.declared.refusal.Refusal.{Refusal}
+use Rattle.access_core.specs.declared.refusal.Refusal.TheVariants as refusal
+use Rattle.access_core.specs.Refusals.{code_of}
+use Rattle.audit_report.specs.declared.finding.Finding.{Finding}
+use Rattle.audit_report.specs.declared.finding.Finding.TheVariants as finding
+use Rattle.audit_report.specs.declared.slot_audit.Fault.{Fault}
+use Rattle.audit_report.specs.declared.slot_audit.Fault.TheVariants.{Refused, Reaction, Memory}
+use Rattle.audit_report.specs.Replaying.{Adds}
+use Rattle.audit_report.specs.Findings.{IsRefusedWith, ReactsOtherwise}
+
+-- the instant that an action keeps, if it is a step
+abbrev pub instant_of : Action → Option PastInstant
+instant_of (Step i) = Some i
+instant_of _ = None
+
+-- the instant that an entry keeps, if there is one and it is a step
+abbrev pub instant_in : Option SlotEntry → Option PastInstant
+instant_in None = None
+instant_in (Some e) = instant_of e.action
+
+-- the instant that the last of the entries keeps, if it is a step
+abbrev pub last_instant : List SlotEntry → Option PastInstant
+last_instant entries = instant_in (slice_get entries (length entries - 1))
+
+-- where the action is a step, the last of the entries keeps its instant
+abbrev pub KeepsInstant : List SlotEntry → Action → Type 0
+KeepsInstant entries (Load l) = Unit {0}
+KeepsInstant entries (Offer signal) = Unit {0}
+KeepsInstant entries Discard = Unit {0}
+KeepsInstant entries (Step i) = last_instant entries ≡ Some i
+KeepsInstant entries Unload = Unit {0}
+
+-- the fault of an entry whose command is refused so
+abbrev pub fault_of : Refusal → Fault
+fault_of refusal.Memory = Memory
+fault_of given = Refused (code_of given)
+
+-- this is why the slot doesn't add the entry after those before it
+abbrev pub IsFaultOf : (judged : List Entry) → (slot : ℕ) → (before : List SlotEntry) → SlotEntry → Fault → Type 0
+IsFaultOf judged slot before entry (Refused code) = IsRefusedWith judged slot before entry code
+IsFaultOf judged slot before entry Reaction = ReactsOtherwise judged slot before entry
+IsFaultOf judged slot before entry Memory = Unit {0}
+
+-- the slot adds this very entry, or the answer is why it doesn't
+abbrev pub Replays : (judged : List Entry) → (slot : ℕ) → (before : List SlotEntry) → SlotEntry → Result (Unit {0}) Fault → (after : List SlotEntry) → Type 0
+Replays judged slot before entry answer after =
+    MatchResult answer
+    (λ done. Adds judged slot before entry entry × (after ≡ before ++ entry ∷ []))
+    (IsFaultOf judged slot before entry)
+
+-- the finding of a fault at this place of the slot's journal
+abbrev pub finding_of : Fault → (slot place : ℕ) → Finding
+finding_of (Refused code) slot place = finding.Refused slot place code
+finding_of Reaction slot place = finding.Reaction slot place
+finding_of Memory slot place = finding.Memory

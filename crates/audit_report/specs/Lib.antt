@@ -1,0 +1,4 @@
+pub mod Replaying
+pub mod Findings
+pub mod ReportText
+pub mod Inner

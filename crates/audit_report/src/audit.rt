@@ -1,0 +1,46 @@
+//! The audit of a policy list and sixteen journals.
+ghost use Rattle.std.specs.Prelude.{◌≡◌, ◌<◌, OnOk, IfErr};
+ghost use Rattle.audit_report.specs.Findings.{HaveNoFinding, IsFirst};
+
+use crate::finding::Finding;
+use crate::policy_audit::check_policy;
+use crate::slot_audit::check_slot;
+use rbac_policy::journal::PolicyJournal;
+use rbac_policy::objects::{SLOTS, SlotNumber};
+use reactor_core::journal::Journal;
+use std::alloc::Global;
+
+/// The slot of this number.
+pub(crate) fn slot_at(number: usize) -> SlotNumber
+    requires { number < SLOTS }
+    ensures { result ≡ number }
+{
+    match SlotNumber::new(number as u8) {
+        Some(slot) => slot,
+        None => unreachable!(),
+    }
+}
+
+/// Whether there is nothing to find in the policy list and in the journals of the slots, which stand by number.
+///
+/// It replays the policy list through the policy step, each entry once, and each journal through the slot step on a slot of its own.
+///
+/// # Errors
+///
+/// The first finding: in the policy list, then in the journals by number; of one entry its version before its refusal, and that before its
+/// reaction. Or Memory, where memory was refused.
+pub fn check(
+    alloc: Global,
+    policy: &PolicyJournal,
+    slots: &[Journal; SLOTS as usize],
+) -> Result<(), Finding>
+    ensures ok { OnOk result (HaveNoFinding policy.now slots.now) }
+    ensures err { IfErr result (IsFirst policy.now slots.now) }
+{
+    let entries = policy.entries();
+    check_policy(entries)?;
+    for (number, journal) in slots.iter().enumerate() {
+        check_slot(alloc, entries, slot_at(number), journal.entries())?;
+    }
+    Ok(())
+}

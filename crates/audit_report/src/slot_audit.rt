@@ -1,0 +1,169 @@
+//! The audit of a slot's journal.
+ghost use Rattle.std.specs.Prelude.{◌≡◌, ◌↔◌, ◌≤◌, List, IsTrue, IfOk, IfErr, OnOk, length, take};
+ghost use Rattle.rbac_policy.specs.declared.commands.Entry.{Entry};
+ghost use Rattle.rbac_policy.specs.Change.{policy_of};
+ghost use Rattle.rbac_policy.specs.StandsFor.{StandsFor};
+ghost use Rattle.rbac_admin.specs.PolicyLists.{IsPolicyList};
+ghost use Rattle.audit_report.specs.Replaying.{command_of, IsLegal};
+ghost use Rattle.audit_report.specs.Findings.{IsFirstOfSlot};
+ghost use Rattle.audit_report.specs.Inner.Faults.{last_instant, KeepsInstant, fault_of, Replays, finding_of};
+
+use crate::finding::Finding;
+use access_core::command::SlotCommand;
+use access_core::refusal::Refusal;
+use access_core::reply::Reply;
+use access_core::slot::{Slot, decide_slot};
+use rbac_policy::commands::{Entry, SessionId};
+use rbac_policy::objects::SlotNumber;
+use rbac_policy::policy::Policy;
+use reactor_core::entry::{Action, PastInstant, SlotEntry};
+use reactor_core::text::Text;
+use std::alloc::{AllocError, Global};
+
+/// Why an entry of a slot is not the one that the slot step adds at its version.
+#[derive(Drop)]
+enum Fault {
+    /// The command is refused, with this number.
+    Refused(u8),
+    /// The inputs or outputs of the step are others.
+    Reaction,
+    /// Memory was refused.
+    Memory,
+}
+
+/// The command that the action was asked for by, or the error where memory was refused.
+fn command_of(alloc: Global, action: &Action) -> Result<SlotCommand, AllocError>
+    ensures { IfOk result (λ command. command ≡ command_of action.now) }
+{
+    match action {
+        Action::Load(load) => {
+            let text = Text::copied(alloc, load.text.as_str())?;
+            Ok(SlotCommand::Load {
+                main: load.main,
+                text,
+            })
+        }
+        Action::Offer(signal) => Ok(SlotCommand::Offer { signal: *signal }),
+        Action::Discard => Ok(SlotCommand::Discard),
+        Action::Step(_) => Ok(SlotCommand::Step),
+        Action::Unload => Ok(SlotCommand::Unload),
+    }
+}
+
+/// The instant that the last of the entries keeps, if that is a step.
+fn last_instant(entries: &[SlotEntry]) -> Option<PastInstant>
+    ensures { result ≡ last_instant entries.now }
+{
+    match entries.last() {
+        Some(entry) => match &entry.action {
+            Action::Step(instant) => Some(*instant),
+            Action::Load(_) | Action::Offer(_) | Action::Discard | Action::Unload => None,
+        },
+        None => None,
+    }
+}
+
+/// Whether the last of the entries keeps the instant that the action does, where that is a step.
+fn keeps_instant(entries: &[SlotEntry], action: &Action) -> bool
+    ensures { IsTrue result ↔ KeepsInstant entries.now action.now }
+{
+    match action {
+        Action::Step(stored) => last_instant(entries) == Some(*stored),
+        Action::Load(_) | Action::Offer(_) | Action::Discard | Action::Unload => true,
+    }
+}
+
+/// The fault of an entry whose command is refused so.
+fn fault_of(refusal: &Refusal) -> Fault
+    ensures { result ≡ fault_of refusal.now }
+{
+    match refusal {
+        Refusal::Memory => Fault::Memory,
+        _ => Fault::Refused(refusal.code()),
+    }
+}
+
+/// Gives the entry's command to the slot, which is to add this very entry; else why it doesn't.
+fn replay_entry(
+    alloc: Global,
+    policy: &Policy,
+    slot: &mut Slot,
+    entry: &SlotEntry,
+) -> Result<(), Fault>
+    ensures number { slot.new.number ≡ slot.old.number }
+    ensures step { (judged : List Entry) → StandsFor policy.now judged → length judged ≡ entry.now.stamp.version
+        → Replays judged slot.old.number slot.old.journal entry.now result slot.new.journal }
+{
+    let Ok(command) = command_of(alloc, &entry.action) else {
+        return Err(Fault::Memory);
+    };
+    let session = SessionId::new(entry.stamp.session);
+    match decide_slot(policy, slot, session, command) {
+        Reply::Refused(refusal) => Err(fault_of(&refusal)),
+        _ => {
+            if keeps_instant(slot.journal().entries(), &entry.action) {
+                Ok(())
+            } else {
+                Err(Fault::Reaction)
+            }
+        }
+    }
+}
+
+/// The policy of so many entries takes in those up to this version.
+fn take_in(policy: &mut Policy, entries: &[Entry], from: usize, version: usize)
+    requires stands { policy.old ≡ policy_of (take from entries.now) }
+    requires low { from ≤ version }
+    requires high { version ≤ length entries.now }
+    ensures { policy.new ≡ policy_of (take version entries.now) }
+{
+    for at in from..version {
+        policy.absorb(&entries[at]);
+    }
+}
+
+/// The finding of the fault at this place of the slot's journal.
+fn finding_of(fault: Fault, slot: SlotNumber, place: u64) -> Finding
+    ensures { result ≡ finding_of fault slot place }
+{
+    match fault {
+        Fault::Refused(code) => Finding::Refused { slot, place, code },
+        Fault::Reaction => Finding::Reaction { slot, place },
+        Fault::Memory => Finding::Memory,
+    }
+}
+
+/// Whether the journal of the slot of this number is legal over the policy list, and else the first finding in it, or that memory was
+/// refused.
+///
+/// The journal is replayed on an empty slot, each entry at the policy of its version.
+pub(crate) fn check_slot(
+    alloc: Global,
+    entries: &[Entry],
+    number: SlotNumber,
+    journal: &[SlotEntry],
+) -> Result<(), Finding>
+    requires { IsPolicyList entries.now }
+    ensures ok { OnOk result (IsLegal entries.now number journal.now) }
+    ensures err { IfErr result (IsFirstOfSlot entries.now number journal.now) }
+{
+    let mut slot = Slot::new(alloc, number);
+    let mut policy = Policy::empty();
+    let mut version: usize = 0;
+    for (at, entry) in journal.iter().enumerate() {
+        let place = at as u64 + 1;
+        let next = entry.stamp.version;
+        if next < version as u64 || next > entries.len() as u64 {
+            return Err(Finding::Version {
+                slot: number,
+                place,
+            });
+        }
+        take_in(&mut policy, entries, version, next as usize);
+        version = next as usize;
+        if let Err(fault) = replay_entry(alloc, &policy, &mut slot, entry) {
+            return Err(finding_of(fault, number, place));
+        }
+    }
+    Ok(())
+}
