@@ -1,2 +1,3 @@
 pub mod LeavingLemmas
 pub mod MappedStates
+mod SharedLemmas

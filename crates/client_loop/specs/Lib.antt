@@ -3,4 +3,5 @@ pub mod Logins
 pub mod LineSteps
 pub mod Serving
 pub mod Connections
+pub mod SharedAnswers
 pub mod Inner

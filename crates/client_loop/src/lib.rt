@@ -11,4 +11,5 @@ pub mod desk;
 pub mod gate;
 pub mod login;
 pub mod serving;
+pub mod shared_desk;
 pub mod source;

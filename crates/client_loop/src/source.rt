@@ -13,10 +13,10 @@ pub struct Connection<I, O> {
 /// Where workers get their connections.
 pub trait Source {
     /// The reading half of a connection.
-    type Reader: Read + Drop;
+    type Reader: Read + Send + Drop;
 
     /// The writing half of a connection.
-    type Writer: Write + Drop;
+    type Writer: Write + Send + Drop;
 
     /// The next connection, for this worker; none at the end, or where it could not be accepted.
     fn accept(&self, worker: usize) -> Option<Connection<Self::Reader, Self::Writer>>;

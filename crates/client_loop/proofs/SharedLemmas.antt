@@ -1,0 +1,218 @@
+-- What the board answers, as the reply of a desk of one client.
+use Rattle.std.proofs.Common.{◌≡◌, ◌∙◌, inl, inr, ℕ, ◌+◌, List, [], ◌∷◌, ◌++◌, length, refl, sym, ap, subst, Option, Some, None, Result, Ok, Err, MatchResult, if◌then◌else◌, true}
+use Rattle.std.proofs.lemmas.List.{length-append}
+use Rattle.refusal_rules.specs.Rules.{accept, ◌▸◌, Answers}
+use Rattle.refusal_rules.proofs.RuleLemmas.{all_passed}
+use Rattle.std.specs.Prelude.{IfOk, IfErr}
+use Rattle.rbac_policy.specs.declared.commands.AdminCommand.{AdminCommand}
+use Rattle.rbac_policy.specs.declared.commands.AdminCommand.TheVariants.{AddUser, DeleteUser, AddRole, DeleteRole, AssignUser, DeassignUser, GrantPermission, RevokePermission, AddInheritance, DeleteInheritance, CreateDsdSet, DeleteDsdSet, CreateSession, DeleteSession, AddActiveRole, DropActiveRole}
+use Rattle.rbac_policy.specs.declared.commands.Entry.{Entry}
+use Rattle.rbac_policy.specs.Entries.{is_login, logins}
+use Rattle.rbac_admin.specs.declared.refusals.Refusal.{Refusal as PolicyRefusal}
+use Rattle.rbac_admin.specs.Room.{HasRoomFor}
+use Rattle.rbac_admin.specs.declared.refusals.Refusal.TheVariants as policy
+use Rattle.rbac_admin.specs.PolicyStep.{PolicyStep, entry_of}
+use Rattle.access_core.specs.declared.refusal.Refusal.TheVariants.{JournalFull, Memory, NoSession}
+use Rattle.client_loop.specs.Asking.{IsLogoutReply}
+use Rattle.access_core.specs.declared.reply.Change.{Change}
+use Rattle.access_core.specs.declared.reply.Reply.{Reply}
+use Rattle.access_core.specs.declared.reply.Reply.TheVariants.{Refused, Login, Changed}
+use Rattle.access_core.specs.Answering.{ByRules, IsRefused, no_memory}
+use Rattle.access_core.specs.Conversions.{of_policy}
+use Rattle.access_core.specs.Desk.{DeskState, AdminStep, Appends, HasRoomFor as DeskHasRoomFor, list_full, change_of, accepted_reply, reply_of_change}
+use Rattle.access_core.specs.SlotState.{SlotState}
+use Rattle.policy_board.specs.declared.refusal.Refusal.{Refusal}
+use Rattle.policy_board.specs.declared.refusal.Refusal.TheVariants as board
+use Rattle.policy_board.specs.declared.seat.Receipt.{Receipt}
+use Rattle.policy_board.specs.PolicyCommands as board_step
+use Rattle.policy_board.specs.PolicyCommands.{IsPublished, session_made}
+use Rattle.slot_table.specs.Conversions.{of_board}
+use Rattle.client_loop.specs.SharedAnswers.{desk_with}
+
+-- the room of a policy list is the same for board and desk
+room_there : (command : AdminCommand) (list : List Entry) → HasRoomFor command list → DeskHasRoomFor command list
+room_there (AddUser user) list room = room
+room_there (DeleteUser user) list room = room
+room_there (AddRole role) list room = room
+room_there (DeleteRole role) list room = room
+room_there (AssignUser user role) list room = room
+room_there (DeassignUser user role) list room = room
+room_there (GrantPermission role operation object) list room = room
+room_there (RevokePermission role operation object) list room = room
+room_there (AddInheritance senior junior) list room = room
+room_there (DeleteInheritance senior junior) list room = room
+room_there (CreateDsdSet set count roles) list room = room
+room_there (DeleteDsdSet set) list room = room
+room_there (CreateSession user roles) list room = room
+room_there DeleteSession list room = room
+room_there (AddActiveRole role) list room = room
+room_there (DropActiveRole role) list room = room
+
+room_here : (command : AdminCommand) (list : List Entry) → DeskHasRoomFor command list → HasRoomFor command list
+room_here (AddUser user) list room = room
+room_here (DeleteUser user) list room = room
+room_here (AddRole role) list room = room
+room_here (DeleteRole role) list room = room
+room_here (AssignUser user role) list room = room
+room_here (DeassignUser user role) list room = room
+room_here (GrantPermission role operation object) list room = room
+room_here (RevokePermission role operation object) list room = room
+room_here (AddInheritance senior junior) list room = room
+room_here (DeleteInheritance senior junior) list room = room
+room_here (CreateDsdSet set count roles) list room = room
+room_here (DeleteDsdSet set) list room = room
+room_here (CreateSession user roles) list room = room
+room_here DeleteSession list room = room
+room_here (AddActiveRole role) list room = room
+room_here (DropActiveRole role) list room = room
+
+-- only a login makes no change
+login_makes_session : (command : AdminCommand) (session : Option ℕ) → change_of command ≡ None → is_login (record { session = session; command = command }) ≡ true
+login_makes_session (AddUser user) session is = absurd cc
+login_makes_session (DeleteUser user) session is = absurd cc
+login_makes_session (AddRole role) session is = absurd cc
+login_makes_session (DeleteRole role) session is = absurd cc
+login_makes_session (AssignUser user role) session is = absurd cc
+login_makes_session (DeassignUser user role) session is = absurd cc
+login_makes_session (GrantPermission role operation object) session is = absurd cc
+login_makes_session (RevokePermission role operation object) session is = absurd cc
+login_makes_session (AddInheritance senior junior) session is = absurd cc
+login_makes_session (DeleteInheritance senior junior) session is = absurd cc
+login_makes_session (CreateDsdSet set count roles) session is = absurd cc
+login_makes_session (DeleteDsdSet set) session is = absurd cc
+login_makes_session (CreateSession user roles) session is = refl
+login_makes_session DeleteSession session is = absurd cc
+login_makes_session (AddActiveRole role) session is = absurd cc
+login_makes_session (DropActiveRole role) session is = absurd cc
+
+module _ {J : Type 0} where
+  -- what a receipt of a published entry tells
+  record Tells (receipt : Receipt J) (entry : Entry) (before : List Entry) : Type 0 where
+    pub entry_is : receipt.entry ≡ entry
+    pub version : length receipt.list ≡ length before + 1
+    pub session : receipt.session ≡ session_made before entry
+
+  published_tells : (receipt : Receipt J) (entry : Entry) (before after : List Entry) → IsPublished entry before (Ok receipt) after → Tells receipt entry before
+  published_tells receipt entry before after p =
+      let same : receipt ≡ p.receipt = (let is = p.answered in cc) in
+      let list : receipt.list ≡ before ++ entry ∷ [] = ap (λ (r : Receipt J). r.list) same ∙ (p.list_is ∙ p.appended) in
+      record {
+        entry_is = ap (λ (r : Receipt J). r.entry) same ∙ p.entry_is;
+        version = ap (λ (l : List Entry). length l) list ∙ length-append before (entry ∷ []);
+        session = ap (λ (r : Receipt J). r.session) same ∙ p.session_is;
+      }
+
+  -- the reply to a receipt whose command makes this change
+  pub reply_changed : (receipt : Receipt J) (entry : Entry) (before after : List Entry) (change : Change) → IsPublished entry before (Ok receipt) after
+      → change_of receipt.entry.command ≡ Some change → Changed change (length receipt.list) ≡ accepted_reply before entry.command
+  reply_changed receipt entry before after change p is =
+      let t = published_tells receipt entry before after p in
+      let made : change_of entry.command ≡ Some change = subst (λ (e : Entry). change_of e.command ≡ Some change) t.entry_is is in
+      ap (λ n. Changed change n) t.version ∙ sym (ap (λ c. reply_of_change c before) made)
+
+  -- a receipt of a login has the session that it made
+  pub session_of_login : (receipt : Receipt J) (entry : Entry) (before after : List Entry) → IsPublished entry before (Ok receipt) after
+      → change_of receipt.entry.command ≡ None → receipt.session ≡ Some (logins before + 1)
+  session_of_login receipt entry before after p is =
+      let t = published_tells receipt entry before after p in
+      let made : change_of entry.command ≡ None = subst (λ (e : Entry). change_of e.command ≡ None) t.entry_is is in
+      t.session ∙ ap (λ b. if b then Some (logins before + 1) else None) (login_makes_session entry.command entry.session made)
+
+  -- the reply to a receipt of a login
+  pub reply_login : (receipt : Receipt J) (entry : Entry) (before after : List Entry) (session : ℕ) → IsPublished entry before (Ok receipt) after
+      → change_of receipt.entry.command ≡ None → receipt.session ≡ Some session → Login session (length receipt.list) ≡ accepted_reply before entry.command
+  reply_login receipt entry before after session p is made =
+      let t = published_tells receipt entry before after p in
+      let none : change_of entry.command ≡ None = subst (λ (e : Entry). change_of e.command ≡ None) t.entry_is is in
+      let number : session ≡ logins before + 1 = (let a = sym made ∙ session_of_login receipt entry before after p is in cc) in
+      ap (λ n. Login n (length receipt.list)) number ∙ (ap (λ n. Login (logins before + 1) n) t.version ∙ sym (ap (λ c. reply_of_change c before) none))
+
+  -- an accepted command published an entry
+  published_by : (old new : List Entry) (receipt : Receipt J) (decided : Result Entry PolicyRefusal)
+      → MatchResult decided
+      (λ entry. Answers (board_step.list_full old entry ▸ board_step.no_memory ▸ accept) (λ refusal. board_step.IsRefused refusal old (Ok receipt) new) (IsPublished entry old (Ok receipt) new))
+      (λ refusal. board_step.IsRefused (board.Policy refusal) old (Ok receipt) new)
+      → (entry : Entry) × IsPublished entry old (Ok receipt) new
+  published_by old new receipt (Ok e) h =
+      let all = all_passed (board_step.list_full old e ▸ board_step.no_memory ▸ accept) (λ (r : Refusal). board_step.IsRefused r old (Ok receipt) new) (IsPublished e old (Ok receipt) new)
+      (λ r refused. let is = refused.answered in absurd cc) h in
+      (e, all.1)
+  published_by old new receipt (Err r) h = let is = h.answered in absurd cc
+
+  -- the receipt, if the answer is one, is of a published entry
+  pub published : (session : Option ℕ) (command : AdminCommand) (old new : List Entry) (answer : Result (Receipt J) Refusal)
+      → board_step.AdminStep old session command answer new
+      → IfOk answer (λ receipt. (entry : Entry) × (o : List Entry) × (n : List Entry) × IsPublished entry o (Ok receipt) n)
+  published session command old new (Ok receipt) step = let p = published_by old new receipt step.decided step.replied in (p.0, old, new, p.1)
+  published session command old new (Err refusal) step = tt
+
+  module _ (slots : List SlotState) (old new : List Entry) (answer : Result (Receipt J) Refusal) (given : Reply) where
+    refused_same : (refusal : Refusal) → given ≡ Refused (of_board refusal) → new ≡ old
+        → IsRefused (of_board refusal) (desk_with old slots) given (desk_with new slots)
+    refused_same refusal replied stays = record { replied = replied; stays = ap (λ l. desk_with l slots) stays }
+
+    decided_same : ((refusal : Refusal) → answer ≡ Err refusal → given ≡ Refused (of_board refusal))
+        → ((entry : Entry) → IsPublished entry old answer new → given ≡ accepted_reply old entry.command)
+        → (decided : Result Entry PolicyRefusal)
+        → MatchResult decided
+        (λ entry. Answers (board_step.list_full old entry ▸ board_step.no_memory ▸ accept) (λ refusal. board_step.IsRefused refusal old answer new) (IsPublished entry old answer new))
+        (λ refusal. board_step.IsRefused (board.Policy refusal) old answer new)
+        → MatchResult decided
+        (λ entry. ByRules (list_full old entry ▸ no_memory ▸ accept) (Appends entry) (desk_with old slots) given (desk_with new slots))
+        (λ refusal. IsRefused (of_policy refusal) (desk_with old slots) given (desk_with new slots))
+    decided_same refused accepted (Err refusal) h = refused_same (board.Policy refusal) (refused (board.Policy refusal) h.answered) h.stays
+    decided_same refused accepted (Ok entry) (inl r) =
+        let replied : given ≡ Refused JournalFull = refused r.refusal r.answered.answered ∙ ap (λ (x : Refusal). Refused (of_board x)) r.given.0 in
+        inl (record {
+          refusal = JournalFull;
+          given = (refl, λ room. r.given.1 (room_here entry.command old room));
+          answered = refused_same board.JournalFull replied r.answered.stays;
+        })
+    decided_same refused accepted (Ok entry) (inr p) = inr (record { passed = room_there entry.command old p.passed; next = later p.next }) where
+      later : Answers (board_step.no_memory ▸ accept) (λ refusal. board_step.IsRefused refusal old answer new) (IsPublished entry old answer new)
+          → ByRules (no_memory ▸ accept) (Appends entry) (desk_with old slots) given (desk_with new slots)
+      later (inl m) =
+          let replied : given ≡ Refused Memory = refused m.refusal m.answered.answered ∙ ap (λ (x : Refusal). Refused (of_board x)) m.given in
+          inl (record { refusal = Memory; given = refl; answered = refused_same board.Memory replied m.answered.stays })
+      later (inr q) = inr (record {
+        passed = tt;
+        next = record { replied = accepted entry q.next; appended = ap (λ l. desk_with l slots) q.next.appended };
+      })
+
+    refused_at : IfErr answer (λ refusal. given ≡ Refused (of_board refusal)) → (refusal : Refusal) → answer ≡ Err refusal → given ≡ Refused (of_board refusal)
+    refused_at h refusal is = subst (λ (a : Result (Receipt J) Refusal). IfErr a (λ r. given ≡ Refused (of_board r))) is h
+
+    -- the board's answer to a policy command is a desk's, where the reply is made so of it
+    pub step_same : (session : Option ℕ) (command : AdminCommand)
+        → IfErr answer (λ refusal. given ≡ Refused (of_board refusal))
+        → ((entry : Entry) → IsPublished entry old answer new → given ≡ accepted_reply old entry.command)
+        → board_step.AdminStep old session command answer new → AdminStep session command (desk_with old slots) given (desk_with new slots)
+    step_same session command refused accepted step = record {
+      answer = step.decided;
+      given = step.given;
+      replied = decided_same (refused_at refused) accepted step.decided step.replied;
+    }
+
+-- a logout is answered by its change, or refused because its session had ended, or for want of memory
+pub logout_reply : (session : Option ℕ) (before : DeskState) (given : Reply) (after : DeskState) → AdminStep session DeleteSession before given after → IsLogoutReply given
+logout_reply session before given after step = by_policy step.given step.replied where
+  of_reply : (known : Reply) → IsLogoutReply known → given ≡ known → IsLogoutReply given
+  of_reply known is same = subst (λ (r : Reply). IsLogoutReply r) (sym same) is
+
+  Replied : Result Entry PolicyRefusal → Type 0
+  Replied answer = MatchResult answer
+      (λ entry. ByRules (list_full before.entries entry ▸ no_memory ▸ accept) (Appends entry) before given after)
+      (λ refusal. IsRefused (of_policy refusal) before given after)
+
+  accepted : (entry : Entry) → entry.command ≡ DeleteSession → ByRules (list_full before.entries entry ▸ no_memory ▸ accept) (Appends entry) before given after → IsLogoutReply given
+  accepted entry is (inl r) = absurd (r.given.1 (subst (λ c. DeskHasRoomFor c before.entries) (sym is) tt))
+  accepted entry is (inr p) = by_memory p.next where
+    by_memory : ByRules (no_memory ▸ accept) (Appends entry) before given after → IsLogoutReply given
+    by_memory (inl m) = of_reply (Refused Memory) tt (m.answered.replied ∙ ap (λ r. Refused r) m.given)
+    by_memory (inr q) = of_reply (accepted_reply before.entries DeleteSession) tt (q.next.replied ∙ ap (λ c. accepted_reply before.entries c) is)
+
+  by_policy : PolicyStep before.entries session DeleteSession step.answer → Replied step.answer → IsLogoutReply given
+  by_policy (inl r) replied =
+      let refused : step.answer ≡ Err policy.NoSession = r.answered ∙ ap (λ x. Err x) r.given.0 in
+      of_reply (Refused NoSession) tt (subst Replied refused replied).replied
+  by_policy (inr p) replied = accepted (entry_of session DeleteSession) refl (subst Replied p.next replied)

@@ -1,0 +1,130 @@
+//! The desk of a seat at a board and a table that many share.
+ghost use Rattle.std.specs.Prelude.{◌≡◌, List, Ok, IfOk, IfErr};
+ghost use Rattle.access_core.specs.declared.reply.Reply.TheVariants.{Refused};
+ghost use Rattle.slot_table.specs.Conversions.{of_board};
+ghost use Rattle.rbac_policy.specs.declared.commands.Entry.{Entry};
+ghost use Rattle.policy_board.specs.PolicyCommands.{IsPublished};
+ghost use Rattle.access_core.specs.Desk.{change_of, accepted_reply};
+ghost use Rattle.client_loop.specs.SharedAnswers.{IsAdministered, SharedAnswers};
+
+use crate::desk::Desk;
+use access_core::command::SlotCommand;
+use access_core::reply::{Change, Reply};
+use policy_board::board::Board;
+use policy_board::history::Naming;
+use policy_board::refusal::Refusal;
+use policy_board::seat::{Receipt, Seat};
+use rbac_policy::commands::{AdminCommand, SessionId};
+use rbac_policy::objects::{Object, Operation};
+use slot_table::conversions::of_board;
+use slot_table::table::SlotTable;
+use std::marker::Model;
+use std::sync::Wait;
+
+/// A seat, with the board and the table that it asks. A contract sees the seat.
+pub struct SharedDesk<'a, J: Naming, R> {
+    /// What its waits are called through.
+    pub rt: &'a R,
+    pub board: &'a Board<J>,
+    pub table: &'a SlotTable<J>,
+    pub seat: Seat<J>,
+}
+
+impl<'a, J: Naming, R> Model for SharedDesk<'a, J, R> {
+    ghost use Rattle.policy_board.specs.SeatState.{SeatState};
+
+    ghost Value = { SeatState };
+
+    ghost view = { λ d. d.seat };
+}
+
+/// The change that the command makes of the policy; a login makes none.
+fn change_of(command: &AdminCommand) -> Option<Change>
+    ensures { result ≡ change_of command.now }
+{
+    match command {
+        AdminCommand::AddUser { .. } => Some(Change::AddUser),
+        AdminCommand::DeleteUser { .. } => Some(Change::DeleteUser),
+        AdminCommand::AddRole { .. } => Some(Change::AddRole),
+        AdminCommand::DeleteRole { .. } => Some(Change::DeleteRole),
+        AdminCommand::AssignUser { .. } => Some(Change::AssignUser),
+        AdminCommand::DeassignUser { .. } => Some(Change::DeassignUser),
+        AdminCommand::GrantPermission { .. } => Some(Change::GrantPermission),
+        AdminCommand::RevokePermission { .. } => Some(Change::RevokePermission),
+        AdminCommand::AddInheritance { .. } => Some(Change::AddInheritance),
+        AdminCommand::DeleteInheritance { .. } => Some(Change::DeleteInheritance),
+        AdminCommand::CreateDsdSet { .. } => Some(Change::CreateDsdSet),
+        AdminCommand::DeleteDsdSet { .. } => Some(Change::DeleteDsdSet),
+        AdminCommand::CreateSession { .. } => None,
+        AdminCommand::DeleteSession => Some(Change::DeleteSession),
+        AdminCommand::AddActiveRole { .. } => Some(Change::AddActiveRole),
+        AdminCommand::DropActiveRole { .. } => Some(Change::DropActiveRole),
+    }
+}
+
+/// The reply to an accepted policy command.
+fn reply_to<J: Naming>(receipt: &Receipt<J>) -> Reply
+    requires { (entry : Entry) × (old : List Entry) × (new : List Entry)
+        × IsPublished entry old (Ok receipt.now) new }
+    ensures { (entry : Entry) (old new : List Entry) → IsPublished entry old (Ok receipt.now) new
+        → result ≡ accepted_reply old entry.command }
+{
+    let version = receipt.version();
+    match change_of(&receipt.entry().command) {
+        Some(change) => Reply::Changed { change, version },
+        None => Reply::Login {
+            session: receipt.session().unwrap(),
+            version,
+        },
+    }
+}
+
+/// The reply that the board's answer to a policy command makes.
+fn reply_of<J: Naming>(answer: Result<Receipt<J>, Refusal>) -> Reply
+    requires { IfOk answer (λ receipt. (entry : Entry) × (old : List Entry) × (new : List Entry)
+        × IsPublished entry old (Ok receipt) new) }
+    ensures accepted { (entry : Entry) (old new : List Entry) → IsPublished entry old answer new
+        → result ≡ accepted_reply old entry.command }
+    ensures refused { IfErr answer (λ refusal. result ≡ Refused (of_board refusal)) }
+{
+    match answer {
+        Ok(receipt) => reply_to(&receipt),
+        Err(refusal) => Reply::Refused(of_board(refusal)),
+    }
+}
+
+/// Answers a policy command, under the admin lock.
+fn administer<J: Naming, R: Wait>(
+    rt: &R,
+    board: &Board<J>,
+    seat: &mut Seat<J>,
+    session: Option<SessionId>,
+    command: AdminCommand,
+) -> Reply
+    ensures { IsAdministered session command seat.old result seat.new }
+{
+    reply_of(board.admin(rt, seat, session, command))
+}
+
+impl<'a, J: Naming, R: Wait> Desk for SharedDesk<'a, J, R> {
+    ghost answers = { λ before ask given after. SharedAnswers before ask given after };
+
+    fn admin(&mut self, session: Option<SessionId>, command: AdminCommand) -> Reply {
+        administer(self.rt, self.board, &mut self.seat, session, command)
+    }
+
+    fn slot(&mut self, session: SessionId, number: u64, command: SlotCommand) -> Reply {
+        self.table
+            .command(self.rt, &mut self.seat, session, number, command)
+    }
+
+    fn check(&mut self, session: SessionId, operation: Operation, object: &Object) -> Reply {
+        match self
+            .board
+            .check_access(&mut self.seat, session, operation, object)
+        {
+            Ok(allowed) => Reply::Check { allowed },
+            Err(refusal) => Reply::Refused(of_board(refusal)),
+        }
+    }
+}
