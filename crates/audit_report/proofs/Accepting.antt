@@ -23,7 +23,8 @@ no_ok : (a : Refusal) (b : Entry) → (let r : Result Entry Refusal = Err a in r
 no_ok a b e = absurd cc
 
 module _ (before : List Entry) (entry asked : Entry) (copied : asked ≡ entry) where
-  stepped : (answer : Result Entry Refusal) → PolicyStep before asked.session asked.command answer → PolicyStep before entry.session entry.command answer
+  stepped : (answer : Result Entry Refusal) → PolicyStep before asked.session asked.command answer
+      → PolicyStep before entry.session entry.command answer
   stepped answer step = subst (λ (e : Entry). PolicyStep before e.session e.command answer) copied step
 
   -- what is given with the entry's own session is the entry
@@ -41,7 +42,8 @@ module _ (before : List Entry) (entry asked : Entry) (copied : asked ≡ entry) 
   -- where the entry is accepted, it is what is given
   pub given_is : (given : Entry) → PolicyStep before asked.session asked.command (Ok given) → IsAccepted before entry → given.session ≡ entry.session
   given_is given step accepted =
-      ap (λ (e : Entry). e.session) (same_ok given entry (one_answer before entry.session entry.command (Ok given) (Ok entry) (stepped (Ok given) step) accepted.step))
+      ap (λ (e : Entry). e.session)
+      (same_ok given entry (one_answer before entry.session entry.command (Ok given) (Ok entry) (stepped (Ok given) step) accepted.step))
 
   -- where the command is refused, the entry is not accepted
   pub refuses : (refusal : Refusal) → PolicyStep before asked.session asked.command (Err refusal) → IsAccepted before entry → ⊥

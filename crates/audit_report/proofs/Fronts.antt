@@ -124,4 +124,5 @@ right_later L at e late there accepted = record {
 -- else it is the first wrong one, where those before it are right
 pub wrong_later : (L : List Entry) (at : ℕ) (e : Entry) → 4 ≤ at → slice_get L at ≡ Some e → ((k : ℕ) → k < at → IsRightAt L k)
     → ¬ (IsAccepted (take at L) e) → IsFirstWrong L (at + 1)
-wrong_later L at e late there before refused = record { at = at; counted = refl; before = before; wrong = λ right. refused (right.accepted e late there) }
+wrong_later L at e late there before refused =
+    record { at = at; counted = refl; before = before; wrong = λ right. refused (right.accepted e late there) }

@@ -36,7 +36,8 @@ IsSame (action.Step i) done = (j : PastInstant) × (done ≡ action.Step j)
 IsSame action.Unload done = done ≡ action.Unload
 
 -- the command is accepted, and such an action is added
-pub record IsTaken (judged : List Entry) (session : ℕ) (asked : Action) (before : List SlotEntry) (reply : Reply) (after : List SlotEntry) : Type 0 where
+pub record IsTaken (judged : List Entry) (session : ℕ) (asked : Action) (before : List SlotEntry) (reply : Reply)
+    (after : List SlotEntry) : Type 0 where
   pub accepted : IsAccepted reply
   pub done : Action
   pub same : IsSame asked done
@@ -177,7 +178,8 @@ module _ (judged : List Entry) (slot : ℕ) (before : List SlotEntry) (e : SlotE
       }
 
 -- the slot step of a command and a session that are the entry's
-pub judges : (judged : List Entry) (slot session : ℕ) (command : SlotCommand) (before : List SlotEntry) (e : SlotEntry) (reply : Reply) (after : List SlotEntry)
+pub judges : (judged : List Entry) (slot session : ℕ) (command : SlotCommand) (before : List SlotEntry) (e : SlotEntry)
+    (reply : Reply) (after : List SlotEntry)
     → session ≡ e.stamp.session → command ≡ command_of e.action → SlotStep judged slot session command before reply after
     → Judges judged slot before e reply after
 judges judged slot session command before e reply after by is step =

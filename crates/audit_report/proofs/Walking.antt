@@ -13,13 +13,15 @@ use Rattle.audit_report.specs.Inner.Faults.{IsFaultOf, finding_of}
 use Rattle.audit_report.specs.Replaying.{last_version, HasRightVersion, IsLegalEntry, AreLegal, IsLegal}
 
 -- the front with the next entry
-pub take_next : (journal : List SlotEntry) (at : ℕ) (e : SlotEntry) → slice_get journal at ≡ Some e → take (at + 1) journal ≡ take at journal ++ e ∷ []
+pub take_next : (journal : List SlotEntry) (at : ℕ) (e : SlotEntry) → slice_get journal at ≡ Some e
+    → take (at + 1) journal ≡ take at journal ++ e ∷ []
 take_next journal at e there =
     take_more journal at e (slice_get_within journal at e there)
     ∙ ap (λ x. take at journal ++ x ∷ []) (get_or_from_slice_get journal at e e there)
 
 -- the version of the front with the next entry
-pub next_version : (journal : List SlotEntry) (at : ℕ) (e : SlotEntry) → slice_get journal at ≡ Some e → last_version (take (at + 1) journal) ≡ e.stamp.version
+pub next_version : (journal : List SlotEntry) (at : ℕ) (e : SlotEntry) → slice_get journal at ≡ Some e
+    → last_version (take (at + 1) journal) ≡ e.stamp.version
 next_version journal at e there =
     ap last_version (take_next journal at e there) ∙ fold_push (λ (version : ℕ) (x : SlotEntry). x.stamp.version) 0 (take at journal) e
 
@@ -42,13 +44,15 @@ slots_more entries slots count journal legal there here = λ k x low is.
     k low x is
 
 -- the first entry of which this holds
-pub first_at : (entries : List Entry) (slot : ℕ) (journal : List SlotEntry) (at : ℕ) (e : SlotEntry) (Finds : (before : List SlotEntry) → SlotEntry → Type 0)
+pub first_at : (entries : List Entry) (slot : ℕ) (journal : List SlotEntry) (at : ℕ) (e : SlotEntry)
+    (Finds : (before : List SlotEntry) → SlotEntry → Type 0)
     → AreLegal entries slot journal at → slice_get journal at ≡ Some e → Finds (take at journal) e → IsFirstAt entries slot journal (at + 1) Finds
 first_at entries slot journal at e Finds before there finds =
     record { at = at; counted = refl; before = before; entry = e; there = there; finds = finds }
 
 -- the finding of a fault is the first one of the journal
-pub fault_first : (entries : List Entry) (slot : ℕ) (journal : List SlotEntry) (at : ℕ) (e : SlotEntry) (fault : Fault) → AreLegal entries slot journal at
+pub fault_first : (entries : List Entry) (slot : ℕ) (journal : List SlotEntry) (at : ℕ) (e : SlotEntry) (fault : Fault)
+    → AreLegal entries slot journal at
     → slice_get journal at ≡ Some e → HasRightVersion entries (take at journal) e
     → IsFaultOf (take e.stamp.version entries) slot (take at journal) e fault → IsFirstOfSlot entries slot journal (finding_of fault slot (at + 1))
 fault_first entries slot journal at e (Refused code) before there version h = (refl, first_at entries slot journal at e _ before there (version, h))

@@ -47,7 +47,8 @@ pub record ReactsOtherwise (judged : List Entry) (slot : ℕ) (before : List Slo
   pub other : ¬ (added ≡ entry)
 
 -- at this place of the journal, counted from 1, is the first entry that isn't legal, and this holds of it, with those before it
-pub record IsFirstAt (entries : List Entry) (slot : ℕ) (journal : List SlotEntry) (place : ℕ) (Finds : (before : List SlotEntry) → SlotEntry → Type 0) : Type 0 where
+pub record IsFirstAt (entries : List Entry) (slot : ℕ) (journal : List SlotEntry) (place : ℕ)
+    (Finds : (before : List SlotEntry) → SlotEntry → Type 0) : Type 0 where
   pub at : ℕ
   pub counted : place ≡ at + 1
   pub before : AreLegal entries slot journal at
@@ -60,7 +61,8 @@ abbrev pub FindsVersion : List Entry → (before : List SlotEntry) → SlotEntry
 FindsVersion entries before entry = ¬ (HasRightVersion entries before entry)
 
 -- the version of the entry is right, and on so many entries of the policy list this holds of it
-abbrev pub AtItsVersion : List Entry → (Finds : (judged : List Entry) → (before : List SlotEntry) → SlotEntry → Type 0) → (before : List SlotEntry) → SlotEntry → Type 0
+abbrev pub AtItsVersion : List Entry → (Finds : (judged : List Entry) → (before : List SlotEntry) → SlotEntry → Type 0)
+    → (before : List SlotEntry) → SlotEntry → Type 0
 AtItsVersion entries Finds before entry =
     HasRightVersion entries before entry × Finds (take entry.stamp.version entries) before entry
 

@@ -49,7 +49,8 @@ IsFaultOf judged slot before entry Reaction = ReactsOtherwise judged slot before
 IsFaultOf judged slot before entry Memory = Unit {0}
 
 -- the slot adds this very entry, or the answer is why it doesn't
-abbrev pub Replays : (judged : List Entry) → (slot : ℕ) → (before : List SlotEntry) → SlotEntry → Result (Unit {0}) Fault → (after : List SlotEntry) → Type 0
+abbrev pub Replays : (judged : List Entry) → (slot : ℕ) → (before : List SlotEntry) → SlotEntry → Result (Unit {0}) Fault
+    → (after : List SlotEntry) → Type 0
 Replays judged slot before entry answer after =
     MatchResult answer
     (λ done. Adds judged slot before entry entry × (after ≡ before ++ entry ∷ []))

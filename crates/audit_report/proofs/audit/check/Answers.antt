@@ -22,7 +22,8 @@ returns-in_err-check_slot-clause-err c =
     let entries = c.entries-entries.result.now in
     let first : IsFirstOfSlot entries number journal finding =
     subst (λ (k : ℕ). IsFirstOfSlot entries k journal finding) c.slot_at.ensures
-    (subst (λ (j : List SlotEntry). IsFirstOfSlot entries c.slot_at.result j finding) (c.entries.ensures ∙ sym c.index-slots-number.is) c.in_err-check_slot.ensures.err) in
+    (subst (λ (j : List SlotEntry). IsFirstOfSlot entries c.slot_at.result j finding)
+    (c.entries.ensures ∙ sym c.index-slots-number.is) c.in_err-check_slot.ensures.err) in
     let all : IsFirst entries slots finding =
     first_of_slot entries slots number journal c.in_ok-check_policy.ensures.ok c.loop-number.invariant there finding first in
     let here : IsFirst c.args.policy.now slots finding = subst (λ (es : List Entry). IsFirst es slots finding) c.entries-entries.ensures all in
@@ -39,7 +40,8 @@ loop-number-preserved c =
     let entries = c.entries-entries.result.now in
     let legal : IsLegal entries number journal =
     subst (λ (k : ℕ). IsLegal entries k journal) c.slot_at.ensures
-    (subst (λ (j : List SlotEntry). IsLegal entries c.slot_at.result j) (c.entries.ensures ∙ sym c.index-slots-number.is) c.in_ok-check_slot.ensures.ok) in
+    (subst (λ (j : List SlotEntry). IsLegal entries c.slot_at.result j)
+    (c.entries.ensures ∙ sym c.index-slots-number.is) c.in_ok-check_slot.ensures.ok) in
     slots_more entries slots number journal c.loop-number.invariant there legal
 
 pub returns-clause-ok : goal.returns-clause-ok

@@ -21,7 +21,8 @@ is_accepted-requires c =
     let at = c.loop-at.at in
     let late : 4 ≤ at = omega arith in
     let low : at ≤ length entries = omega arith in
-    subst (λ (p : Policy). StandsFor p (take at entries)) (sym c.loop-at.invariant.policy) (right_stands entries at late low c.loop-at.invariant.right)
+    subst (λ (p : Policy). StandsFor p (take at entries)) (sym c.loop-at.invariant.policy)
+    (right_stands entries at late low c.loop-at.invariant.right)
 
 pub returns-then-not-branch-clause-err : goal.returns-then-not-branch-clause-err
 returns-then-not-branch-clause-err c =
