@@ -3,7 +3,8 @@ ghost use Rattle.std.specs.Prelude.{◌≡◌, Some};
 ghost use Rattle.wire_lines.specs.declared.request.Request.TheVariants as wire;
 ghost use Rattle.client_loop.specs.Asking.{to_policy, to_slot, to_check};
 ghost use Rattle.client_loop.specs.Logins.{session_of};
-ghost use Rattle.client_loop.specs.LineSteps.{Held, Asks, login_after, with_login, LineStep};
+ghost use Rattle.client_loop.specs.LineSteps.{ask_of, Held, Asks, login_after, with_login, LineStep};
+ghost use Rattle.client_loop.specs.Inner.Groups.{IsOnPolicy, IsOnPermissions};
 
 use crate::desk::Desk;
 use crate::login::{Login, held_session, log_in};
@@ -103,6 +104,64 @@ fn ask_logout<D: Desk>(desk: &mut D, login: Option<Login>) -> Turn
     }
 }
 
+/// A grant or its revocation, by the session that the connection holds.
+fn ask_permission<D: Desk>(desk: &mut D, held: &Option<SessionId>, request: Request) -> Reply
+    requires { IsOnPermissions request }
+    ensures { Held D.answers held.now (ask_of request) desk.old result desk.new }
+{
+    let command = match request {
+        Request::Grant {
+            object,
+            operation,
+            role,
+        } => AdminCommand::GrantPermission {
+            role,
+            operation,
+            object,
+        },
+        Request::Revoke {
+            object,
+            operation,
+            role,
+        } => AdminCommand::RevokePermission {
+            role,
+            operation,
+            object,
+        },
+        _ => unreachable!(),
+    };
+    administer(desk, held, command)
+}
+
+/// A policy command of the session that the connection holds.
+fn ask_policy<D: Desk>(desk: &mut D, held: &Option<SessionId>, request: Request) -> Reply
+    requires { IsOnPolicy request }
+    ensures { Held D.answers held.now (ask_of request) desk.old result desk.new }
+{
+    let command = match request {
+        Request::AddUser { user } => AdminCommand::AddUser { user },
+        Request::DeleteUser { user } => AdminCommand::DeleteUser { user },
+        Request::AddRole { role } => AdminCommand::AddRole { role },
+        Request::DeleteRole { role } => AdminCommand::DeleteRole { role },
+        Request::Assign { role, user } => AdminCommand::AssignUser { user, role },
+        Request::Deassign { role, user } => AdminCommand::DeassignUser { user, role },
+        Request::Inherit { junior, senior } => AdminCommand::AddInheritance { senior, junior },
+        Request::Disinherit { junior, senior } => {
+            AdminCommand::DeleteInheritance { senior, junior }
+        }
+        Request::CreateSet { count, name, roles } => AdminCommand::CreateDsdSet {
+            set: name,
+            count,
+            roles,
+        },
+        Request::DeleteSet { name } => AdminCommand::DeleteDsdSet { set: name },
+        Request::Activate { role } => AdminCommand::AddActiveRole { role },
+        Request::Drop { role } => AdminCommand::DropActiveRole { role },
+        request => return ask_permission(desk, held, request),
+    };
+    administer(desk, held, command)
+}
+
 /// A request on a connection with this login.
 fn ask<D: Desk>(desk: &mut D, login: Option<Login>, request: Request) -> Turn
     ensures asked { Asks D.answers request (session_of login) desk.old result.reply desk.new }
@@ -113,65 +172,6 @@ fn ask<D: Desk>(desk: &mut D, login: Option<Login>, request: Request) -> Turn
     let reply = match request {
         Request::Login { roles, user } => return ask_login(desk, login, roles, user),
         Request::Logout => return ask_logout(desk, login),
-        Request::AddUser { user } => administer(desk, held, AdminCommand::AddUser { user }),
-        Request::DeleteUser { user } => administer(desk, held, AdminCommand::DeleteUser { user }),
-        Request::AddRole { role } => administer(desk, held, AdminCommand::AddRole { role }),
-        Request::DeleteRole { role } => administer(desk, held, AdminCommand::DeleteRole { role }),
-        Request::Assign { role, user } => {
-            administer(desk, held, AdminCommand::AssignUser { user, role })
-        }
-        Request::Deassign { role, user } => {
-            administer(desk, held, AdminCommand::DeassignUser { user, role })
-        }
-        Request::Grant {
-            object,
-            operation,
-            role,
-        } => {
-            let command = AdminCommand::GrantPermission {
-                role,
-                operation,
-                object,
-            };
-            administer(desk, held, command)
-        }
-        Request::Revoke {
-            object,
-            operation,
-            role,
-        } => {
-            let command = AdminCommand::RevokePermission {
-                role,
-                operation,
-                object,
-            };
-            administer(desk, held, command)
-        }
-        Request::Inherit { junior, senior } => {
-            administer(desk, held, AdminCommand::AddInheritance { senior, junior })
-        }
-        Request::Disinherit { junior, senior } => {
-            administer(
-                desk,
-                held,
-                AdminCommand::DeleteInheritance { senior, junior },
-            )
-        }
-        Request::CreateSet { count, name, roles } => {
-            let command = AdminCommand::CreateDsdSet {
-                set: name,
-                count,
-                roles,
-            };
-            administer(desk, held, command)
-        }
-        Request::DeleteSet { name } => {
-            administer(desk, held, AdminCommand::DeleteDsdSet { set: name })
-        }
-        Request::Activate { role } => {
-            administer(desk, held, AdminCommand::AddActiveRole { role })
-        }
-        Request::Drop { role } => administer(desk, held, AdminCommand::DropActiveRole { role }),
         Request::Load { main, slot, text } => {
             command_slot(desk, held, slot, SlotCommand::Load { main, text })
         }
@@ -186,6 +186,7 @@ fn ask<D: Desk>(desk: &mut D, login: Option<Login>, request: Request) -> Turn
         }
         Request::Audit { slot } => command_slot(desk, held, slot, SlotCommand::Audit),
         Request::Check { object, operation } => check_permission(desk, held, operation, &object),
+        request => ask_policy(desk, held, request),
     };
     Turn { reply, login }
 }
