@@ -5,6 +5,8 @@ use Rattle.std.proofs.lemmas.Bool.Decides.{nat_tests}
 use Rattle.std.specs.List.{IsDistinct, AllByRecursion, list_any}
 use Rattle.est_kernel.specs.Interfaces.{same_kind, declares}
 use Rattle.est_kernel.specs.declared.interface.Kind.{Kind}
+use Rattle.est_kernel.specs.contracts.interface.Kind.{the_type}
+use denote.Enum.Bare.{sameb}
 use Rattle.est_kernel.specs.declared.interface.Kind.TheVariants.{Input, Output}
 use Rattle.est_kernel.specs.declared.interface.Declaration.{Declaration}
 
@@ -36,6 +38,13 @@ without_next f all i is before n = elim (cases_eq n i) [
   | inl e ↦ rw (before n, e, is) (grind (arith, nat_tests))
   | inr d ↦ rw (before n) (grind (arith, nat_tests))
 ]
+
+-- kinds are the same where `==` says so
+pub same_as_told : (a b : Kind) → same_kind a b ≡ sameb the_type a b
+same_as_told Input Input = refl
+same_as_told Input Output = refl
+same_as_told Output Input = refl
+same_as_told Output Output = refl
 
 same_refl : (kind : Kind) → same_kind kind kind ≡ true
 same_refl Input = refl

@@ -3,7 +3,7 @@
 ghost use Rattle.std.specs.Prelude.{◌≡◌, ◌++◌, ◌∷◌, [], ◌≤◌, ◌<◌, length, IfOk, IfErr, IfSome, OnErr, option_map, IsTrue, ◌↔◌, true, false, Some, slice_get};
 ghost use Rattle.std.specs.List.{position, list_any};
 ghost use Rattle.est_kernel.specs.Bits.{bits};
-ghost use Rattle.est_kernel.specs.Interfaces.{same_kind, declares, inputs_of, outputs_of, is_named, HasDistinctNames};
+ghost use Rattle.est_kernel.specs.Interfaces.{declares, inputs_of, outputs_of, is_named, HasDistinctNames};
 
 use crate::mask;
 use crate::statement::InterfaceSignal;
@@ -21,18 +21,6 @@ pub enum Kind {
     Input,
     /// It may be emitted, and isn't offered.
     Output,
-}
-
-impl Kind {
-    /// Whether the two are one.
-    pub fn is(self, other: Kind) -> bool
-        ensures { result ≡ same_kind self other }
-    {
-        match (self, other) {
-            (Kind::Input, Kind::Input) | (Kind::Output, Kind::Output) => true,
-            (Kind::Input, Kind::Output) | (Kind::Output, Kind::Input) => false,
-        }
-    }
 }
 
 /// A signal of an interface.
@@ -167,7 +155,7 @@ impl Interface {
     {
         let mut signals = 0;
         for (place, declaration) in self.declarations.iter().enumerate() {
-            if declaration.kind.is(kind) {
+            if declaration.kind == kind {
                 signals = mask::with(signals, place as u8);
             }
         }
