@@ -47,7 +47,8 @@ fn is_emitted(interface: &Interface, locals: u32, s: Signal) -> bool
     }
 }
 
-/// The same, within so many traps and local signals. Counts stop at the largest `u32`, which no number of a statement reaches.
+/// The same, within so many traps and local signals. Counts stop at the largest `u32`, which no number of a statement reaches. It goes as
+/// deep as the statement is: at most 2,048 levels where that keeps the limit on statements.
 fn is_closed_within(interface: &Interface, traps: u32, locals: u32, s: &Statement) -> bool
     ensures { TellsClosed result interface.now traps locals (term_of s.now) }
 {

@@ -59,7 +59,7 @@ impl Depths {
     }
 }
 
-/// How deep loops, traps and local signals lie in one another.
+/// How deep loops, traps and local signals lie in one another. It goes as deep as the statement is, which has at most 2,048 statements.
 #[tactic(auto, using(crate::proofs::Counts::loops_are_statements, crate::proofs::Counts::traps_are_statements, crate::proofs::Counts::locals_are_statements))]
 fn nesting_of(s: &Statement) -> Depths
     requires { statement_count (term_of s.now) ≤ MOST_STATEMENTS }

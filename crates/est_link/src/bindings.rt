@@ -95,7 +95,8 @@ fn interface_signal(interface: &[Declared], name: &Identifier) -> Result<BoundTe
     }
 }
 
-/// How many local signals lie round a place.
+/// How many local signals lie round a place. It calls itself once for each binder round the place, of
+/// which there are at most 128.
 pub fn locals_round(scope: &Scope<'_>) -> Result<u32, AllocError>
     ensures { IfOk result (λ n. n ≡ locals_round (binders_of scope.now)) }
 {
@@ -106,7 +107,8 @@ pub fn locals_round(scope: &Scope<'_>) -> Result<u32, AllocError>
     }
 }
 
-/// The signal that a name means.
+/// The signal that a name means. It calls itself once for each binder round the place, of
+/// which there are at most 128.
 pub fn signal_at(
     home: &Head<'_>,
     scope: &Scope<'_>,
@@ -127,7 +129,8 @@ pub fn signal_at(
     }
 }
 
-/// How many traps lie between an exit and its trap.
+/// How many traps lie between an exit and its trap. It calls itself once for each binder round the place, of
+/// which there are at most 128.
 pub fn trap_at(scope: &Scope<'_>, name: &Identifier) -> Result<u32, AllocError>
     ensures { IfOk result (λ k. k ≡ trap_at (binders_of scope.now) name.now) }
 {

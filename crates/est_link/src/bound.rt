@@ -1,4 +1,7 @@
 //! A module's flat body where it is run.
+//!
+//! What goes over a flat body calls itself as deep as that is: at most 2,048 levels, since the statements of the main module, with all that
+//! it runs, are counted before any is made flat.
 ghost use Rattle.std.specs.Prelude.{◌≡◌, ◌+◌, IfOk};
 ghost use Rattle.est_reduce.specs.Views.{bound_name as name_view, bound_query as query_view, body_of};
 ghost use Rattle.est_link.specs.Linking.{bound, bound_name, bound_query, emitted};

@@ -1,5 +1,8 @@
 //! How many statements a linked module has before reduction, worked out before any `run` is replaced: chains of runs
 //! that double the number at each step cost no more than their texts, and the numbers end at one more than may be.
+//!
+//! The functions call each other once for each unit that is open, of which the reader lets at most 128 be so at once. A run is no call: its
+//! module was counted before.
 ghost use Rattle.std.specs.Prelude.{◌≡◌, ℕ, ◌+◌, ◌<◌, ◌≤◌, List, Some, length, map, min, slice_get, IfOk};
 ghost use Rattle.est_syntax.specs.Views.{unit_view, branches_view, sequence_view, statement_view};
 ghost use Rattle.est_link.specs.Derived.{unit_derived, branches_derived, sequence_derived, statement_derived};

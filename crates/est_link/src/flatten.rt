@@ -1,4 +1,7 @@
 //! The flat body of a module, from its text and the flat bodies of the modules that it runs.
+//!
+//! The functions call each other once for each unit that is open, of which the reader lets at most 128 be so at once. A run is no call: its
+//! module was made flat before.
 ghost use Rattle.std.specs.Prelude.{◌≡◌, IfOk, map, option_map};
 ghost use Rattle.std.specs.List.{find};
 ghost use Rattle.std.specs.Str.{bytes_eq};

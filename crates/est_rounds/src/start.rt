@@ -1,4 +1,7 @@
 //! What a statement that is begun must do and can do.
+//!
+//! What calls itself here does so on a part of the statement that it was given. The statement is a kernel's, which has at most 2,048, so no
+//! circle of calls goes deeper than that.
 
 ghost use Rattle.std.specs.Prelude.{◌≡◌, ◌<◌};
 ghost use Rattle.est_kernel.specs.Masks.{FitsMasks};

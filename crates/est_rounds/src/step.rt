@@ -1,4 +1,7 @@
 //! The step of a statement that is begun: what it emits, its completion code, and the pauses at which it then stands.
+//!
+//! What calls itself here does so on a part of the statement that it was given. The statement is a kernel's, which has at most 2,048, so no
+//! circle of calls goes deeper than that.
 
 ghost use Rattle.std.specs.Prelude.{◌≡◌, ◌≢◌, ◌<◌, ℕ, not, ◌&&◌, ◌||◌, nat_eq, max, IfNone};
 ghost use Rattle.est_kernel.specs.Codes.{code_out_of_trap};

@@ -1,5 +1,8 @@
 //! The tree of a library of modules, as it is written: names where they stand, and no places. The forms are those of
 //! Berry's Esterel v5 Language Primer, without values; beside each stands how it is spelt.
+//!
+//! What goes over a tree, its drop included, recurses through the units that lie in one another. In a tree that was read there are at most
+//! 128 of these, however long its lists are.
 use est_text::identifier::Identifier;
 
 /// A signal that is waited for: with `immediate` already in the instant in which the waiting begins.

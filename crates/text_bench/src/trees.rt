@@ -49,7 +49,7 @@ impl From<ParseFault> for TextFault {
     }
 }
 
-/// A unit, with the units inside it.
+/// A unit, with the units inside it. It goes as deep as units lie in one another, of which the parser lets at most 128 be open at once.
 #[cycle(units)]
 fn units_of_unit(unit: &Unit) -> u64
     ensures { result ≡ unit_units (unit_view unit.now) % 2 ^ 64 }
