@@ -126,6 +126,27 @@ const LEAST_SESSION: [Line; 14] = [
     (1, "dsd d1 2 driver judge", ""),
 ];
 
+/// The first set counts before the least session: of two sets that one edge lets be violated the older is named, though the session that
+/// violates it is the later one.
+const SET_BEFORE_SESSION: [Line; 16] = [
+    (0, "login root root", ""),
+    (1, "addrole upper", ""),
+    (1, "addrole lower", ""),
+    (1, "addrole b", ""),
+    (1, "addrole c", ""),
+    (1, "assign root upper", ""),
+    (1, "assign root b", ""),
+    (1, "assign root c", ""),
+    (0, "login root upper b", ""),
+    (0, "login root upper c", ""),
+    (1, "dsd older 2 c lower", ""),
+    (1, "dsd newer 2 b lower", ""),
+    (1, "inherit upper lower", "DsdViolated older 3"),
+    (1, "undsd older", ""),
+    (1, "inherit upper lower", "DsdViolated newer 2"),
+    (2, "logout", ""),
+];
+
 /// The shape of a set, what is asked before it, and its members, which can't be deleted.
 const SHAPES: [Line; 13] = [
     (0, "login root root", ""),
@@ -145,7 +166,7 @@ const SHAPES: [Line; 13] = [
 
 #[test]
 fn duties_are_kept_apart(rt: HostRuntime) {
-    let stories: [&[Line]; 8] = [
+    let stories: [&[Line]; 9] = [
         &ROLES_BELOW,
         &AN_EDGE,
         &CYCLES,
@@ -153,6 +174,7 @@ fn duties_are_kept_apart(rt: HostRuntime) {
         &COUNTED_ONCE,
         &FIRST_SET,
         &LEAST_SESSION,
+        &SET_BEFORE_SESSION,
         &SHAPES,
     ];
     for story in stories {
