@@ -15,15 +15,19 @@ use crate::scope::Scope;
 use est_reduce::body::{BoundSignal, BoundTest};
 use est_syntax::tree::{Names, Renaming};
 use est_text::identifier::Identifier;
-use std::alloc::AllocError;
+use std::alloc::{AllocError, Global};
 
 /// A `run`: the place where it stands, its renamings, and the interface of the module that is run.
 #[derive(Clone, Copy)]
 pub struct Binding<'a> {
+    /// Where memory for what it is replaced by is taken.
+    pub alloc: Global,
     /// The module in whose body the `run` stands.
     pub home: &'a Head<'a>,
     /// The binders round it.
     pub scope: &'a Scope<'a>,
+    /// How many local signals they are.
+    pub locals: u32,
     /// Its renamings.
     pub renamings: &'a [Renaming],
     /// The interface of the module that is run.

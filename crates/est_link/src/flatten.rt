@@ -9,17 +9,17 @@ ghost use Rattle.est_syntax.specs.Views.{unit_view, branches_view, sequence_view
 ghost use Rattle.est_link.specs.Derived.{unit_derived, branches_derived, sequence_derived, statement_derived};
 ghost use Rattle.est_link.specs.Scopes.{binders_of};
 ghost use Rattle.est_link.specs.Modules.{program_of, program_named};
-ghost use Rattle.est_link.specs.Linking.{linked, interface_bound, interface_run, bound, locals_round, signal_at};
+ghost use Rattle.est_link.specs.Linking.{linked, interface_bound, interface_run, bound, emitted, locals_round, signal_at};
 ghost use Rattle.est_link.specs.Inner.Tables.{bodies_of};
 ghost use Rattle.est_link.specs.Inner.Joins.{joined_by};
 ghost use Rattle.est_reduce.specs.Bodies.{seq, par};
-ghost use Rattle.est_reduce.specs.Views.{body_of, bound_query as query_view};
+ghost use Rattle.est_reduce.specs.Views.{body_of, bound_name as name_view, bound_query as query_view};
 
 use crate::bindings::{Binding, count, locals_round, signal_at, trap_at};
-use crate::bound::{bound, emitted};
+use crate::bound::{bind_body, emitted};
 use crate::head::{Declared, Head, head_named};
 use crate::scope::Scope;
-use est_reduce::body::{Body, Wait};
+use est_reduce::body::{Body, BoundSignal, BoundTest, Wait};
 use est_syntax::tree::{Branches, Delay, Renaming, Sequence, Statement, Unit};
 use est_text::identifier::Identifier;
 use std::alloc::{AllocError, Global};
@@ -36,6 +36,8 @@ pub struct Linked {
 /// The modules, the flat bodies of those that are run, and the module whose body is made flat.
 #[derive(Clone, Copy)]
 pub struct Linker<'a> {
+    /// Where memory for the body is taken.
+    pub alloc: Global,
     /// The modules.
     pub heads: &'a [Head<'a>],
     /// The flat bodies.
@@ -51,17 +53,6 @@ pub fn linked_named<'a>(bodies: &'a [Linked], name: &Identifier) -> Option<&'a L
     bodies.iter().find(|entry| entry.name.is(name))
 }
 
-/// What is waited for.
-fn wait_at(home: &Head<'_>, scope: &Scope<'_>, delay: Delay) -> Result<Wait, AllocError>
-    ensures immediate { IfOk result (λ w. w.immediate ≡ delay.immediate) }
-    ensures test { IfOk result (λ w. query_view w.test ≡ signal_at (program_of home.now) (binders_of scope.now) delay.signal) }
-{
-    Ok(Wait {
-        immediate: delay.immediate,
-        test: signal_at(home, scope, &delay.signal)?,
-    })
-}
-
 /// The interface of the module that is run.
 #[tactic(auto, using(crate::proofs::Places::interface_found))]
 fn interface_run<'a>(heads: &'a [Head<'_>], name: &Identifier) -> &'a [Declared]
@@ -75,7 +66,6 @@ fn interface_run<'a>(heads: &'a [Head<'_>], name: &Identifier) -> &'a [Declared]
 
 /// The flat statement of a `run`: the body of its module, its interface names bound.
 fn run(
-    alloc: Global,
     linker: &Linker<'_>,
     scope: &Scope<'_>,
     name: &Identifier,
@@ -85,95 +75,106 @@ fn run(
 {
     let interface = interface_run(linker.heads, name);
     let binding = Binding {
+        alloc: linker.alloc,
         home: &*linker.home,
         scope: &*scope,
+        locals: locals_round(scope)?,
         renamings: &*renamings,
         interface,
     };
     match linked_named(linker.bodies, name) {
-        Some(entry) => bound(alloc, &entry.body, &binding, locals_round(scope)?),
+        Some(entry) => bind_body(&binding, &entry.body),
         None => Ok(Body::Nothing),
     }
 }
 
+/// A place in the module whose body is made flat.
+#[derive(Clone, Copy)]
+pub struct Place<'a> {
+    /// The modules, and the module.
+    pub linker: &'a Linker<'a>,
+    /// The binders round the place.
+    pub scope: &'a Scope<'a>,
+}
+
+/// The signal that a name means.
+fn find_test(place: &Place<'_>, name: &Identifier) -> Result<BoundTest, AllocError>
+    ensures { IfOk result (λ t. query_view t ≡ signal_at (program_of place.now.linker.now.home.now) (binders_of place.now.scope.now) name.now) }
+{
+    signal_at(place.linker.home, place.scope, name)
+}
+
+/// The signal that the emission of a name means.
+fn find_sent(place: &Place<'_>, name: &Identifier) -> Result<BoundSignal, AllocError>
+    ensures { IfOk result (λ n. name_view n ≡ emitted (signal_at (program_of place.now.linker.now.home.now) (binders_of place.now.scope.now) name.now)) }
+{
+    Ok(emitted(find_test(place, name)?))
+}
+
+/// What is waited for.
+fn find_wait(place: &Place<'_>, delay: Delay) -> Result<Wait, AllocError>
+    ensures immediate { IfOk result (λ w. w.immediate ≡ delay.immediate) }
+    ensures test { IfOk result (λ w. query_view w.test ≡ signal_at (program_of place.now.linker.now.home.now) (binders_of place.now.scope.now) delay.signal) }
+{
+    Ok(Wait {
+        immediate: delay.immediate,
+        test: find_test(place, &delay.signal)?,
+    })
+}
+
 /// The flat statement of a unit.
 #[cycle(flat)]
-fn flat_unit(
-    alloc: Global,
-    linker: &Linker<'_>,
-    scope: &Scope<'_>,
-    unit: &Unit,
-) -> Result<Body, AllocError>
-    ensures { IfOk result (λ f. body_of f ≡ linked (map program_of linker.now.heads.now) (bodies_of linker.now.bodies.now) (program_of linker.now.home.now) (binders_of scope.now) (unit_derived (unit_view unit.now))) }
+fn flat_unit(at: &Place<'_>, unit: &Unit) -> Result<Body, AllocError>
+    ensures { IfOk result (λ f. body_of f ≡ linked (map program_of at.now.linker.now.heads.now) (bodies_of at.now.linker.now.bodies.now) (program_of at.now.linker.now.home.now) (binders_of at.now.scope.now) (unit_derived (unit_view unit.now))) }
 {
     match unit {
         Unit::Nothing => Ok(Body::Nothing),
         Unit::Pause => Ok(Body::Pause),
         Unit::Halt => Ok(Body::Halt),
-        Unit::Emit(name) => Ok(Body::Emit(emitted(signal_at(linker.home, scope, name)?))),
-        Unit::Sustain(name) => Ok(Body::Sustain(emitted(signal_at(linker.home, scope, name)?))),
-        Unit::Exit(name) => Ok(Body::Exit(trap_at(scope, name)?)),
-        Unit::Await(delay) => Ok(Body::Await(wait_at(linker.home, scope, *delay)?)),
-        Unit::Present(name, branches) => flat_test(alloc, linker, scope, *name, branches),
-        Unit::Suspend(body, delay, _) => {
-            let flat = boxed(alloc, linker, scope, body)?;
-            Ok(Body::Suspend(wait_at(linker.home, scope, *delay)?, flat))
+        Unit::Emit(name) => Ok(Body::Emit(find_sent(at, name)?)),
+        Unit::Sustain(name) => Ok(Body::Sustain(find_sent(at, name)?)),
+        Unit::Exit(name) => Ok(Body::Exit(trap_at(at.scope, name)?)),
+        Unit::Await(delay) => Ok(Body::Await(find_wait(at, *delay)?)),
+        Unit::Present(name, branches) => flat_test(at, *name, branches),
+        Unit::Suspend(p, delay, _) => Ok(Body::Suspend(find_wait(at, *delay)?, box_body(at, p)?)),
+        Unit::Abort(p, delay, _) => Ok(Body::Abort(find_wait(at, *delay)?, box_body(at, p)?)),
+        Unit::WeakAbort(p, delay, _) => Ok(Body::WeakAbort(
+            find_wait(at, *delay)?,
+            box_body(at, p)?,
+        )),
+        Unit::Loop(p, _) => Ok(Body::Loop(box_body(at, p)?)),
+        Unit::LoopEach(p, name) => Ok(Body::LoopEach(find_test(at, name)?, box_body(at, p)?)),
+        Unit::Every(delay, p, _) => Ok(Body::Every(find_wait(at, *delay)?, box_body(at, p)?)),
+        Unit::Trap(name, p, _) => {
+            let scope = Scope::Trap(*name, &*at.scope);
+            Ok(Body::Trap(box_inside(at, &scope, p)?))
         }
-        Unit::Abort(body, delay, _) => {
-            let flat = boxed(alloc, linker, scope, body)?;
-            Ok(Body::Abort(wait_at(linker.home, scope, *delay)?, flat))
+        Unit::Signal(names, p, _) => {
+            let scope = Scope::Signals(&*names, &*at.scope);
+            Ok(Body::Signal(count(names)?, box_inside(at, &scope, p)?))
         }
-        Unit::WeakAbort(body, delay, _) => {
-            let flat = boxed(alloc, linker, scope, body)?;
-            Ok(Body::WeakAbort(wait_at(linker.home, scope, *delay)?, flat))
-        }
-        Unit::Loop(body, _) => Ok(Body::Loop(boxed(alloc, linker, scope, body)?)),
-        Unit::LoopEach(body, name) => {
-            let flat = boxed(alloc, linker, scope, body)?;
-            Ok(Body::LoopEach(signal_at(linker.home, scope, name)?, flat))
-        }
-        Unit::Every(delay, body, _) => {
-            let flat = boxed(alloc, linker, scope, body)?;
-            Ok(Body::Every(wait_at(linker.home, scope, *delay)?, flat))
-        }
-        Unit::Trap(name, body, _) => {
-            let inside = Scope::Trap(*name, &*scope);
-            Ok(Body::Trap(boxed(alloc, linker, &inside, body)?))
-        }
-        Unit::Signal(names, body, _) => {
-            let inside = Scope::Signals(&*names, &*scope);
-            Ok(Body::Signal(count(names)?, boxed(alloc, linker, &inside, body)?))
-        }
-        Unit::Run(name, renamings) => run(alloc, linker, scope, name, renamings),
-        Unit::Group(body) => flat_statement(alloc, linker, scope, body),
+        Unit::Run(name, renamings) => run(at.linker, at.scope, name, renamings),
+        Unit::Group(p) => flat_statement(at, p),
     }
 }
 
 /// The flat statement of a test of a signal, with its branches.
 #[cycle(flat)]
-fn flat_test(
-    alloc: Global,
-    linker: &Linker<'_>,
-    scope: &Scope<'_>,
-    name: Identifier,
-    branches: &Branches,
-) -> Result<Body, AllocError>
-    ensures { IfOk result (λ f. body_of f ≡ linked (map program_of linker.now.heads.now) (bodies_of linker.now.bodies.now) (program_of linker.now.home.now) (binders_of scope.now) (branches_derived name (branches_view branches.now))) }
+fn flat_test(at: &Place<'_>, name: Identifier, branches: &Branches) -> Result<Body, AllocError>
+    ensures { IfOk result (λ f. body_of f ≡ linked (map program_of at.now.linker.now.heads.now) (bodies_of at.now.linker.now.bodies.now) (program_of at.now.linker.now.home.now) (binders_of at.now.scope.now) (branches_derived name (branches_view branches.now))) }
 {
-    let test = signal_at(linker.home, scope, &name)?;
+    let test = find_test(at, &name)?;
     match branches {
         Branches::Then(body, _) => {
-            let first = boxed(alloc, linker, scope, body)?;
-            Ok(Body::Present(test, first, Box::new(alloc, Body::Nothing)?))
+            let first = box_body(at, body)?;
+            Ok(Body::Present(test, first, Box::new(at.linker.alloc, Body::Nothing)?))
         }
         Branches::Else(body, _) => {
-            let second = boxed(alloc, linker, scope, body)?;
-            Ok(Body::Present(test, Box::new(alloc, Body::Nothing)?, second))
+            let second = box_body(at, body)?;
+            Ok(Body::Present(test, Box::new(at.linker.alloc, Body::Nothing)?, second))
         }
         Branches::Both(body, other, _) => {
-            let first = boxed(alloc, linker, scope, body)?;
-            let second = boxed(alloc, linker, scope, other)?;
-            Ok(Body::Present(test, first, second))
+            Ok(Body::Present(test, box_body(at, body)?, box_body(at, other)?))
         }
     }
 }
@@ -200,57 +201,58 @@ fn beside(alloc: Global, p: Body, rest: Option<Body>) -> Result<Body, AllocError
 
 /// The flat statement of a sequence.
 #[cycle(flat)]
-fn flat_sequence(
-    alloc: Global,
-    linker: &Linker<'_>,
-    scope: &Scope<'_>,
-    sequence: &Sequence,
-) -> Result<Body, AllocError>
-    ensures { IfOk result (λ f. body_of f ≡ linked (map program_of linker.now.heads.now) (bodies_of linker.now.bodies.now) (program_of linker.now.home.now) (binders_of scope.now) (sequence_derived (sequence_view sequence.now))) }
+fn flat_sequence(at: &Place<'_>, sequence: &Sequence) -> Result<Body, AllocError>
+    ensures { IfOk result (λ f. body_of f ≡ linked (map program_of at.now.linker.now.heads.now) (bodies_of at.now.linker.now.bodies.now) (program_of at.now.linker.now.home.now) (binders_of at.now.scope.now) (sequence_derived (sequence_view sequence.now))) }
 {
     let units = sequence.later.as_slice();
     let mut rest = None;
     let mut left = units.len();
     while left > 0 {
         left -= 1;
-        let flat = flat_unit(alloc, linker, scope, &units[left])?;
-        rest = Some(then(alloc, flat, rest)?);
+        let flat = flat_unit(at, &units[left])?;
+        rest = Some(then(at.linker.alloc, flat, rest)?);
     }
-    let flat = flat_unit(alloc, linker, scope, &sequence.first)?;
-    then(alloc, flat, rest)
+    let flat = flat_unit(at, &sequence.first)?;
+    then(at.linker.alloc, flat, rest)
 }
 
 /// The flat statement of sequences side by side.
 #[cycle(flat)]
-pub fn flat_statement(
-    alloc: Global,
-    linker: &Linker<'_>,
-    scope: &Scope<'_>,
-    statement: &Statement,
-) -> Result<Body, AllocError>
-    ensures { IfOk result (λ f. body_of f ≡ linked (map program_of linker.now.heads.now) (bodies_of linker.now.bodies.now) (program_of linker.now.home.now) (binders_of scope.now) (statement_derived (statement_view statement.now))) }
+pub fn flat_statement(at: &Place<'_>, statement: &Statement) -> Result<Body, AllocError>
+    ensures { IfOk result (λ f. body_of f ≡ linked (map program_of at.now.linker.now.heads.now) (bodies_of at.now.linker.now.bodies.now) (program_of at.now.linker.now.home.now) (binders_of at.now.scope.now) (statement_derived (statement_view statement.now))) }
 {
     let sequences = statement.later.as_slice();
     let mut rest = None;
     let mut left = sequences.len();
     while left > 0 {
         left -= 1;
-        let flat = flat_sequence(alloc, linker, scope, &sequences[left])?;
-        rest = Some(beside(alloc, flat, rest)?);
+        let flat = flat_sequence(at, &sequences[left])?;
+        rest = Some(beside(at.linker.alloc, flat, rest)?);
     }
-    let flat = flat_sequence(alloc, linker, scope, &statement.first)?;
-    beside(alloc, flat, rest)
+    let flat = flat_sequence(at, &statement.first)?;
+    beside(at.linker.alloc, flat, rest)
 }
 
 /// The flat statement of sequences side by side, in a box.
 #[cycle(flat)]
-fn boxed(
-    alloc: Global,
-    linker: &Linker<'_>,
+fn box_body(at: &Place<'_>, statement: &Statement) -> Result<Box<Body>, AllocError>
+    ensures { IfOk result (λ b. body_of b.value ≡ linked (map program_of at.now.linker.now.heads.now) (bodies_of at.now.linker.now.bodies.now) (program_of at.now.linker.now.home.now) (binders_of at.now.scope.now) (statement_derived (statement_view statement.now))) }
+{
+    Ok(Box::new(at.linker.alloc, flat_statement(at, statement)?)?)
+}
+
+/// The flat statement of sequences side by side inside one binder more, in a box.
+#[cycle(flat)]
+fn box_inside(
+    at: &Place<'_>,
     scope: &Scope<'_>,
     statement: &Statement,
 ) -> Result<Box<Body>, AllocError>
-    ensures { IfOk result (λ b. body_of b.value ≡ linked (map program_of linker.now.heads.now) (bodies_of linker.now.bodies.now) (program_of linker.now.home.now) (binders_of scope.now) (statement_derived (statement_view statement.now))) }
+    ensures { IfOk result (λ b. body_of b.value ≡ linked (map program_of at.now.linker.now.heads.now) (bodies_of at.now.linker.now.bodies.now) (program_of at.now.linker.now.home.now) (binders_of scope.now) (statement_derived (statement_view statement.now))) }
 {
-    Ok(Box::new(alloc, flat_statement(alloc, linker, scope, statement)?)?)
+    let inside = Place {
+        linker: &*at.linker,
+        scope: &*scope,
+    };
+    box_body(&inside, statement)
 }

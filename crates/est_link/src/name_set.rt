@@ -4,13 +4,13 @@ ghost use Rattle.std.specs.Str.{bytes_eq};
 ghost use Rattle.est_link.specs.NameSets.{has};
 
 use est_text::identifier::Identifier;
+use indexmap::IndexSet;
 use std::alloc::{AllocError, Global};
-use std::collections::HashSet;
 
 /// A set of names, each found by its bytes.
 #[derive(Drop)]
 pub struct NameSet<'a> {
-    names: HashSet<&'a [u8]>,
+    names: IndexSet<&'a [u8]>,
 }
 
 impl<'a> NameSet<'a> {
@@ -19,7 +19,7 @@ impl<'a> NameSet<'a> {
         ensures { (s : List ℕ) → has result s ≡ false }
     {
         NameSet {
-            names: HashSet::new(alloc),
+            names: IndexSet::new(alloc),
         }
     }
 

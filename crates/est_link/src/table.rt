@@ -5,7 +5,7 @@ ghost use Rattle.est_link.specs.Inner.Tables.{AreMade, bodies_of, body_linked};
 ghost use Rattle.est_link.specs.Modules.{program_of, program_named};
 ghost use Rattle.est_reduce.specs.Views.{body_of};
 
-use crate::flatten::{Linked, Linker, flat_statement};
+use crate::flatten::{Linked, Linker, Place, flat_statement};
 use crate::head::{Head, head_named};
 use crate::scope::Scope;
 use est_reduce::body::Body;
@@ -25,11 +25,16 @@ fn body_at(
     match head_named(heads, name) {
         Some(home) => {
             let linker = Linker {
+                alloc,
                 heads: &*heads,
                 bodies: &*bodies,
                 home,
             };
-            flat_statement(alloc, &linker, &Scope::Module, home.body)
+            let whole = Place {
+                linker: &linker,
+                scope: &Scope::Module,
+            };
+            flat_statement(&whole, home.body)
         }
         None => Ok(Body::Nothing),
     }

@@ -3,7 +3,7 @@ ghost use Rattle.std.specs.Prelude.{◌≡◌, ◌<◌, ◌≤◌, ◌+◌, IfOk
 ghost use Rattle.est_kernel.specs.View.{term_of};
 ghost use Rattle.est_reduce.specs.Inner.Exits.{leads};
 ghost use Rattle.est_reduce.specs.Inner.Sizes.{IsSmall, IsSmallQuery};
-ghost use Rattle.est_reduce.specs.Reductions.{reduced, binders};
+ghost use Rattle.est_reduce.specs.Reductions.{reduced, binders, past_fresh, past_named};
 ghost use Rattle.est_reduce.specs.Views.{body_of, bound_query};
 
 use crate::body::Body;
@@ -57,67 +57,97 @@ fn inside_binders(
     Statement::local(alloc, locals as u16, inner)
 }
 
-/// The kernel statement of a body inside these traps and so many local signals. It goes as deep as the body is, which comes to
-/// at most 2,048 kernel statements when `reduce` asks.
-pub fn statement(
-    alloc: Global,
-    body: &Body,
-    exits: &Exits<'_>,
-    locals: u32,
-) -> Result<Statement, AllocError>
-    requires room { locals ≤ 65536 }
-    requires small { IsSmall (reduced (leads exits.now) locals (body_of body.now)) }
-    ensures { IfOk result (λ s. term_of s ≡ reduced (leads exits.now) locals (body_of body.now)) }
+/// Where a body stands.
+#[derive(Clone, Copy)]
+pub struct Place<'a> {
+    /// Where memory for its statement is taken.
+    pub alloc: Global,
+    /// The traps round it.
+    pub exits: &'a Exits<'a>,
+    /// How many local signals lie round it.
+    pub locals: u32,
+}
+
+/// The kernel statement of a body at a place. It goes as deep as the body is, which comes to at most 2,048 kernel statements
+/// when `reduce` asks.
+#[cycle(statement)]
+pub fn statement(place: &Place<'_>, body: &Body) -> Result<Statement, AllocError>
+    requires room { place.now.locals ≤ 65536 }
+    requires small { IsSmall (reduced (leads place.now.exits.now) place.now.locals (body_of body.now)) }
+    ensures { IfOk result (λ s. term_of s ≡ reduced (leads place.now.exits.now) place.now.locals (body_of body.now)) }
 {
+    let alloc = place.alloc;
     match body {
         Body::Nothing => Ok(Statement::Nothing),
         Body::Pause => Ok(Statement::pause()),
         Body::Halt => pieces::halt(alloc),
         Body::Emit(signal) => Ok(Statement::Emit(pieces::signal(*signal))),
         Body::Sustain(signal) => pieces::sustain(alloc, pieces::signal(*signal)),
-        Body::Exit(trap) => Ok(Statement::exit(exit_index(exits, *trap))),
-        Body::Await(wait) => pieces::wait(alloc, wait.immediate, pieces::test(wait.test)),
+        Body::Exit(trap) => Ok(Statement::exit(exit_index(place.exits, *trap))),
+        Body::Await(wait) => pieces::wait(alloc, *wait),
         Body::Present(test, p, q) => {
-            let first = statement(alloc, p, exits, locals)?;
-            let second = statement(alloc, q, exits, locals)?;
-            Statement::present(alloc, pieces::test(*test), first, second)
+            let test = pieces::test(*test);
+            Statement::present(alloc, test, statement(place, p)?, statement(place, q)?)
         }
-        Body::Suspend(wait, p) => {
-            let body = statement(alloc, p, exits, locals)?;
-            pieces::suspend(alloc, wait.immediate, pieces::test(wait.test), body)
-        }
-        Body::Abort(wait, p) => {
-            let body = statement(alloc, p, &Exits::Fresh(&*exits), locals)?;
-            pieces::abort(alloc, wait.immediate, pieces::test(wait.test), body)
-        }
-        Body::WeakAbort(wait, p) => {
-            let body = statement(alloc, p, &Exits::Fresh(&*exits), locals)?;
-            pieces::weak_abort(alloc, wait.immediate, pieces::test(wait.test), body)
-        }
-        Body::Loop(p) => Statement::repeat(alloc, statement(alloc, p, exits, locals)?),
-        Body::LoopEach(test, p) => {
-            let body = statement(alloc, p, &Exits::Fresh(&*exits), locals)?;
-            pieces::loop_each(alloc, pieces::test(*test), body)
-        }
-        Body::Every(wait, p) => {
-            let body = statement(alloc, p, &Exits::Fresh(&*exits), locals)?;
-            pieces::every(alloc, wait.immediate, pieces::test(wait.test), body)
-        }
-        Body::Trap(p) => {
-            let body = statement(alloc, p, &Exits::Named(&*exits), locals)?;
-            Statement::trap(alloc, body)
-        }
+        Body::Suspend(wait, p) => pieces::suspend(alloc, *wait, statement(place, p)?),
+        Body::Abort(wait, p) => pieces::abort(alloc, *wait, reduce_in_fresh(place, p)?),
+        Body::WeakAbort(wait, p) => pieces::weak_abort(alloc, *wait, reduce_in_fresh(place, p)?),
+        Body::Loop(p) => Statement::repeat(alloc, statement(place, p)?),
+        Body::LoopEach(test, p) => pieces::loop_each(alloc, *test, reduce_in_fresh(place, p)?),
+        Body::Every(wait, p) => pieces::every(alloc, *wait, reduce_in_fresh(place, p)?),
+        Body::Trap(p) => Statement::trap(alloc, reduce_in_trap(place, p)?),
         Body::Signal(count, p) => {
-            let body = statement(alloc, p, exits, locals + count)?;
-            inside_binders(alloc, locals, *count, body)
+            let inner = reduce_in_signals(place, *count, p)?;
+            inside_binders(alloc, place.locals, *count, inner)
         }
-        Body::Seq(p, q) => {
-            let first = statement(alloc, p, exits, locals)?;
-            Statement::seq(alloc, first, statement(alloc, q, exits, locals)?)
-        }
-        Body::Par(p, q) => {
-            let first = statement(alloc, p, exits, locals)?;
-            Statement::par(alloc, first, statement(alloc, q, exits, locals)?)
-        }
+        Body::Seq(p, q) => Statement::seq(alloc, statement(place, p)?, statement(place, q)?),
+        Body::Par(p, q) => Statement::par(alloc, statement(place, p)?, statement(place, q)?),
     }
+}
+
+/// The kernel statement of a body with a fresh trap round it.
+#[cycle(statement)]
+fn reduce_in_fresh(place: &Place<'_>, body: &Body) -> Result<Statement, AllocError>
+    requires room { place.now.locals ≤ 65536 }
+    requires small { IsSmall (reduced (past_fresh (leads place.now.exits.now)) place.now.locals (body_of body.now)) }
+    ensures { IfOk result (λ s. term_of s ≡ reduced (past_fresh (leads place.now.exits.now)) place.now.locals (body_of body.now)) }
+{
+    let exits = Exits::Fresh(&*place.exits);
+    let inside = Place {
+        alloc: place.alloc,
+        exits: &exits,
+        locals: place.locals,
+    };
+    statement(&inside, body)
+}
+
+/// The kernel statement of a body with a trap of the text round it.
+#[cycle(statement)]
+fn reduce_in_trap(place: &Place<'_>, body: &Body) -> Result<Statement, AllocError>
+    requires room { place.now.locals ≤ 65536 }
+    requires small { IsSmall (reduced (past_named (leads place.now.exits.now)) place.now.locals (body_of body.now)) }
+    ensures { IfOk result (λ s. term_of s ≡ reduced (past_named (leads place.now.exits.now)) place.now.locals (body_of body.now)) }
+{
+    let exits = Exits::Named(&*place.exits);
+    let inside = Place {
+        alloc: place.alloc,
+        exits: &exits,
+        locals: place.locals,
+    };
+    statement(&inside, body)
+}
+
+/// The kernel statement of a body with so many local signals more round it.
+#[cycle(statement)]
+fn reduce_in_signals(place: &Place<'_>, count: u32, body: &Body) -> Result<Statement, AllocError>
+    requires room { place.now.locals + count ≤ 65536 }
+    requires small { IsSmall (reduced (leads place.now.exits.now) (place.now.locals + count) (body_of body.now)) }
+    ensures { IfOk result (λ s. term_of s ≡ reduced (leads place.now.exits.now) (place.now.locals + count) (body_of body.now)) }
+{
+    let inside = Place {
+        alloc: place.alloc,
+        exits: &*place.exits,
+        locals: place.locals + count,
+    };
+    statement(&inside, body)
 }

@@ -5,7 +5,7 @@ ghost use Rattle.est_reduce.specs.Inner.Sizes.{IsSmallName, IsSmallQuery};
 ghost use Rattle.est_reduce.specs.Reductions.{watching, until, halting, sustaining, awaiting, suspending, aborting, weakly_aborting, looping_each, doing_every};
 ghost use Rattle.est_reduce.specs.Views.{bound_name, bound_query};
 
-use crate::body::{BoundSignal, BoundTest};
+use crate::body::{BoundSignal, BoundTest, Wait};
 use est_kernel::statement::{InterfaceSignal, LocalSignal, Signal, Statement, Test};
 use std::alloc::{AllocError, Global};
 
@@ -70,76 +70,68 @@ fn until(alloc: Global, p: Statement, q: Statement) -> Result<Statement, AllocEr
 }
 
 /// `await S`
-pub fn wait(alloc: Global, immediate: bool, test: Test) -> Result<Statement, AllocError>
-    ensures { IfOk result (λ s. term_of s ≡ awaiting immediate (query_of test)) }
+pub fn wait(alloc: Global, wait: Wait) -> Result<Statement, AllocError>
+    requires { IsSmallQuery (bound_query wait.test) }
+    ensures { IfOk result (λ s. term_of s ≡ awaiting wait.immediate (bound_query wait.test)) }
 {
-    Statement::trap(alloc, watch(alloc, immediate, test)?)
+    Statement::trap(alloc, watch(alloc, wait.immediate, test(wait.test))?)
 }
 
 /// `suspend p when S`
-pub fn suspend(
-    alloc: Global,
-    immediate: bool,
-    test: Test,
-    p: Statement,
-) -> Result<Statement, AllocError>
-    ensures { IfOk result (λ s. term_of s ≡ suspending immediate (query_of test) (term_of p)) }
+pub fn suspend(alloc: Global, wait: Wait, p: Statement) -> Result<Statement, AllocError>
+    requires { IsSmallQuery (bound_query wait.test) }
+    ensures { IfOk result (λ s. term_of s ≡ suspending wait.immediate (bound_query wait.test) (term_of p)) }
 {
-    if immediate {
-        let waiting = Statement::present(alloc, test, Statement::pause(), Statement::Nothing)?;
-        Statement::suspend(alloc, test, Statement::seq(alloc, waiting, p)?)
+    let asked = test(wait.test);
+    if wait.immediate {
+        let waiting = Statement::present(alloc, asked, Statement::pause(), Statement::Nothing)?;
+        Statement::suspend(alloc, asked, Statement::seq(alloc, waiting, p)?)
     } else {
-        Statement::suspend(alloc, test, p)
+        Statement::suspend(alloc, asked, p)
     }
 }
 
 /// `abort p when S`
-pub fn abort(
-    alloc: Global,
-    immediate: bool,
-    test: Test,
-    p: Statement,
-) -> Result<Statement, AllocError>
-    ensures { IfOk result (λ s. term_of s ≡ aborting immediate (query_of test) (term_of p)) }
+pub fn abort(alloc: Global, wait: Wait, p: Statement) -> Result<Statement, AllocError>
+    requires { IsSmallQuery (bound_query wait.test) }
+    ensures { IfOk result (λ s. term_of s ≡ aborting wait.immediate (bound_query wait.test) (term_of p)) }
 {
-    let body = Statement::suspend(alloc, test, p)?;
-    let aborted = until(alloc, body, watch(alloc, false, test)?)?;
-    if immediate {
-        Statement::present(alloc, test, Statement::Nothing, aborted)
+    let asked = test(wait.test);
+    let body = Statement::suspend(alloc, asked, p)?;
+    let aborted = until(alloc, body, watch(alloc, false, asked)?)?;
+    if wait.immediate {
+        Statement::present(alloc, asked, Statement::Nothing, aborted)
     } else {
         Ok(aborted)
     }
 }
 
 /// `weak abort p when S`
-pub fn weak_abort(
-    alloc: Global,
-    immediate: bool,
-    test: Test,
-    p: Statement,
-) -> Result<Statement, AllocError>
-    ensures { IfOk result (λ s. term_of s ≡ weakly_aborting immediate (query_of test) (term_of p)) }
+pub fn weak_abort(alloc: Global, wait: Wait, p: Statement) -> Result<Statement, AllocError>
+    requires { IsSmallQuery (bound_query wait.test) }
+    ensures { IfOk result (λ s. term_of s ≡ weakly_aborting wait.immediate (bound_query wait.test) (term_of p)) }
 {
-    until(alloc, p, watch(alloc, immediate, test)?)
+    until(alloc, p, watch(alloc, wait.immediate, test(wait.test))?)
 }
 
 /// `loop p each S`
-pub fn loop_each(alloc: Global, test: Test, p: Statement) -> Result<Statement, AllocError>
-    ensures { IfOk result (λ s. term_of s ≡ looping_each (query_of test) (term_of p)) }
+pub fn loop_each(alloc: Global, test: BoundTest, p: Statement) -> Result<Statement, AllocError>
+    requires { IsSmallQuery (bound_query test) }
+    ensures { IfOk result (λ s. term_of s ≡ looping_each (bound_query test) (term_of p)) }
 {
     let waiting = Statement::seq(alloc, p, halt(alloc)?)?;
-    Statement::repeat(alloc, abort(alloc, false, test, waiting)?)
+    let each = Wait {
+        immediate: false,
+        test,
+    };
+    Statement::repeat(alloc, abort(alloc, each, waiting)?)
 }
 
 /// `every S do p end`
-pub fn every(
-    alloc: Global,
-    immediate: bool,
-    test: Test,
-    p: Statement,
-) -> Result<Statement, AllocError>
-    ensures { IfOk result (λ s. term_of s ≡ doing_every immediate (query_of test) (term_of p)) }
+pub fn every(alloc: Global, each: Wait, p: Statement) -> Result<Statement, AllocError>
+    requires { IsSmallQuery (bound_query each.test) }
+    ensures { IfOk result (λ s. term_of s ≡ doing_every each.immediate (bound_query each.test) (term_of p)) }
 {
-    let waiting = wait(alloc, immediate, test)?;
-    Statement::seq(alloc, waiting, loop_each(alloc, test, p)?)
+    let waiting = wait(alloc, each)?;
+    Statement::seq(alloc, waiting, loop_each(alloc, each.test, p)?)
 }

@@ -4,7 +4,7 @@ ghost use Rattle.est_kernel.specs.declared.interface.TheConstants.{MOST_SIGNALS}
 ghost use Rattle.est_reduce.specs.Reducing.{Reduces};
 ghost use Rattle.est_reduce.specs.Views.{body_of};
 
-use crate::builder::{Exits, statement};
+use crate::builder::{Exits, Place, statement};
 use crate::fault::ReduceFault;
 use crate::flat::Flat;
 use crate::size::room_after;
@@ -36,7 +36,12 @@ pub fn reduce(alloc: Global, flat: &Flat) -> Result<Kernel, ReduceFault>
         return Err(ReduceFault::TooLarge(Limit::Statements));
     }
     let interface = copied(alloc, &flat.interface)?;
-    let root = statement(alloc, &flat.body, &Exits::Outermost, 0)?;
+    let outermost = Place {
+        alloc,
+        exits: &Exits::Outermost,
+        locals: 0,
+    };
+    let root = statement(&outermost, &flat.body)?;
     match Kernel::build(interface, root) {
         Ok(kernel) => Ok(kernel),
         Err(fault) => Err(ReduceFault::from(fault)),

@@ -11,11 +11,11 @@ use Rattle.est_link.proofs.flatten.+flat.Goals as goal
 
 pub flat_sequence-returns : goal.flat_sequence-returns
 flat_sequence-returns t c =
-    let l = c.args.linker.now in
+    let l = c.args.at.now.linker.now in
     let ps = map program_of l.heads.now in
     let bodies = bodies_of l.bodies.now in
     let p = program_of l.home.now in
-    let bs = binders_of c.args.scope.now in
+    let bs = binders_of c.args.at.now.scope.now in
     let q = c.args.sequence.now in
     let here = unit_linked ps bodies p bs in
     let none : c.loop-left.left ≡ 0 = omega arith in
@@ -27,11 +27,11 @@ flat_sequence-returns t c =
 
 pub flat_statement-returns : goal.flat_statement-returns
 flat_statement-returns t c =
-    let l = c.args.linker.now in
+    let l = c.args.at.now.linker.now in
     let ps = map program_of l.heads.now in
     let bodies = bodies_of l.bodies.now in
     let p = program_of l.home.now in
-    let bs = binders_of c.args.scope.now in
+    let bs = binders_of c.args.at.now.scope.now in
     let q = c.args.statement.now in
     let here = sequence_linked ps bodies p bs in
     let none : c.loop-left.left ≡ 0 = omega arith in
