@@ -4,4 +4,5 @@ pub mod LineSteps
 pub mod Serving
 pub mod Connections
 pub mod SharedAnswers
+pub mod Workers
 pub mod Inner

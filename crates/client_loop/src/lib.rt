@@ -13,3 +13,4 @@ pub mod login;
 pub mod serving;
 pub mod shared_desk;
 pub mod source;
+pub mod workers;

@@ -1,0 +1,151 @@
+//! Workers that serve connections side by side, each at a seat of its own.
+ghost use denote.Param.{param};
+ghost use denote.Param.Send.{IsSend};
+ghost use Rattle.std.specs.Prelude.{◌≡◌, IfOk, MatchResult};
+ghost use Rattle.access_core.specs.declared.refusal.Refusal.TheVariants.{Memory};
+ghost use Rattle.worker_threads.specs.Turns.{AreBack};
+ghost use Rattle.client_loop.specs.Workers.{ServesNext};
+
+use crate::connections::serve_connection;
+use crate::gate::Gate;
+use crate::shared_desk::SharedDesk;
+use crate::source::Source;
+use access_core::refusal::Refusal;
+use policy_board::board::Board;
+use policy_board::history::Naming;
+use policy_board::reader::SlotReader;
+use policy_board::seat::Seat;
+use slot_table::table::SlotTable;
+use std::alloc::{AllocError, Global};
+use std::marker::PhantomData;
+use std::sync::Wait;
+use std::thread::Threads;
+use worker_threads::workers::{Turn, Work, run_each};
+
+/// What workers are lent: a value of this type. Of the type that lends it nothing else is known, and threads may share it.
+trait Lends<T> {
+    /// The value.
+    fn lent(&self) -> &T;
+}
+
+impl<J: Naming> Lends<Board<J>> for Board<J> {
+    fn lent(&self) -> &Board<J> {
+        self
+    }
+}
+
+impl<J: Naming> Lends<SlotTable<J>> for SlotTable<J> {
+    fn lent(&self) -> &SlotTable<J> {
+        self
+    }
+}
+
+/// What workers share: the board, the table, and where connections come from.
+struct Service<'a, J: Naming, B, T, S, G> {
+    alloc: Global,
+    board: &'a B,
+    table: &'a T,
+    source: &'a S,
+    gate: &'a G,
+    of: PhantomData<J>,
+}
+
+impl<'a, J: Naming + Send, B: Lends<Board<J>>, T: Lends<SlotTable<J>>, S: Source, G: Gate> Work
+    for Service<'a, J, B, T, S, G> {
+    type Seat = Seat<J>;
+
+    ghost turn = { λ before after. ServesNext before after };
+
+    fn take_turn<R: Wait>(&self, rt: &R, worker: usize, seat: Seat<J>) -> Turn<Seat<J>> {
+        let Some(connection) = self.source.accept(worker) else {
+            return Turn::Over(seat);
+        };
+        let mut desk = SharedDesk {
+            rt,
+            board: self.board.lent(),
+            table: self.table.lent(),
+            seat,
+        };
+        serve_connection(rt, self.alloc, connection, &mut desk, self.gate, worker);
+        let SharedDesk {
+            rt: _,
+            board: _,
+            table: _,
+            seat,
+        } = desk;
+        Turn::Taken(seat)
+    }
+}
+
+/// Tells proofs that values of this type may cross threads. It does nothing.
+fn may_cross<T: Send>()
+    ensures { IsSend (param 0 T.row) }
+{}
+
+/// Has workers serve over a board and a table that threads may share, as `run_workers` does.
+fn run_over<
+    J: Naming + Send + Sync,
+    B: Lends<Board<J>> + Sync,
+    T: Lends<SlotTable<J>> + Sync,
+    R: Threads + Wait + Sync,
+    S: Source + Sync,
+    G: Gate + Sync,
+>(
+    rt: &R,
+    service: &Service<'_, J, B, T, S, G>,
+    seats: Vec<Seat<J>>,
+) -> Result<Vec<Seat<J>>, AllocError>
+    ensures { IfOk result (λ back. AreBack ServesNext seats.items back.items) }
+{
+    run_each(rt, service.alloc, service, seats)
+}
+
+/// Serves the connections of a source over this board and table: a thread for each seat, all started before the source is
+/// asked, which each serve one connection after another until there is none. It waits for their ends. A worker is its seat's
+/// place, counted from 0.
+///
+/// # Errors
+///
+/// Memory, where a thread could not be started, or memory was refused for that: then nothing was accepted, and the seats are
+/// dropped.
+pub fn run_workers<
+    J: Naming + Send + Sync,
+    R: Threads + Wait + Sync,
+    S: Source + Sync,
+    G: Gate + Sync,
+>(
+    rt: &R,
+    alloc: Global,
+    table: &SlotTable<J>,
+    board: &Board<J>,
+    seats: Vec<Seat<J>>,
+    source: &S,
+    gate: &G,
+) -> Result<Vec<Seat<J>>, Refusal>
+    ensures { MatchResult result
+        (λ back. AreBack ServesNext seats.items back.items)
+        (λ refusal. refusal ≡ Memory) }
+{
+    let service = Service {
+        alloc,
+        board,
+        table,
+        source,
+        gate,
+        of: PhantomData,
+    };
+    may_cross::<SlotReader<J>>();
+    let back = run_over(rt, &service, seats);
+    let Service {
+        alloc: _,
+        board: _,
+        table: _,
+        source: _,
+        gate: _,
+        of: _,
+    } = service;
+    match back {
+        Ok(back) => Ok(back),
+        Err(_) => Err(Refusal::Memory),
+    }
+}
