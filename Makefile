@@ -46,6 +46,7 @@ test:
 	python3 tests/documents.py
 	$(MAKE) --no-print-directory examples
 	clients/tests/run
+	python3 tests/journals/run
 	python3 tests/must-not-compile/run
 	rt ci
 

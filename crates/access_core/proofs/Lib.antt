@@ -6,3 +6,7 @@ mod Entries
 pub mod Desks
 pub mod Unchanged
 pub mod Leaving
+pub mod Settling
+pub mod OneNaming
+pub mod OneSlotStep
+pub mod Legality

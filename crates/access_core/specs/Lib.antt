@@ -9,4 +9,5 @@ pub mod Needs
 pub mod SlotStep
 pub mod StuckSteps
 pub mod Desk
+pub mod Journals
 pub mod Inner

@@ -1,5 +1,5 @@
 //! Laws of the desk. Each function does nothing but call the laws that it follows from: its contract is the law.
-ghost use Rattle.std.specs.Prelude.{◌≡◌, ℕ, List, Option};
+ghost use Rattle.std.specs.Prelude.{◌≡◌, ℕ, ◌≤◌, List, Option, Some, slice_get, take};
 ghost use Rattle.rbac_policy.specs.declared.commands.AdminCommand.{AdminCommand};
 ghost use Rattle.rbac_policy.specs.declared.commands.Entry.{Entry};
 ghost use Rattle.reactor_core.specs.declared.entry.SlotEntry.{SlotEntry};
@@ -10,9 +10,12 @@ ghost use Rattle.access_core.specs.StuckSteps.{ReachesReactor, IsStuckExactly};
 ghost use Rattle.access_core.specs.Desk.{DeskState, AdminStep, DeskStep};
 ghost use Rattle.access_core.specs.declared.command.SlotCommand.{SlotCommand};
 ghost use Rattle.access_core.specs.declared.refusal.Refusal.{Refusal};
+ghost use Rattle.access_core.specs.declared.refusal.Refusal.TheVariants.{Memory};
+ghost use Rattle.access_core.specs.Journals.{command_of, IsLegal};
+ghost use Rattle.rbac_admin.specs.PolicyLists.{Begins};
 ghost use Rattle.access_core.specs.declared.reply.Reply.TheVariants.{Refused};
 
-use reactor_core::laws::one_module;
+use reactor_core::laws::{one_load, one_module};
 
 /// A refused command changes nothing on the desk.
 pub fn refusals_change_nothing()
@@ -37,3 +40,28 @@ pub fn stuck_exactly()
 {
     one_module();
 }
+
+/// A command on a slot has one answer after the same journal: one reply, and one journal afterwards, want of memory aside.
+pub fn one_slot_answer()
+    ensures { (entries : List Entry) (slot session : ℕ) (command : SlotCommand) (before : List SlotEntry) (r s : Reply) (a b : List SlotEntry)
+        → SlotStep entries slot session command before r a → SlotStep entries slot session command before s b
+        → ¬ (r ≡ Refused Memory) → ¬ (s ≡ Refused Memory) → (r ≡ s) × (a ≡ b) }
+{
+    one_module();
+    one_load();
+}
+
+/// A legal journal stays legal where the policy list grows, and where the slot step on that list answers a command. Along its places versions
+/// never fall, and each entry was allowed: at its version its session had what its command needs.
+pub fn journals_are_legal()
+    ensures grows { (list longer : List Entry) (slot : ℕ) (journal : List SlotEntry)
+        → Begins list longer → IsLegal list slot journal → IsLegal longer slot journal }
+    ensures steps { (list : List Entry) (slot session : ℕ) (command : SlotCommand) (before : List SlotEntry) (reply : Reply) (after : List SlotEntry)
+        → IsLegal list slot before → SlotStep list slot session command before reply after → IsLegal list slot after }
+    ensures rises { (list : List Entry) (slot early late : ℕ) (journal : List SlotEntry) (x y : SlotEntry)
+        → IsLegal list slot journal → early ≤ late → slice_get journal early ≡ Some x → slice_get journal late ≡ Some y
+        → x.stamp.version ≤ y.stamp.version }
+    ensures allowed { (list : List Entry) (slot at : ℕ) (journal : List SlotEntry) (x : SlotEntry)
+        → IsLegal list slot journal → slice_get journal at ≡ Some x
+        → Needs (take x.stamp.version list) slot x.stamp.session (command_of x.action) }
+{}

@@ -57,7 +57,7 @@ impl Model for Single {
 }
 
 /// The change that the command makes of the policy; a login makes none.
-fn change_of(command: &AdminCommand) -> Option<Change>
+pub fn change_of(command: &AdminCommand) -> Option<Change>
     ensures { result ≡ change_of command.now }
 {
     match command {

@@ -263,6 +263,17 @@ impl Slot {
         }
     }
 
+    /// Its journal alone. It adds no entry and takes no memory.
+    pub fn into_journal(self) -> Journal
+        ensures { result ≡ self.journal }
+    {
+        let Slot { content, .. } = self;
+        match content {
+            Content::Empty(journal) => journal,
+            Content::Loaded(reactor) => reactor.into_journal(),
+        }
+    }
+
     fn load(&mut self, stamp: Stamp, main: &str, text: &str) -> Reply
         requires { IsTrue (is_identifier main.now) }
         ensures number { self.new.number ≡ self.old.number }

@@ -14,7 +14,4 @@ pub mod Enterings
 pub mod Accepting
 pub mod Denying
 pub mod Showing
-pub mod Settling
-pub mod OneNaming
-pub mod OneSlotStep
 pub mod OneRun

@@ -24,8 +24,8 @@ use Rattle.access_events.specs.declared.event.Event.TheVariants.{Admin, OnSlot}
 use Rattle.access_events.specs.OneRun.{events_of, PartForMemory}
 use Rattle.access_events.specs.Runs.{WorldState, opening_world, Moment, EventStep, Follow, IsRun, Comes, world_after, wants_memory, has_seen, desk_of, version_rules, Administered, Judged, EndsIn}
 use Rattle.access_events.proofs.Enterings.{step_of}
-use Rattle.access_events.proofs.OneSlotStep.{OneLoad, IsWant, Same, one_slot_step}
-use Rattle.access_events.proofs.Settling.{AllSettled, settled_unless, settled_apart, both_answers}
+use Rattle.access_core.proofs.OneSlotStep.{OneLoad, IsWant, Same, one_slot_step}
+use Rattle.access_core.proofs.Settling.{AllSettled, settled_unless, settled_apart, both_answers}
 
 -- desks, and worlds, of the same parts
 same_desk : (a b : DeskState) → a.entries ≡ b.entries → a.slots ≡ b.slots → a ≡ b

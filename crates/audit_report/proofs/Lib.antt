@@ -5,3 +5,4 @@ pub mod Opened
 pub mod Accepting
 pub mod Walking
 pub mod Lines
+pub mod Uniqueness

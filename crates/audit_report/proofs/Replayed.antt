@@ -23,7 +23,7 @@ use Rattle.access_core.specs.Answering.{IsRefused}
 use Rattle.access_core.specs.Conversions.{of_reactor}
 use Rattle.access_core.specs.Needs.{IsAccepted}
 use Rattle.access_core.specs.SlotStep.{SlotStep, slot_rules, Does, Loads, Offers, stamp_of}
-use Rattle.audit_report.specs.Replaying.{command_of, Judges, Adds}
+use Rattle.access_core.specs.Journals.{command_of, Judges, Adds}
 use Rattle.audit_report.specs.Findings.{ReactsOtherwise}
 use Rattle.audit_report.specs.Inner.Faults.{instant_of, instant_in, last_instant, KeepsInstant, fault_of, IsFaultOf}
 

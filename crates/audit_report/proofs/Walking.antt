@@ -1,38 +1,14 @@
--- One entry more of a journal, and one journal more.
-use Rattle.std.proofs.Common.{◌≡◌, ◌∙◌, ℕ, ◌+◌, List, [], ◌∷◌, ◌++◌, take, refl, sym, ap, subst, below_more}
+-- One journal more, and the first finding of a journal.
+use Rattle.std.proofs.Common.{◌≡◌, ◌∙◌, ℕ, ◌+◌, List, take, refl, sym, subst, below_more}
 use Rattle.std.specs.Prelude.{Some, slice_get}
-use Rattle.std.proofs.lemmas.List.{take_more}
-use Rattle.std.proofs.lemmas.List.Sums.{fold_push}
-use Rattle.std.proofs.lemmas.Option.{same_Some, get_or_from_slice_get, slice_get_within}
+use Rattle.std.proofs.lemmas.Option.{same_Some}
 use Rattle.rbac_policy.specs.declared.commands.Entry.{Entry}
 use Rattle.reactor_core.specs.declared.entry.SlotEntry.{SlotEntry}
 use Rattle.audit_report.specs.declared.slot_audit.Fault.{Fault}
 use Rattle.audit_report.specs.declared.slot_audit.Fault.TheVariants.{Refused, Reaction, Memory}
 use Rattle.audit_report.specs.Findings.{IsFirstAt, IsFirstOfSlot, AreSlotsLegal}
 use Rattle.audit_report.specs.Inner.Faults.{IsFaultOf, finding_of}
-use Rattle.audit_report.specs.Replaying.{last_version, HasRightVersion, IsLegalEntry, AreLegal, IsLegal}
-
--- the front with the next entry
-pub take_next : (journal : List SlotEntry) (at : ℕ) (e : SlotEntry) → slice_get journal at ≡ Some e
-    → take (at + 1) journal ≡ take at journal ++ e ∷ []
-take_next journal at e there =
-    take_more journal at e (slice_get_within journal at e there)
-    ∙ ap (λ x. take at journal ++ x ∷ []) (get_or_from_slice_get journal at e e there)
-
--- the version of the front with the next entry
-pub next_version : (journal : List SlotEntry) (at : ℕ) (e : SlotEntry) → slice_get journal at ≡ Some e
-    → last_version (take (at + 1) journal) ≡ e.stamp.version
-next_version journal at e there =
-    ap last_version (take_next journal at e there) ∙ fold_push (λ (version : ℕ) (x : SlotEntry). x.stamp.version) 0 (take at journal) e
-
--- one entry more is legal
-pub legal_more : (entries : List Entry) (slot : ℕ) (journal : List SlotEntry) (at : ℕ) (e : SlotEntry) → AreLegal entries slot journal at
-    → slice_get journal at ≡ Some e → IsLegalEntry entries slot (take at journal) e → AreLegal entries slot journal (at + 1)
-legal_more entries slot journal at e legal there here = λ k x low is.
-    below_more (λ k. (x : SlotEntry) → slice_get journal k ≡ Some x → IsLegalEntry entries slot (take k journal) x) at
-    (λ k below x is. legal k x below is)
-    (λ x is. subst (IsLegalEntry entries slot (take at journal)) (same_Some e x (sym there ∙ is)) here)
-    k low x is
+use Rattle.access_core.specs.Journals.{HasRightVersion, AreLegal, IsLegal}
 
 -- one journal more is legal
 pub slots_more : (entries : List Entry) (slots : List (List SlotEntry)) (count : ℕ) (journal : List SlotEntry) → AreSlotsLegal entries slots count

@@ -13,7 +13,8 @@ use Rattle.access_core.specs.declared.reply.Reply.TheVariants as reply
 use Rattle.access_core.specs.Refusals.{code_of}
 use Rattle.audit_report.specs.declared.finding.Finding.{Finding}
 use Rattle.audit_report.specs.declared.finding.Finding.TheVariants.{Policy, Version, Refused, Reaction, Memory}
-use Rattle.audit_report.specs.Replaying.{IsRightAt, HasRightVersion, Judges, Adds, AreLegal, IsLegal}
+use Rattle.access_core.specs.Journals.{HasRightVersion, Judges, Adds, AreLegal, IsLegal}
+use Rattle.audit_report.specs.Replaying.{IsRightAt}
 
 -- this is the first place of the policy list, counted from 1, where it is wrong; one that ends before the opening entries do is wrong
 -- just behind its last entry

@@ -7,6 +7,7 @@
 
 pub mod audit;
 pub mod finding;
+pub mod laws;
 mod policy_audit;
 pub mod reports;
 mod slot_audit;

@@ -4,7 +4,7 @@ ghost use Rattle.rbac_policy.specs.declared.commands.Entry.{Entry};
 ghost use Rattle.rbac_policy.specs.Change.{policy_of};
 ghost use Rattle.rbac_policy.specs.StandsFor.{StandsFor};
 ghost use Rattle.rbac_admin.specs.PolicyLists.{IsPolicyList};
-ghost use Rattle.audit_report.specs.Replaying.{command_of, IsLegal};
+ghost use Rattle.access_core.specs.Journals.{command_of, IsLegal};
 ghost use Rattle.audit_report.specs.Findings.{IsFirstOfSlot};
 ghost use Rattle.audit_report.specs.Inner.Faults.{last_instant, KeepsInstant, fault_of, Replays, finding_of};
 

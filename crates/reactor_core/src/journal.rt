@@ -39,6 +39,13 @@ impl Journal {
         }
     }
 
+    /// The journal of these entries, oldest first, whoever wrote them down. It takes no memory.
+    pub fn from_entries(entries: Vec<SlotEntry>) -> Journal
+        ensures { result ≡ entries.items }
+    {
+        Journal { entries }
+    }
+
     /// Its entries, oldest first.
     pub fn entries(&self) -> &[SlotEntry]
         ensures { result.now ≡ self.now }

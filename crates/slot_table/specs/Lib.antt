@@ -1,4 +1,3 @@
-pub mod Journals
 pub mod LockedState
 pub mod Conversions
 pub mod SlotCommands

@@ -15,7 +15,7 @@ use Rattle.access_core.specs.declared.reply.Reply.TheVariants.{Refused}
 use Rattle.access_core.specs.declared.refusal.Refusal.TheVariants.{Behind, Memory, NoSession, NoSlot}
 use Rattle.access_core.specs.SlotStep.{SlotStep}
 use Rattle.slot_table.specs.Conversions.{of_board}
-use Rattle.slot_table.specs.Journals.{IsLegal}
+use Rattle.access_core.specs.Journals.{IsLegal}
 use Rattle.slot_table.specs.LockedState.{LockedState}
 
 -- the slot's reader has read a policy list. It begins with all that this reader had seen and all that the seat knew, and is no shorter than

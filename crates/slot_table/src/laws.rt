@@ -4,7 +4,7 @@ ghost use Rattle.rbac_admin.specs.PolicyLists.{Begins};
 ghost use Rattle.policy_board.specs.SeatState.{SeatState};
 ghost use Rattle.access_core.specs.declared.command.SlotCommand.{SlotCommand};
 ghost use Rattle.access_core.specs.declared.reply.Reply.{Reply};
-ghost use Rattle.slot_table.specs.Journals.{IsLegal};
+ghost use Rattle.access_core.specs.Journals.{IsLegal};
 ghost use Rattle.slot_table.specs.LockedState.{LockedState};
 ghost use Rattle.slot_table.specs.SlotCommands.{LockedCommand};
 

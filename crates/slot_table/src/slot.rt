@@ -1,7 +1,7 @@
 //! What lies under a slot's lock.
 ghost use Rattle.std.specs.Prelude.{◌≡◌, ◌<◌, []};
 ghost use Rattle.rbac_policy.specs.declared.objects.TheConstants.{SLOTS};
-ghost use Rattle.slot_table.specs.Journals.{IsLegal};
+ghost use Rattle.access_core.specs.Journals.{IsLegal};
 ghost use Rattle.slot_table.specs.SlotCommands.{LockedCommand};
 
 use access_core::command::SlotCommand;
@@ -27,7 +27,7 @@ pub struct LockedSlot<J: Naming, const NUMBER: u8> {
 
 impl<J: Naming, const NUMBER: u8> Model for LockedSlot<J, NUMBER> {
     ghost use Rattle.std.specs.Prelude.{◌≡◌};
-    ghost use Rattle.slot_table.specs.Journals.{IsLegal};
+    ghost use Rattle.access_core.specs.Journals.{IsLegal};
     ghost use Rattle.slot_table.specs.LockedState.{LockedState};
 
     ghost Value = { LockedState };

@@ -12,7 +12,7 @@ use Rattle.audit_report.specs.declared.finding.Finding.{Finding}
 use Rattle.audit_report.specs.declared.finding.Finding.TheVariants as finding
 use Rattle.audit_report.specs.declared.slot_audit.Fault.{Fault}
 use Rattle.audit_report.specs.declared.slot_audit.Fault.TheVariants.{Refused, Reaction, Memory}
-use Rattle.audit_report.specs.Replaying.{Adds}
+use Rattle.access_core.specs.Journals.{Adds}
 use Rattle.audit_report.specs.Findings.{IsRefusedWith, ReactsOtherwise}
 
 -- the instant that an action keeps, if it is a step

@@ -6,7 +6,7 @@ use Rattle.rbac_policy.specs.declared.commands.Entry.{Entry}
 use Rattle.reactor_core.specs.declared.entry.SlotEntry.{SlotEntry}
 use Rattle.rbac_admin.specs.PolicyLists.{IsPolicyList}
 use Rattle.audit_report.specs.Findings.{AreSlotsLegal, IsFirstOfSlot, IsFirst}
-use Rattle.audit_report.specs.Replaying.{IsLegal}
+use Rattle.access_core.specs.Journals.{IsLegal}
 use Rattle.audit_report.proofs.Firsts.{first_of_slot}
 use Rattle.audit_report.proofs.Walking.{slots_more}
 use Rattle.audit_report.proofs.audit.check.Goals as goal

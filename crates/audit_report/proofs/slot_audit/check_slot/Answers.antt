@@ -7,9 +7,10 @@ use Rattle.rbac_policy.specs.StandsFor.{StandsFor}
 use Rattle.reactor_core.specs.declared.entry.SlotEntry.{SlotEntry}
 use Rattle.audit_report.specs.Findings.{IsFirstOfSlot}
 use Rattle.audit_report.specs.Inner.Faults.{IsFaultOf}
-use Rattle.audit_report.specs.Replaying.{HasRightVersion, Adds}
+use Rattle.access_core.specs.Journals.{HasRightVersion, Adds}
 use Rattle.audit_report.proofs.Fronts.{front_stands}
-use Rattle.audit_report.proofs.Walking.{take_next, next_version, legal_more, fault_first}
+use Rattle.access_core.proofs.Legality.{take_next, next_version, legal_more}
+use Rattle.audit_report.proofs.Walking.{fault_first}
 use Rattle.audit_report.proofs.slot_audit.check_slot.Goals as goal
 
 pub returns-in-Err-clause-err : goal.returns-in-Err-clause-err

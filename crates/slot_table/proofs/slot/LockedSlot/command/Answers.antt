@@ -1,4 +1,7 @@
-use Rattle.std.proofs.Common.{◌∙◌}
+use Rattle.std.proofs.Common.{◌∙◌, List, sym, subst}
+use Rattle.rbac_policy.specs.declared.commands.Entry.{Entry}
+use Rattle.access_core.specs.Journals.{IsLegal}
+use Rattle.slot_table.specs.LockedState.{LockedState}
 use Rattle.slot_table.proofs.Legality.{read_legal, judged_legal}
 use Rattle.slot_table.proofs.slot.LockedSlot.command.Goals as goal
 
@@ -19,3 +22,25 @@ pub returns-clause-after : goal.returns-clause-after
 returns-clause-after g c =
     judged_legal _ _ _ _ _ _ _ _ _ _ _ c.replace.ensures.value c.leave-2.ensures c.in-Ok.ensures c.self.invariant.1 c.self.invariant.0
     (c.decide_slot-reply.ensures.step c.in-Ok.reading c.policy.ensures)
+
+pub invariant_of-self : goal.invariant_of-self
+invariant_of-self g c = (
+  c.self.invariant.0,
+  subst (λ (l : List Entry). IsLegal l g.row.NUMBER c.self.inside.core.journal) (sym (c.in-Err.ensures ∙ c.replace.ensures.value))
+      c.self.invariant.1,
+)
+
+pub returns-in-Err-clause-before : goal.returns-in-Err-clause-before
+returns-in-Err-clause-before g c = subst (λ (s : LockedState). IsLegal s.list g.row.NUMBER s.journal) c.self.view_is c.self.invariant.1
+
+pub returns-in-Err-clause-after : goal.returns-in-Err-clause-after
+returns-in-Err-clause-after g c =
+    subst (λ (l : List Entry). IsLegal l g.row.NUMBER c.self.inside.core.journal) (sym (c.in-Err.ensures ∙ c.replace.ensures.value))
+    c.self.invariant.1
+
+pub returns-then-found-seen-clause-before : goal.returns-then-found-seen-clause-before
+returns-then-found-seen-clause-before g c =
+    subst (λ (s : LockedState). IsLegal s.list g.row.NUMBER s.journal) c.self.view_is c.self.invariant.1
+
+pub returns-clause-before : goal.returns-clause-before
+returns-clause-before g c = subst (λ (s : LockedState). IsLegal s.list g.row.NUMBER s.journal) c.self.view_is c.self.invariant.1

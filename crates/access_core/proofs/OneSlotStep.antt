@@ -29,8 +29,8 @@ use Rattle.access_core.specs.Conversions.{of_reactor}
 use Rattle.access_core.specs.Shown.{Sees, name_at, status_at, names_of, shown_of}
 use Rattle.access_core.specs.SlotStep.{SlotStep, slot_rules, Does, Loads, Offers, Steps, Looks, NamesUndecided, stamp_of, no_reaction}
 use Rattle.reactor_core.specs.Instants.{not_ready}
-use Rattle.access_events.proofs.OneNaming.{one_excluded, one_lacking, one_undecided, same_mask, same_sight, same_kept}
-use Rattle.access_events.proofs.Settling.{IsSettled, AllSettled, settled_unless, settled_says, settled_apart, settled_converted, both_answers}
+use Rattle.access_core.proofs.OneNaming.{one_excluded, one_lacking, one_undecided, same_mask, same_sight, same_kept}
+use Rattle.access_core.proofs.Settling.{IsSettled, AllSettled, settled_unless, settled_says, settled_apart, settled_converted, both_answers}
 
 -- a text and a name have one first fault at most, and none where they give a module, want of memory aside (the law one_load)
 pub record OneLoad : Type 0 where

@@ -1,0 +1,55 @@
+-- Legal journals of a slot: each entry is the very one that the slot step adds for its own command, at its version, to the entries before
+-- it, and versions never fall (this project's own form).
+use Rattle.std.specs.Prelude.{◌≡◌, ℕ, ◌<◌, ◌≤◌, List, [], ◌∷◌, ◌++◌, Some, length, take, fold, slice_get}
+use Rattle.rbac_policy.specs.declared.commands.Entry.{Entry}
+use Rattle.reactor_core.specs.declared.entry.Action.{Action}
+use Rattle.reactor_core.specs.declared.entry.Action.TheVariants as action
+use Rattle.reactor_core.specs.declared.entry.SlotEntry.{SlotEntry}
+use Rattle.access_core.specs.declared.command.SlotCommand.{SlotCommand}
+use Rattle.access_core.specs.declared.command.SlotCommand.TheVariants.{Load, Offer, Discard, Step, Unload}
+use Rattle.access_core.specs.declared.reply.Reply.{Reply}
+use Rattle.access_core.specs.Needs.{IsAccepted}
+use Rattle.access_core.specs.SlotStep.{SlotStep}
+
+-- the command that an entry's action was asked for by: of a step neither the inputs nor the outputs are asked for
+abbrev pub command_of : Action → SlotCommand
+command_of (action.Load l) = Load l.main l.text
+command_of (action.Offer signal) = Offer signal
+command_of action.Discard = Discard
+command_of (action.Step i) = Step
+command_of action.Unload = Unload
+
+-- the version of the last of these entries, 0 where there is none
+abbrev pub last_version : List SlotEntry → ℕ
+last_version journal = fold (λ (version : ℕ) (e : SlotEntry). e.stamp.version) 0 journal
+
+-- the version of the entry is not under that of the entry before it, and not over the length of the policy list
+pub record HasRightVersion (list : List Entry) (before : List SlotEntry) (entry : SlotEntry) : Type 0 where
+  pub rises : last_version before ≤ entry.stamp.version
+  pub known : entry.stamp.version ≤ length list
+
+-- the slot step of the entry's own command, from its session, on this policy list: the reply and the journal afterwards
+abbrev pub Judges : (judged : List Entry) → (slot : ℕ) → (before : List SlotEntry) → SlotEntry → Reply → (after : List SlotEntry) → Type 0
+Judges judged slot before entry reply after =
+    SlotStep judged slot entry.stamp.session (command_of entry.action) before reply after
+
+-- the slot step accepts the entry's command, and adds this entry
+pub record Adds (judged : List Entry) (slot : ℕ) (before : List SlotEntry) (entry added : SlotEntry) : Type 0 where
+  pub reply : Reply
+  pub accepted : IsAccepted reply
+  pub step : Judges judged slot before entry reply (before ++ added ∷ [])
+
+-- the entry is legal after those before it: its version rises, and the slot step on so many entries of the policy list adds this very
+-- entry
+pub record IsLegalEntry (list : List Entry) (slot : ℕ) (before : List SlotEntry) (entry : SlotEntry) : Type 0 where
+  pub version : HasRightVersion list before entry
+  pub added : Adds (take entry.stamp.version list) slot before entry entry
+
+-- each of the first entries of the journal, so many of them, is legal after those before it
+abbrev pub AreLegal : List Entry → (slot : ℕ) → List SlotEntry → (count : ℕ) → Type 0
+AreLegal list slot journal count =
+    (at : ℕ) (entry : SlotEntry) → at < count → slice_get journal at ≡ Some entry → IsLegalEntry list slot (take at journal) entry
+
+-- the journal of this slot is legal over the policy list: each of its entries is
+abbrev pub IsLegal : List Entry → (slot : ℕ) → List SlotEntry → Type 0
+IsLegal list slot journal = AreLegal list slot journal (length journal)

@@ -1,0 +1,119 @@
+"""A slot as docs/PROTOCOL.md says it: which commands are refused, as far as that can be told without the language's semantics."""
+
+import re
+
+from policy import Refused
+
+MOST_ENTRIES = 65_536
+# refusals that only the language decides, each behind those that are judged here: faults of a text, and a step without a reaction
+OF_TEXTS = set(range(70, 81))
+OF_STEPS = {50}
+
+
+class Module:
+    """The interface and the relations of the main module of a text that was accepted."""
+
+    def __init__(self, main, text):
+        text = re.sub(r"%\{.*?\}%", " ", text, flags=re.DOTALL)
+        text = re.sub(r"%[^\n]*", " ", text)
+        body = re.search(rf"\bmodule\s+{main}\s*:(.*)", text, re.DOTALL)[1]
+        self.signals, self.inputs, self.relations = [], set(), []
+        while found := re.match(r"\s*(input|output|relation)\b([^;]*);", body):
+            parts = [part.strip() for part in found[2].split(",")]
+            if found[1] == "relation":
+                self.relations += parts
+            else:
+                self.signals += parts
+                self.inputs |= set(parts) if found[1] == "input" else set()
+            body = body[found.end():]
+
+    def excluded(self, pending, signal):
+        """The first exclusion, by its number, that the offered signal and a pending one break, with that one; or None."""
+        for number, relation in enumerate(self.relations, 1):
+            members = list(dict.fromkeys(name.strip() for name in relation.split("#")))
+            if "#" in relation and signal in members:
+                for member in members:
+                    if member in pending and member != signal:
+                        return number, member
+        return None
+
+    def lacking(self, pending):
+        """The first implication, by its number, that the pending signals lack one of, with that one; or None."""
+        for number, relation in enumerate(self.relations, 1):
+            if "=>" in relation:
+                condition, implied = [name.strip() for name in relation.split("=>")]
+                if condition in pending and implied not in pending:
+                    return number, implied
+        return None
+
+
+class Slot:
+    """The journal of a slot, and what it says: the module that runs, the pending inputs, and the inputs of each instant."""
+
+    def __init__(self, number):
+        self.number = number
+        self.entries = []
+        self.module = None
+        self.pending = set()
+        self.instants = []
+
+    def needs(self, command, keys):
+        """The permission that the command needs, if any."""
+        number = str(self.number)
+        return {
+            "load": ("load", number), "unload": ("load", number), "step": ("step", number), "discard": ("step", number),
+            "offer": ("offer", f"{number}.{keys.get('signal')}"), "audit": ("audit", "policy"), "look": None,
+        }[command]
+
+    def judge(self, policy, session, command, keys):
+        """Raises the first refusal that holds, of those that can be told here."""
+        if session not in policy.sessions:
+            raise Refused(4)
+        needed = self.needs(command, keys)
+        if needed and not policy.may(session, *needed):
+            raise Refused(10, op=needed[0], object=needed[1])
+        if command == "load":
+            if self.module:
+                raise Refused(61)
+            return
+        if command == "audit":
+            return
+        if not self.module:
+            raise Refused(62)
+        getattr(self, f"judge_{command}", lambda **_: None)(**keys)
+
+    def judge_look(self, instant, **_):
+        if not 1 <= instant <= len(self.instants):
+            raise Refused(66)
+
+    def judge_offer(self, signal, **_):
+        module = self.module
+        if signal not in module.signals:
+            raise Refused(63)
+        if signal not in module.inputs:
+            raise Refused(64)
+        if signal in self.pending:
+            raise Refused(65)
+        if found := module.excluded(self.pending, signal):
+            raise Refused(40, relation=found[0], signal=found[1])
+
+    def judge_step(self, **_):
+        if found := self.module.lacking(self.pending):
+            raise Refused(41, relation=found[0], missing=found[1])
+
+    def add(self, version, session, command, keys):
+        """Adds the entry of a command that was accepted."""
+        if len(self.entries) >= MOST_ENTRIES:
+            raise Refused(67)
+        self.entries.append((version, session, command, keys))
+        if command == "load":
+            self.module, self.pending, self.instants = Module(keys["main"], keys["text"]), set(), []
+        elif command == "unload":
+            self.module, self.pending, self.instants = None, set(), []
+        elif command == "offer":
+            self.pending.add(keys["signal"])
+        elif command == "discard":
+            self.pending = set()
+        elif command == "step":
+            self.instants.append(self.pending)
+            self.pending = set()
