@@ -19,23 +19,29 @@ use reactor_core::laws::{one_load, one_module};
 
 /// A refused command changes nothing on the desk.
 pub fn refusals_change_nothing()
-    ensures policy { (session : Option ℕ) (command : AdminCommand) (before : DeskState) (refusal : Refusal) (after : DeskState)
+    ensures policy { (session : Option ℕ) (command : AdminCommand) (before : DeskState)
+        (refusal : Refusal) (after : DeskState)
         → AdminStep session command before (Refused refusal) after → after ≡ before }
-    ensures slots { (number session : ℕ) (command : SlotCommand) (before : DeskState) (refusal : Refusal) (after : DeskState)
+    ensures slots { (number session : ℕ) (command : SlotCommand) (before : DeskState)
+        (refusal : Refusal) (after : DeskState)
         → DeskStep number session command before (Refused refusal) after → after ≡ before }
 {}
 
 /// A slot command is accepted only from a session that has what the command needs.
 pub fn accepted_is_allowed()
-    ensures { (number session : ℕ) (command : SlotCommand) (before : DeskState) (reply : Reply) (after : DeskState)
-        → DeskStep number session command before reply after → IsAccepted reply → Needs before.entries number session command }
+    ensures { (number session : ℕ) (command : SlotCommand) (before : DeskState) (reply : Reply)
+        (after : DeskState)
+        → DeskStep number session command before reply after → IsAccepted reply
+        → Needs before.entries number session command }
 {}
 
 /// A step that reaches the reactor, and whose pending inputs keep each relation, is answered Stuck exactly where there is no
 /// reaction, but for want of memory.
 pub fn stuck_exactly()
-    ensures { (entries : List Entry) (slot session : ℕ) (command : SlotCommand) (before : List SlotEntry) (reply : Reply) (after : List SlotEntry)
-        → SlotStep entries slot session command before reply after → ReachesReactor entries slot session command before
+    ensures { (entries : List Entry) (slot session : ℕ) (command : SlotCommand)
+        (before : List SlotEntry) (reply : Reply) (after : List SlotEntry)
+        → SlotStep entries slot session command before reply after
+        → ReachesReactor entries slot session command before
         → IsStuckExactly entries slot session before reply }
 {
     one_module();
@@ -43,8 +49,10 @@ pub fn stuck_exactly()
 
 /// A command on a slot has one answer after the same journal: one reply, and one journal afterwards, want of memory aside.
 pub fn one_slot_answer()
-    ensures { (entries : List Entry) (slot session : ℕ) (command : SlotCommand) (before : List SlotEntry) (r s : Reply) (a b : List SlotEntry)
-        → SlotStep entries slot session command before r a → SlotStep entries slot session command before s b
+    ensures { (entries : List Entry) (slot session : ℕ) (command : SlotCommand)
+        (before : List SlotEntry) (r s : Reply) (a b : List SlotEntry)
+        → SlotStep entries slot session command before r a
+        → SlotStep entries slot session command before s b
         → ¬ (r ≡ Refused Memory) → ¬ (s ≡ Refused Memory) → (r ≡ s) × (a ≡ b) }
 {
     one_module();
@@ -56,10 +64,14 @@ pub fn one_slot_answer()
 pub fn journals_are_legal()
     ensures grows { (list longer : List Entry) (slot : ℕ) (journal : List SlotEntry)
         → Begins list longer → IsLegal list slot journal → IsLegal longer slot journal }
-    ensures steps { (list : List Entry) (slot session : ℕ) (command : SlotCommand) (before : List SlotEntry) (reply : Reply) (after : List SlotEntry)
-        → IsLegal list slot before → SlotStep list slot session command before reply after → IsLegal list slot after }
-    ensures rises { (list : List Entry) (slot early late : ℕ) (journal : List SlotEntry) (x y : SlotEntry)
-        → IsLegal list slot journal → early ≤ late → slice_get journal early ≡ Some x → slice_get journal late ≡ Some y
+    ensures steps { (list : List Entry) (slot session : ℕ) (command : SlotCommand)
+        (before : List SlotEntry) (reply : Reply) (after : List SlotEntry)
+        → IsLegal list slot before → SlotStep list slot session command before reply after
+        → IsLegal list slot after }
+    ensures rises { (list : List Entry) (slot early late : ℕ) (journal : List SlotEntry)
+        (x y : SlotEntry)
+        → IsLegal list slot journal → early ≤ late → slice_get journal early ≡ Some x
+        → slice_get journal late ≡ Some y
         → x.stamp.version ≤ y.stamp.version }
     ensures allowed { (list : List Entry) (slot at : ℕ) (journal : List SlotEntry) (x : SlotEntry)
         → IsLegal list slot journal → slice_get journal at ≡ Some x

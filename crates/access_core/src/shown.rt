@@ -19,7 +19,8 @@ use std::alloc::{AllocError, Global};
 
 /// Whether the session may observe the signal of this name in the slot.
 fn may_observe(policy: &Policy, slot: SlotNumber, session: SessionId, name: &Identifier) -> bool
-    ensures { (entries : List Entry) → StandsFor policy.now entries → (IsTrue result ↔ May entries session Observe (Signal slot name.now)) }
+    ensures { (entries : List Entry) → StandsFor policy.now entries
+        → (IsTrue result ↔ May entries session Observe (Signal slot name.now)) }
 {
     policy.may(session, &Operation::Observe, &Object::Signal(slot, *name))
 }
@@ -31,7 +32,8 @@ pub fn find_observed(
     session: SessionId,
     interface: &Interface,
 ) -> u64
-    ensures { (entries : List Entry) → StandsFor policy.now entries → Sees entries session slot interface.now (bits result) }
+    ensures { (entries : List Entry) → StandsFor policy.now entries
+        → Sees entries session slot interface.now (bits result) }
 {
     let declarations = interface.declarations();
     let mut seen = 0;
@@ -50,7 +52,8 @@ pub fn list_statuses(
     seen: u64,
     present: u64,
 ) -> Result<ShownSignals, AllocError>
-    ensures { IfOk result (λ shown. shown ≡ map (present_at interface.now present) (filter (bits seen) (places_of interface.now))) }
+    ensures { IfOk result (λ shown. shown ≡ map (present_at interface.now present) (filter
+        (bits seen) (places_of interface.now))) }
 {
     let declarations = interface.declarations();
     let mut shown = ShownSignals::new(alloc);
@@ -77,7 +80,8 @@ pub fn list_names(
     interface: &Interface,
     signals: u64,
 ) -> Result<SignalNames, AllocError>
-    ensures { IfOk result (λ names. names ≡ map (name_at interface.now) (filter (bits signals) (places_of interface.now))) }
+    ensures { IfOk result (λ names. names ≡ map (name_at interface.now) (filter (bits signals)
+        (places_of interface.now))) }
 {
     let declarations = interface.declarations();
     let mut names = SignalNames::new(alloc);

@@ -1,5 +1,6 @@
 //! A policy with its list, and sixteen slots, in one hand.
-ghost use Rattle.std.specs.Prelude.{◌≡◌, ◌↔◌, ◌<◌, ◌≤◌, ◌++◌, ◌∷◌, [], List, IsTrue, IfOk, MatchOption, MatchResult, length, take};
+ghost use Rattle.std.specs.Prelude.{◌≡◌, ◌↔◌, ◌<◌, ◌≤◌, ◌++◌, ◌∷◌, [], List, IsTrue, IfOk, MatchOption, MatchResult};
+ghost use Rattle.std.specs.Prelude.{length, take};
 ghost use Rattle.rbac_policy.specs.declared.commands.Entry.{Entry};
 ghost use Rattle.rbac_policy.specs.Change.{absorbed, policy_of};
 ghost use Rattle.rbac_policy.specs.Facts.{May};
@@ -8,7 +9,8 @@ ghost use Rattle.rbac_policy.specs.StandsFor.{StandsFor};
 ghost use Rattle.refusal_rules.specs.Rules.{accept, ◌▸◌};
 ghost use Rattle.access_core.specs.Answering.{ByRules, no_memory};
 ghost use Rattle.access_core.specs.Inner.Ending.{EndsLiving};
-ghost use Rattle.access_core.specs.Desk.{DeskState, AreSlots, opening_desk, desk_at, empty_slot, change_of, accepted_reply, HasRoomFor, list_full, Appends, AdminStep, DeskStep};
+ghost use Rattle.access_core.specs.Desk.{DeskState, AreSlots, opening_desk, desk_at, empty_slot, change_of};
+ghost use Rattle.access_core.specs.Desk.{accepted_reply, HasRoomFor, list_full, Appends, AdminStep, DeskStep};
 
 use crate::command::SlotCommand;
 use crate::refusal::Refusal;
@@ -53,7 +55,8 @@ impl Model for Single {
 
     ghost view = { λ s. record { entries = s.entries; slots = s.slots } };
 
-    ghost invariant = { λ s. StandsFor s.policy s.entries × AreSlots s.slots × LeavesRoom most_entries s.entries × AllFit s.entries };
+    ghost invariant = { λ s. StandsFor s.policy s.entries × AreSlots s.slots
+        × LeavesRoom most_entries s.entries × AllFit s.entries };
 }
 
 /// The change that the command makes of the policy; a login makes none.
@@ -120,7 +123,8 @@ fn take_in(policy: &mut Policy, entries: &mut PolicyJournal, entry: Entry) -> Re
 
 /// The reply to the accepted entry, of this change or a login, that the policy took in last.
 fn answer_accepted(policy: &Policy, change: Option<Change>) -> Reply
-    ensures { (before : List Entry) (entry : Entry) → StandsFor policy.now (before ++ entry ∷ []) → change ≡ change_of entry.command
+    ensures { (before : List Entry) (entry : Entry) → StandsFor policy.now (before ++ entry ∷ [])
+        → change ≡ change_of entry.command
         → result ≡ accepted_reply before entry.command }
 {
     let version = policy.version();
@@ -191,7 +195,8 @@ fn answer_slot(
     requires { AreSlots slots.old }
     ensures slots { AreSlots slots.new }
     ensures step { (entries : List Entry) → StandsFor policy.now entries
-        → DeskStep number session command (record { entries = entries; slots = slots.old }) result (record { entries = entries; slots = slots.new }) }
+        → DeskStep number session command (record { entries = entries; slots = slots.old }) result
+        (record { entries = entries; slots = slots.new }) }
 {
     if !policy.lives(session) {
         return Reply::Refused(Refusal::NoSession);
@@ -245,7 +250,8 @@ impl Single {
     fn append(&mut self, entry: Entry) -> Reply
         requires fits { length self.old.entries < LAST_VERSION → Fits self.old.entries entry }
         requires logout { EndsLiving self.old.entries entry }
-        ensures { ByRules (list_full self.old.entries entry ▸ no_memory ▸ accept) (Appends entry) self.old result self.new }
+        ensures { ByRules (list_full self.old.entries entry ▸ no_memory ▸ accept) (Appends entry)
+            self.old result self.new }
     {
         if !has_room(self.entries.entries(), &entry.command) {
             return Reply::Refused(Refusal::JournalFull);
@@ -284,7 +290,8 @@ impl Single {
         command: SlotCommand,
     ) -> Reply
         requires { version ≤ length self.old.entries }
-        ensures step { DeskStep number session command (desk_at version self.old) result (desk_at version self.new) }
+        ensures step { DeskStep number session command (desk_at version self.old) result
+            (desk_at version self.new) }
         ensures entries { self.new.entries ≡ self.old.entries }
     {
         let policy = policy_at(self.entries.entries(), version);

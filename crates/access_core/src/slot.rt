@@ -6,7 +6,9 @@ ghost use Rattle.rbac_policy.specs.declared.commands.Entry.{Entry};
 ghost use Rattle.rbac_policy.specs.StandsFor.{StandsFor};
 ghost use Rattle.refusal_rules.specs.Rules.{accept, ◌▸◌, TestsAll};
 ghost use Rattle.access_core.specs.Answering.{ByRules, no_memory};
-ghost use Rattle.access_core.specs.SlotStep.{SlotStep, access_rules, no_instant, NamesUndecided, settle_rules, step_rules, entry_rules, journal_full, stamp_of, Offers, AddsEntry, Steps, Looks, Audits};
+ghost use Rattle.access_core.specs.SlotStep.{SlotStep, access_rules, no_instant, NamesUndecided, settle_rules};
+ghost use Rattle.access_core.specs.SlotStep.{step_rules, entry_rules, journal_full, stamp_of, Offers, AddsEntry};
+ghost use Rattle.access_core.specs.SlotStep.{Steps, Looks, Audits};
 ghost use Rattle.reactor_core.specs.Meaning.{is_loaded};
 ghost use Rattle.reactor_core.specs.declared.entry.Action.TheVariants as action;
 ghost use Rattle.reactor_core.specs.Instants.{IsOutcome, HasNoOutcome};
@@ -66,7 +68,8 @@ impl Model for Slot {
 
 /// The version and the session that an entry bears.
 fn stamp(policy: &Policy, session: SessionId) -> Stamp
-    ensures { (entries : List Entry) → StandsFor policy.now entries → result ≡ stamp_of entries session }
+    ensures { (entries : List Entry) → StandsFor policy.now entries
+        → result ≡ stamp_of entries session }
 {
     Stamp {
         version: policy.version(),
@@ -84,7 +87,8 @@ fn show_instant(
     instant: u64,
 ) -> Reply
     ensures { (entries : List Entry) → StandsFor policy.now entries
-        → ByRules (no_instant reactor.now instant ▸ no_memory ▸ accept) (Looks entries slot session instant)
+        → ByRules (no_instant reactor.now instant ▸ no_memory ▸ accept)
+        (Looks entries slot session instant)
         reactor.now result reactor.now }
 {
     let interface = reactor.interface();
@@ -141,7 +145,8 @@ fn offer_signal(reactor: &mut Reactor, stamp: Stamp, signal: &Identifier) -> Rep
 /// Takes the reactor's pending inputs away.
 fn discard_inputs(reactor: &mut Reactor, stamp: Stamp) -> Reply
     ensures loaded { is_loaded reactor.new ≡ true }
-    ensures step { ByRules (entry_rules reactor.old) (AddsEntry action.Discard Discarded stamp) reactor.old result reactor.new }
+    ensures step { ByRules (entry_rules reactor.old) (AddsEntry action.Discard Discarded stamp)
+        reactor.old result reactor.new }
 {
     match reactor.discard(stamp) {
         Ok(()) => Reply::Discard {
@@ -156,7 +161,8 @@ fn discard_inputs(reactor: &mut Reactor, stamp: Stamp) -> Reply
 fn unload_module(reactor: Reactor, stamp: Stamp) -> (Reply, Content)
     requires { is_loaded reactor ≡ true }
     ensures held { IsHeldRight result.1 }
-    ensures step { ByRules (entry_rules reactor) (AddsEntry action.Unload Unloaded stamp) reactor result.0 (journal_of result.1) }
+    ensures step { ByRules (entry_rules reactor) (AddsEntry action.Unload Unloaded stamp) reactor
+        result.0 (journal_of result.1) }
 {
     match reactor.unload(stamp) {
         Ok(journal) => {
@@ -177,7 +183,8 @@ fn unload_module(reactor: Reactor, stamp: Stamp) -> (Reply, Content)
 fn commit_step(settled: Settled, stamp: Stamp) -> (Reply, Reactor)
     requires { (next : Term) × IsOutcome settled.journal settled.outputs next }
     ensures loaded { is_loaded result.1 ≡ true }
-    ensures step { ByRules (no_memory ▸ journal_full settled.journal ▸ accept) (Steps stamp) settled.journal result.0 result.1 }
+    ensures step { ByRules (no_memory ▸ journal_full settled.journal ▸ accept) (Steps stamp)
+        settled.journal result.0 result.1 }
 {
     match settled.commit(stamp) {
         Ok(reactor) => {
@@ -202,7 +209,8 @@ fn settle_step(
 ) -> (Reply, Reactor)
     ensures loaded { is_loaded result.1 ≡ true }
     ensures step { (entries : List Entry) → StandsFor policy.now entries
-        → ByRules (settle_rules entries slot session opened) (Steps (stamp_of entries session)) opened result.0 result.1 }
+        → ByRules (settle_rules entries slot session opened) (Steps (stamp_of entries session))
+        opened result.0 result.1 }
 {
     match opened.settle() {
         Ok(settled) => commit_step(settled, stamp(policy, session)),
@@ -223,7 +231,8 @@ fn step_reactor(
 ) -> (Reply, Reactor)
     ensures loaded { is_loaded result.1 ≡ true }
     ensures step { (entries : List Entry) → StandsFor policy.now entries
-        → ByRules (step_rules entries slot session reactor) (Steps (stamp_of entries session)) reactor result.0 result.1 }
+        → ByRules (step_rules entries slot session reactor) (Steps (stamp_of entries session))
+        reactor result.0 result.1 }
 {
     match reactor.open() {
         Ok(opened) => settle_step(alloc, policy, slot, session, opened),
@@ -317,7 +326,8 @@ impl Slot {
     fn step(&mut self, policy: &Policy, session: SessionId) -> Reply
         ensures number { self.new.number ≡ self.old.number }
         ensures step { (entries : List Entry) → StandsFor policy.now entries
-            → ByRules (empty self.old.journal ▸ step_rules entries self.old.number session self.old.journal)
+            → ByRules (empty self.old.journal ▸ step_rules entries self.old.number session
+            self.old.journal)
             (Steps (stamp_of entries session)) self.old.journal result self.new.journal }
     {
         let empty = Content::Empty(Journal::new(self.alloc));
@@ -342,7 +352,8 @@ impl Slot {
 
     fn discard(&mut self, stamp: Stamp) -> Reply
         ensures number { self.new.number ≡ self.old.number }
-        ensures step { ByRules (empty self.old.journal ▸ entry_rules self.old.journal) (AddsEntry action.Discard Discarded stamp)
+        ensures step { ByRules (empty self.old.journal ▸ entry_rules self.old.journal)
+            (AddsEntry action.Discard Discarded stamp)
             self.old.journal result self.new.journal }
     {
         if let Content::Loaded(reactor) = &mut self.content {
@@ -353,7 +364,8 @@ impl Slot {
 
     fn unload(&mut self, stamp: Stamp) -> Reply
         ensures number { self.new.number ≡ self.old.number }
-        ensures step { ByRules (empty self.old.journal ▸ entry_rules self.old.journal) (AddsEntry action.Unload Unloaded stamp)
+        ensures step { ByRules (empty self.old.journal ▸ entry_rules self.old.journal)
+            (AddsEntry action.Unload Unloaded stamp)
             self.old.journal result self.new.journal }
     {
         let empty = Content::Empty(Journal::new(self.alloc));
@@ -371,7 +383,8 @@ impl Slot {
     }
 
     fn audit(&self, policy: &Policy) -> Reply
-        ensures { (entries : List Entry) → StandsFor policy.now entries → Audits entries self.now.journal result self.now.journal }
+        ensures { (entries : List Entry) → StandsFor policy.now entries
+            → Audits entries self.now.journal result self.now.journal }
     {
         let instants = match &self.content {
             Content::Empty(_) => 0,
@@ -386,7 +399,8 @@ impl Slot {
 
     fn look(&self, policy: &Policy, session: SessionId, instant: u64) -> Reply
         ensures { (entries : List Entry) → StandsFor policy.now entries
-            → ByRules (empty self.now.journal ▸ no_instant self.now.journal instant ▸ no_memory ▸ accept)
+            → ByRules (empty self.now.journal ▸ no_instant self.now.journal instant ▸ no_memory
+            ▸ accept)
             (Looks entries self.now.number session instant) self.now.journal result self.now.journal }
     {
         match &self.content {
@@ -453,7 +467,8 @@ pub fn decide_slot(
 ) -> Reply
     ensures number { slot.new.number ≡ slot.old.number }
     ensures step { (entries : List Entry) → StandsFor policy.now entries
-        → SlotStep entries slot.old.number session command slot.old.journal result slot.new.journal }
+        → SlotStep entries slot.old.number session command slot.old.journal result
+        slot.new.journal }
 {
     if let Err(refusal) = check_access(policy, session, slot.number(), &command) {
         return Reply::Refused(refusal);

@@ -127,7 +127,8 @@ impl Hall {
         session: SessionId,
         command: SlotCommand,
     ) -> Reply
-        ensures { EventStep (event.OnSlot seat version slot session command) self.old result self.new }
+        ensures { EventStep (event.OnSlot seat version slot session command) self.old result
+            self.new }
     {
         let known = self.newest_known(seat, slot);
         if version < known {

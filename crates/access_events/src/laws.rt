@@ -1,7 +1,8 @@
 //! The laws of runs. Each function does nothing but call the law that it follows from, if there is one: its contract is the law.
 ghost use Rattle.std.specs.Prelude.{◌≡◌, ℕ, List, Some, length, take, slice_get};
 ghost use Rattle.access_events.specs.Changes.{Changes};
-ghost use Rattle.access_events.specs.Laws.{EntersWhereOffered, OffersWhereAllowed, StepsWhereAllowed, LooksShowTheReaction, DenialsNameTheFirst};
+ghost use Rattle.access_events.specs.Laws.{EntersWhereOffered, OffersWhereAllowed, StepsWhereAllowed};
+ghost use Rattle.access_events.specs.Laws.{LooksShowTheReaction, DenialsNameTheFirst};
 ghost use Rattle.access_events.specs.OneRun.{OneMomentFollows, OneRun, OneEnd};
 ghost use Rattle.access_events.specs.Rising.{Rises};
 ghost use Rattle.access_events.specs.Runs.{Moment, IsRun, Comes, journal_at};
@@ -10,12 +11,14 @@ use reactor_core::laws::{one_load, one_module};
 
 /// Each moment of a run comes after the moments at the places before it.
 pub fn moments_come_in_order()
-    ensures { (run : List Moment) → IsRun run → (n : ℕ) (m : Moment) → slice_get run n ≡ Some m → Comes (take n run) m }
+    ensures { (run : List Moment) → IsRun run → (n : ℕ) (m : Moment) → slice_get run n ≡ Some m
+        → Comes (take n run) m }
 {}
 
 /// The versions along the journal of each slot never fall, and none is over the length of the policy list.
 pub fn versions_never_fall()
-    ensures { (past : List Moment) (m : Moment) → Comes past m → (slot : ℕ) → Rises 0 (length m.before.entries) (journal_at m.before slot) }
+    ensures { (past : List Moment) (m : Moment) → Comes past m → (slot : ℕ)
+        → Rises 0 (length m.before.entries) (journal_at m.before slot) }
 {}
 
 /// Change: an accepted command adds its one entry to the one list that it concerns, and its session may give it at the version of the

@@ -16,7 +16,8 @@ pub fn one_verdict()
     ensures none { (entries : List Entry) (slots : List (List SlotEntry)) (finding : Finding)
         → HaveNoFinding entries slots → IsFirst entries slots finding → finding ≡ Memory }
     ensures one { (entries : List Entry) (slots : List (List SlotEntry)) (finding other : Finding)
-        → IsFirst entries slots finding → IsFirst entries slots other → ¬ (finding ≡ Memory) → ¬ (other ≡ Memory) → finding ≡ other }
+        → IsFirst entries slots finding → IsFirst entries slots other → ¬ (finding ≡ Memory)
+        → ¬ (other ≡ Memory) → finding ≡ other }
 {
     one_slot_answer();
 }
@@ -24,9 +25,12 @@ pub fn one_verdict()
 /// Where there is nothing to find, each entry of a slot was allowed: on as many entries of the policy list as its version says, its session had
 /// what the entry's command needs.
 pub fn each_entry_was_allowed()
-    ensures { (entries : List Entry) (slots : List (List SlotEntry)) (number at : ℕ) (journal : List SlotEntry) (entry : SlotEntry)
-        → HaveNoFinding entries slots → slice_get slots number ≡ Some journal → slice_get journal at ≡ Some entry
-        → Needs (take entry.stamp.version entries) number entry.stamp.session (command_of entry.action) }
+    ensures { (entries : List Entry) (slots : List (List SlotEntry)) (number at : ℕ)
+        (journal : List SlotEntry) (entry : SlotEntry)
+        → HaveNoFinding entries slots → slice_get slots number ≡ Some journal
+        → slice_get journal at ≡ Some entry
+        → Needs (take entry.stamp.version entries) number entry.stamp.session
+        (command_of entry.action) }
 {
     journals_are_legal();
 }

@@ -35,7 +35,8 @@ fn count_steps(entries: &[SlotEntry]) -> usize
 
 /// Adds the line of the slot of this number, if its journal has entries.
 fn add_slot(text: &mut String, number: usize, entries: &[SlotEntry]) -> Result<(), AllocError>
-    ensures { OnOk result (string_bytes text.new ≡ string_bytes text.old ++ slot_line number entries.now) }
+    ensures { OnOk result (string_bytes text.new ≡ string_bytes text.old ++ slot_line number
+        entries.now) }
 {
     if entries.is_empty() {
         return Ok(());
@@ -49,7 +50,8 @@ fn add_slot(text: &mut String, number: usize, entries: &[SlotEntry]) -> Result<(
 
 /// Adds the words of the verdict.
 fn add_verdict(text: &mut String, verdict: &Result<(), Finding>) -> Result<(), AllocError>
-    ensures { OnOk result (string_bytes text.new ≡ string_bytes text.old ++ verdict_text verdict.now) }
+    ensures { OnOk result (string_bytes text.new ≡ string_bytes text.old ++ verdict_text
+        verdict.now) }
 {
     match verdict {
         Ok(()) => write!(text, "ok"),
@@ -67,7 +69,8 @@ pub fn report(
     policy: &PolicyJournal,
     slots: &[Journal; SLOTS as usize],
 ) -> Result<String, AllocError>
-    ensures { IfOk result (λ text. (verdict : Result (Unit {0}) Finding) × IsVerdict policy.now slots.now verdict
+    ensures { IfOk result (λ text. (verdict : Result (Unit {0}) Finding)
+        × IsVerdict policy.now slots.now verdict
         × (string_bytes text ≡ report_text policy.now slots.now verdict)) }
 {
     let verdict = check(alloc, policy, slots);

@@ -91,7 +91,8 @@ fn replay_entry(
     entry: &SlotEntry,
 ) -> Result<(), Fault>
     ensures number { slot.new.number ≡ slot.old.number }
-    ensures step { (judged : List Entry) → StandsFor policy.now judged → length judged ≡ entry.now.stamp.version
+    ensures step { (judged : List Entry) → StandsFor policy.now judged
+        → length judged ≡ entry.now.stamp.version
         → Replays judged slot.old.number slot.old.journal entry.now result slot.new.journal }
 {
     let Ok(command) = command_of(alloc, &entry.action) else {

@@ -90,7 +90,8 @@ fn ask_login<D: Desk>(desk: &mut D, login: Option<Login>, roles: RoleNames, user
 /// A logout on a connection with this login.
 fn ask_logout<D: Desk>(desk: &mut D, login: Option<Login>) -> Turn
     ensures asked { Asks D.answers wire.Logout (session_of login) desk.old result.reply desk.new }
-    ensures login { session_of result.login ≡ login_after wire.Logout result.reply (session_of login) }
+    ensures login { session_of result.login ≡ login_after wire.Logout result.reply (session_of
+        login) }
 {
     match login {
         Some(login) => {

@@ -30,7 +30,8 @@ pub struct Login {
 
 /// Asks for a session of this user in these roles, and holds it where it was begun.
 pub fn log_in<D: Desk>(desk: &mut D, user: Name, roles: RoleNames) -> (Reply, Option<Login>)
-    ensures asked { D.answers desk.old (to_policy None (CreateSession user roles)) result.0 desk.new }
+    ensures asked { D.answers desk.old (to_policy None (CreateSession user roles)) result.0
+        desk.new }
     ensures held { session_of result.1 ≡ after_login result.0 None }
 {
     let reply = desk.admin(None, AdminCommand::CreateSession { user, roles });

@@ -71,7 +71,8 @@ fn place_among(names: &[Identifier], name: &Identifier) -> Option<usize>
 /// The place of a name among those of a `signal`.
 #[tactic(auto, using(crate::proofs::Places::position_cons))]
 fn place_of(names: &Names, name: &Identifier) -> Result<Option<u32>, AllocError>
-    ensures { IfOk result (λ p. p ≡ position (λ n. bytes_eq n name.now) (names.now.first ∷ names.now.later.items)) }
+    ensures { IfOk result (λ p. p ≡ position (λ n. bytes_eq n name.now) (names.now.first ∷
+        names.now.later.items)) }
 {
     if names.first.is(name) {
         return Ok(Some(0));
@@ -91,7 +92,8 @@ fn place_declared(interface: &[Declared], name: &Identifier) -> Option<usize>
 
 /// The interface signal of a name.
 fn interface_signal(interface: &[Declared], name: &Identifier) -> Result<BoundTest, AllocError>
-    ensures { IfOk result (λ t. query_view t ≡ of_interface (position (λ d. bytes_eq d.name name.now) interface.now)) }
+    ensures { IfOk result (λ t. query_view t ≡ of_interface (position
+        (λ d. bytes_eq d.name name.now) interface.now)) }
 {
     match place_declared(interface, name) {
         Some(place) => Ok(BoundTest::Of(BoundSignal::Outer(small(place)?))),
@@ -118,7 +120,8 @@ pub fn signal_at(
     scope: &Scope<'_>,
     name: &Identifier,
 ) -> Result<BoundTest, AllocError>
-    ensures { IfOk result (λ t. query_view t ≡ signal_at (program_of home.now) (binders_of scope.now) name.now) }
+    ensures { IfOk result (λ t. query_view t ≡ signal_at (program_of home.now) (binders_of
+        scope.now) name.now) }
 {
     match scope {
         Scope::Module => interface_signal(&home.interface, name),

@@ -23,7 +23,8 @@ pub fn emitted(test: BoundTest) -> BoundSignal
 
 /// What a signal of the body stands for.
 fn bind_signal(binding: &Binding<'_>, signal: BoundSignal) -> Result<BoundTest, AllocError>
-    ensures { IfOk result (λ t. query_view t ≡ bound_name (binding_of binding.now) binding.now.locals (name_view signal)) }
+    ensures { IfOk result (λ t. query_view t ≡ bound_name (binding_of binding.now)
+        binding.now.locals (name_view signal)) }
 {
     match signal {
         BoundSignal::Outer(index) => interface_bound(binding, index),
@@ -35,14 +36,16 @@ fn bind_signal(binding: &Binding<'_>, signal: BoundSignal) -> Result<BoundTest, 
 
 /// What is emitted in place of a signal of the body.
 fn bind_sent(binding: &Binding<'_>, signal: BoundSignal) -> Result<BoundSignal, AllocError>
-    ensures { IfOk result (λ n. name_view n ≡ emitted (bound_name (binding_of binding.now) binding.now.locals (name_view signal))) }
+    ensures { IfOk result (λ n. name_view n ≡ emitted (bound_name (binding_of binding.now)
+        binding.now.locals (name_view signal))) }
 {
     Ok(emitted(bind_signal(binding, signal)?))
 }
 
 /// What is asked in place of a test of the body.
 fn bind_test(binding: &Binding<'_>, test: BoundTest) -> Result<BoundTest, AllocError>
-    ensures { IfOk result (λ t. query_view t ≡ bound_query (binding_of binding.now) binding.now.locals (query_view test)) }
+    ensures { IfOk result (λ t. query_view t ≡ bound_query (binding_of binding.now)
+        binding.now.locals (query_view test)) }
 {
     match test {
         BoundTest::Tick => Ok(BoundTest::Tick),
@@ -53,7 +56,8 @@ fn bind_test(binding: &Binding<'_>, test: BoundTest) -> Result<BoundTest, AllocE
 /// What is waited for in place of a wait of the body.
 fn bind_wait(binding: &Binding<'_>, wait: Wait) -> Result<Wait, AllocError>
     ensures immediate { IfOk result (λ w. w.immediate ≡ wait.immediate) }
-    ensures test { IfOk result (λ w. query_view w.test ≡ bound_query (binding_of binding.now) binding.now.locals (query_view wait.test)) }
+    ensures test { IfOk result (λ w. query_view w.test
+        ≡ bound_query (binding_of binding.now) binding.now.locals (query_view wait.test)) }
 {
     Ok(Wait {
         immediate: wait.immediate,
@@ -64,7 +68,8 @@ fn bind_wait(binding: &Binding<'_>, wait: Wait) -> Result<Wait, AllocError>
 /// A flat body whose interface signals stand for those that the `run` binds, inside the local signals round the `run`.
 #[cycle(bind)]
 pub fn bind_body(run: &Binding<'_>, flat: &Body) -> Result<Body, AllocError>
-    ensures { IfOk result (λ f. body_of f ≡ bound (binding_of run.now) run.now.locals (body_of flat.now)) }
+    ensures { IfOk result (λ f. body_of f ≡ bound (binding_of run.now) run.now.locals (body_of
+        flat.now)) }
 {
     match flat {
         Body::Nothing => Ok(Body::Nothing),
@@ -94,7 +99,8 @@ pub fn bind_body(run: &Binding<'_>, flat: &Body) -> Result<Body, AllocError>
 /// A body in a box, so bound.
 #[cycle(bind)]
 fn bind_box(run: &Binding<'_>, flat: &Body) -> Result<Box<Body>, AllocError>
-    ensures { IfOk result (λ b. body_of b.value ≡ bound (binding_of run.now) run.now.locals (body_of flat.now)) }
+    ensures { IfOk result (λ b. body_of b.value ≡ bound (binding_of run.now) run.now.locals (body_of
+        flat.now)) }
 {
     Ok(Box::new(run.alloc, bind_body(run, flat)?)?)
 }

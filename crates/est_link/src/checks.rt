@@ -27,7 +27,8 @@ pub fn fault_before_order<'a>(
     heads: &'a [Head<'a>],
     main: &Identifier,
 ) -> Result<Option<LinkFault>, AllocError>
-    ensures { IfOk result (λ fault. fault ≡ fault_before_order (map program_of heads.now) main.now) }
+    ensures { IfOk result (λ fault. fault ≡ fault_before_order (map program_of heads.now)
+        main.now) }
 {
     if let Some(name) = first_duplicate(alloc, &*heads)? {
         return Ok(Some(LinkFault::DuplicateName(name)));
@@ -40,7 +41,8 @@ pub fn fault_before_order<'a>(
 
 /// The number of the first lawless relation of the main module.
 fn lawless_number(alloc: Global, main: Option<&Head<'_>>) -> Result<Option<usize>, AllocError>
-    ensures { IfOk result (λ number. number ≡ lawless_number (option_map (λ h. program_of h.now) main.entry)) }
+    ensures { IfOk result (λ number. number ≡ lawless_number (option_map (λ h. program_of h.now)
+        main.entry)) }
 {
     match main {
         Some(home) => first_lawless(alloc, home),
@@ -60,7 +62,8 @@ pub fn fault_behind_order<'a>(
     main: &Identifier,
     table: &'a [Emission],
 ) -> Result<Option<LinkFault>, AllocError>
-    ensures { IfOk result (λ fault. fault ≡ fault_behind_order (map program_of heads.now) main.now (emitted_of table.now)) }
+    ensures { IfOk result (λ fault. fault ≡ fault_behind_order (map program_of heads.now) main.now
+        (emitted_of table.now)) }
 {
     if let Some(name) = first_in_bodies(&BadRename { heads: &*heads }, &*heads)? {
         return Ok(Some(LinkFault::BadRename(name)));

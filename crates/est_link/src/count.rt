@@ -77,7 +77,8 @@ fn count_modules(alloc: Global, heads: &[Head<'_>], order: &[usize]) -> Result<V
 fn count_body(heads: &[Head<'_>], numbers: &[u16], place: usize) -> u16
     requires { place < length heads.now }
     ensures { (p : Program) → slice_get (map program_of heads.now) place ≡ Some p
-        → result ≡ min TOO_MANY (counted (number_of (map program_of heads.now) numbers.now) p.body) }
+        → result ≡ min TOO_MANY (counted (number_of (map program_of heads.now) numbers.now)
+        p.body) }
 {
     let head = &heads[place];
     count_statement(&Numbers { heads, numbers }, head.body)
@@ -109,7 +110,8 @@ fn number_of_module(numbers: &Numbers<'_>, name: &Identifier) -> u16
 #[cycle(count)]
 #[tactic(auto, using(crate::proofs::Sums::capped))]
 fn count_unit(numbers: &Numbers<'_>, unit: &Unit) -> u16
-    ensures { result ≡ min TOO_MANY (counted (numbers_of numbers.now) (unit_derived (unit_view unit.now))) }
+    ensures { result ≡ min TOO_MANY (counted (numbers_of numbers.now)
+        (unit_derived (unit_view unit.now))) }
 {
     match unit {
         Unit::Present(_, branches) => count_test(numbers, branches),
@@ -131,7 +133,8 @@ fn count_unit(numbers: &Numbers<'_>, unit: &Unit) -> u16
 #[cycle(count)]
 #[tactic(auto, using(crate::proofs::Sums::capped))]
 fn count_test(numbers: &Numbers<'_>, branches: &Branches) -> u16
-    ensures { (s : List ℕ) → result ≡ min TOO_MANY (counted (numbers_of numbers.now) (branches_derived s (branches_view branches.now))) }
+    ensures { (s : List ℕ) → result ≡ min TOO_MANY (counted (numbers_of numbers.now)
+        (branches_derived s (branches_view branches.now))) }
 {
     match branches {
         Branches::Then(body, _) | Branches::Else(body, _) => sum(count_statement(numbers, body), 1),
@@ -149,7 +152,8 @@ fn count_test(numbers: &Numbers<'_>, branches: &Branches) -> u16
 #[cycle(count)]
 #[tactic(auto, using(crate::proofs::Sums::capped))]
 fn count_sequence(numbers: &Numbers<'_>, sequence: &Sequence) -> u16
-    ensures { result ≡ min TOO_MANY (counted (numbers_of numbers.now) (sequence_derived (sequence_view sequence.now))) }
+    ensures { result ≡ min TOO_MANY (counted (numbers_of numbers.now)
+        (sequence_derived (sequence_view sequence.now))) }
 {
     let mut count = count_unit(numbers, &sequence.first);
     for unit in &sequence.later {
@@ -162,7 +166,8 @@ fn count_sequence(numbers: &Numbers<'_>, sequence: &Sequence) -> u16
 #[cycle(count)]
 #[tactic(auto, using(crate::proofs::Sums::capped))]
 fn count_statement(numbers: &Numbers<'_>, statement: &Statement) -> u16
-    ensures { result ≡ min TOO_MANY (counted (numbers_of numbers.now) (statement_derived (statement_view statement.now))) }
+    ensures { result ≡ min TOO_MANY (counted (numbers_of numbers.now)
+        (statement_derived (statement_view statement.now))) }
 {
     let mut count = count_sequence(numbers, &statement.first);
     for sequence in &statement.later {

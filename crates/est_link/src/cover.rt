@@ -54,7 +54,9 @@ fn has_all(names: &NameSet<'_>, interface: &[Declared]) -> bool
 
 /// Whether the module of a name is there, and has each name of its interface in the set.
 fn is_covered(names: &NameSet<'_>, heads: &[Head<'_>], name: &Identifier) -> bool
-    ensures { (q : Program) → IsTrue result → program_named (map program_of heads.now) name.now ≡ Some q → IsTrue (list_all (λ d. has names.now d.name) q.interface) }
+    ensures { (q : Program) → IsTrue result
+        → program_named (map program_of heads.now) name.now ≡ Some q
+        → IsTrue (list_all (λ d. has names.now d.name) q.interface) }
 {
     match head_named(heads, name) {
         Some(run) => has_all(names, &run.interface),

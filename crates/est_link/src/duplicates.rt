@@ -106,7 +106,8 @@ fn duplicate_of<'a>(
     before: &'a [Head<'a>],
     home: &'a Head<'a>,
 ) -> Result<Option<Identifier>, AllocError>
-    ensures { IfOk result (λ name. name ≡ duplicate_of (map (λ h. h.name) before.now) (program_of home.now)) }
+    ensures { IfOk result (λ name. name ≡ duplicate_of (map (λ h. h.name) before.now) (program_of
+        home.now)) }
 {
     if is_named(before, &home.name) {
         return Ok(Some(home.name));

@@ -1,5 +1,6 @@
 //! What a module emits of the signals that its callers see.
-ghost use Rattle.std.specs.Prelude.{◌≡◌, ℕ, ◌<◌, List, [], length, map, slice_get, Some, None, option_map, not, ◌||◌, ◌&&◌, OnOk, IfOk};
+ghost use Rattle.std.specs.Prelude.{◌≡◌, ℕ, ◌<◌, List, [], length, map, slice_get, Some, None, option_map, not, ◌||◌};
+ghost use Rattle.std.specs.Prelude.{◌&&◌, OnOk, IfOk};
 ghost use Rattle.std.specs.List.{list_any};
 ghost use Rattle.std.specs.Str.{bytes_eq};
 ghost use Rattle.est_syntax.specs.Views.{renaming_view};
@@ -29,7 +30,9 @@ fn add_outer(
     scope: &Scope<'_>,
     signal: &Identifier,
 ) -> Result<(), AllocError>
-    ensures { OnOk result ((s : List ℕ) → stands_in seen.new.items s ≡ (stands_in seen.old.items s || (not (is_local (binders_of scope.now) s) && bytes_eq signal.now s))) }
+    ensures { OnOk result ((s : List ℕ)
+        → stands_in seen.new.items s ≡ (stands_in seen.old.items s ||
+        (not (is_local (binders_of scope.now) s) && bytes_eq signal.now s))) }
 {
     if is_local(scope, signal) || stands_in(seen, signal) {
         return Ok(());
@@ -47,7 +50,11 @@ fn add_sent(
     renamings: &[Renaming],
     interface: &[Declared],
 ) -> Result<(), AllocError>
-    ensures { OnOk result ((s : List ℕ) → stands_in seen.new.items s ≡ (stands_in seen.old.items s || (not (is_local (binders_of scope.now) s) && list_any (λ d. emitted_of table.now name.now d.name && bytes_eq (renamed (map renaming_view renamings.now) d.name) s) interface.now))) }
+    ensures { OnOk result ((s : List ℕ)
+        → stands_in seen.new.items s ≡ (stands_in seen.old.items s ||
+        (not (is_local (binders_of scope.now) s) && list_any
+        (λ d. emitted_of table.now name.now d.name && bytes_eq
+        (renamed (map renaming_view renamings.now) d.name) s) interface.now))) }
 {
     for declared in interface {
         if is_emitted(table, name, &declared.name) {
@@ -65,7 +72,10 @@ fn add_run(
     renamings: &[Renaming],
     run: Option<&Head<'_>>,
 ) -> Result<(), AllocError>
-    ensures { OnOk result ((s : List ℕ) → stands_in seen.new.items s ≡ (stands_in seen.old.items s || (not (is_local (binders_of scope.now) s) && emits_in_run (emitted_of table.now) s (map renaming_view renamings.now) (option_map (λ h. program_of h.now) run.entry)))) }
+    ensures { OnOk result ((s : List ℕ)
+        → stands_in seen.new.items s ≡ (stands_in seen.old.items s ||
+        (not (is_local (binders_of scope.now) s) && emits_in_run (emitted_of table.now) s
+        (map renaming_view renamings.now) (option_map (λ h. program_of h.now) run.entry)))) }
 {
     match run {
         Some(run) => add_sent(seen, table, scope, &run.name, renamings, &run.interface),
@@ -94,7 +104,8 @@ impl Visitor for Sent<'_> {
 
     ghost state = { λ seen. stands_in seen.items };
 
-    ghost after = { λ v k o s. k s || emits_here (map program_of v.heads.now) (emitted_of v.table.now) s o };
+    ghost after = { λ v k o s. k s || emits_here (map program_of v.heads.now)
+        (emitted_of v.table.now) s o };
 
     fn visit(
         &self,
@@ -129,7 +140,9 @@ pub fn emissions_of<'a>(
     table: &'a [Emission],
     home: &Head<'_>,
 ) -> Result<Vec<Identifier>, AllocError>
-    ensures { IfOk result (λ v. (s : List ℕ) → stands_in v.items s ≡ list_any (emits_here (map program_of heads.now) (emitted_of table.now) s) (occurrences [] (program_of home.now).body)) }
+    ensures { IfOk result (λ v. (s : List ℕ)
+        → stands_in v.items s ≡ list_any (emits_here (map program_of heads.now)
+        (emitted_of table.now) s) (occurrences [] (program_of home.now).body)) }
 {
     let mut seen = Vec::new(alloc);
     let sent = Sent {
@@ -146,7 +159,9 @@ fn add_emissions(
     module_name: &Identifier,
     signals: &[Identifier],
 ) -> Result<(), AllocError>
-    ensures { OnOk result ((m s : List ℕ) → emitted_of table.new.items m s ≡ (emitted_of table.old.items m s || (bytes_eq module_name.now m && stands_in signals.now s))) }
+    ensures { OnOk result ((m s : List ℕ)
+        → emitted_of table.new.items m s ≡ (emitted_of table.old.items m s ||
+        (bytes_eq module_name.now m && stands_in signals.now s))) }
 {
     for signal in signals {
         table.push(Emission {
@@ -165,7 +180,10 @@ fn add_module<'a>(
     place: usize,
 ) -> Result<(), AllocError>
     requires { place < length heads.now }
-    ensures { OnOk result ((p : Program) → slice_get (map program_of heads.now) place ≡ Some p → (m s : List ℕ) → emitted_of table.new.items m s ≡ (emitted_of table.old.items m s || (bytes_eq p.name m && list_any (emits_here (map program_of heads.now) (emitted_of table.old.items) s) (occurrences [] p.body)))) }
+    ensures { OnOk result ((p : Program) → slice_get (map program_of heads.now) place ≡ Some p
+        → (m s : List ℕ) → emitted_of table.new.items m s ≡ (emitted_of table.old.items m s ||
+        (bytes_eq p.name m && list_any (emits_here (map program_of heads.now)
+        (emitted_of table.old.items) s) (occurrences [] p.body)))) }
 {
     let home = &heads[place];
     let signals = emissions_of(alloc, &*heads, &**table, home)?;
@@ -184,7 +202,8 @@ pub fn emissions_along<'a>(
 ) -> Result<Vec<Emission>, AllocError>
     requires order { IsOrderOf (map program_of heads.now) order.now }
     requires distinct { first_duplicate (map program_of heads.now) ≡ None }
-    ensures { IfOk result (λ table. AreEmissions (map program_of heads.now) (emitted_of table.items)) }
+    ensures { IfOk result (λ table. AreEmissions (map program_of heads.now)
+        (emitted_of table.items)) }
 {
     let mut table = Vec::new(alloc);
     for place in order {

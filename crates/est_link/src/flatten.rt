@@ -71,7 +71,10 @@ fn run(
     name: &Identifier,
     renamings: &[Renaming],
 ) -> Result<Body, AllocError>
-    ensures { IfOk result (λ f. body_of f ≡ bound (interface_bound (program_of linker.now.home.now) (binders_of scope.now) (map renaming_view renamings.now) (interface_run (program_named (map program_of linker.now.heads.now) name.now))) (locals_round (binders_of scope.now)) (bodies_of linker.now.bodies.now name.now)) }
+    ensures { IfOk result (λ f. body_of f ≡ bound (interface_bound (program_of linker.now.home.now)
+        (binders_of scope.now) (map renaming_view renamings.now)
+        (interface_run (program_named (map program_of linker.now.heads.now) name.now)))
+        (locals_round (binders_of scope.now)) (bodies_of linker.now.bodies.now name.now)) }
 {
     let interface = interface_run(linker.heads, name);
     let binding = Binding {
@@ -99,14 +102,16 @@ pub struct Place<'a> {
 
 /// The signal that a name means.
 fn find_test(place: &Place<'_>, name: &Identifier) -> Result<BoundTest, AllocError>
-    ensures { IfOk result (λ t. query_view t ≡ signal_at (program_of place.now.linker.now.home.now) (binders_of place.now.scope.now) name.now) }
+    ensures { IfOk result (λ t. query_view t ≡ signal_at (program_of place.now.linker.now.home.now)
+        (binders_of place.now.scope.now) name.now) }
 {
     signal_at(place.linker.home, place.scope, name)
 }
 
 /// The signal that the emission of a name means.
 fn find_sent(place: &Place<'_>, name: &Identifier) -> Result<BoundSignal, AllocError>
-    ensures { IfOk result (λ n. name_view n ≡ emitted (signal_at (program_of place.now.linker.now.home.now) (binders_of place.now.scope.now) name.now)) }
+    ensures { IfOk result (λ n. name_view n ≡ emitted (signal_at
+        (program_of place.now.linker.now.home.now) (binders_of place.now.scope.now) name.now)) }
 {
     Ok(emitted(find_test(place, name)?))
 }
@@ -114,7 +119,9 @@ fn find_sent(place: &Place<'_>, name: &Identifier) -> Result<BoundSignal, AllocE
 /// What is waited for.
 fn find_wait(place: &Place<'_>, delay: Delay) -> Result<Wait, AllocError>
     ensures immediate { IfOk result (λ w. w.immediate ≡ delay.immediate) }
-    ensures test { IfOk result (λ w. query_view w.test ≡ signal_at (program_of place.now.linker.now.home.now) (binders_of place.now.scope.now) delay.signal) }
+    ensures test { IfOk result (λ w. query_view w.test
+        ≡ signal_at (program_of place.now.linker.now.home.now) (binders_of place.now.scope.now)
+        delay.signal) }
 {
     Ok(Wait {
         immediate: delay.immediate,
@@ -125,7 +132,9 @@ fn find_wait(place: &Place<'_>, delay: Delay) -> Result<Wait, AllocError>
 /// The flat statement of a unit.
 #[cycle(flat)]
 fn flat_unit(at: &Place<'_>, unit: &Unit) -> Result<Body, AllocError>
-    ensures { IfOk result (λ f. body_of f ≡ linked (map program_of at.now.linker.now.heads.now) (bodies_of at.now.linker.now.bodies.now) (program_of at.now.linker.now.home.now) (binders_of at.now.scope.now) (unit_derived (unit_view unit.now))) }
+    ensures { IfOk result (λ f. body_of f ≡ linked (map program_of at.now.linker.now.heads.now)
+        (bodies_of at.now.linker.now.bodies.now) (program_of at.now.linker.now.home.now)
+        (binders_of at.now.scope.now) (unit_derived (unit_view unit.now))) }
 {
     match unit {
         Unit::Nothing => Ok(Body::Nothing),
@@ -161,7 +170,9 @@ fn flat_unit(at: &Place<'_>, unit: &Unit) -> Result<Body, AllocError>
 /// The flat statement of a test of a signal, with its branches.
 #[cycle(flat)]
 fn flat_test(at: &Place<'_>, name: Identifier, branches: &Branches) -> Result<Body, AllocError>
-    ensures { IfOk result (λ f. body_of f ≡ linked (map program_of at.now.linker.now.heads.now) (bodies_of at.now.linker.now.bodies.now) (program_of at.now.linker.now.home.now) (binders_of at.now.scope.now) (branches_derived name (branches_view branches.now))) }
+    ensures { IfOk result (λ f. body_of f ≡ linked (map program_of at.now.linker.now.heads.now)
+        (bodies_of at.now.linker.now.bodies.now) (program_of at.now.linker.now.home.now)
+        (binders_of at.now.scope.now) (branches_derived name (branches_view branches.now))) }
 {
     let test = find_test(at, &name)?;
     match branches {
@@ -202,7 +213,9 @@ fn beside(alloc: Global, p: Body, rest: Option<Body>) -> Result<Body, AllocError
 /// The flat statement of a sequence.
 #[cycle(flat)]
 fn flat_sequence(at: &Place<'_>, sequence: &Sequence) -> Result<Body, AllocError>
-    ensures { IfOk result (λ f. body_of f ≡ linked (map program_of at.now.linker.now.heads.now) (bodies_of at.now.linker.now.bodies.now) (program_of at.now.linker.now.home.now) (binders_of at.now.scope.now) (sequence_derived (sequence_view sequence.now))) }
+    ensures { IfOk result (λ f. body_of f ≡ linked (map program_of at.now.linker.now.heads.now)
+        (bodies_of at.now.linker.now.bodies.now) (program_of at.now.linker.now.home.now)
+        (binders_of at.now.scope.now) (sequence_derived (sequence_view sequence.now))) }
 {
     let units = sequence.later.as_slice();
     let mut rest = None;
@@ -219,7 +232,9 @@ fn flat_sequence(at: &Place<'_>, sequence: &Sequence) -> Result<Body, AllocError
 /// The flat statement of sequences side by side.
 #[cycle(flat)]
 pub fn flat_statement(at: &Place<'_>, statement: &Statement) -> Result<Body, AllocError>
-    ensures { IfOk result (λ f. body_of f ≡ linked (map program_of at.now.linker.now.heads.now) (bodies_of at.now.linker.now.bodies.now) (program_of at.now.linker.now.home.now) (binders_of at.now.scope.now) (statement_derived (statement_view statement.now))) }
+    ensures { IfOk result (λ f. body_of f ≡ linked (map program_of at.now.linker.now.heads.now)
+        (bodies_of at.now.linker.now.bodies.now) (program_of at.now.linker.now.home.now)
+        (binders_of at.now.scope.now) (statement_derived (statement_view statement.now))) }
 {
     let sequences = statement.later.as_slice();
     let mut rest = None;
@@ -236,7 +251,10 @@ pub fn flat_statement(at: &Place<'_>, statement: &Statement) -> Result<Body, All
 /// The flat statement of sequences side by side, in a box.
 #[cycle(flat)]
 fn box_body(at: &Place<'_>, statement: &Statement) -> Result<Box<Body>, AllocError>
-    ensures { IfOk result (λ b. body_of b.value ≡ linked (map program_of at.now.linker.now.heads.now) (bodies_of at.now.linker.now.bodies.now) (program_of at.now.linker.now.home.now) (binders_of at.now.scope.now) (statement_derived (statement_view statement.now))) }
+    ensures { IfOk result (λ b. body_of b.value ≡ linked (map program_of
+        at.now.linker.now.heads.now) (bodies_of at.now.linker.now.bodies.now)
+        (program_of at.now.linker.now.home.now) (binders_of at.now.scope.now)
+        (statement_derived (statement_view statement.now))) }
 {
     Ok(Box::new(at.linker.alloc, flat_statement(at, statement)?)?)
 }
@@ -248,7 +266,10 @@ fn box_inside(
     scope: &Scope<'_>,
     statement: &Statement,
 ) -> Result<Box<Body>, AllocError>
-    ensures { IfOk result (λ b. body_of b.value ≡ linked (map program_of at.now.linker.now.heads.now) (bodies_of at.now.linker.now.bodies.now) (program_of at.now.linker.now.home.now) (binders_of scope.now) (statement_derived (statement_view statement.now))) }
+    ensures { IfOk result (λ b. body_of b.value ≡ linked (map program_of
+        at.now.linker.now.heads.now) (bodies_of at.now.linker.now.bodies.now)
+        (program_of at.now.linker.now.home.now) (binders_of scope.now)
+        (statement_derived (statement_view statement.now))) }
 {
     let inside = Place {
         linker: &*at.linker,

@@ -26,7 +26,8 @@ pub struct Harmless<'a> {
     /// What each module emits.
     pub table: &'a [Emission],
     harmless: NameSet<'a>,
-    ghost sound: { AreHarmless (map program_of heads.now) (emitted_of table.now) (is_input home.now.interface.items) harmless },
+    ghost sound: { AreHarmless (map program_of heads.now) (emitted_of table.now)
+        (is_input home.now.interface.items) harmless },
 }
 
 impl Harmless<'_> {
@@ -74,7 +75,9 @@ fn is_harmless(
     table: &[Emission],
     name: &Identifier,
 ) -> bool
-    ensures { (q : Program) → IsTrue result → program_named (map program_of heads.now) name.now ≡ Some q → IsTrue (is_harmless (emitted_of table.now) (has inputs.now) name.now q.interface) }
+    ensures { (q : Program) → IsTrue result
+        → program_named (map program_of heads.now) name.now ≡ Some q
+        → IsTrue (is_harmless (emitted_of table.now) (has inputs.now) name.now q.interface) }
 {
     match head_named(heads, name) {
         Some(run) => emits_none(inputs, table, name, &run.interface),
@@ -90,8 +93,10 @@ fn add_harmless<'a>(
     harmless: &mut NameSet<'a>,
     name: &'a Identifier,
 ) -> Result<(), AllocError>
-    requires { AreHarmless (map program_of heads.now) (emitted_of table.now) (has inputs.now) harmless.old }
-    ensures { OnOk result (AreHarmless (map program_of heads.now) (emitted_of table.now) (has inputs.now) harmless.new) }
+    requires { AreHarmless (map program_of heads.now) (emitted_of table.now) (has inputs.now)
+        harmless.old }
+    ensures { OnOk result (AreHarmless (map program_of heads.now) (emitted_of table.now)
+        (has inputs.now) harmless.new) }
 {
     if is_harmless(inputs, heads, table, name) {
         harmless.insert(name)?;

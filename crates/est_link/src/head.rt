@@ -53,7 +53,8 @@ fn find_head<'a, 'b>(heads: &'b [Head<'a>], name: &Identifier) -> Option<&'b Hea
 
 /// The first module of a name.
 pub fn head_named<'a, 'b>(heads: &'b [Head<'a>], name: &Identifier) -> Option<&'b Head<'a>>
-    ensures { option_map (λ h. program_of h.now) result ≡ program_named (map program_of heads.now) name.now }
+    ensures { option_map (λ h. program_of h.now) result ≡ program_named (map program_of heads.now)
+        name.now }
 {
     find_head(heads, name)
 }

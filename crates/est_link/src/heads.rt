@@ -9,7 +9,8 @@ use std::alloc::{AllocError, Global};
 
 /// Adds the names of one declaration, all of one kind.
 fn add_names(interface: &mut Vec<Declared>, kind: Kind, names: &Names) -> Result<(), AllocError>
-    ensures { OnOk result (interface.new.items ≡ interface.old.items ++ with_kind kind (names_view names.now)) }
+    ensures { OnOk result (interface.new.items ≡ interface.old.items ++ with_kind kind (names_view
+        names.now)) }
 {
     let name = names.first;
     interface.push(Declared { name, kind })?;
@@ -21,7 +22,8 @@ fn add_names(interface: &mut Vec<Declared>, kind: Kind, names: &Names) -> Result
 
 /// Adds the signals that a declaration declares.
 fn add_signals(interface: &mut Vec<Declared>, declaration: &Declaration) -> Result<(), AllocError>
-    ensures { OnOk result (interface.new.items ≡ interface.old.items ++ declared_by (declaration_view declaration.now)) }
+    ensures { OnOk result (interface.new.items ≡ interface.old.items ++ declared_by
+        (declaration_view declaration.now)) }
 {
     match declaration {
         Declaration::Input(names) => add_names(interface, Kind::Input, names),
@@ -32,7 +34,8 @@ fn add_signals(interface: &mut Vec<Declared>, declaration: &Declaration) -> Resu
 
 /// The interface signals of declarations, in the order of the text.
 fn interface_of(alloc: Global, declarations: &[Declaration]) -> Result<Vec<Declared>, AllocError>
-    ensures { IfOk result (λ interface. interface.items ≡ interface_of (map declaration_view declarations.now)) }
+    ensures { IfOk result (λ interface. interface.items ≡ interface_of (map declaration_view
+        declarations.now)) }
 {
     let mut interface = Vec::new(alloc);
     for declaration in declarations {
@@ -63,7 +66,8 @@ pub fn head_of<'a>(alloc: Global, declared: &'a Module) -> Result<Head<'a>, Allo
 ///
 /// `AllocError` where memory is refused.
 pub fn heads_of<'a>(alloc: Global, library: &'a Library) -> Result<Vec<Head<'a>>, AllocError>
-    ensures { IfOk result (λ heads. map program_of heads.items ≡ programs_of (library_view library.now)) }
+    ensures { IfOk result (λ heads. map program_of heads.items
+        ≡ programs_of (library_view library.now)) }
 {
     let mut heads = Vec::new(alloc);
     heads.push(head_of(alloc, &library.first)?)?;

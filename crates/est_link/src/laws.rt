@@ -16,24 +16,34 @@ ghost use Rattle.est_syntax.specs.Tree.{LibraryTree};
 /// A table whose bodies were made one after another has the flat body of each of its modules. Where the names of the library have
 /// no fault, each name of such a body is bound.
 fn tables_are_linked()
-    ensures linked { (ps : List Program) (es : List Linked) → AreMade ps es → (main : List ℕ) → has_body es main ≡ true → IsLinked ps main (bodies_of es main) }
-    ensures bound { (ps : List Program) (emitted : List ℕ → List ℕ → Bool) (es : List Linked) → AreMade ps es → HasSoundNames ps emitted → (main : List ℕ) (p : Program) → has_body es main ≡ true → program_named ps main ≡ Some p → IsBound (declarations_of p) 0 0 (bodies_of es main) }
+    ensures linked { (ps : List Program) (es : List Linked) → AreMade ps es → (main : List ℕ)
+        → has_body es main ≡ true → IsLinked ps main (bodies_of es main) }
+    ensures bound { (ps : List Program) (emitted : List ℕ → List ℕ → Bool) (es : List Linked)
+        → AreMade ps es → HasSoundNames ps emitted → (main : List ℕ) (p : Program)
+        → has_body es main ≡ true → program_named ps main ≡ Some p
+        → IsBound (declarations_of p) 0 0 (bodies_of es main) }
 {}
 
 /// A library has one first fault, or none.
 pub fn first_faults_are_one()
-    ensures { (ps : List Program) (main : List ℕ) (a b : Option LinkFault) → IsFirstFault ps main a → IsFirstFault ps main b → a ≡ b }
+    ensures { (ps : List Program) (main : List ℕ) (a b : Option LinkFault) → IsFirstFault ps main a
+        → IsFirstFault ps main b → a ≡ b }
 {}
 
 /// A library of which no check has a fault has one flat main module.
 pub fn one_flat()
-    ensures { (ps : List Program) (main : List ℕ) → IsFirstFault ps main None → (a b : Flat) → IsFlatOf ps main a → IsFlatOf ps main b → AreAlike a b }
+    ensures { (ps : List Program) (main : List ℕ) → IsFirstFault ps main None → (a b : Flat)
+        → IsFlatOf ps main a → IsFlatOf ps main b → AreAlike a b }
 {}
 
 /// Linking has one answer: one flat module or one fault, and never both. Want of memory, which no definition foresees, can come at any
 /// time.
 pub fn one_link()
-    ensures flat { (library : LibraryTree) (main : List ℕ) (a b : Flat) → IsLinkOf library main (Ok a) → IsLinkOf library main (Ok b) → AreAlike a b }
-    ensures fault { (library : LibraryTree) (main : List ℕ) (a b : LinkFault) → IsLinkOf library main (Err a) → IsLinkOf library main (Err b) → (a ≡ b) ⊎ (a ≡ Memory) ⊎ (b ≡ Memory) }
-    ensures never_both { (library : LibraryTree) (main : List ℕ) (a : Flat) (b : LinkFault) → IsLinkOf library main (Ok a) → IsLinkOf library main (Err b) → b ≡ Memory }
+    ensures flat { (library : LibraryTree) (main : List ℕ) (a b : Flat)
+        → IsLinkOf library main (Ok a) → IsLinkOf library main (Ok b) → AreAlike a b }
+    ensures fault { (library : LibraryTree) (main : List ℕ) (a b : LinkFault)
+        → IsLinkOf library main (Err a) → IsLinkOf library main (Err b)
+        → (a ≡ b) ⊎ (a ≡ Memory) ⊎ (b ≡ Memory) }
+    ensures never_both { (library : LibraryTree) (main : List ℕ) (a : Flat) (b : LinkFault)
+        → IsLinkOf library main (Ok a) → IsLinkOf library main (Err b) → b ≡ Memory }
 {}

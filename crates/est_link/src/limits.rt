@@ -18,7 +18,8 @@ use std::alloc::{AllocError, Global};
 /// The first limit that a main module of so many signals, relations and statements passes; it has too many statements
 /// where there is no number of them.
 fn limit_passed(signals: usize, relations: usize, statements: Option<u16>) -> Option<Limit>
-    ensures { (whole : ℕ) → IsWithinLimit whole statements → result ≡ limit_passed signals relations whole }
+    ensures { (whole : ℕ) → IsWithinLimit whole statements
+        → result ≡ limit_passed signals relations whole }
 {
     if signals > MOST_SIGNALS {
         return Some(Limit::Signals);
@@ -38,7 +39,8 @@ fn limit_passed_by(
     main: Option<&Head<'_>>,
     statements: Option<u16>,
 ) -> Result<Option<Limit>, AllocError>
-    ensures { IfOk result (λ limit. (whole : ℕ) → IsWithinLimit whole statements → limit ≡ limit_passed_by (option_map (λ h. program_of h.now) main.entry) whole) }
+    ensures { IfOk result (λ limit. (whole : ℕ) → IsWithinLimit whole statements
+        → limit ≡ limit_passed_by (option_map (λ h. program_of h.now) main.entry) whole) }
 {
     match main {
         Some(home) => {

@@ -54,7 +54,10 @@ pub fn linked_body<'a>(
     requires distinct { first_duplicate (map program_of heads.now) ≡ None }
     requires there { first_missing (map program_of heads.now) main.now ≡ None }
     ensures linked { IfOk result (λ b. IsLinked (map program_of heads.now) main.now (body_of b)) }
-    ensures bound { IfOk result (λ b. (emitted : List ℕ → List ℕ → Bool) (p : Program) → HasSoundNames (map program_of heads.now) emitted → program_named (map program_of heads.now) main.now ≡ Some p → IsBound (declarations_of p) 0 0 (body_of b)) }
+    ensures bound { IfOk result (λ b. (emitted : List ℕ → List ℕ → Bool) (p : Program)
+        → HasSoundNames (map program_of heads.now) emitted
+        → program_named (map program_of heads.now) main.now ≡ Some p
+        → IsBound (declarations_of p) 0 0 (body_of b)) }
 {
     match place_named(heads, main) {
         Some(place) => {

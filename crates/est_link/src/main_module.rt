@@ -65,7 +65,8 @@ fn members(
     second: &Identifier,
     later: &[Identifier],
 ) -> Result<Members, AllocError>
-    ensures { IfOk result (λ m. m ≡ map (place_of interface.now) (first.now ∷ second.now ∷ later.now)) }
+    ensures { IfOk result (λ m. m ≡ map (place_of interface.now) (first.now ∷ second.now ∷
+        later.now)) }
 {
     let mut members = Members::new(alloc);
     members.push(member(interface, first))?;
@@ -101,7 +102,8 @@ fn kernel_relations(
     relations: &[&tree::Relation],
 ) -> Result<Relations, AllocError>
     requires { length relations.now ≤ MOST_RELATIONS }
-    ensures { IfOk result (λ rs. AreRelations interface.now (map (λ r. relation_view r.now) relations.now) rs) }
+    ensures { IfOk result (λ rs. AreRelations interface.now (map (λ r. relation_view r.now)
+        relations.now) rs) }
 {
     let mut made = Relations::new(alloc);
     for relation in relations {
@@ -122,7 +124,8 @@ pub fn main_module(alloc: Global, home: &Head<'_>, body: Body) -> Result<Flat, A
     requires lawful { first_lawless (program_of home.now) ≡ None }
     requires bound { IsBound (declarations_of (program_of home.now)) 0 0 (body_of body) }
     ensures interface { IfOk result (λ f. f.interface ≡ declarations_of (program_of home.now)) }
-    ensures relations { IfOk result (λ f. AreRelations (declarations_of (program_of home.now)) (program_of home.now).relations f.relations) }
+    ensures relations { IfOk result (λ f. AreRelations (declarations_of (program_of home.now))
+        (program_of home.now).relations f.relations) }
     ensures body { IfOk result (λ f. body_of f.body ≡ body_of body) }
 {
     let interface = kernel_interface(alloc, &home.interface)?;

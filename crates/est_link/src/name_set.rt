@@ -37,7 +37,8 @@ impl<'a> NameSet<'a> {
     /// `AllocError` where memory is refused.
     pub fn insert(&mut self, name: &'a Identifier) -> Result<bool, AllocError>
         ensures added { IfOk result (λ added. added ≡ not (has self.old name.now)) }
-        ensures has { OnOk result ((s : List ℕ) → has self.new s ≡ (has self.old s || bytes_eq name.now s)) }
+        ensures has { OnOk result ((s : List ℕ) → has self.new s
+            ≡ (has self.old s || bytes_eq name.now s)) }
     {
         Ok(self.names.insert(name.as_bytes())?)
     }

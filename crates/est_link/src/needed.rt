@@ -28,7 +28,9 @@ fn places_at<'a>(
     place: usize,
 ) -> Result<Vec<usize>, AllocError>
     requires { place < length heads.now }
-    ensures { IfOk result (λ places. (p : Program) → slice_get (map program_of heads.now) place ≡ Some p → places.items ≡ places_run (map program_of heads.now) p) }
+    ensures { IfOk result (λ places. (p : Program)
+        → slice_get (map program_of heads.now) place ≡ Some p
+        → places.items ≡ places_run (map program_of heads.now) p) }
 {
     places_run(alloc, &*heads, &heads[place])
 }
@@ -36,7 +38,8 @@ fn places_at<'a>(
 /// The name of the module at a place.
 pub(crate) fn name_at(heads: &[Head<'_>], place: usize) -> Identifier
     requires { place < length heads.now }
-    ensures { (p : Program) → slice_get (map program_of heads.now) place ≡ Some p → result ≡ p.name }
+    ensures { (p : Program) → slice_get (map program_of heads.now) place ≡ Some p
+        → result ≡ p.name }
 {
     heads[place].name
 }
@@ -75,9 +78,11 @@ pub fn names_along(
     requires order { IsOrderOf (map program_of heads.now) order.now }
     requires closed { IsClosed (map program_of heads.now) set.now }
     requires distinct { first_duplicate (map program_of heads.now) ≡ None }
-    requires there { first_in_bodies (missing_at (map program_of heads.now)) (map program_of heads.now) ≡ None }
+    requires there { first_in_bodies (missing_at (map program_of heads.now))
+        (map program_of heads.now) ≡ None }
     ensures bottom_up { IfOk result (λ names. AreBottomUp (map program_of heads.now) names.items) }
-    ensures each { IfOk result (λ names. HasFront (map program_of heads.now) set.now order.now (length order.now) names.items) }
+    ensures each { IfOk result (λ names. HasFront (map program_of heads.now) set.now order.now
+        (length order.now) names.items) }
 {
     let mut names = Vec::new(alloc);
     for place in order {

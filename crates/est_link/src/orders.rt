@@ -74,7 +74,8 @@ pub(crate) fn places_run<'a>(
     heads: &'a [Head<'a>],
     home: &Head<'_>,
 ) -> Result<Vec<usize>, AllocError>
-    ensures { IfOk result (λ places. places.items ≡ places_run (map program_of heads.now) (program_of home.now)) }
+    ensures { IfOk result (λ places. places.items ≡ places_run (map program_of heads.now)
+        (program_of home.now)) }
 {
     let mut places = Vec::new(alloc);
     walk_body(&RunPlaces { heads: &*heads }, &mut places, home.body)?;

@@ -56,7 +56,9 @@ fn add_listed<'a>(
     first: &'a Relation,
     later: &'a [Relation],
 ) -> Result<(), AllocError>
-    ensures { OnOk result (map (λ r. relation_view r.now) relations.new.items ≡ map (λ r. relation_view r.now) relations.old.items ++ relation_view first.now ∷ map relation_view later.now) }
+    ensures { OnOk result (map (λ r. relation_view r.now) relations.new.items
+        ≡ map (λ r. relation_view r.now) relations.old.items ++ relation_view first.now ∷ map
+        relation_view later.now) }
 {
     relations.push(&*first)?;
     for relation in later {
@@ -70,7 +72,9 @@ fn add_relations<'a>(
     relations: &mut Vec<&'a Relation>,
     declaration: &'a Declaration,
 ) -> Result<(), AllocError>
-    ensures { OnOk result (map (λ r. relation_view r.now) relations.new.items ≡ map (λ r. relation_view r.now) relations.old.items ++ related_by (declaration_view declaration.now)) }
+    ensures { OnOk result (map (λ r. relation_view r.now) relations.new.items
+        ≡ map (λ r. relation_view r.now) relations.old.items ++ related_by
+        (declaration_view declaration.now)) }
 {
     match declaration {
         Declaration::Input(_) | Declaration::Output(_) => Ok(()),
@@ -83,7 +87,8 @@ pub(crate) fn relations_of<'a>(
     alloc: Global,
     declarations: &'a [Declaration],
 ) -> Result<Vec<&'a Relation>, AllocError>
-    ensures { IfOk result (λ relations. map (λ r. relation_view r.now) relations.items ≡ relations_of (map declaration_view declarations.now)) }
+    ensures { IfOk result (λ relations. map (λ r. relation_view r.now) relations.items
+        ≡ relations_of (map declaration_view declarations.now)) }
 {
     let mut relations = Vec::new(alloc);
     for declaration in declarations {
@@ -93,7 +98,8 @@ pub(crate) fn relations_of<'a>(
 }
 
 fn lawless_place(interface: &[Declared], relations: &[&Relation]) -> Option<usize>
-    ensures { result ≡ position (λ r. is_lawless interface.now (relation_view r.now)) relations.now }
+    ensures { result ≡ position (λ r. is_lawless interface.now (relation_view r.now))
+        relations.now }
 {
     relations
         .iter()
@@ -102,7 +108,8 @@ fn lawless_place(interface: &[Declared], relations: &[&Relation]) -> Option<usiz
 
 /// The number, from 1, of the first of these relations with a member that is no input of the interface.
 fn lawless_number(interface: &[Declared], relations: &[&Relation]) -> Option<usize>
-    ensures { result ≡ option_map (λ i. i + 1) (position (λ r. is_lawless interface.now (relation_view r.now)) relations.now) }
+    ensures { result ≡ option_map (λ i. i + 1)
+        (position (λ r. is_lawless interface.now (relation_view r.now)) relations.now) }
 {
     match lawless_place(interface, relations) {
         Some(place) => Some(place + 1),

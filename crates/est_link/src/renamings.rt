@@ -63,13 +63,15 @@ fn is_renamed_twice(renamings: &[Renaming], signal: &Identifier) -> bool
 
 #[tactic(auto, unfolding(crate::specs::Renamings::is_misnamed))]
 fn is_misnamed(run: &Head<'_>, renamings: &[Renaming], signal: &Identifier) -> bool
-    ensures { result ≡ is_misnamed (program_of run.now) (map renaming_view renamings.now) signal.now }
+    ensures { result ≡ is_misnamed (program_of run.now) (map renaming_view renamings.now)
+        signal.now }
 {
     !is_declared(&run.interface, signal) || is_renamed_twice(renamings, signal)
 }
 
 fn misnamed<'a>(run: &Head<'_>, renamings: &'a [Renaming]) -> Option<&'a Renaming>
-    ensures { option_map (λ r. r.now) result ≡ find (λ r. is_misnamed (program_of run.now) (map renaming_view renamings.now) r.inner) renamings.now }
+    ensures { option_map (λ r. r.now) result ≡ find (λ r. is_misnamed (program_of run.now)
+        (map renaming_view renamings.now) r.inner) renamings.now }
 {
     renamings
         .iter()
@@ -77,7 +79,8 @@ fn misnamed<'a>(run: &Head<'_>, renamings: &'a [Renaming]) -> Option<&'a Renamin
 }
 
 fn bad_in_run(renamings: &[Renaming], run: Option<&Head<'_>>) -> Option<Identifier>
-    ensures { result ≡ bad_in_run (map renaming_view renamings.now) (option_map (λ h. program_of h.now) run.entry) }
+    ensures { result ≡ bad_in_run (map renaming_view renamings.now)
+        (option_map (λ h. program_of h.now) run.entry) }
 {
     match run {
         Some(run) => match misnamed(run, renamings) {

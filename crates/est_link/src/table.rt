@@ -20,7 +20,8 @@ fn body_at(
     bodies: &[Linked],
     name: &Identifier,
 ) -> Result<Body, AllocError>
-    ensures { IfOk result (λ b. body_of b ≡ body_linked (map program_of heads.now) (bodies_of bodies.now) (program_named (map program_of heads.now) name.now)) }
+    ensures { IfOk result (λ b. body_of b ≡ body_linked (map program_of heads.now) (bodies_of
+        bodies.now) (program_named (map program_of heads.now) name.now)) }
 {
     match head_named(heads, name) {
         Some(home) => {

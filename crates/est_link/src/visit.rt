@@ -34,5 +34,6 @@ pub trait Visitor {
         act: &Act<'_>,
         scope: &Scope<'_>,
     ) -> Result<(), Self::Fault>
-        ensures { OnOk result (state seen.new ≡ after self.now (state seen.old) (record { act = act_of act.now; round = binders_of scope.now })) };
+        ensures { OnOk result (state seen.new ≡ after self.now (state seen.old) (record
+            { act = act_of act.now; round = binders_of scope.now })) };
 }

@@ -1,7 +1,9 @@
 //! A reader of lines.
 //!
 //! Bytes are read into a fixed buffer. A line ends with LF, and a last line without one counts if it is not empty.
-ghost use Rattle.std.specs.Prelude.{ℕ, List, [], ◌≡◌, ◌≤◌, ◌<◌, ◌+◌, ◌-◌, ◌∷◌, ◌++◌, ◌⊎◌, ◌↔◌, true, length, take, drop, slice_range, MatchOption, IfOk, OnOk, IfSome, IfNone, IsTrue, Some, None, Ok, Err};
+ghost use Rattle.std.specs.Prelude.{ℕ, List, [], ◌≡◌, ◌≤◌, ◌<◌, ◌+◌, ◌-◌, ◌∷◌, ◌++◌, ◌⊎◌, ◌↔◌, true, length, take};
+ghost use Rattle.std.specs.Prelude.{drop, slice_range, MatchOption, IfOk, OnOk, IfSome, IfNone, IsTrue, Some, None};
+ghost use Rattle.std.specs.Prelude.{Ok, Err};
 ghost use Rattle.line_reader.specs.Lines.{HasNoEnd, IsNext, IsTooLong};
 ghost use Rattle.line_reader.specs.Meters.{Reads, IsStopped};
 ghost use Rattle.line_reader.specs.declared.lines.TheConstants.{ROOM, LINE_BYTES};

@@ -1,5 +1,6 @@
 //! Meters on a reader and on a writer: they note that the device failed, and the reader's lets a bounded number of reads through.
-ghost use Rattle.std.specs.Prelude.{◌≡◌, ◌≤◌, ◌<◌, ◌-◌, ◌⊎◌, length, take, true, false, MatchOption, IfNone, IfSome, IsTrue, IsFalse};
+ghost use Rattle.std.specs.Prelude.{◌≡◌, ◌≤◌, ◌<◌, ◌-◌, ◌⊎◌, length, take, true, false, MatchOption, IfNone, IfSome};
+ghost use Rattle.std.specs.Prelude.{IsTrue, IsFalse};
 ghost use Rattle.std.specs.Io.KnownBytes.{Appends, Keeps};
 ghost use Rattle.line_reader.specs.Meters.{Reads};
 ghost use Rattle.line_reader.specs.declared.meter.TheConstants.{READS};

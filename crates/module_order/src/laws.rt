@@ -7,5 +7,6 @@ ghost use Rattle.module_order.specs.Solutions.{AsksItsRuns, Solves};
 pub fn one_solution<T>()
     ensures { (rows : List (List ℕ)) (order : List ℕ) (work : (ℕ → T) → ℕ → T)
         → IsBottomUp rows order → AsksItsRuns rows work
-        → (f g : ℕ → T) → Solves rows work f → Solves rows work g → (place : ℕ) → place < length rows → f place ≡ g place }
+        → (f g : ℕ → T) → Solves rows work f → Solves rows work g → (place : ℕ)
+        → place < length rows → f place ≡ g place }
 {}

@@ -57,7 +57,8 @@ impl<J: Naming> Board<J> {
     ) -> Result<Receipt<J>, Refusal>
         ensures { (before : List Entry) × (after : List Entry)
             × IsPolicyList before × Begins seat.old.known before
-            × AdminStep before session command result after × (seat.new ≡ seat_after seat.old after) }
+            × AdminStep before session command result after × (seat.new ≡ seat_after seat.old
+            after) }
     {
         let mut desk = self.desk.lock(rt);
         let answer = desk.admin(rt, seat, session, command);
@@ -78,7 +79,8 @@ impl<J: Naming> Board<J> {
         operation: Operation,
         object: &Object,
     ) -> Result<bool, Refusal>
-        ensures { Asks (λ entries. May entries session operation object.now) seat.old result seat.new }
+        ensures { Asks (λ entries. May entries session operation object.now) seat.old result
+            seat.new }
     {
         seat.check(session, operation, object)
     }

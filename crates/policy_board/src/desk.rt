@@ -62,7 +62,8 @@ fn copies(entry: &Entry) -> Result<(Entry, Entry), AllocError>
 
 // The session that the entry, which the policy took in last, has made.
 fn session_made(policy: &Policy, entry: &Entry) -> Option<SessionId>
-    ensures { (before : List Entry) → StandsFor policy.now (before ++ entry.now ∷ []) → result ≡ session_made before entry.now }
+    ensures { (before : List Entry) → StandsFor policy.now (before ++ entry.now ∷ [])
+        → result ≡ session_made before entry.now }
 {
     match &entry.command {
         AdminCommand::CreateSession { .. } => Some(SessionId::new(policy.logins())),
@@ -99,7 +100,8 @@ impl<J: Naming> Desk<J> {
     // Publishes the entry. All that may be refused has been asked, but for the journal's place, which is taken first.
     fn append<R: Wait>(&mut self, rt: &R, entry: Entry) -> Result<Receipt<J>, Refusal>
         requires { IsAccepted self.old entry }
-        ensures { Answers (no_memory ▸ accept) (λ refusal. IsRefused refusal self.old result self.new) (IsPublished entry self.old result self.new) }
+        ensures { Answers (no_memory ▸ accept) (λ refusal. IsRefused refusal self.old result
+            self.new) (IsPublished entry self.old result self.new) }
     {
         let Ok((published, told)) = copies(&entry) else {
             return Err(Refusal::Memory);

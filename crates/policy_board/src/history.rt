@@ -233,7 +233,8 @@ impl<J: Naming> Front<J> {
     /// Of two fronts one begins the other. True where this one begins the other.
     pub fn begins(&self, other: &Front<J>) -> bool
         ensures { MatchBool result
-            (Begins self.now other.now) (Begins other.now self.now × (length other.now < length self.now)) }
+            (Begins self.now other.now) (Begins other.now self.now
+            × (length other.now < length self.now)) }
     {
         begins(&self.trace, &other.trace)
     }
@@ -303,7 +304,8 @@ fn add_to(trace: &Trace, head: &Word<Entry, u64, Law>, entry: &Entry) -> Option<
     requires head { head.now ≡ head_of trace.now.book }
     requires room { length trace.now.list < 2 ^ 62 }
     requires accepted { IsAccepted trace.now.list entry.now }
-    ensures { IfSome result (λ t. (t.book ≡ trace.now.book) × (t.list ≡ trace.now.list ++ entry.now ∷ [])) }
+    ensures { IfSome result (λ t. (t.book ≡ trace.now.book) × (t.list ≡ trace.now.list ++ entry.now
+        ∷ [])) }
 {
     let count = trace.count;
     let mut seen = trace.seen.again();

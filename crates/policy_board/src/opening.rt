@@ -38,7 +38,8 @@ fn open_writer<J: Naming>(
     requires opening { opening.now ≡ opening_entries }
     requires readers { (1 ≤ readers) × (readers ≤ 1024) }
     ensures { IfOk result (λ w. (w.desk.shown.value.trace.list ≡ opening_entries)
-        × IsPublishing J.book w.desk.shown.value.policy w.desk.shown.value.trace (drop w.behind w.log.items)) }
+        × IsPublishing J.book w.desk.shown.value.policy w.desk.shown.value.trace
+        (drop w.behind w.log.items)) }
 {
     let first = Shown {
         policy: Policy::opening(),
@@ -92,7 +93,8 @@ fn fill_seats<J: Naming>(
 fn open_parts<J: Naming>(alloc: Global, fresh: Fresh, seats: usize) -> Result<Opened<J>, AllocError>
     requires name { fresh.seen.book ≡ J.book }
     requires seats { (1 ≤ seats) × (seats ≤ SEATS) }
-    ensures { IfOk result (λ o. (o.seats.items ≡ replicate seats new_seat) × (o.readers.items ≡ replicate SLOTS opening_entries)) }
+    ensures { IfOk result (λ o. (o.seats.items ≡ replicate seats new_seat)
+        × (o.readers.items ≡ replicate SLOTS opening_entries)) }
 {
     let (head, opening) = fresh.named::<J>();
     let slots = usize::from(SLOTS);
@@ -118,7 +120,8 @@ impl<J: Naming> Board<J> {
     pub fn open(alloc: Global, fresh: Fresh, seats: usize) -> Result<Opened<J>, Refusal>
         requires name { fresh.seen.book ≡ J.book }
         requires seats { (1 ≤ seats) × (seats ≤ SEATS) }
-        ensures opened { IfOk result (λ o. (o.seats.items ≡ replicate seats new_seat) × (o.readers.items ≡ replicate SLOTS opening_entries)) }
+        ensures opened { IfOk result (λ o. (o.seats.items ≡ replicate seats new_seat)
+            × (o.readers.items ≡ replicate SLOTS opening_entries)) }
         ensures refused { IfErr result (λ refusal. refusal ≡ Memory) }
     {
         match open_parts(alloc, fresh, seats) {

@@ -30,7 +30,8 @@ impl<J: Naming> Model for Publisher<J> {
 
     ghost view = { λ p. p.writer.desk.shown.value.trace.list };
 
-    ghost invariant = { λ p. IsPublishing J.book p.writer.desk.shown.value.policy p.writer.desk.shown.value.trace (drop p.writer.behind p.writer.log.items) };
+    ghost invariant = { λ p. IsPublishing J.book p.writer.desk.shown.value.policy
+        p.writer.desk.shown.value.trace (drop p.writer.behind p.writer.log.items) };
 }
 
 // Has the writer take the operation up. It waits where memory is refused, of which `Publisher::new` made the room.
@@ -40,7 +41,8 @@ fn append<J: Naming, R: Wait>(
     operation: Operation,
 ) -> PolicyWriter<J>
     ensures shown { result.desk ≡ writer.desk }
-    ensures pending { drop result.behind result.log.items ≡ drop writer.behind writer.log.items ++ operation ∷ [] }
+    ensures pending { drop result.behind result.log.items ≡ drop writer.behind writer.log.items ++
+        operation ∷ [] }
 {
     let mut writer = writer;
     let mut operation = operation;
@@ -77,9 +79,11 @@ fn show<J: Naming, R: Wait>(
 ) -> PolicyWriter<J>
     requires list { front.now ≡ writer.desk.shown.value.trace.list ++ entry ∷ [] }
     requires accepted { IsAccepted writer.desk.shown.value.trace.list entry }
-    requires before { IsPublishing J.book writer.desk.shown.value.policy writer.desk.shown.value.trace (drop writer.behind writer.log.items) }
+    requires before { IsPublishing J.book writer.desk.shown.value.policy
+        writer.desk.shown.value.trace (drop writer.behind writer.log.items) }
     ensures shown { result.desk.shown.value.trace ≡ traced J.book front.now }
-    ensures after { IsPublishing J.book result.desk.shown.value.policy result.desk.shown.value.trace (drop result.behind result.log.items) }
+    ensures after { IsPublishing J.book result.desk.shown.value.policy result.desk.shown.value.trace
+        (drop result.behind result.log.items) }
 {
     let operation = Operation::Add {
         entry,
@@ -96,7 +100,8 @@ fn show<J: Naming, R: Wait>(
 impl<J: Naming> Publisher<J> {
     /// Of a writer that shows the opening policy. It makes the room for what will wait to be published, where memory isn't refused.
     pub fn new(writer: PolicyWriter<J>, head: Head<J>) -> Publisher<J>
-        requires { IsPublishing J.book writer.desk.shown.value.policy writer.desk.shown.value.trace (drop writer.behind writer.log.items) }
+        requires { IsPublishing J.book writer.desk.shown.value.policy writer.desk.shown.value.trace
+            (drop writer.behind writer.log.items) }
         ensures { result ≡ writer.desk.shown.value.trace.list }
     {
         let mut writer = writer;

@@ -48,7 +48,8 @@ impl<J: Naming> Model for Reading<J> {
 
     ghost view = { λ s. s.front };
 
-    ghost invariant = { λ s. (seen_at s.reading.place ≡ s.front) × StandsFor s.reading.part.value.policy s.front };
+    ghost invariant = { λ s. (seen_at s.reading.place ≡ s.front)
+        × StandsFor s.reading.part.value.policy s.front };
 }
 
 impl<J: Naming> SlotReader<J> {

@@ -182,7 +182,8 @@ impl<J: Naming> Seat<J> {
         operation: Operation,
         object: &Object,
     ) -> Result<bool, Refusal>
-        ensures { Asks (λ entries. May entries session operation object.now) self.old result self.new }
+        ensures { Asks (λ entries. May entries session operation object.now) self.old result
+            self.new }
     {
         let reading = self.enter()?;
         let allowed = reading.policy().may(session, &operation, object);

@@ -292,7 +292,8 @@ fn decide_drop(policy: &Policy, session: Option<SessionId>, role: Name) -> Resul
 }
 
 fn decide_logout(policy: &Policy, session: Option<SessionId>) -> Result<Entry, Refusal>
-    ensures { (entries : List Entry) → StandsFor policy.now entries → PolicyStep entries session AdminCommand.DeleteSession result }
+    ensures { (entries : List Entry) → StandsFor policy.now entries
+        → PolicyStep entries session AdminCommand.DeleteSession result }
 {
     let session = living(policy, session)?;
     Ok(Entry {
@@ -346,7 +347,8 @@ pub fn decide(
     session: Option<SessionId>,
     command: AdminCommand,
 ) -> Result<Entry, Refusal>
-    ensures { (entries : List Entry) → StandsFor policy.now entries → PolicyStep entries session command result }
+    ensures { (entries : List Entry) → StandsFor policy.now entries
+        → PolicyStep entries session command result }
 {
     match command {
         AdminCommand::GrantPermission {

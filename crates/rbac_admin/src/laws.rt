@@ -17,7 +17,8 @@ ghost use Rattle.rbac_admin.specs.Room.{most_entries};
 
 /// The policy step gives one answer at most.
 pub fn one_answer()
-    ensures { (entries : List Entry) (session : Option ℕ) (command : AdminCommand) (a b : Result Entry Refusal)
+    ensures { (entries : List Entry) (session : Option ℕ) (command : AdminCommand)
+        (a b : Result Entry Refusal)
         → PolicyStep entries session command a → PolicyStep entries session command b → a ≡ b }
 {}
 
@@ -30,45 +31,57 @@ pub fn accepted_entry()
 /// An accepted entry is accepted again from the entry alone.
 pub fn accepted_again()
     ensures { (entries : List Entry) (session : Option ℕ) (command : AdminCommand) (entry : Entry)
-        → PolicyStep entries session command (Ok entry) → PolicyStep entries entry.session entry.command (Ok entry) }
+        → PolicyStep entries session command (Ok entry)
+        → PolicyStep entries entry.session entry.command (Ok entry) }
 {}
 
 /// An administrative command is accepted only from a session that may administer the policy.
 pub fn accepted_administers()
     ensures { (entries : List Entry) (session : Option ℕ) (command : AdminCommand) (entry : Entry)
-        → IsTrue (is_administrative command) → PolicyStep entries session command (Ok entry) → Administers entries session }
+        → IsTrue (is_administrative command) → PolicyStep entries session command (Ok entry)
+        → Administers entries session }
 {}
 
 /// The answer is a refusal exactly where a rule of the command gives it and all before that one let pass, and those then give none;
 /// it is the command's entry exactly where all let pass.
 pub fn first_refusal()
-    ensures refused { (entries : List Entry) (session : Option ℕ) (command : AdminCommand) (refusal : Refusal)
-        → (PolicyStep entries session command (Err refusal) ↔ FirstRefuses (policy_rules entries session command) refusal) }
+    ensures refused { (entries : List Entry) (session : Option ℕ) (command : AdminCommand)
+        (refusal : Refusal)
+        → (PolicyStep entries session command (Err refusal) ↔ FirstRefuses (policy_rules entries
+        session command) refusal) }
     ensures accepted { (entries : List Entry) (session : Option ℕ) (command : AdminCommand)
-        → (PolicyStep entries session command (Ok (entry_of session command)) ↔ AllPass (policy_rules entries session command)) }
-    ensures silent { (entries : List Entry) (session : Option ℕ) (command : AdminCommand) (place earlier : ℕ) (refusal : Refusal)
+        → (PolicyStep entries session command (Ok (entry_of session command))
+        ↔ AllPass (policy_rules entries session command)) }
+    ensures silent { (entries : List Entry) (session : Option ℕ) (command : AdminCommand)
+        (place earlier : ℕ) (refusal : Refusal)
         → PassBefore (policy_rules entries session command) place → earlier < place
         → RefusesAt (policy_rules entries session command) earlier refusal → ⊥ }
 {}
 
 /// A policy that stands for a list, and then takes in an accepted entry, stands for the longer list.
 pub fn accepted_stands()
-    ensures { (policy : Policy) (entries : List Entry) (session : Option ℕ) (command : AdminCommand) (entry : Entry)
+    ensures { (policy : Policy) (entries : List Entry) (session : Option ℕ) (command : AdminCommand)
+        (entry : Entry)
         → StandsFor policy entries → length entries < LAST_VERSION
-        → PolicyStep entries session command (Ok entry) → StandsFor (absorbed policy entry) (entries ++ entry ∷ []) }
+        → PolicyStep entries session command (Ok entry)
+        → StandsFor (absorbed policy entry) (entries ++ entry ∷ []) }
 {}
 
 /// The opening entries are a policy list, and with an accepted entry at its end a policy list is one.
 pub fn policy_lists_grow()
     ensures opening { IsPolicyList opening_entries }
-    ensures grows { (entries : List Entry) (entry : Entry) → IsPolicyList entries → IsAccepted entries entry
+    ensures grows { (entries : List Entry) (entry : Entry) → IsPolicyList entries
+        → IsAccepted entries entry
         → IsPolicyList (entries ++ entry ∷ []) }
 {}
 
 /// Where each living session has room for its logout, an accepted entry has room, and leaves it to the others.
 pub fn accepted_leaves_room()
-    ensures few { (entries : List Entry) (entry : Entry) → LeavesRoom most_entries entries → IsAccepted entries entry
+    ensures few { (entries : List Entry) (entry : Entry) → LeavesRoom most_entries entries
+        → IsAccepted entries entry
         → length entries < most_entries }
-    ensures left { (policy : Policy) (entries : List Entry) (entry : Entry) → LeavesRoom most_entries entries
-        → StandsFor policy (entries ++ entry ∷ []) → IsAccepted entries entry → LeavesRoom most_entries (entries ++ entry ∷ []) }
+    ensures left { (policy : Policy) (entries : List Entry) (entry : Entry)
+        → LeavesRoom most_entries entries
+        → StandsFor policy (entries ++ entry ∷ []) → IsAccepted entries entry
+        → LeavesRoom most_entries (entries ++ entry ∷ []) }
 {}

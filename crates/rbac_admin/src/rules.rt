@@ -4,12 +4,14 @@ ghost use Rattle.std.specs.Result.{MatchResult};
 ghost use Rattle.rbac_policy.specs.declared.commands.Entry.{Entry};
 ghost use Rattle.rbac_policy.specs.StandsFor.{StandsFor};
 ghost use Rattle.rbac_policy.specs.Names.{NameText};
-ghost use Rattle.rbac_policy.specs.Facts.{IsUser, IsRole, IsSetName, IsAssigned, IsAuthorized, IsGranted, IsEdge, IsAtOrBelow, IsActive, Lives, IsLive, May};
+ghost use Rattle.rbac_policy.specs.Facts.{IsUser, IsRole, IsSetName, IsAssigned, IsAuthorized, IsGranted, IsEdge};
+ghost use Rattle.rbac_policy.specs.Facts.{IsAtOrBelow, IsActive, Lives, IsLive, May};
 ghost use Rattle.rbac_policy.specs.Fits.{NumbersExhausted, UsersFull, RolesFull, SetsFull, SessionsFull};
 ghost use Rattle.rbac_policy.specs.Separation.{IsFirstSetOf};
 ghost use Rattle.refusal_rules.specs.Rules.{Says, Unless, Naming, Tests};
 ghost use Rattle.rbac_admin.specs.Conditions.{IsGivenBy, HasNoRoomFor, IsNoShape, FirstListed};
-ghost use Rattle.rbac_admin.specs.PolicyStep.{no_session, unknown_user, unknown_role, unknown_listed, unauthorized_listed, repeated_listed, violation};
+ghost use Rattle.rbac_admin.specs.PolicyStep.{no_session, unknown_user, unknown_role, unknown_listed};
+ghost use Rattle.rbac_admin.specs.PolicyStep.{unauthorized_listed, repeated_listed, violation};
 
 use crate::refusals::Refusal;
 use rbac_policy::commands::{AdminCommand, SessionId, Table};
@@ -35,7 +37,8 @@ pub fn living(policy: &Policy, session: Option<SessionId>) -> Result<SessionId, 
 /// The session may change the policy.
 pub fn administers(policy: &Policy, session: SessionId) -> Result<(), Refusal>
     ensures { (entries : List Entry) → StandsFor policy.now entries
-        → Tests (Unless (May entries session Operation.Administer Object.Policy) (Refusal.Permission Operation.Administer Object.Policy)) result }
+        → Tests (Unless (May entries session Operation.Administer Object.Policy)
+        (Refusal.Permission Operation.Administer Object.Policy)) result }
 {
     if policy.may(session, &Operation::Administer, &Object::Policy) {
         Ok(())
@@ -49,7 +52,8 @@ pub fn administers(policy: &Policy, session: SessionId) -> Result<(), Refusal>
 
 /// There is such a role.
 pub fn known_role(policy: &Policy, role: &Name) -> Result<(), Refusal>
-    ensures { (entries : List Entry) → StandsFor policy.now entries → Tests (unknown_role entries role.now) result }
+    ensures { (entries : List Entry) → StandsFor policy.now entries
+        → Tests (unknown_role entries role.now) result }
 {
     if policy.is_role(role) {
         Ok(())
@@ -66,7 +70,8 @@ pub fn new_grant(
     object: &Object,
 ) -> Result<(), Refusal>
     ensures { (entries : List Entry) → StandsFor policy.now entries
-        → Tests (Says Refusal.AlreadyGranted (IsGranted entries role.now operation.now object.now)) result }
+        → Tests (Says Refusal.AlreadyGranted (IsGranted entries role.now operation.now object.now))
+        result }
 {
     if policy.is_granted(role, operation, object) {
         Err(Refusal::AlreadyGranted)
@@ -82,7 +87,8 @@ pub fn room_for_grant(
     object: &Object,
 ) -> Result<(), Refusal>
     ensures { (entries : List Entry) → StandsFor policy.now entries
-        → Tests (Says (Refusal.Full Table.Permissions) (HasNoRoomFor entries operation.now object.now)) result }
+        → Tests (Says (Refusal.Full Table.Permissions) (HasNoRoomFor entries operation.now
+        object.now)) result }
 {
     if policy.is_pair_granted(operation, object) {
         return Ok(());
@@ -179,7 +185,8 @@ pub fn is_granted(
     object: &Object,
 ) -> Result<(), Refusal>
     ensures { (entries : List Entry) → StandsFor policy.now entries
-        → Tests (Unless (IsGranted entries role.now operation.now object.now) Refusal.NotGranted) result }
+        → Tests (Unless (IsGranted entries role.now operation.now object.now) Refusal.NotGranted)
+        result }
 {
     if policy.is_granted(role, operation, object) {
         Ok(())
@@ -226,8 +233,10 @@ pub fn inactive_role(policy: &Policy, session: SessionId, role: &Name) -> Result
 
 /// The user of the session, which lives, is authorized for the role.
 pub fn authorized_role(policy: &Policy, session: SessionId, role: &Name) -> Result<(), Refusal>
-    ensures { (entries : List Entry) (user : NameText) → StandsFor policy.now entries → Lives entries session user
-        → Tests (Unless (IsAuthorized entries user role.now) (Refusal.NotAuthorized role.now)) result }
+    ensures { (entries : List Entry) (user : NameText) → StandsFor policy.now entries
+        → Lives entries session user
+        → Tests (Unless (IsAuthorized entries user role.now) (Refusal.NotAuthorized role.now))
+        result }
 {
     match policy.user_of(session) {
         Some(user) if policy.is_authorized(&user, role) => Ok(()),
@@ -310,7 +319,8 @@ pub fn in_no_set(policy: &Policy, role: &Name) -> Result<(), Refusal>
 pub fn separated_edge(policy: &Policy, senior: &Name, junior: &Name) -> Result<(), Refusal>
     ensures { (entries : List Entry) (session : Option ℕ) → StandsFor policy.now entries
         → IsRole entries senior.now → IsRole entries junior.now
-        → Tests (violation entries session (AdminCommand.AddInheritance senior.now junior.now)) result }
+        → Tests (violation entries session (AdminCommand.AddInheritance senior.now junior.now))
+        result }
 {
     match policy.first_violated_by_edge(senior, junior) {
         Some(violation) => Err(Refusal::DsdViolated {
@@ -330,7 +340,8 @@ pub fn separated_set(
 ) -> Result<(), Refusal>
     ensures { (entries : List Entry) (session : Option ℕ) → StandsFor policy.now entries
         → ((role : NameText) → Contains roles.now role → IsRole entries role)
-        → Tests (violation entries session (AdminCommand.CreateDsdSet set.now count roles.now)) result }
+        → Tests (violation entries session (AdminCommand.CreateDsdSet set.now count roles.now))
+        result }
 {
     match policy.first_violated_by_set(set, count, roles) {
         Some(violation) => Err(Refusal::DsdViolated {
@@ -383,7 +394,8 @@ pub fn number_left(policy: &Policy) -> Result<(), Refusal>
 
 /// There is such a user.
 pub fn known_user(policy: &Policy, user: &Name) -> Result<(), Refusal>
-    ensures { (entries : List Entry) → StandsFor policy.now entries → Tests (unknown_user entries user.now) result }
+    ensures { (entries : List Entry) → StandsFor policy.now entries
+        → Tests (unknown_user entries user.now) result }
 {
     if policy.is_user(user) {
         Ok(())
@@ -396,7 +408,8 @@ pub fn known_user(policy: &Policy, user: &Name) -> Result<(), Refusal>
 fn first_unknown(policy: &Policy, roles: &RoleNames) -> Option<Name>
     ensures { (entries : List Entry) → StandsFor policy.now entries
         → MatchOption result
-        ((role : NameText) → FirstListed (λ before name. IsRole entries name → ⊥) roles.now role → ⊥)
+        ((role : NameText) → FirstListed (λ before name. IsRole entries name → ⊥) roles.now role
+        → ⊥)
         (FirstListed (λ before name. IsRole entries name → ⊥) roles.now) }
 {
     for place in 0..roles.len() {
@@ -413,7 +426,8 @@ fn first_unknown(policy: &Policy, roles: &RoleNames) -> Option<Name>
 fn first_unauthorized(policy: &Policy, user: &Name, roles: &RoleNames) -> Option<Name>
     ensures { (entries : List Entry) → StandsFor policy.now entries
         → MatchOption result
-        ((role : NameText) → FirstListed (λ before name. IsAuthorized entries user.now name → ⊥) roles.now role → ⊥)
+        ((role : NameText) → FirstListed (λ before name. IsAuthorized entries user.now name → ⊥)
+        roles.now role → ⊥)
         (FirstListed (λ before name. IsAuthorized entries user.now name → ⊥) roles.now) }
 {
     for place in 0..roles.len() {
@@ -442,7 +456,8 @@ fn is_listed_before(roles: &RoleNames, place: usize, role: &Name) -> bool
 
 /// The first role that stands a second time.
 fn first_repeated(roles: &RoleNames) -> Option<Name>
-    ensures { MatchOption result ((role : NameText) → FirstListed Contains roles.now role → ⊥) (FirstListed Contains roles.now) }
+    ensures { MatchOption result ((role : NameText) → FirstListed Contains roles.now role → ⊥)
+        (FirstListed Contains roles.now) }
 {
     for place in 0..roles.len() {
         if let Some(role) = roles.get(place) {
@@ -456,7 +471,8 @@ fn first_repeated(roles: &RoleNames) -> Option<Name>
 
 /// Each listed role is one.
 pub fn known_roles(policy: &Policy, roles: &RoleNames) -> Result<(), Refusal>
-    ensures { (entries : List Entry) → StandsFor policy.now entries → Tests (unknown_listed entries roles.now) result }
+    ensures { (entries : List Entry) → StandsFor policy.now entries
+        → Tests (unknown_listed entries roles.now) result }
 {
     match first_unknown(policy, roles) {
         Some(role) => Err(Refusal::UnknownRole { role }),
@@ -481,7 +497,8 @@ pub fn separated_login(policy: &Policy, user: &Name, roles: &RoleNames) -> Resul
 
 /// The user is authorized for each listed role.
 pub fn authorized_roles(policy: &Policy, user: &Name, roles: &RoleNames) -> Result<(), Refusal>
-    ensures { (entries : List Entry) → StandsFor policy.now entries → Tests (unauthorized_listed entries user.now roles.now) result }
+    ensures { (entries : List Entry) → StandsFor policy.now entries
+        → Tests (unauthorized_listed entries user.now roles.now) result }
 {
     match first_unauthorized(policy, user, roles) {
         Some(role) => Err(Refusal::NotAuthorized { role }),

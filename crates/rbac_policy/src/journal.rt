@@ -63,7 +63,8 @@ impl PolicyJournal {
 
     /// Adds the entry at its end, or stays as it is where memory is refused.
     pub fn push(&mut self, entry: Entry) -> Result<(), AllocError>
-        ensures { MatchResult result (λ _. self.new ≡ self.old ++ entry ∷ []) (λ _. self.new ≡ self.old) }
+        ensures { MatchResult result (λ _. self.new ≡ self.old ++ entry ∷ [])
+            (λ _. self.new ≡ self.old) }
     {
         self.entries.push(entry)?;
         Ok(())

@@ -18,19 +18,24 @@ pub fn facts_are_decided()
     ensures lives { (policy : Policy) (entries : List Entry) → StandsFor policy entries
         → (session : ℕ) → Decided (IsLive entries session) }
     ensures may { (policy : Policy) (entries : List Entry) → StandsFor policy entries
-        → (session : ℕ) (operation : Operation) (object : Object) → Decided (May entries session operation object) }
+        → (session : ℕ) (operation : Operation) (object : Object)
+        → Decided (May entries session operation object) }
 {}
 
 /// Where each entry fits those before it, a policy stands for the list, and for each front of it: the one that took in its entries.
 pub fn policies_stand()
-    ensures whole { (entries : List Entry) → AllFit entries → StandsFor (policy_of entries) entries }
-    ensures front { (entries : List Entry) → AllFit entries → (n : ℕ) → StandsFor (policy_of (take n entries)) (take n entries) }
+    ensures whole { (entries : List Entry) → AllFit entries
+        → StandsFor (policy_of entries) entries }
+    ensures front { (entries : List Entry) → AllFit entries → (n : ℕ)
+        → StandsFor (policy_of (take n entries)) (take n entries) }
 {}
 
 /// The same is decided over each front of a list each of whose entries fits those before it.
 pub fn fronts_are_decided()
-    ensures lives { (entries : List Entry) → AllFit entries → (n session : ℕ) → Decided (IsLive (take n entries) session) }
-    ensures may { (entries : List Entry) → AllFit entries → (n session : ℕ) (operation : Operation) (object : Object)
+    ensures lives { (entries : List Entry) → AllFit entries → (n session : ℕ)
+        → Decided (IsLive (take n entries) session) }
+    ensures may { (entries : List Entry) → AllFit entries
+        → (n session : ℕ) (operation : Operation) (object : Object)
         → Decided (May (take n entries) session operation object) }
 {}
 
@@ -39,9 +44,11 @@ pub fn fronts_are_decided()
 pub fn logouts_have_room()
     ensures room { (policy : Policy) (entries : List Entry) → StandsFor policy entries
         → (most : ℕ) → length entries + SESSIONS ≤ most → LeavesRoom most entries }
-    ensures left { (entries : List Entry) (entry : Entry) (session most : ℕ) → LeavesRoom most entries
+    ensures left { (entries : List Entry) (entry : Entry) (session most : ℕ)
+        → LeavesRoom most entries
         → entry.command ≡ DeleteSession → entry.session ≡ Some session → IsLive entries session
         → LeavesRoom most (entries ++ entry ∷ []) }
-    ensures taken { (entries : List Entry) (session most : ℕ) → LeavesRoom most entries → IsLive entries session
+    ensures taken { (entries : List Entry) (session most : ℕ) → LeavesRoom most entries
+        → IsLive entries session
         → length entries < most }
 {}

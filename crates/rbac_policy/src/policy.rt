@@ -8,7 +8,9 @@ ghost use Rattle.rbac_closure.specs.Sets.{Meets};
 ghost use Rattle.rbac_policy.specs.Order.{below};
 ghost use Rattle.rbac_policy.specs.Opening.{opening_entries};
 ghost use Rattle.rbac_policy.specs.StandsFor.{StandsFor};
-ghost use Rattle.rbac_policy.specs.Change.{absorbed, assigned, changed, deassigned, disinherited, granted, inherited, laid_down, logged_in, logged_out, policy_of, revoked, role_deleted, set_created, taken_up, user_deleted};
+ghost use Rattle.rbac_policy.specs.Change.{absorbed, assigned, changed, deassigned, disinherited, granted, inherited};
+ghost use Rattle.rbac_policy.specs.Change.{laid_down, logged_in, logged_out, policy_of, revoked, role_deleted};
+ghost use Rattle.rbac_policy.specs.Change.{set_created, taken_up, user_deleted};
 
 use crate::closure::below;
 use crate::commands::{AdminCommand, Entry, SessionId};
@@ -236,7 +238,8 @@ impl Policy {
     /// Takes the entry in, whether it was accepted or not: what it leaves depends on the tables and the entry alone.
     pub fn absorb(&mut self, entry: &Entry)
         ensures exact { self.new ≡ absorbed self.old entry.now }
-        ensures stands { (entries : List Entry) → StandsFor self.old entries → Fits entries entry.now
+        ensures stands { (entries : List Entry) → StandsFor self.old entries
+            → Fits entries entry.now
             → StandsFor self.new (entries ++ entry.now ∷ []) }
     {
         self.take_in(entry);
@@ -244,7 +247,8 @@ impl Policy {
 
     // Whether a role that is active in the session, or lies below one, has the grant.
     fn reaches(&self, session: &Session, grant: &Grant) -> bool
-        ensures { IsTrue result ↔ Meets (below self.now.juniors session.now.active) grant.now.roles }
+        ensures { IsTrue result ↔ Meets (below self.now.juniors session.now.active)
+            grant.now.roles }
     {
         below(&self.juniors, session.active).meets(grant.roles)
     }

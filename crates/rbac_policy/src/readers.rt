@@ -4,7 +4,8 @@ ghost use Rattle.rbac_policy.specs.Names.{NameText};
 ghost use Rattle.rbac_policy.specs.Separation.{AnswersFirstViolated, IsFirstSetOf, entry_of, login_entry};
 ghost use Rattle.rbac_policy.specs.declared.commands.AdminCommand.TheVariants.{AddActiveRole, AddInheritance, CreateDsdSet};
 ghost use Rattle.rbac_policy.specs.declared.commands.Entry.{Entry};
-ghost use Rattle.rbac_policy.specs.Facts.{IsUser, IsRole, IsSetName, IsAssigned, IsGranted, IsPairGranted, IsEdge, IsAtOrBelow, IsAuthorized, IsActive, Lives, IsLive};
+ghost use Rattle.rbac_policy.specs.Facts.{IsUser, IsRole, IsSetName, IsAssigned, IsGranted, IsPairGranted, IsEdge};
+ghost use Rattle.rbac_policy.specs.Facts.{IsAtOrBelow, IsAuthorized, IsActive, Lives, IsLive};
 ghost use Rattle.rbac_policy.specs.Fits.{NumbersExhausted, UsersFull, RolesFull, SetsFull, SessionsFull, PermissionsFull};
 ghost use Rattle.rbac_policy.specs.StandsFor.{StandsFor};
 
@@ -22,21 +23,24 @@ use crate::tables::{free, grant_of, has_user, mask_of, place_of, roles_of, sessi
 impl Policy {
     /// Whether the session lives.
     pub fn lives(&self, session: SessionId) -> bool
-        ensures { (entries : List Entry) → StandsFor self.now entries → (IsTrue result ↔ IsLive entries session) }
+        ensures { (entries : List Entry) → StandsFor self.now entries
+            → (IsTrue result ↔ IsLive entries session) }
     {
         session_of(&self.sessions, session).is_some()
     }
 
     /// Whether there is such a user.
     pub fn is_user(&self, user: &Name) -> bool
-        ensures { (entries : List Entry) → StandsFor self.now entries → (IsTrue result ↔ IsUser entries user.now) }
+        ensures { (entries : List Entry) → StandsFor self.now entries
+            → (IsTrue result ↔ IsUser entries user.now) }
     {
         has_user(&self.users, user)
     }
 
     /// Whether there is such a role.
     pub fn is_role(&self, role: &Name) -> bool
-        ensures { (entries : List Entry) → StandsFor self.now entries → (IsTrue result ↔ IsRole entries role.now) }
+        ensures { (entries : List Entry) → StandsFor self.now entries
+            → (IsTrue result ↔ IsRole entries role.now) }
     {
         place_of(&self.roles, role).is_some()
     }
@@ -166,7 +170,8 @@ impl Policy {
     pub fn first_violated_by_edge(&self, senior: &Name, junior: &Name) -> Option<Violation>
         ensures { (entries : List Entry) (by : Option ℕ) → StandsFor self.now entries
             → IsRole entries senior.now → IsRole entries junior.now
-            → AnswersFirstViolated (entries ++ entry_of by (AddInheritance senior.now junior.now) ∷ []) result }
+            → AnswersFirstViolated (entries ++ entry_of by (AddInheritance senior.now junior.now) ∷
+            []) result }
     {
         match place_of(&self.roles, senior) {
             Some(above) => match place_of(&self.roles, junior) {
@@ -185,7 +190,8 @@ impl Policy {
     pub fn first_violated_by_role(&self, session: SessionId, role: &Name) -> Option<Violation>
         ensures { (entries : List Entry) (user : NameText) → StandsFor self.now entries
             → Lives entries session user → IsAuthorized entries user role.now
-            → AnswersFirstViolated (entries ++ entry_of (Some session) (AddActiveRole role.now) ∷ []) result }
+            → AnswersFirstViolated (entries ++ entry_of (Some session) (AddActiveRole role.now) ∷
+            []) result }
     {
         match session_of(&self.sessions, session) {
             Some(found) => match place_of(&self.roles, role) {
@@ -214,7 +220,8 @@ impl Policy {
     ) -> Option<Violation>
         ensures { (entries : List Entry) (by : Option ℕ) → StandsFor self.now entries
             → ((role : NameText) → Contains roles.now role → IsRole entries role)
-            → AnswersFirstViolated (entries ++ entry_of by (CreateDsdSet set.now count roles.now) ∷ []) result }
+            → AnswersFirstViolated (entries ++ entry_of by (CreateDsdSet set.now count roles.now) ∷
+            []) result }
     {
         let coming = Some(DsdSet {
             name: *set,
@@ -227,14 +234,16 @@ impl Policy {
 
     /// Whether there is such a separation set.
     pub fn is_set(&self, set: &Name) -> bool
-        ensures { (entries : List Entry) → StandsFor self.now entries → (IsTrue result ↔ IsSetName entries set.now) }
+        ensures { (entries : List Entry) → StandsFor self.now entries
+            → (IsTrue result ↔ IsSetName entries set.now) }
     {
         has_set(&self.sets, set)
     }
 
     /// Whether there are as many separation sets as there is room for.
     pub fn are_sets_full(&self) -> bool
-        ensures { (entries : List Entry) → StandsFor self.now entries → (IsTrue result ↔ SetsFull entries) }
+        ensures { (entries : List Entry) → StandsFor self.now entries
+            → (IsTrue result ↔ SetsFull entries) }
     {
         free(&self.sets).is_none()
     }
@@ -257,35 +266,40 @@ impl Policy {
 
     /// Whether all session numbers were given.
     pub fn are_numbers_exhausted(&self) -> bool
-        ensures { (entries : List Entry) → StandsFor self.now entries → (IsTrue result ↔ NumbersExhausted entries) }
+        ensures { (entries : List Entry) → StandsFor self.now entries
+            → (IsTrue result ↔ NumbersExhausted entries) }
     {
         self.logins == LAST_SESSION
     }
 
     /// Whether there are as many users as there is room for.
     pub fn are_users_full(&self) -> bool
-        ensures { (entries : List Entry) → StandsFor self.now entries → (IsTrue result ↔ UsersFull entries) }
+        ensures { (entries : List Entry) → StandsFor self.now entries
+            → (IsTrue result ↔ UsersFull entries) }
     {
         free(&self.users).is_none()
     }
 
     /// Whether there are as many roles as there is room for.
     pub fn are_roles_full(&self) -> bool
-        ensures { (entries : List Entry) → StandsFor self.now entries → (IsTrue result ↔ RolesFull entries) }
+        ensures { (entries : List Entry) → StandsFor self.now entries
+            → (IsTrue result ↔ RolesFull entries) }
     {
         free(&self.roles).is_none()
     }
 
     /// Whether as many sessions live as there is room for.
     pub fn are_sessions_full(&self) -> bool
-        ensures { (entries : List Entry) → StandsFor self.now entries → (IsTrue result ↔ SessionsFull entries) }
+        ensures { (entries : List Entry) → StandsFor self.now entries
+            → (IsTrue result ↔ SessionsFull entries) }
     {
         free(&self.sessions).is_none()
     }
 
     /// Whether as many pairs of an operation and an object as there is room for are granted to some role.
     pub fn are_permissions_full(&self) -> bool
-        ensures { (entries : List Entry) → StandsFor self.now entries → (IsTrue result ↔ PermissionsFull entries) }
+        ensures { (entries : List Entry) → StandsFor self.now entries
+            → (IsTrue result ↔ PermissionsFull entries) }
     {
         free(&self.grants).is_none()
     }

@@ -1,6 +1,7 @@
 //! Dynamic separation of duty: which set is violated first, and by which session.
 ghost use Rattle.std.specs.Prelude.{◌≡◌, ◌++◌, ◌∷◌, [], None};
-ghost use Rattle.rbac_policy.specs.Violations.{first_violation, holds_many, least_violator, lesser, place_of_set, violated_by, violation_of, violator};
+ghost use Rattle.rbac_policy.specs.Violations.{first_violation, holds_many, least_violator, lesser, place_of_set};
+ghost use Rattle.rbac_policy.specs.Violations.{violated_by, violation_of, violator};
 
 use crate::closure::below;
 use crate::commands::SessionId;
@@ -138,7 +139,8 @@ pub(crate) fn first_violation_with(
     sessions: &[Option<Session>],
     juniors: &Rows,
 ) -> Option<Violation>
-    ensures { result ≡ first_violation juniors.now (sessions.now ++ None ∷ []) (sets.now ++ coming.now ∷ []) }
+    ensures { result ≡ first_violation juniors.now (sessions.now ++ None ∷ [])
+        (sets.now ++ coming.now ∷ []) }
 {
     let first = first_violation(sets, sessions, &None, juniors);
     earlier(first, violation_of(coming, sessions, &None, juniors))

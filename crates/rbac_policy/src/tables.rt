@@ -2,7 +2,12 @@
 ghost use Rattle.std.specs.Prelude.{◌≡◌, ◌<◌, ◌==◌, ◌&&◌, IfSome, map, position, is_none};
 ghost use Rattle.std.specs.List.{list_any};
 ghost use Rattle.std.specs.Option.{ForSome};
-ghost use Rattle.rbac_policy.specs.Tables.{first_of, grant_given, grant_is, grant_of, grants_given, has_only_authorized, mask_of, place_of, put_free, role_is, roles_of, session_of, session_kept, session_without, user_given, user_is, with_place, grant_cleared, grant_revoked, grant_with, session_given, session_of_other, session_relieved, set_without, user_cleared, user_relieved, user_without};
+ghost use Rattle.rbac_policy.specs.Tables.{first_of, grant_given, grant_is, grant_of, grants_given};
+ghost use Rattle.rbac_policy.specs.Tables.{has_only_authorized, mask_of, place_of, put_free, role_is, roles_of};
+ghost use Rattle.rbac_policy.specs.Tables.{session_of, session_kept, session_without, user_given, user_is};
+ghost use Rattle.rbac_policy.specs.Tables.{with_place, grant_cleared, grant_revoked, grant_with, session_given};
+ghost use Rattle.rbac_policy.specs.Tables.{session_of_other, session_relieved, set_without, user_cleared};
+ghost use Rattle.rbac_policy.specs.Tables.{user_relieved, user_without};
 
 use crate::closure::below;
 use crate::commands::SessionId;

@@ -39,7 +39,8 @@ impl Operation {
     /// The operation of this name, if there is one.
     pub fn from_text(text: &str) -> Option<Operation>
         ensures value { result ≡ operation_of text.now }
-        ensures exact { (operation : Operation) → (result ≡ Some operation) ↔ (text.now ≡ operation_text operation) }
+        ensures exact { (operation : Operation)
+            → (result ≡ Some operation) ↔ (text.now ≡ operation_text operation) }
     {
         operation_of(text)
     }
@@ -97,7 +98,8 @@ impl Object {
     /// identifier.
     pub fn from_text(text: &str) -> Option<Object>
         ensures value { result ≡ object_of text.now }
-        ensures exact { (object : Object) → (result ≡ Some object) ↔ (IsObject object × (text.now ≡ object_text object)) }
+        ensures exact { (object : Object)
+            → (result ≡ Some object) ↔ (IsObject object × (text.now ≡ object_text object)) }
     {
         object_of(text)
     }

@@ -1,11 +1,13 @@
 //! A running module with its journal.
-ghost use Rattle.std.specs.Prelude.{◌≡◌, ◌⊎◌, ◌<◌, ◌-◌, ◌++◌, ◌∷◌, [], length, Some, MatchResult, MatchOption, IfOk, IfErr, IsTrue, true, false, slice_get};
+ghost use Rattle.std.specs.Prelude.{◌≡◌, ◌⊎◌, ◌<◌, ◌-◌, ◌++◌, ◌∷◌, [], length, Some, MatchResult, MatchOption, IfOk};
+ghost use Rattle.std.specs.Prelude.{IfErr, IsTrue, true, false, slice_get};
 ghost use Rattle.est_text.specs.Identifiers.{is_identifier};
 ghost use Rattle.reactor_core.specs.Meaning.{Running, Runs, ModuleOf, is_loaded, instants_of, entry};
 ghost use Rattle.reactor_core.specs.Loading.{IsLoadFault};
 ghost use Rattle.reactor_core.specs.Standing.{given_by};
 ghost use Rattle.reactor_core.specs.Instants.{OpenAnswer};
-ghost use Rattle.reactor_core.specs.Answers.{LoadAnswer, OfferAnswer, DiscardAnswer, UnloadAnswer, ShownAnswer, HasRoom, RefusesEntry, load_of};
+ghost use Rattle.reactor_core.specs.Answers.{LoadAnswer, OfferAnswer, DiscardAnswer, UnloadAnswer, ShownAnswer};
+ghost use Rattle.reactor_core.specs.Answers.{HasRoom, RefusesEntry, load_of};
 
 use crate::entry::{Action, Load, PastInstant, SlotEntry, Stamp};
 use crate::journal::Journal;

@@ -11,7 +11,10 @@ ghost use Rattle.slot_table.specs.SlotCommands.{LockedCommand};
 /// A command under a slot's lock never takes an entry from the journal, and leaves it legal: along the places of a slot's journal versions
 /// never fall.
 pub fn versions_never_fall()
-    ensures { (slot session : ℕ) (command : SlotCommand) (old : LockedState) (seat : SeatState) (reply : Reply) (new : LockedState) (after : SeatState)
-        → LockedCommand slot session command old seat reply new after → IsLegal old.list slot old.journal
-        → Begins old.journal new.journal × Begins old.list new.list × IsLegal new.list slot new.journal }
+    ensures { (slot session : ℕ) (command : SlotCommand) (old : LockedState) (seat : SeatState)
+        (reply : Reply) (new : LockedState) (after : SeatState)
+        → LockedCommand slot session command old seat reply new after
+        → IsLegal old.list slot old.journal
+        → Begins old.journal new.journal × Begins old.list new.list
+        × IsLegal new.list slot new.journal }
 {}

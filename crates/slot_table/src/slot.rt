@@ -53,7 +53,8 @@ impl<J: Naming, const NUMBER: u8> LockedSlot<J, NUMBER> {
     pub fn command(&mut self, seat: &mut Seat<J>, session: SessionId, command: SlotCommand) -> Reply
         ensures before { IsLegal self.old.list NUMBER self.old.journal }
         ensures after { IsLegal self.new.list NUMBER self.new.journal }
-        ensures command { LockedCommand NUMBER session command self.old seat.old result self.new seat.new }
+        ensures command { LockedCommand NUMBER session command self.old seat.old result self.new
+            seat.new }
     {
         let away = SlotReader::vacant(self.reader.front().again());
         let reading = match replace(&mut self.reader, away).enter() {

@@ -70,7 +70,8 @@ fn answer<J: Naming, const NUMBER: u8, R: Wait>(
 // Answers a command on a slot that there is none of.
 fn refuse_number<J: Naming>(seat: &mut Seat<J>, session: SessionId, slot: u64) -> Reply
     requires { SLOTS ≤ slot }
-    ensures { IsNoSlot slot session seat.old result seat.new ⊎ IsNotAsked slot seat.old result seat.new }
+    ensures { IsNoSlot slot session seat.old result seat.new
+        ⊎ IsNotAsked slot seat.old result seat.new }
 {
     match seat.lives(session) {
         Ok(true) => Reply::Refused(Refusal::NoSlot),

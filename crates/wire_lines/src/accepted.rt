@@ -42,7 +42,8 @@ fn add_place(line: &mut Vec<u8>, text: &[u8], place: u64, version: u64) -> Resul
 /// A line that begins with this text and tells a place and a version.
 fn placed_line(alloc: Global, text: &[u8], place: u64, version: u64) -> Result<Vec<u8>, AllocError>
     ensures { IfOk result (λ line. line.items
-        ≡ text.now ++ (decimal place ++ (codes ",\"version\":" ++ (decimal version ++ codes "}\n")))) }
+        ≡ text.now ++ (decimal place ++ (codes ",\"version\":" ++
+        (decimal version ++ codes "}\n")))) }
 {
     let mut line = Vec::with_capacity(alloc, USUAL_BYTES)?;
     add_place(&mut line, text, place, version)?;

@@ -3,7 +3,13 @@ ghost use Rattle.std.specs.Prelude.{◌≡◌, ◌≤◌, length, map, option_ma
 ghost use Rattle.serde_json.specs.Data.{object};
 ghost use Rattle.serde_json.specs.View.{view};
 ghost use Rattle.wire_lines.specs.Requests.{IsReadAs, IsRequest, Fits, members_of};
-ghost use Rattle.wire_lines.specs.Inner.Reading.{text_at, name_at, identifier_at, operation_at, object_at, number_at, has_keys, names_are, command_of, login_of, logout_of, grant_of, add_user_of, delete_user_of, add_role_of, assign_of, deassign_of, revoke_of, disinherit_of, activate_of, drop_role_of, delete_role_of, inherit_of, create_set_of, delete_set_of, load_of, offer_of, discard_of, step_of, unload_of, look_of, audit_of, check_of, names_from, roles_from, roles_at, request_of};
+ghost use Rattle.wire_lines.specs.Inner.Reading.{text_at, name_at, identifier_at, operation_at, object_at, number_at};
+ghost use Rattle.wire_lines.specs.Inner.Reading.{has_keys, names_are, command_of, login_of, logout_of, grant_of};
+ghost use Rattle.wire_lines.specs.Inner.Reading.{add_user_of, delete_user_of, add_role_of, assign_of, deassign_of};
+ghost use Rattle.wire_lines.specs.Inner.Reading.{revoke_of, disinherit_of, activate_of, drop_role_of, delete_role_of};
+ghost use Rattle.wire_lines.specs.Inner.Reading.{inherit_of, create_set_of, delete_set_of, load_of, offer_of};
+ghost use Rattle.wire_lines.specs.Inner.Reading.{discard_of, step_of, unload_of, look_of, audit_of, check_of};
+ghost use Rattle.wire_lines.specs.Inner.Reading.{names_from, roles_from, roles_at, request_of};
 ghost use Rattle.wire_lines.specs.declared.request.Request.{Request};
 
 use crate::request::{Command, Request};
@@ -91,7 +97,8 @@ fn number_at(value: &Value, key: &str) -> Option<u64>
 /// The names that values are, in their order.
 #[tactic(auto, unfolding(crate::specs::Inner::Reading::names_from))]
 fn names_from(alloc: Global, values: &[Value]) -> Result<Option<Vec<Name>>, AllocError>
-    ensures names { IfOk result (λ names. option_map (λ v. v.items) names ≡ names_from (map view values.now)) }
+    ensures names { IfOk result (λ names. option_map (λ v. v.items) names
+        ≡ names_from (map view values.now)) }
     ensures count { IfOk result (λ names. IfSome names (λ v. length v.items ≡ length values.now)) }
 {
     let mut names = Vec::new(alloc);
@@ -522,6 +529,8 @@ pub fn request(alloc: Global, line: &[u8]) -> Result<Request, Refusal>
 
 /// A line has at most one request, and a request is spelt by one JSON value alone.
 pub fn requests_are_told_apart()
-    ensures line { (line : List ℕ) (one other : Request) → IsRequest line one → IsRequest line other → one ≡ other }
-    ensures members { (one other : Request) → Fits one → Fits other → members_of one ≡ members_of other → one ≡ other }
+    ensures line { (line : List ℕ) (one other : Request) → IsRequest line one → IsRequest line other
+        → one ≡ other }
+    ensures members { (one other : Request) → Fits one → Fits other
+        → members_of one ≡ members_of other → one ≡ other }
 {}

@@ -10,7 +10,8 @@ ghost use Rattle.rbac_policy.specs.Texts.{operation_text, object_text};
 ghost use Rattle.access_core.specs.Refusals.{code_of, name_of};
 ghost use Rattle.wire_lines.specs.Requests.{text_member, number_member, texts_member};
 ghost use Rattle.wire_lines.specs.Replies.{refusal_members, refused_with, signals_json, shown_json, reply_json, line_of};
-ghost use Rattle.access_core.specs.declared.reply.Reply.TheVariants.{Refused, Login, Changed, Load, Discard, Step, Unload, Audit, Check};
+ghost use Rattle.access_core.specs.declared.reply.Reply.TheVariants.{Refused, Login, Changed, Load, Discard, Step};
+ghost use Rattle.access_core.specs.declared.reply.Reply.TheVariants.{Unload, Audit, Check};
 ghost use Rattle.access_core.specs.declared.reply.Change.TheVariants as change;
 ghost use Rattle.access_core.specs.declared.refusal.Refusal.TheVariants as refusal;
 ghost use Rattle.est_text.specs.declared.place.Place.{Place};
@@ -63,7 +64,8 @@ fn plain(alloc: Global, refusal: &Refusal) -> Result<Value, AllocError>
 fn with_text(alloc: Global, refusal: &Refusal, key: &str, text: &str) -> Result<Value, AllocError>
     requires code { slice_cmp nat_cmp key.now (codes "code") ≡ Ordering.Greater }
     requires fault { slice_cmp nat_cmp key.now (codes "fault") ≡ Ordering.Greater }
-    ensures { IfOk result (λ v. view v ≡ object (refused_with refusal.now (text_member key.now text.now no_members))) }
+    ensures { IfOk result (λ v. view v ≡ object (refused_with refusal.now
+        (text_member key.now text.now no_members))) }
 {
     let (code, fault) = (refusal.code(), refusal.name());
     json!(in alloc; {"code": code, "fault": fault, key: text})
@@ -76,7 +78,9 @@ fn permission(
     operation: &Operation,
     on: &Object,
 ) -> Result<Value, AllocError>
-    ensures { IfOk result (λ v. view v ≡ object (refused_with refusal.now (text_member (codes "object") (object_text on.now) (text_member (codes "op") (operation_text operation.now) no_members)))) }
+    ensures { IfOk result (λ v. view v ≡ object (refused_with refusal.now
+        (text_member (codes "object") (object_text on.now) (text_member (codes "op")
+        (operation_text operation.now) no_members)))) }
 {
     let (code, fault) = (refusal.code(), refusal.name());
     let on = on.text(alloc)?;
@@ -85,7 +89,9 @@ fn permission(
 
 /// A refusal at a place of a module text.
 fn at_place(alloc: Global, refusal: &Refusal, place: &Place) -> Result<Value, AllocError>
-    ensures { IfOk result (λ v. view v ≡ object (number_member (codes "code") (code_of refusal.now) (number_member (codes "column") place.now.column (text_member (codes "fault") (name_of refusal.now) (number_member (codes "line") place.now.line no_members))))) }
+    ensures { IfOk result (λ v. view v ≡ object (number_member (codes "code") (code_of refusal.now)
+        (number_member (codes "column") place.now.column (text_member (codes "fault")
+        (name_of refusal.now) (number_member (codes "line") place.now.line no_members))))) }
 {
     let (code, fault) = (refusal.code(), refusal.name());
     json!(in alloc; {"code": code, "column": place.column, "fault": fault, "line": place.line})
@@ -98,7 +104,9 @@ fn separation(
     session: &SessionId,
     set: &Name,
 ) -> Result<Value, AllocError>
-    ensures { IfOk result (λ v. view v ≡ object (refused_with refusal.now (number_member (codes "session") session.now (text_member (codes "set") set.now no_members)))) }
+    ensures { IfOk result (λ v. view v ≡ object (refused_with refusal.now
+        (number_member (codes "session") session.now (text_member (codes "set") set.now
+        no_members)))) }
 {
     let (code, fault) = (refusal.code(), refusal.name());
     json!(in alloc; {"code": code, "fault": fault, "session": session.number(), "set": set.as_str()})
@@ -111,7 +119,9 @@ fn excluded(
     relation: u8,
     signal: &Identifier,
 ) -> Result<Value, AllocError>
-    ensures { IfOk result (λ v. view v ≡ object (refused_with refusal.now (number_member (codes "relation") relation (text_member (codes "signal") signal.now no_members)))) }
+    ensures { IfOk result (λ v. view v ≡ object (refused_with refusal.now
+        (number_member (codes "relation") relation (text_member (codes "signal") signal.now
+        no_members)))) }
 {
     let (code, fault) = (refusal.code(), refusal.name());
     json!(in alloc; {"code": code, "fault": fault, "relation": relation, "signal": signal.as_str()})
@@ -124,7 +134,9 @@ fn implied(
     relation: u8,
     missing: &Identifier,
 ) -> Result<Value, AllocError>
-    ensures { IfOk result (λ v. view v ≡ object (refused_with refusal.now (text_member (codes "missing") missing.now (number_member (codes "relation") relation no_members)))) }
+    ensures { IfOk result (λ v. view v ≡ object (refused_with refusal.now
+        (text_member (codes "missing") missing.now (number_member (codes "relation") relation
+        no_members)))) }
 {
     let (code, fault) = (refusal.code(), refusal.name());
     json!(in alloc; {"code": code, "fault": fault, "missing": missing.as_str(), "relation": relation})
@@ -132,7 +144,8 @@ fn implied(
 
 /// A refusal that names a relation alone.
 fn semantics(alloc: Global, refusal: &Refusal, relation: u64) -> Result<Value, AllocError>
-    ensures { IfOk result (λ v. view v ≡ object (refused_with refusal.now (number_member (codes "relation") relation no_members))) }
+    ensures { IfOk result (λ v. view v ≡ object (refused_with refusal.now
+        (number_member (codes "relation") relation no_members))) }
 {
     let (code, fault) = (refusal.code(), refusal.name());
     json!(in alloc; {"code": code, "fault": fault, "relation": relation})
@@ -140,7 +153,8 @@ fn semantics(alloc: Global, refusal: &Refusal, relation: u64) -> Result<Value, A
 
 /// A refusal that names undecided signals.
 fn stuck(alloc: Global, refusal: &Refusal, undecided: &[Identifier]) -> Result<Value, AllocError>
-    ensures { IfOk result (λ v. view v ≡ object (refused_with refusal.now (texts_member (codes "undecided") undecided.now no_members))) }
+    ensures { IfOk result (λ v. view v ≡ object (refused_with refusal.now
+        (texts_member (codes "undecided") undecided.now no_members))) }
 {
     let (code, fault) = (refusal.code(), refusal.name());
     let undecided = names(alloc, undecided)?;
@@ -149,7 +163,8 @@ fn stuck(alloc: Global, refusal: &Refusal, undecided: &[Identifier]) -> Result<V
 
 /// A refusal of a version.
 fn behind(alloc: Global, refusal: &Refusal, found: u64, seen: u64) -> Result<Value, AllocError>
-    ensures { IfOk result (λ v. view v ≡ object (refused_with refusal.now (number_member (codes "found") found (number_member (codes "seen") seen no_members)))) }
+    ensures { IfOk result (λ v. view v ≡ object (refused_with refusal.now
+        (number_member (codes "found") found (number_member (codes "seen") seen no_members)))) }
 {
     let (code, fault) = (refusal.code(), refusal.name());
     json!(in alloc; {"code": code, "fault": fault, "found": found, "seen": seen})
@@ -245,14 +260,17 @@ fn refused(alloc: Global, refusal: &Refusal) -> Result<Value, AllocError>
 
 /// A reply to a command on a slot's journal, or to a policy command: what was done, at this place.
 fn placed(alloc: Global, done: &str, place: u64, version: u64) -> Result<Value, AllocError>
-    ensures { IfOk result (λ v. view v ≡ object (text_member (codes "ok") done.now (number_member (codes "place") place (number_member (codes "version") version no_members)))) }
+    ensures { IfOk result (λ v. view v ≡ object (text_member (codes "ok") done.now
+        (number_member (codes "place") place (number_member (codes "version") version
+        no_members)))) }
 {
     json!(in alloc; {"ok": done, "place": place, "version": version})
 }
 
 /// The reply to an audit: how many entries and instants there are.
 fn audited(alloc: Global, entries: u64, instants: u64, version: u64) -> Result<Value, AllocError>
-    ensures { IfOk result (λ v. view v ≡ object (number_member (codes "entries") entries (number_member (codes "instants") instants
+    ensures { IfOk result (λ v. view v ≡ object (number_member (codes "entries") entries
+        (number_member (codes "instants") instants
         (text_member (codes "ok") (codes "audit") (number_member (codes "version") version no_members))))) }
 {
     json!(in alloc; {"entries": entries, "instants": instants, "ok": "audit", "version": version})
@@ -338,28 +356,36 @@ pub fn reply_line(alloc: Global, reply: &Reply) -> Result<Vec<u8>, AllocError>
 /// The lines byte for byte.
 pub fn reply_lines_are_these()
     ensures login { (session version : ℕ) → line_of (Login session version)
-        ≡ codes "{\"ok\":\"login\",\"session\":" ++ (decimal session ++ (codes ",\"version\":" ++ (decimal version ++ codes "}\n"))) }
+        ≡ codes "{\"ok\":\"login\",\"session\":" ++ (decimal session ++
+        (codes ",\"version\":" ++ (decimal version ++ codes "}\n"))) }
     ensures grant { (version : ℕ) → line_of (Changed change.GrantPermission version)
         ≡ codes "{\"ok\":\"grant\",\"version\":" ++ (decimal version ++ codes "}\n") }
     ensures logout { (version : ℕ) → line_of (Changed change.DeleteSession version)
         ≡ codes "{\"ok\":\"logout\",\"version\":" ++ (decimal version ++ codes "}\n") }
     ensures load { (place version : ℕ) → line_of (Load place version)
-        ≡ codes "{\"ok\":\"load\",\"place\":" ++ (decimal place ++ (codes ",\"version\":" ++ (decimal version ++ codes "}\n"))) }
+        ≡ codes "{\"ok\":\"load\",\"place\":" ++ (decimal place ++
+        (codes ",\"version\":" ++ (decimal version ++ codes "}\n"))) }
     ensures step { (instant place version : ℕ) → line_of (Step instant place version)
-        ≡ codes "{\"instant\":" ++ (decimal instant ++ (codes ",\"ok\":\"step\",\"place\":" ++ (decimal place
+        ≡ codes "{\"instant\":" ++ (decimal instant ++
+        (codes ",\"ok\":\"step\",\"place\":" ++ (decimal place
         ++ (codes ",\"version\":" ++ (decimal version ++ codes "}\n"))))) }
     ensures discard { (place version : ℕ) → line_of (Discard place version)
-        ≡ codes "{\"ok\":\"discard\",\"place\":" ++ (decimal place ++ (codes ",\"version\":" ++ (decimal version ++ codes "}\n"))) }
+        ≡ codes "{\"ok\":\"discard\",\"place\":" ++ (decimal place ++
+        (codes ",\"version\":" ++ (decimal version ++ codes "}\n"))) }
     ensures unload { (place version : ℕ) → line_of (Unload place version)
-        ≡ codes "{\"ok\":\"unload\",\"place\":" ++ (decimal place ++ (codes ",\"version\":" ++ (decimal version ++ codes "}\n"))) }
+        ≡ codes "{\"ok\":\"unload\",\"place\":" ++ (decimal place ++
+        (codes ",\"version\":" ++ (decimal version ++ codes "}\n"))) }
     ensures audit { (entries instants version : ℕ) → line_of (Audit entries instants version)
         ≡ codes "{\"entries\":" ++ (decimal entries ++ (codes ",\"instants\":" ++ (decimal instants
         ++ (codes ",\"ok\":\"audit\",\"version\":" ++ (decimal version ++ codes "}\n"))))) }
     ensures check { line_of (Check true) ≡ codes "{\"allowed\":true,\"ok\":\"check\"}\n" }
-    ensures not_json { line_of (Refused refusal.NotJson) ≡ codes "{\"code\":2,\"fault\":\"NotJson\"}\n" }
-    ensures memory { line_of (Refused refusal.Memory) ≡ codes "{\"code\":90,\"fault\":\"Memory\"}\n" }
+    ensures not_json { line_of (Refused refusal.NotJson)
+        ≡ codes "{\"code\":2,\"fault\":\"NotJson\"}\n" }
+    ensures memory { line_of (Refused refusal.Memory)
+        ≡ codes "{\"code\":90,\"fault\":\"Memory\"}\n" }
     ensures unknown_user { (user : List ℕ) → line_of (Refused (refusal.UnknownUser user))
         ≡ codes "{\"code\":25,\"fault\":\"UnknownUser\",\"user\":" ++ (quoted user ++ codes "}\n") }
     ensures syntax { (place : Place) → line_of (Refused (refusal.Syntax place))
-        ≡ codes "{\"code\":71,\"column\":" ++ (decimal place.column ++ (codes ",\"fault\":\"Syntax\",\"line\":" ++ (decimal place.line ++ codes "}\n"))) }
+        ≡ codes "{\"code\":71,\"column\":" ++ (decimal place.column ++
+        (codes ",\"fault\":\"Syntax\",\"line\":" ++ (decimal place.line ++ codes "}\n"))) }
 {}

@@ -137,7 +137,8 @@ fn join_each<W: Work, R: Threads>(
     room: Vec<W::Seat>,
 ) -> Vec<W::Seat>
     requires room { (room.items ≡ []) × (vec_len threads ≤ vec_capacity room) }
-    ensures { AreBack W.turn (map (λ thread. thread.promise.seat.value) threads.items) result.items }
+    ensures { AreBack W.turn (map (λ thread. thread.promise.seat.value) threads.items)
+        result.items }
 {
     let mut seats = room;
     for thread in threads {
