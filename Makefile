@@ -5,7 +5,7 @@ TEXTS := crates/text_bench/out/text_bench
 LOADS := crates/load_bench/out/load_bench
 POLICIES := crates/policy_bench/out/policy_bench
 
-.PHONY: help try run build abro examples documents test bench faults times
+.PHONY: help try run build abro examples socket documents test bench faults times
 
 help:
 	@echo 'make try       run the opening script on the program as it stands, built WITHOUT proof: about a minute'
@@ -14,6 +14,7 @@ help:
 	@echo '               and stored runs; the last line is "N passed, M failed"'
 	@echo 'make build     as make run, without the script'
 	@echo 'make examples  run each script and controller of examples on the program, built without proof, and compare its answers'
+	@echo 'make socket    the tests of the server over its socket, on the program built WITHOUT proof'
 	@echo 'make abro      the waves of ABRO, by the client, on the program built WITHOUT proof: about a minute'
 	@echo 'make documents write the tables of docs/PROOFS.md anew from the sources'
 	@echo 'make bench     prove and build, and then time commands, instants, the reading of texts and policies, and see how loads take memory'
@@ -37,6 +38,9 @@ abro:
 examples:
 	python3 scripts/examples.py
 
+socket:
+	tests/socket/run
+
 documents:
 	python3 scripts/reading_list.py
 	python3 scripts/wrong_bodies.py
@@ -47,6 +51,7 @@ test:
 	$(MAKE) --no-print-directory examples
 	clients/tests/run
 	python3 tests/journals/run
+	tests/socket/run
 	python3 tests/must-not-compile/run
 	rt ci
 

@@ -2,7 +2,8 @@
 
 A block between fences that are marked `console` is run: a line that begins with `$ ` is a command, the lines under it are what it prints, and
 where it reads standard input, lines that begin with `> ` are typed. `--unproved` is left out, since a stored dialogue stands for the program. A comment `<!-- dialogue: PATH -->` before a block names the stored
-dialogue that stands for the program, which `make examples` holds against the real one.
+dialogue that stands for the program, which `make examples` holds against the real one. The blocks behind `<!-- server -->` speak to a server;
+tests/socket runs them.
 """
 import os
 import pathlib
@@ -36,7 +37,8 @@ class Tutorial(unittest.TestCase):
     def test_each_command_prints_what_is_told(self):
         text = (ROOT / "docs" / "TUTORIAL.md").read_text()
         blocks = BLOCK.findall(text)
-        self.assertEqual(len(blocks), text.count("```console"), "a block names no dialogue")
+        served = len(re.findall(r"<!-- server -->\s*```console\n", text))
+        self.assertEqual(len(blocks) + served, text.count("```console"), "a block names no dialogue")
         for path, block in blocks:
             for command, typed, printed in commands_of(block):
                 with self.subTest(command):

@@ -12,6 +12,7 @@ status_of (fault.Words e) = 2
 status_of fault.Read = 1
 status_of fault.Write = 1
 status_of fault.Memory = 1
+status_of fault.Socket = 1
 
 -- the line that tells a fault of a device or of memory
 abbrev pub told_line : Fault → Option (List ℕ)
@@ -19,6 +20,7 @@ told_line (fault.Words e) = None
 told_line fault.Read = Some (codes "estserve: read fault\n")
 told_line fault.Write = Some (codes "estserve: write fault\n")
 told_line fault.Memory = Some (codes "estserve: no memory\n")
+told_line fault.Socket = Some (codes "estserve: socket fault\n")
 
 -- the fault's line was written; what is written of words is clap's text
 abbrev pub IsTold : Fault → (before after : Option (List ℕ)) → Type 0

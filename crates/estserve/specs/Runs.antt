@@ -11,6 +11,7 @@ use Rattle.client_loop.specs.Serving.{ServesDesk}
 use Rattle.estserve.specs.declared.fault.Fault.{Fault}
 use Rattle.estserve.specs.declared.fault.Fault.TheVariants as fault
 use Rattle.estserve.specs.Faults.{status_of, IsOfWords, IsOutcome}
+use Rattle.estserve.specs.Serving.{ServesSocket}
 
 -- where a connection left a login, that is logged out at last; and else the desk stays
 abbrev pub LogsOutLeft : (left : Option ℕ) → (before after : DeskState) → Type 0
@@ -47,9 +48,16 @@ pub record IsNoOrder (answer : Result ⊤ Fault) (written after : Option (List �
   pub of_words : IsOfWords given
   pub silent : Keeps written after
 
+-- the connections of a socket are served by some number of workers, and nothing is written on standard output
+pub record RunsServer (answer : Result ⊤ Fault) (written after : Option (List ℕ)) : Type 0 where
+  pub workers : ℕ
+  pub serves : ServesSocket workers answer
+  pub silent : Keeps written after
+
 -- what the words ask for is done
 abbrev pub Obeys : (ahead : Option (List ℕ)) → Result ⊤ Fault → (written after : Option (List ℕ)) → Type 0
-Obeys ahead answer written after = IsNoOrder answer written after ⊎ RunsScript ahead answer written after
+Obeys ahead answer written after = IsNoOrder answer written after
+    ⊎ (RunsScript ahead answer written after ⊎ RunsServer answer written after)
 
 -- the status with which the program ends: 0 without a fault, and else that of the fault
 abbrev pub status_after : Result ⊤ Fault → ℕ

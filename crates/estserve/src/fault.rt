@@ -19,6 +19,8 @@ pub enum Fault {
     Write,
     #[error("estserve: no memory")]
     Memory,
+    #[error("estserve: socket fault")]
+    Socket,
 }
 
 impl Fault {
@@ -28,7 +30,7 @@ impl Fault {
     {
         match self {
             Fault::Words(_) => 2,
-            Fault::Read | Fault::Write | Fault::Memory => 1,
+            Fault::Read | Fault::Write | Fault::Memory | Fault::Socket => 1,
         }
     }
 }
@@ -47,6 +49,7 @@ pub fn tell<E: Write>(fault: &Fault, errors: &mut E) -> io::Result<()>
         Fault::Read => errors.write_all(b"estserve: read fault\n"),
         Fault::Write => errors.write_all(b"estserve: write fault\n"),
         Fault::Memory => errors.write_all(b"estserve: no memory\n"),
+        Fault::Socket => errors.write_all(b"estserve: socket fault\n"),
     }
 }
 

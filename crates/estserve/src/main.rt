@@ -6,6 +6,8 @@
 
 pub mod fault;
 pub mod run;
+pub mod server;
+pub mod socket;
 pub mod words;
 
 use crate::fault::{Fault, tell};

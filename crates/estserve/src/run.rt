@@ -3,6 +3,7 @@ ghost use Rattle.estserve.specs.Runs.{LogsOutLeft, RunsScript, Obeys, NamesDevic
 ghost use Rattle.client_loop.specs.Logins.{session_of};
 
 use crate::fault::{Fault, outcome, tell};
+use crate::server::serve as serve_socket;
 use crate::words::Order;
 use access_core::single::Single;
 use client_loop::login::Login;
@@ -12,8 +13,11 @@ use line_reader::serving::Why;
 use log::sink::Writer;
 use log::{Level, Logged, info};
 use std::alloc::Global;
+use std::fs::Files;
 use std::io::{Read, Write};
+use std::net::Net;
 use std::sync::Wait;
+use std::thread::Threads;
 
 /// Logs out the login that a connection left, where it left one.
 fn log_out_left<R: Wait>(rt: &R, desk: &mut Single, left: Option<Login>)
@@ -58,7 +62,7 @@ fn script<R: Wait, I: Read, O: Write, E: Write>(
 }
 
 /// Does what the words ask for.
-fn obey<R: Wait, I: Read, O: Write, E: Write>(
+fn obey<R: Threads + Wait + Net + Files + Sync, I: Read, O: Write, E: Write>(
     rt: &R,
     alloc: Global,
     words: &[String],
@@ -70,13 +74,15 @@ fn obey<R: Wait, I: Read, O: Write, E: Write>(
         (O.contents output.old.device) (O.contents output.new.device) }
     ensures devices { NamesDevices result input.new.failed input.new.left output.new.failed }
 {
-    let Order::Script { log } = Order::from_words(alloc, words)?;
-    script(rt, alloc, input, output, errors, log)
+    match Order::from_words(alloc, words)? {
+        Order::Script { log } => script(rt, alloc, input, output, errors, log),
+        Order::Serve(service) => serve_socket(rt, alloc, &service),
+    }
 }
 
 /// Runs the program on these words, of which the first is its own name, and gives its status. A fault is told by a line on `errors`; where that
 /// cannot be written, the status tells it alone.
-pub fn run<R: Wait, I: Read, O: Write, E: Write>(
+pub fn run<R: Threads + Wait + Net + Files + Sync, I: Read, O: Write, E: Write>(
     rt: &R,
     alloc: Global,
     words: &[String],

@@ -1,0 +1,171 @@
+//! Connections over a Unix socket, for many workers.
+ghost use Rattle.std.specs.Prelude.{◌≡◌, IfErr};
+ghost use Rattle.estserve.specs.declared.fault.Fault.TheVariants as fault;
+
+use crate::fault::Fault;
+use client_loop::source::{Connection, Source};
+use std::alloc::{AllocError, Global};
+use std::fs;
+use std::fs::Files;
+use std::net::Net;
+use std::os::unix::fs::MetadataExt;
+use std::os::unix::net::{UnixListener, UnixStream};
+use std::sync::atomic::{AtomicBool, AtomicU64, Ordering};
+
+/// Which file it is: its device, and its number there.
+#[derive(Clone, Copy, PartialEq, Eq)]
+struct FileId {
+    device: u64,
+    number: u64,
+}
+
+/// Which file stands at this path, if one does.
+fn file_at<R: Files>(rt: &R, path: &str) -> Option<FileId> {
+    let metadata = fs::symlink_metadata(rt, path).ok()?;
+    Some(FileId {
+        device: metadata.dev(),
+        number: metadata.ino(),
+    })
+}
+
+/// A socket at which clients are waited for, and the file that was made for it.
+#[derive(Drop)]
+pub struct Socket<'a> {
+    listener: UnixListener,
+    path: &'a str,
+    file: Option<FileId>,
+}
+
+impl<'a> Socket<'a> {
+    /// Makes a socket at this path, where nothing stands yet.
+    ///
+    /// # Errors
+    ///
+    /// Socket, where it cannot be made.
+    pub fn bind<R: Files + Net>(rt: &R, path: &'a str) -> Result<Socket<'a>, Fault>
+        ensures { IfErr result (λ f. f ≡ fault.Socket) }
+    {
+        // The system would find a name of its own for a socket without one.
+        if path.is_empty() {
+            return Err(Fault::Socket);
+        }
+        match UnixListener::bind(rt, path) {
+            Ok(listener) => Ok(Socket {
+                listener,
+                path,
+                file: file_at(rt, path),
+            }),
+            Err(_) => Err(Fault::Socket),
+        }
+    }
+
+    /// Ends the socket, and takes its file away, if that one stands at its path still.
+    pub fn close<R: Files>(self, rt: &R) {
+        let Socket {
+            listener: _,
+            path,
+            file,
+        } = self;
+        if file.is_some() && file_at(rt, path) == file {
+            let _ = fs::remove_file(rt, path);
+        }
+    }
+}
+
+/// How many connections each worker accepts.
+#[derive(Drop)]
+enum Quota {
+    /// As many as come.
+    Unlimited,
+    /// So many more, by the worker.
+    Left(Vec<AtomicU64>),
+}
+
+impl Quota {
+    /// So many connections for each of these workers, or as many as come.
+    fn new(alloc: Global, workers: usize, connections: Option<u64>) -> Result<Quota, AllocError> {
+        let Some(connections) = connections else {
+            return Ok(Quota::Unlimited);
+        };
+        let mut left = Vec::with_capacity(alloc, workers)?;
+        for _ in 0..workers {
+            left.push(AtomicU64::new(connections))?;
+        }
+        Ok(Quota::Left(left))
+    }
+
+    /// Whether this worker may accept one more, which is counted.
+    fn takes_one(&self, worker: usize) -> bool {
+        match self {
+            Quota::Unlimited => true,
+            Quota::Left(left) => match left.get(worker) {
+                Some(left) => takes_one_of(left),
+                None => false,
+            },
+        }
+    }
+}
+
+/// Takes one of what is left, if anything is.
+fn takes_one_of(left: &AtomicU64) -> bool {
+    left.fetch_update(Ordering::SeqCst, Ordering::SeqCst, |left| {
+        left.checked_sub(1)
+    })
+    .is_ok()
+}
+
+/// The connections that come to a socket. All workers accept at the one socket.
+#[derive(Drop)]
+pub struct SocketSource<'s, 'a> {
+    socket: &'s Socket<'a>,
+    quota: Quota,
+    failed: AtomicBool,
+}
+
+impl<'s, 'a> SocketSource<'s, 'a> {
+    /// The connections that come to this socket: so many for each of these workers, or as many as come.
+    ///
+    /// # Errors
+    ///
+    /// Where memory was refused.
+    pub fn new(
+        alloc: Global,
+        socket: &'s Socket<'a>,
+        workers: usize,
+        connections: Option<u64>,
+    ) -> Result<SocketSource<'s, 'a>, AllocError> {
+        Ok(SocketSource {
+            socket,
+            quota: Quota::new(alloc, workers, connections)?,
+            failed: AtomicBool::new(false),
+        })
+    }
+
+    /// Whether a connection could not be accepted.
+    pub fn has_failed(&self) -> bool {
+        self.failed.load(Ordering::SeqCst)
+    }
+}
+
+impl<'s, 'a> Source for SocketSource<'s, 'a> {
+    type Reader = UnixStream;
+
+    type Writer = UnixStream;
+
+    fn accept(&self, worker: usize) -> Option<Connection<UnixStream, UnixStream>> {
+        for _ in 0..u64::MAX {
+            if !self.quota.takes_one(worker) {
+                return None;
+            }
+            let Ok((writer, _)) = self.socket.listener.accept() else {
+                self.failed.store(true, Ordering::SeqCst);
+                return None;
+            };
+            // A connection that can't be read as well ends alone.
+            if let Ok(reader) = writer.try_clone() {
+                return Some(Connection { reader, writer });
+            }
+        }
+        None
+    }
+}

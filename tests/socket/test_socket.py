@@ -1,0 +1,161 @@
+"""The life of connections at a socket, and what becomes of the server's file."""
+import pathlib
+import socket
+import tempfile
+import unittest
+
+from running import ROOT, Disconnected, Server, connect, run, wait_for
+
+SOCKET_FAULT = (1, b"", b"estserve: socket fault\n")
+LOGIN = b'{"cmd":"login","roles":["root"],"user":"root"}\n'
+
+
+def raw(path):
+    """A connection to the server at this path, for bytes."""
+    connection = socket.socket(socket.AF_UNIX, socket.SOCK_STREAM)
+    connection.connect(str(path))
+    return connection
+
+
+def answers_to(path, sent):
+    """All that the server answers to these bytes, after which the client sends no more."""
+    with raw(path) as connection:
+        connection.sendall(sent)
+        connection.shutdown(socket.SHUT_WR)
+        with connection.makefile("rb") as reader:
+            return reader.read()
+
+
+class Connections(unittest.TestCase):
+    def test_the_opening_script_has_its_answers(self):
+        stored = ROOT / "crates" / "estserve"
+        with Server("--workers", "1", "--connections", "1") as server:
+            self.assertEqual(answers_to(server.path, (stored / "stdin").read_bytes()), (stored / "stdout").read_bytes())
+            self.assertEqual(server.end(), (0, b"", b""))
+            self.assertFalse(server.path.exists())
+
+    def test_each_script_of_the_examples_has_its_answers(self):
+        for answers in sorted((ROOT / "examples" / "scripts").glob("*.stdout")):
+            with self.subTest(answers.stem), Server("--workers", "1") as server:
+                script = answers.with_suffix("").read_bytes()
+                self.assertEqual(answers_to(server.path, script), answers.read_bytes())
+
+    def test_one_policy_and_one_table_for_all(self):
+        with Server("--workers", "2") as server, server.root() as root, server.client() as ann:
+            root.adduser("ann")
+            root.addrole("driver")
+            root.assign("ann", "driver")
+            ann.login("ann", ["driver"])
+            self.assertFalse(ann.check("load", "3")["allowed"])
+            root.grant("driver", "load", "3")
+            self.assertTrue(ann.check("load", "3")["allowed"])
+            ann.load(3, "M", "module M: pause end module")
+            root.grant("root", "step", "3")
+            self.assertEqual(root.step(3)["place"], 2)
+
+    def test_an_over_long_line_ends_its_connection_alone(self):
+        with Server("--workers", "2") as server, server.root() as root:
+            self.assertEqual(answers_to(server.path, b"x" * 65_537), b'{"code":1,"fault":"TooLong"}\n')
+            self.assertFalse(root.check("load", "0")["allowed"])
+
+
+class PeersThatGoAway(unittest.TestCase):
+    """With one worker, whose next connection tells by its version what became of the one before."""
+
+    def test_in_the_middle_of_a_line(self):
+        with Server("--workers", "1") as server:
+            with raw(server.path) as connection:
+                connection.sendall(LOGIN + b'{"cmd":"st')
+            with server.client() as client:
+                self.assertEqual(client.login("root", ["root"]), {"ok": "login", "session": 2, "version": 7})
+
+    def test_before_its_answers_are_read(self):
+        with Server("--workers", "1") as server:
+            for session in (1, 2, 3):
+                with raw(server.path) as connection:
+                    connection.sendall(LOGIN + b'{"cmd":"check","object":"0","op":"load"}\n' * 500)
+            with server.client() as client:
+                self.assertEqual(client.login("root", ["root"]), {"ok": "login", "session": 4, "version": 11})
+
+    def test_while_others_are_served(self):
+        with Server("--workers", "2") as server, server.root() as root:
+            root.adduser("ann")
+            root.grant("root", "audit", "policy")
+            with server.client() as ann:
+                version = ann.login("ann", [])["version"]
+                self.assertEqual(root.audit(0)["version"], version)
+            wait_for(lambda: root.audit(0)["version"] == version + 1)
+
+
+class CountedConnections(unittest.TestCase):
+    def test_whatever_became_of_each(self):
+        with Server("--workers", "1", "--connections", "5") as server:
+            raw(server.path).close()
+            self.assertEqual(answers_to(server.path, b""), b"")
+            self.assertEqual(answers_to(server.path, b"x" * 65_537), b'{"code":1,"fault":"TooLong"}\n')
+            self.assertEqual(answers_to(server.path, b"\n"), b'{"code":2,"fault":"NotJson"}\n')
+            self.assertIsNone(server.process.poll())
+            self.assertEqual(answers_to(server.path, LOGIN), b'{"ok":"login","session":1,"version":5}\n')
+            self.assertEqual(server.end(), (0, b"", b""))
+            with self.assertRaises(Disconnected):
+                connect(server.path)
+
+    def test_of_each_worker(self):
+        with Server("--workers", "3", "--connections", "2") as server:
+            for _ in range(2):
+                held = [server.root() for _ in range(3)]
+                self.assertEqual([client.check("load", "0")["allowed"] for client in held], [False] * 3)
+                self.assertIsNone(server.process.poll())
+                for client in held:
+                    client.close()
+            self.assertEqual(server.end(), (0, b"", b""))
+
+
+class PathsAndWords(unittest.TestCase):
+    def test_a_path_that_cannot_be_bound(self):
+        with tempfile.TemporaryDirectory() as name:
+            folder = pathlib.Path(name)
+            (folder / "file").write_text("kept")
+            (folder / "folder").mkdir()
+            for path in (folder / "file", folder / "folder", folder / "none" / "socket", folder / ("x" * 120), ""):
+                with self.subTest(path):
+                    self.assertEqual(run("serve", "--socket", str(path)), SOCKET_FAULT)
+            self.assertEqual((folder / "file").read_text(), "kept")
+
+    def test_a_path_at_which_a_server_is(self):
+        with Server("--workers", "1", "--connections", "1") as server:
+            self.assertEqual(run("serve", "--socket", str(server.path)), SOCKET_FAULT)
+            self.assertEqual(answers_to(server.path, LOGIN), b'{"ok":"login","session":1,"version":5}\n')
+            self.assertEqual(server.end()[0], 0)
+
+    def test_the_file_of_a_server_that_was_killed(self):
+        with Server() as server:
+            server.process.kill()
+            server.process.wait()
+            self.assertTrue(server.path.is_socket())
+            self.assertEqual(run("serve", "--socket", str(server.path)), SOCKET_FAULT)
+            server.path.unlink()
+            with Server("--workers", "1", "--connections", "1", path=server.path) as other:
+                other.root().close()
+                self.assertEqual(other.end(), (0, b"", b""))
+
+    def test_a_file_that_is_not_its_own_any_more(self):
+        with Server("--workers", "1", "--connections", "1") as server:
+            client = server.root()
+            server.path.unlink()
+            with Server("--workers", "1", path=server.path) as other:
+                client.close()
+                self.assertEqual(server.end(), (0, b"", b""))
+                other.root().close()
+
+    def test_words_that_are_no_order(self):
+        for words in ([], ["--workers", "0"], ["--workers", "17"], ["--connections", "0"], ["--connections", "65536"], ["--log"]):
+            with self.subTest(words):
+                path = ["--socket", "/nowhere/socket"] if words else []
+                status, printed, told = run("serve", *path, *words)
+                self.assertEqual((status, printed), (2, b""))
+                self.assertIn(b"Usage" if not words or words == ["--log"] else b"invalid value", told)
+
+
+if __name__ == "__main__":
+    unittest.main()
