@@ -33,11 +33,9 @@ impl Model for Name {
 
     ghost view = { λ n. take n.count n.bytes };
 
-    ghost invariant = { λ n. IsFilled NAME_BYTES n.bytes n.count
-        × IsTrue (is_name (take n.count n.bytes)) };
+    ghost invariant = { λ n. IsFilled NAME_BYTES n.bytes n.count × IsTrue (is_name (take n.count n.bytes)) };
 
-    ghost inverse = { λ s. record { bytes = s ++ replicate (NAME_BYTES - length s) 0; count = length
-        s } };
+    ghost inverse = { λ s. record { bytes = s ++ replicate (NAME_BYTES - length s) 0; count = length s } };
 }
 
 fn is_name_byte(byte: u8) -> bool
