@@ -18,6 +18,7 @@ from estserve_client.connection import Disconnected, connect  # noqa: E402
 
 BUILD_SECONDS = 1_800  # the program is built in so many, or not at all
 WAIT_SECONDS = 60  # whatever a test waits for comes in so many, or not at all
+ACCEPTS = 0x10000  # the flag of a socket that listens, in the system's list of sockets
 socket.setdefaulttimeout(WAIT_SECONDS)
 
 
@@ -71,6 +72,13 @@ def built_program(folder):
         trial.communicate()
 
 
+def is_listening(path):
+    """Whether a socket at this path takes connections. Its file is there a moment before, and a connection is refused then."""
+    with open("/proc/net/unix", encoding="utf-8", errors="replace") as sockets:
+        rows = [row.split() for row in sockets]
+    return any(row[-1] == str(path) and int(row[3], 16) & ACCEPTS for row in rows[1:] if len(row) == 8)
+
+
 _folder = tempfile.TemporaryDirectory(prefix="estserve-")
 _program = []
 
@@ -109,8 +117,8 @@ class Server:
         self._held.cleanup()
 
     def answers(self):
-        """Whether the file of the socket is there, or the program has ended."""
-        return self.path.exists() or self.process.poll() is not None
+        """Whether the program listens at its path, or has ended."""
+        return is_listening(self.path) or self.process.poll() is not None
 
     def client(self):
         """A client of the server."""
