@@ -73,8 +73,10 @@ pub struct Place<'a> {
 #[cycle(statement)]
 pub fn statement(place: &Place<'_>, body: &Body) -> Result<Statement, AllocError>
     requires room { place.now.locals ≤ 65536 }
-    requires small { IsSmall (reduced (leads place.now.exits.now) place.now.locals (body_of body.now)) }
-    ensures { IfOk result (λ s. term_of s ≡ reduced (leads place.now.exits.now) place.now.locals (body_of body.now)) }
+    requires small { IsSmall (reduced (leads place.now.exits.now)
+        place.now.locals (body_of body.now)) }
+    ensures { IfOk result (λ s. term_of s
+        ≡ reduced (leads place.now.exits.now) place.now.locals (body_of body.now)) }
 {
     let alloc = place.alloc;
     match body {
@@ -109,8 +111,10 @@ pub fn statement(place: &Place<'_>, body: &Body) -> Result<Statement, AllocError
 #[cycle(statement)]
 fn reduce_in_fresh(place: &Place<'_>, body: &Body) -> Result<Statement, AllocError>
     requires room { place.now.locals ≤ 65536 }
-    requires small { IsSmall (reduced (past_fresh (leads place.now.exits.now)) place.now.locals (body_of body.now)) }
-    ensures { IfOk result (λ s. term_of s ≡ reduced (past_fresh (leads place.now.exits.now)) place.now.locals (body_of body.now)) }
+    requires small { IsSmall (reduced (past_fresh (leads place.now.exits.now))
+        place.now.locals (body_of body.now)) }
+    ensures { IfOk result (λ s. term_of s
+        ≡ reduced (past_fresh (leads place.now.exits.now)) place.now.locals (body_of body.now)) }
 {
     let exits = Exits::Fresh(&*place.exits);
     let inside = Place {
@@ -125,8 +129,10 @@ fn reduce_in_fresh(place: &Place<'_>, body: &Body) -> Result<Statement, AllocErr
 #[cycle(statement)]
 fn reduce_in_trap(place: &Place<'_>, body: &Body) -> Result<Statement, AllocError>
     requires room { place.now.locals ≤ 65536 }
-    requires small { IsSmall (reduced (past_named (leads place.now.exits.now)) place.now.locals (body_of body.now)) }
-    ensures { IfOk result (λ s. term_of s ≡ reduced (past_named (leads place.now.exits.now)) place.now.locals (body_of body.now)) }
+    requires small { IsSmall (reduced (past_named (leads place.now.exits.now))
+        place.now.locals (body_of body.now)) }
+    ensures { IfOk result (λ s. term_of s
+        ≡ reduced (past_named (leads place.now.exits.now)) place.now.locals (body_of body.now)) }
 {
     let exits = Exits::Named(&*place.exits);
     let inside = Place {
@@ -141,8 +147,10 @@ fn reduce_in_trap(place: &Place<'_>, body: &Body) -> Result<Statement, AllocErro
 #[cycle(statement)]
 fn reduce_in_signals(place: &Place<'_>, count: u32, body: &Body) -> Result<Statement, AllocError>
     requires room { place.now.locals + count ≤ 65536 }
-    requires small { IsSmall (reduced (leads place.now.exits.now) (place.now.locals + count) (body_of body.now)) }
-    ensures { IfOk result (λ s. term_of s ≡ reduced (leads place.now.exits.now) (place.now.locals + count) (body_of body.now)) }
+    requires small { IsSmall (reduced (leads place.now.exits.now)
+        (place.now.locals + count) (body_of body.now)) }
+    ensures { IfOk result (λ s. term_of s
+        ≡ reduced (leads place.now.exits.now) (place.now.locals + count) (body_of body.now)) }
 {
     let inside = Place {
         alloc: place.alloc,

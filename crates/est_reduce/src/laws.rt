@@ -17,7 +17,8 @@ pub fn fresh_traps_shift_exits()
     ensures abort { (leads : ℕ → ℕ) (l : ℕ) (now : Bool) (s : Query) (p : Body)
         → reduced leads l (abort now s p) ≡ aborting now s (lifted 0 (reduced leads l p)) }
     ensures weak_abort { (leads : ℕ → ℕ) (l : ℕ) (now : Bool) (s : Query) (p : Body)
-        → reduced leads l (weak_abort now s p) ≡ weakly_aborting now s (lifted 0 (reduced leads l p)) }
+        → reduced leads l (weak_abort now s p)
+        ≡ weakly_aborting now s (lifted 0 (reduced leads l p)) }
     ensures each { (leads : ℕ → ℕ) (l : ℕ) (s : Query) (p : Body)
         → reduced leads l (repeat_each s p) ≡ looping_each s (lifted 0 (reduced leads l p)) }
     ensures every { (leads : ℕ → ℕ) (l : ℕ) (now : Bool) (s : Query) (p : Body)
@@ -27,7 +28,12 @@ pub fn fresh_traps_shift_exits()
 /// Reduction has one answer: a kernel of one interface and one term, or one fault, and never both. Want of memory, which no definition
 /// foresees, can come at any time.
 pub fn one_reduction()
-    ensures kernel { (interface : List Declaration) (p : Body) (a b : Kernel) → Reduces interface p (Ok a) → Reduces interface p (Ok b) → (a.interface ≡ b.interface) × (term_of a.root ≡ term_of b.root) }
-    ensures fault { (interface : List Declaration) (p : Body) (a b : ReduceFault) → Reduces interface p (Err a) → Reduces interface p (Err b) → (a ≡ b) ⊎ (a ≡ Memory) ⊎ (b ≡ Memory) }
-    ensures never_both { (interface : List Declaration) (p : Body) (a : Kernel) (b : ReduceFault) → Reduces interface p (Ok a) → Reduces interface p (Err b) → b ≡ Memory }
+    ensures kernel { (interface : List Declaration) (p : Body) (a b : Kernel)
+        → Reduces interface p (Ok a) → Reduces interface p (Ok b)
+        → (a.interface ≡ b.interface) × (term_of a.root ≡ term_of b.root) }
+    ensures fault { (interface : List Declaration) (p : Body) (a b : ReduceFault)
+        → Reduces interface p (Err a) → Reduces interface p (Err b)
+        → (a ≡ b) ⊎ (a ≡ Memory) ⊎ (b ≡ Memory) }
+    ensures never_both { (interface : List Declaration) (p : Body) (a : Kernel) (b : ReduceFault)
+        → Reduces interface p (Ok a) → Reduces interface p (Err b) → b ≡ Memory }
 {}

@@ -80,7 +80,8 @@ pub fn wait(alloc: Global, wait: Wait) -> Result<Statement, AllocError>
 /// `suspend p when S`
 pub fn suspend(alloc: Global, wait: Wait, p: Statement) -> Result<Statement, AllocError>
     requires { IsSmallQuery (bound_query wait.test) }
-    ensures { IfOk result (λ s. term_of s ≡ suspending wait.immediate (bound_query wait.test) (term_of p)) }
+    ensures { IfOk result (λ s. term_of s
+        ≡ suspending wait.immediate (bound_query wait.test) (term_of p)) }
 {
     let asked = test(wait.test);
     if wait.immediate {
@@ -94,7 +95,8 @@ pub fn suspend(alloc: Global, wait: Wait, p: Statement) -> Result<Statement, All
 /// `abort p when S`
 pub fn abort(alloc: Global, wait: Wait, p: Statement) -> Result<Statement, AllocError>
     requires { IsSmallQuery (bound_query wait.test) }
-    ensures { IfOk result (λ s. term_of s ≡ aborting wait.immediate (bound_query wait.test) (term_of p)) }
+    ensures { IfOk result (λ s. term_of s
+        ≡ aborting wait.immediate (bound_query wait.test) (term_of p)) }
 {
     let asked = test(wait.test);
     let body = Statement::suspend(alloc, asked, p)?;
@@ -109,7 +111,8 @@ pub fn abort(alloc: Global, wait: Wait, p: Statement) -> Result<Statement, Alloc
 /// `weak abort p when S`
 pub fn weak_abort(alloc: Global, wait: Wait, p: Statement) -> Result<Statement, AllocError>
     requires { IsSmallQuery (bound_query wait.test) }
-    ensures { IfOk result (λ s. term_of s ≡ weakly_aborting wait.immediate (bound_query wait.test) (term_of p)) }
+    ensures { IfOk result (λ s. term_of s
+        ≡ weakly_aborting wait.immediate (bound_query wait.test) (term_of p)) }
 {
     until(alloc, p, watch(alloc, wait.immediate, test(wait.test))?)
 }
@@ -130,7 +133,8 @@ pub fn loop_each(alloc: Global, test: BoundTest, p: Statement) -> Result<Stateme
 /// `every S do p end`
 pub fn every(alloc: Global, each: Wait, p: Statement) -> Result<Statement, AllocError>
     requires { IsSmallQuery (bound_query each.test) }
-    ensures { IfOk result (λ s. term_of s ≡ doing_every each.immediate (bound_query each.test) (term_of p)) }
+    ensures { IfOk result (λ s. term_of s
+        ≡ doing_every each.immediate (bound_query each.test) (term_of p)) }
 {
     let waiting = wait(alloc, each)?;
     Statement::seq(alloc, waiting, loop_each(alloc, each.test, p)?)
