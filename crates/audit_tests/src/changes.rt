@@ -1,5 +1,5 @@
 //! Changes of written journals.
-use crate::journals::{Written, granted, loaded, stamped};
+use crate::journals::{TWO_OUTPUTS, Written, granted, loaded, stamped};
 use rbac_policy::commands::SessionId;
 use rbac_policy::objects::Operation;
 use reactor_core::entry::{Action, PastInstant};
@@ -88,7 +88,7 @@ pub fn apply(alloc: Global, written: &mut Written, change: Change) -> Result<(),
                 Action::Step(PastInstant { inputs, outputs }),
             );
         }
-        Change::Loads(place) => change_action(written, place, loaded(alloc)?),
+        Change::Loads(place) => change_action(written, place, loaded(alloc, TWO_OUTPUTS)?),
         Change::Unloads(place) => change_action(written, place, Action::Unload),
         Change::Skipped(place) => {
             if place < written.slot.len() {

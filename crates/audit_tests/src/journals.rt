@@ -15,7 +15,7 @@ use std::alloc::Global;
 use std::test::Fail;
 
 /// O in the first instant, P in the second.
-const TWO_OUTPUTS: &str = "module M: output O, P; emit O; pause; emit P end module";
+pub const TWO_OUTPUTS: &str = "module M: output O, P; emit O; pause; emit P end module";
 
 /// The entries of the policy list and of the journal of one slot.
 #[derive(Drop)]
@@ -44,11 +44,11 @@ pub fn stamped(version: u64, session: u16, action: Action) -> SlotEntry {
     }
 }
 
-/// The load of the module of two outputs.
-pub fn loaded(alloc: Global) -> Result<Action, Fail> {
+/// The load of the module M of this text.
+pub fn loaded(alloc: Global, text: &str) -> Result<Action, Fail> {
     Ok(Action::Load(Load {
         main: Identifier::from_text("M").ok_or("no identifier")?,
-        text: Text::copied(alloc, TWO_OUTPUTS)?,
+        text: Text::copied(alloc, text)?,
     }))
 }
 
@@ -79,17 +79,22 @@ fn policy_entries(alloc: Global) -> Result<Vec<Entry>, Fail> {
     Ok(entries)
 }
 
-/// The entries that the opening script leaves.
-pub fn opening_script(alloc: Global) -> Result<Written, Fail> {
+/// The entries that the opening script leaves with the module M of this text, and with steps of these outputs.
+pub fn script_of(alloc: Global, text: &str, outputs: &[u64]) -> Result<Written, Fail> {
     let mut slot = Vec::new(alloc);
-    slot.push(stamped(9, 1, loaded(alloc)?))?;
-    slot.push(stamped(9, 1, stepped(0, 1)))?;
-    slot.push(stamped(9, 1, stepped(0, 2)))?;
-    slot.push(stamped(9, 1, stepped(0, 0)))?;
+    slot.push(stamped(9, 1, loaded(alloc, text)?))?;
+    for emitted in outputs {
+        slot.push(stamped(9, 1, stepped(0, *emitted)))?;
+    }
     Ok(Written {
         policy: policy_entries(alloc)?,
         slot,
     })
+}
+
+/// The entries that the opening script leaves.
+pub fn opening_script(alloc: Global) -> Result<Written, Fail> {
+    script_of(alloc, TWO_OUTPUTS, &[1, 2, 0])
 }
 
 /// The policy list of the entries.
@@ -136,12 +141,26 @@ fn journals_of(
     journals
 }
 
+/// A policy list and sixteen journals.
+#[derive(Drop)]
+pub struct Histories {
+    pub policy: PolicyJournal,
+    pub slots: [Journal; 16],
+}
+
+/// The journals of these entries, those of the slot in slot 0.
+pub fn histories_of(alloc: Global, written: Written) -> Result<Histories, Fail> {
+    let Written { policy, slot } = written;
+    Ok(Histories {
+        policy: policy_of(alloc, policy)?,
+        slots: journals_of(alloc, (0, slot), (1, Vec::new(alloc))),
+    })
+}
+
 /// The audit of these entries, those of the slot in slot 0.
 pub fn audit(alloc: Global, written: Written) -> Result<Result<(), Finding>, Fail> {
-    let Written { policy, slot } = written;
-    let policy = policy_of(alloc, policy)?;
-    let journals = journals_of(alloc, (0, slot), (1, Vec::new(alloc)));
-    Ok(check(alloc, &policy, &journals))
+    let Histories { policy, slots } = histories_of(alloc, written)?;
+    Ok(check(alloc, &policy, &slots))
 }
 
 /// The report on these entries, those of the slot in slot 0, and on another journal in slot 15.

@@ -6,6 +6,8 @@
 #[cfg(test)]
 mod changes;
 #[cfg(test)]
+mod deepest;
+#[cfg(test)]
 mod findings;
 #[cfg(test)]
 mod journals;
