@@ -74,13 +74,16 @@ class Replay:
         if number > 15:
             return self.refuse(line, answer, Refused(60 if self.session in self.policy.sessions else 4))
         slot = self.slots.setdefault(number, Slot(number))
+        of_language = answer.get("code") in {"load": OF_TEXTS, "step": OF_STEPS}.get(command, ())
         try:
             slot.judge(self.policy, self.session, command, keys)
+            if not of_language:
+                slot.judge_room(command)
         except Refused as refused:
             if "place" in answer:
                 self.findings.setdefault(number, f"refused {number} {len(slot.entries) + 1} {refused.code}")
             return self.refuse(line, answer, refused)
-        if answer.get("code") in {"load": OF_TEXTS, "step": OF_STEPS}.get(command, ()):
+        if of_language:
             return None
         if command == "look":
             return self.look(line, answer, slot, keys["instant"])

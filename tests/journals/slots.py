@@ -101,10 +101,13 @@ class Slot:
         if found := self.module.lacking(self.pending):
             raise Refused(41, relation=found[0], missing=found[1])
 
+    def judge_room(self, command):
+        """Raises the refusal of a full journal, which comes behind all others."""
+        if command not in ("look", "audit") and len(self.entries) >= MOST_ENTRIES:
+            raise Refused(67)
+
     def add(self, version, session, command, keys):
         """Adds the entry of a command that was accepted."""
-        if len(self.entries) >= MOST_ENTRIES:
-            raise Refused(67)
         self.entries.append((version, session, command, keys))
         if command == "load":
             self.module, self.pending, self.instants = Module(keys["main"], keys["text"]), set(), []
