@@ -4,6 +4,7 @@ ENGINE := crates/est_bench/out/est_bench
 TEXTS := crates/text_bench/out/text_bench
 LOADS := crates/load_bench/out/load_bench
 POLICIES := crates/policy_bench/out/policy_bench
+ECHO := crates/echo_bench/out/echo_bench
 
 .PHONY: help try run build abro examples socket documents test bench faults times
 
@@ -17,7 +18,7 @@ help:
 	@echo 'make socket    the tests of the server over its socket, on the program built WITHOUT proof'
 	@echo 'make abro      the waves of ABRO, by the client, on the program built WITHOUT proof: about a minute'
 	@echo 'make documents write the tables of docs/PROOFS.md anew from the sources'
-	@echo 'make bench     prove and build, and then time commands, instants, the reading of texts and policies, and see how loads take memory'
+	@echo 'make bench     prove and build, and then time commands, instants, texts, policies and the socket, and see how loads take memory'
 	@echo 'make faults    refuse each allocation of two tests in turn; no part of make test'
 	@echo 'make times     the proofs, wrong bodies and tests of make test, and a table of the time that each crate takes'
 
@@ -67,6 +68,8 @@ bench: build
 	python3 bench/loads.py $(LOADS)
 	@python3 scripts/run.py policy_bench all 1 > /dev/null
 	python3 bench/policies.py $(POLICIES)
+	@python3 scripts/run.py echo_bench < crates/echo_bench/stdin > /dev/null
+	python3 bench/socket.py $(PROGRAM) $(ECHO)
 
 faults:
 	python3 tests/faults/run
