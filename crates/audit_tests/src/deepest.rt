@@ -7,7 +7,8 @@ use std::test::Fail;
 use std::thread::{Builder, Threads};
 use worker_threads::workers::WORKER_STACK_BYTES;
 
-/// How many modules run one another. With `sustain O` in the last they come to 2,048 statements of the kernel, the most that there may be.
+/// How many modules run one another. With `sustain O` in the last they come to 2,048 statements of
+/// the kernel, the most that there may be.
 const MODULES: u32 = 28;
 
 /// How many suspensions lie in one another in each module.

@@ -79,7 +79,8 @@ fn policy_entries(alloc: Global) -> Result<Vec<Entry>, Fail> {
     Ok(entries)
 }
 
-/// The entries that the opening script leaves with the module M of this text, and with steps of these outputs.
+/// The entries that the opening script leaves with the module M of this text, and with steps of
+/// these outputs.
 pub fn script_of(alloc: Global, text: &str, outputs: &[u64]) -> Result<Written, Fail> {
     let mut slot = Vec::new(alloc);
     slot.push(stamped(9, 1, loaded(alloc, text)?))?;
@@ -106,7 +107,8 @@ fn policy_of(alloc: Global, entries: Vec<Entry>) -> Result<PolicyJournal, Fail> 
     Ok(policy)
 }
 
-/// Sixteen journals, of which those of these two numbers have these entries and all others none; of one number the first counts.
+/// Sixteen journals, of which those of these two numbers have these entries and all others none;
+/// of one number the first counts.
 fn journals_of(
     alloc: Global,
     first: (usize, Vec<SlotEntry>),

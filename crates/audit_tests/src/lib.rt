@@ -1,6 +1,8 @@
-//! The worked examples of `audit_report`: the journals of the opening script, as they are and changed, with what an audit finds in them.
+//! The worked examples of `audit_report`: the journals of the opening script, as they are and
+//! changed, with what an audit finds in them, and an audit of the deepest module.
 //!
-//! This crate has no function but tests, and stands above the crates that it calls, so that each of those is proved once.
+//! This crate has no function but tests, and stands above the crates that it calls, so that each
+//! of those is proved once.
 #![tactic(auto)]
 
 #[cfg(test)]
