@@ -11,7 +11,8 @@ PROGRAM is the built `crates/estserve/out/estserve`, ECHO the built `crates/echo
 - the time of a step in a slot with 60,000 entries, beside that in one with 100.
 
 The figure of a kind of work is that of the fastest of ROUNDS rounds (five if left out, at most twelve), in each of which every kind has
-its turn: what else the machine does makes a round slower, never faster. The answers are counted, and none may be a refusal.
+its turn: what else the machine does makes a round slower, never faster. The answers are counted, and none may be a refusal. Beside the
+clock's figures stand the server's own processor time, which says more where the machine has other work.
 """
 import sys
 
@@ -136,10 +137,17 @@ def serving(path, words=None):
         process.wait() if words else process.join()
 
 
-def processor_seconds(process):
-    """The processor time of a process: in its own code, and in the system."""
-    fields = pathlib.Path(f"/proc/{process.pid}/stat").read_text().rpartition(")")[2].split()
-    return [int(field) / os.sysconf("SC_CLK_TCK") for field in fields[11:13]]
+def processor_time(process):
+    """The microseconds of processor time of all threads of a process."""
+    tasks = pathlib.Path(f"/proc/{process.pid}/task").iterdir()
+    return sum(int((task / "schedstat").read_text().split()[0]) for task in tasks) / 1e3
+
+
+def timed(process, count, work):
+    """Does a work of so many lines. Answers what it answers, and the server's microseconds of processor time a line."""
+    before = processor_time(process)
+    answer = work()
+    return answer, (processor_time(process) - before) / count
 
 
 def load(slot):
@@ -194,54 +202,62 @@ def rate(path, works):
     return sum(map(len, works)) / seconds
 
 
+def least(pairs):
+    """Of each part of these pairs the least."""
+    return tuple(map(min, zip(*pairs)))
+
+
 def times_of_trips(folder, program, echo, rounds):
-    """The microseconds of round trips, and the rates one at a time and ahead, of one client. Of each the best of all rounds."""
+    """Microseconds a line of one client, by the clock and of processor time: of round trips, and of lines sent ahead."""
     path, kit, plain = folder / "trips", folder / "kit", folder / "plain"
-    rates = []
-    kinds = {"estserve": [], "the echo in the kit's language": [], "the echo in Python": []}
-    with serving(path, [program, "serve", "--socket", str(path)]), serving(kit, [echo, str(kit), "1"]), serving(plain):
-        with prepare(path) as client, Connection(kit) as first, Connection(plain) as second:
-            for slot in range(rounds):
-                trips, many = lines_on(slot, TRIPS), lines_on(slot, LINES)
-                kinds["estserve"].append(round_trips(client, trips))
-                begin_anew(client, [slot])
-                rates.append(LINES / client.ask(many, AHEAD))
-                kinds["the echo in the kit's language"].append(round_trips(first, trips))
-                kinds["the echo in Python"].append(round_trips(second, trips))
-    return {kind: min(found) for kind, found in kinds.items()}, max(rates)
+    found = {"estserve": [], "the echo in the kit's language": [], "the echo in Python": []}
+    many = []
+    with (
+        serving(path, [program, "serve", "--socket", str(path)]) as server,
+        serving(kit, [echo, str(kit), "1"]) as first,
+        serving(plain) as second,
+        prepare(path) as client,
+        Connection(kit) as to_first,
+        Connection(plain) as to_second,
+    ):
+        asked = zip(found, [(server, client), (first, to_first), (second, to_second)])
+        asked = [(found[kind], *pair) for kind, pair in asked]
+        for slot in range(rounds):
+            trips, lines = lines_on(slot, TRIPS), lines_on(slot, LINES)
+            for times, process, connection in asked:
+                times.append(timed(process, TRIPS, lambda: round_trips(connection, trips)))
+            begin_anew(client, [slot])
+            many.append(timed(server, LINES, lambda: client.ask(lines, AHEAD) / LINES * 1e6))
+    return {kind: least(times) for kind, times in found.items()}, least(many)
 
 
 def rates_of_clients(folder, program, rounds):
-    """The lines a second of one client and of four, on slots of their own and at checks, and where the server's time went."""
+    """Microseconds a line, by the clock and of processor time: of one client and of four, on slots of their own and at checks."""
     path = folder / "clients"
-    one, four, one_checks, four_checks, spent = [], [], [], [], []
+    found = {"one": [], "four": [], "one that checks": [], "four that check": []}
     with serving(path, [program, "serve", "--socket", str(path), "--workers", str(CLIENTS + 1)]) as server:
         with prepare(path) as client:
             for number in range(rounds):
                 slots = [(CLIENTS * number + at) % SLOTS for at in range(CLIENTS)]
                 works = [lines_on(slot, LINES) for slot in slots]
-                begin_anew(client, slots)
-                four.append(rate(path, works))
-                begin_anew(client, slots)
-                before = processor_seconds(server)
-                one.append(rate(path, works[:1]))
-                spent.append([after - past for past, after in zip(before, processor_seconds(server))])
-                four_checks.append(rate(path, [checks(LINES)] * CLIENTS))
-                one_checks.append(rate(path, [checks(LINES)]))
-    return max(one), max(four), max(one_checks), max(four_checks), min(spent, key=sum)
+                asked = zip(found, [works[:1], works, [checks(LINES)], [checks(LINES)] * CLIENTS])
+                for kind, lines in asked:
+                    begin_anew(client, slots)
+                    count = sum(map(len, lines))
+                    found[kind].append(timed(server, count, lambda: 1e6 / rate(path, lines)))
+    return {kind: least(times) for kind, times in found.items()}
 
 
 def times_of_steps(folder, program, rounds):
-    """The microseconds of a step after few entries and after many, each in as many slots as there are rounds."""
+    """Microseconds of a step, by the clock and of processor time: after few entries, and after many."""
     path, few, many = folder / "steps", [], []
-    with serving(path, [program, "serve", "--socket", str(path)]), prepare(path) as client:
+    with serving(path, [program, "serve", "--socket", str(path)]) as server, prepare(path) as client:
         for slot in range(rounds):
             step = [line_of("step", slot=slot)]
-            client.ask(step * (FEW - 1), AHEAD)
-            few.append(client.ask(step * STEPS, AHEAD) / STEPS * 1e6)
-            client.ask(step * (MANY - FEW - STEPS), AHEAD)
-            many.append(client.ask(step * STEPS, AHEAD) / STEPS * 1e6)
-    return min(few), min(many)
+            for times, entries in ((few, FEW - 1), (many, MANY - FEW - STEPS)):
+                client.ask(step * entries, AHEAD)
+                times.append(timed(server, STEPS, lambda: client.ask(step * STEPS, AHEAD) / STEPS * 1e6))
+    return least(few), least(many)
 
 
 def say(what, ratio):
@@ -251,26 +267,33 @@ def say(what, ratio):
     print(f"{what}: {ratio:.2f} (hoped: {side} {hope}{'' if holds else ', MISSED'})", flush=True)
 
 
+def tell(what, times):
+    """Prints the microseconds of a line."""
+    print(f"{what}: {times[0]:.2f} microseconds a line, {times[1]:.2f} of the server's processor time", flush=True)
+
+
 def main():
     program, echo = sys.argv[1:3]
     rounds = int(sys.argv[3]) if len(sys.argv) > 3 else 5
     with tempfile.TemporaryDirectory(prefix="estserve-") as name:
         folder = pathlib.Path(name)
         trips, ahead = times_of_trips(folder, program, echo, rounds)
-        for kind, microseconds in trips.items():
-            print(f"{kind}: {microseconds:.1f} microseconds a round trip")
-        print(f"100 lines ahead: {ahead:,.0f} lines a second; one at a time: {1e6 / trips['estserve']:,.0f}")
-        say("a round trip, beside the echo in the kit's language", trips["estserve"] / trips["the echo in the kit's language"])
-        say("a round trip, beside the echo in Python", trips["estserve"] / trips["the echo in Python"])
-        say("100 lines ahead, beside one at a time", ahead * trips["estserve"] / 1e6)
-        one, four, one_checks, four_checks, (own, system) = rates_of_clients(folder, program, rounds)
-        print(f"lines a second, ahead: one client {one:,.0f}, four {four:,.0f}; checks: one {one_checks:,.0f}, four {four_checks:,.0f}")
-        print(f"{LINES:,} lines of one client took the server {own:.2f} seconds of its own code and {system:.2f} of the system's")
-        say("four clients on slots of their own, beside one", four / one)
-        say("four clients that check, beside one", four_checks / one_checks)
+        for kind, times in trips.items():
+            tell(f"a round trip to {kind}", times)
+        tell("100 lines ahead", ahead)
+        one = trips["estserve"][0]
+        say("a round trip, beside the echo in the kit's language", one / trips["the echo in the kit's language"][0])
+        say("a round trip, beside the echo in Python", one / trips["the echo in Python"][0])
+        say("100 lines ahead, beside one at a time", one / ahead[0])
+        clients = rates_of_clients(folder, program, rounds)
+        for kind, times in clients.items():
+            tell(f"clients, {kind}", times)
+        say("four clients on slots of their own, beside one", clients["one"][0] / clients["four"][0])
+        say("four clients that check, beside one", clients["one that checks"][0] / clients["four that check"][0])
         few, many = times_of_steps(folder, program, rounds)
-        print(f"a step: {few:.2f} microseconds after {FEW} entries, {many:.2f} after {MANY:,}")
-        say("a step after 60,000 entries, beside one after 100", many / few)
+        tell(f"a step after {FEW} entries", few)
+        tell(f"a step after {MANY:,}", many)
+        say("a step after 60,000 entries, beside one after 100", many[0] / few[0])
 
 
 if __name__ == "__main__":
