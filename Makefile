@@ -6,15 +6,16 @@ LOADS := crates/load_bench/out/load_bench
 POLICIES := crates/policy_bench/out/policy_bench
 ECHO := crates/echo_bench/out/echo_bench
 
-.PHONY: help try run build abro examples socket documents test bench faults times
+.PHONY: help try run build abro examples client socket documents test bench faults times
 
 help:
 	@echo 'make try       run the opening script on the program as it stands, built WITHOUT proof: about a minute'
 	@echo 'make run       prove what is needed, a line for each crate, and run the opening script on the proved program'
-	@echo 'make test      the gate: documents, examples, what must not compile, and then all proofs, wrong bodies, tests'
-	@echo '               and stored runs; the last line is "N passed, M failed"'
+	@echo 'make test      the gate: documents, examples, the client, the server, what must not compile, and then all proofs,'
+	@echo '               wrong bodies, tests and stored runs; the last line is "N passed, M failed"'
 	@echo 'make build     as make run, without the script'
 	@echo 'make examples  run each script and controller of examples on the program, built without proof, and compare its answers'
+	@echo 'make client    the tests of the client and of the tutorial, on the program built WITHOUT proof'
 	@echo 'make socket    the tests of the server over its socket, on the program built WITHOUT proof'
 	@echo 'make abro      the waves of ABRO, by the client, on the program built WITHOUT proof: about a minute'
 	@echo 'make documents write the tables of docs/PROOFS.md anew from the sources'
@@ -39,6 +40,9 @@ abro:
 examples:
 	python3 scripts/examples.py
 
+client:
+	python3 scripts/trial.py clients/tests/run
+
 socket:
 	tests/socket/run
 
@@ -50,9 +54,8 @@ documents:
 test:
 	python3 tests/documents.py
 	$(MAKE) --no-print-directory examples
-	clients/tests/run
+	python3 scripts/trial.py sh -c 'clients/tests/run && tests/socket/run'
 	python3 tests/journals/run
-	tests/socket/run
 	python3 tests/must-not-compile/run
 	rt ci
 

@@ -12,25 +12,34 @@ As a library:
         client.login("ann", ["driver"])
         client.offer(0, "A")
 
-Each command of docs/PROTOCOL.md is a method; a refusal is raised as `estserve.Refusal`. Python 3.9 or later, nothing else.
+Each command of docs/PROTOCOL.md is a method of `estserve.Client`; a refusal is raised as
+`estserve.Refusal`. Python 3.9 or later, nothing else.
 """
 import argparse
+import os
 import sys
 
 from estserve_client.applying import apply
-from estserve_client.connection import Client, Disconnected, Refusal, TooLong, connect, start
+from estserve_client.connection import (
+    CannotBeSent, Client, Disconnected, NotText, Refusal, TooLong, connect, start,
+)
 from estserve_client.running import Failed, run
 from estserve_client.sentences import sentence
 from estserve_client.shell import shell
 
-__all__ = ["Client", "Disconnected", "Refusal", "TooLong", "connect", "sentence", "start"]
+__all__ = [
+    "CannotBeSent", "Client", "Disconnected", "NotText", "Refusal", "TooLong", "connect", "sentence", "start",
+]
 
 
-def add_server(parser):
+def add_server(parser, roles):
     parser.add_argument("--socket", metavar="PATH", help="the server's Unix socket; without it the program is started for you alone")
     parser.add_argument("--program", metavar="PATH", help="the program to start, in place of the one that `make run` builds")
     parser.add_argument("--user", default="root", help="the user to log in as (root)")
-    parser.add_argument("--role", action="append", metavar="ROLE", help="a role to activate; may stand more than once (root)")
+    parser.add_argument(
+        "--role", action="extend", nargs=roles, metavar="ROLE",
+        help="a role to activate; may stand more than once (root for the user root, and none for others)",
+    )
 
 
 def make_parser():
@@ -49,32 +58,56 @@ def make_parser():
     programs.add_argument("--unproved", action="store_true", help="build the program without proof first, by `rt try`: a minute")
     running.set_defaults(act=run)
     dialogue = commands.add_parser("shell", help="a dialogue: one command a line, `help` lists them")
-    add_server(dialogue)
+    add_server(dialogue, "+")
     dialogue.set_defaults(act=shell)
     applying = commands.add_parser("apply", help="make users, roles, permissions and sets from a file")
     applying.add_argument("file", metavar="POLICY", help="the policy, in TOML")
-    add_server(applying)
+    add_server(applying, 1)
     applying.set_defaults(act=apply)
     return parser
 
 
+def prepare_streams():
+    """Opens what was closed, and lets no stream fail at a text for its letters: what is no UTF-8 is told where it is used."""
+    for name, mode in (("stdin", "r"), ("stdout", "w"), ("stderr", "w")):
+        if getattr(sys, name) is None:
+            setattr(sys, name, open(os.devnull, mode))
+    for stream, errors in ((sys.stdin, "surrogateescape"), (sys.stdout, "backslashreplace")):
+        if hasattr(stream, "reconfigure"):
+            stream.reconfigure(errors=errors)
+
+
+def tell(text, status=1):
+    """Ends with one message on standard error, and this status."""
+    print(f"estserve.py: {text}", file=sys.stderr)
+    return status
+
+
+def tell_of_output(fault):
+    """Ends since standard output cannot be written. What is still to be written is given up, or Python would try it again."""
+    try:
+        with open(os.devnull, "w") as nowhere:
+            os.dup2(nowhere.fileno(), sys.stdout.fileno())
+    except (OSError, ValueError):
+        pass
+    return tell(f"standard output cannot be written: {fault.strerror or fault}")
+
+
 def main(words=None):
-    """Does what the words say. Answers the status: 0, or 1 with one message on standard error."""
+    """Does what the words say. Answers the status: 0, or another one with one message on standard error."""
     arguments = make_parser().parse_args(words)
+    prepare_streams()
     try:
         arguments.act(arguments)
-    except (Failed, Disconnected, TooLong) as fault:
-        print(f"estserve.py: {fault}", file=sys.stderr)
-        return 1
+        sys.stdout.flush()
+    except (Failed, Disconnected, CannotBeSent) as fault:
+        return tell(fault)
     except Refusal as refusal:
-        print(f"estserve.py: {sentence(refusal)}", file=sys.stderr)
-        return 1
-    except BrokenPipeError:
-        sys.stderr.close()
-        return 1
+        return tell(sentence(refusal))
+    except OSError as fault:
+        return tell_of_output(fault)
     except KeyboardInterrupt:
-        print("estserve.py: interrupted", file=sys.stderr)
-        return 130
+        return tell("interrupted", 130)
     return 0
 
 

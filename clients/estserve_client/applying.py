@@ -1,10 +1,11 @@
 """The command `apply`: makes what a policy file asks for, and tells what was there already."""
 import sys
 
-from .connection import Refusal, connect, start
+from .connection import Refusal
 from .policy_file import BadPolicy, read_policy
 from .running import Failed, read_text
 from .sentences import sentence
+from .session import session_of
 
 THERE_ALREADY = {"UserExists", "RoleExists", "AlreadyAssigned", "AlreadyGranted", "EdgeExists", "DsdExists"}
 
@@ -43,8 +44,7 @@ def apply(arguments):
         wishes = read_policy(read_text(arguments.file, "the policy"))
     except BadPolicy as fault:
         raise Failed(f"{arguments.file}: {fault}") from fault
-    with connect(arguments.socket) if arguments.socket else start(arguments.program) as client:
-        client.login(arguments.user, arguments.role or ["root"])
+    with session_of(arguments) as (client, _):
         made, there, refused = apply_wishes(client, wishes, arguments.file)
     print(f"{made} made, {there} there already, {refused} refused")
     if refused:

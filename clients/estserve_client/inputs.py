@@ -27,7 +27,9 @@ def offers_of_line(text, line):
 
 def read_inputs(text):
     """The instants of a list of inputs, in their order."""
-    instants = []
-    for line, written in enumerate(text.splitlines(), 1):
+    instants, lines = [], text.split("\n")
+    if not lines[-1]:
+        lines.pop()
+    for line, written in enumerate(lines, 1):
         instants += offers_of_line(written, line)
     return instants

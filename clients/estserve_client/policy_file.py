@@ -16,8 +16,9 @@
     roles = ["driver", "chief"]
     count = 2
 
-Values are strings in double quotes without `\\`, whole numbers, and lists of strings, which may go over several lines. (Python has a reader of
-the whole of TOML from 3.11 on, which doesn't say on which line a value stands.)
+Values are strings in double quotes without `\\`, whole numbers, and lists of strings, which may go over
+several lines. (Python has a reader of the whole of TOML from 3.11 on, which doesn't say on which line a
+value stands.)
 """
 import dataclasses
 import re
@@ -56,7 +57,7 @@ def without_comment(line):
 def statements_of(text):
     """The statements of the file, each with its first line: a list that is not closed goes on over the next lines."""
     held, first = "", 0
-    for number, line in enumerate(text.splitlines(), 1):
+    for number, line in enumerate(text.split("\n"), 1):
         line = without_comment(line).strip()
         first, held = (first, held + "\n" + line) if held else (number, line)
         if held and ("=" not in held or held.count("[") <= held.count("]")):
@@ -87,28 +88,36 @@ def value_of(written, line):
     raise BadPolicy(line, "a value is a list of strings, or a whole number")
 
 
+@dataclasses.dataclass
+class Table:
+    """A table of the file: the line of its head, and its keys, each with its line and value."""
+
+    line: int
+    keys: dict
+
+
 def tables_of(text):
-    """The tables of the file: from the name of each table and key to its line and value. The table before the first head is ``."""
-    tables, table = {"": {}}, ""
+    """The tables of the file, by their names. The table before the first head is ``."""
+    tables, table = {"": Table(1, {})}, ""
     for line, statement in statements_of(text):
         head, pair = HEAD.match(statement), PAIR.match(statement)
         if head:
             table = re.sub(r"\s", "", head.group(1))
             if table in tables:
                 raise BadPolicy(line, f"the table {table} stands twice")
-            tables[table] = {}
+            tables[table] = Table(line, {})
         elif pair is None:
             raise BadPolicy(line, "this is neither a table's head nor `key = value`")
-        elif pair.group(1) in tables[table]:
+        elif pair.group(1) in tables[table].keys:
             raise BadPolicy(line, f"the key {pair.group(1)} stands twice")
         else:
-            tables[table][pair.group(1)] = line, value_of(pair.group(2).strip(), line)
+            tables[table].keys[pair.group(1)] = line, value_of(pair.group(2).strip(), line)
     return tables
 
 
 def lists_of(table):
-    """Each key of a table with each string of its list, and the string's line."""
-    for key, (line, value) in table.items():
+    """Each key of a table with each string of its list, and the string's line. No table has none."""
+    for key, (line, value) in table.keys.items() if table else ():
         if not isinstance(value, list):
             raise BadPolicy(line, f"{key} is a list of strings")
         for string, at in value:
@@ -126,33 +135,37 @@ def permissions_of(table):
 
 def separation_of(name, table):
     """The separation set of one table."""
-    if set(table) != {"roles", "count"}:
-        line = min([line for line, _ in table.values()], default=1)
-        raise BadPolicy(line, f"the set {name} has the keys roles and count")
-    line, count = table["count"]
-    roles = [role for _, role, _ in lists_of({"roles": table["roles"]})]
+    if set(table.keys) != {"roles", "count"}:
+        raise BadPolicy(table.line, f"the set {name} has the keys roles and count, and no others")
+    line, count = table.keys["count"]
     if not isinstance(count, int):
         raise BadPolicy(line, "count is a whole number")
-    return Wish(table["roles"][0], {"cmd": "dsd", "name": name, "roles": roles, "count": count})
+    line = table.keys["roles"][0]
+    roles = [role for _, role, _ in lists_of(Table(line, {"roles": table.keys["roles"]}))]
+    return Wish(line, {"cmd": "dsd", "name": name, "roles": roles, "count": count})
+
+
+def check_names(tables):
+    """Raises BadPolicy where a table, or a key before the first head, has no meaning here."""
+    for name, table in tables.items():
+        if name not in ("", "inherit", "assign", "permissions") and not name.startswith("separate."):
+            raise BadPolicy(table.line, f"there is no table {name}: inherit, assign, permissions, separate.NAME")
+    for key, (line, _) in tables[""].keys.items():
+        if key not in ("users", "roles"):
+            raise BadPolicy(line, f"there is no key {key} here: users, roles")
 
 
 def read_policy(text):
     """The commands that a policy file asks for, in an order that works: roles, users, edges, sets, assignments, permissions. Raises BadPolicy."""
     tables = tables_of(text)
-    known = {"", "inherit", "assign", "permissions"}
-    sets = {name[len("separate."):]: table for name, table in tables.items() if name.startswith("separate.")}
-    for name, table in tables.items():
-        if name not in known and not name.startswith("separate."):
-            raise BadPolicy(min([line for line, _ in table.values()], default=1), f"there is no table {name}")
-    for key, (line, _) in tables[""].items():
-        if key not in ("users", "roles"):
-            raise BadPolicy(line, f"there is no key {key}: users, roles")
+    check_names(tables)
     top = list(lists_of(tables[""]))
     wishes = [Wish(line, {"cmd": "addrole", "role": name}) for key, name, line in top if key == "roles"]
     wishes += [Wish(line, {"cmd": "adduser", "user": name}) for key, name, line in top if key == "users"]
-    for senior, junior, line in lists_of(tables.get("inherit", {})):
+    for senior, junior, line in lists_of(tables.get("inherit")):
         wishes.append(Wish(line, {"cmd": "inherit", "senior": senior, "junior": junior}))
-    wishes += [separation_of(name, table) for name, table in sets.items()]
-    for user, role, line in lists_of(tables.get("assign", {})):
+    sets = [name for name in tables if name.startswith("separate.")]
+    wishes += [separation_of(name[len("separate."):], tables[name]) for name in sets]
+    for user, role, line in lists_of(tables.get("assign")):
         wishes.append(Wish(line, {"cmd": "assign", "user": user, "role": role}))
-    return wishes + list(permissions_of(tables.get("permissions", {})))
+    return wishes + list(permissions_of(tables.get("permissions")))

@@ -1,9 +1,10 @@
 """What a refusal says, as a short sentence."""
+import re
 
 SENTENCES = {
     "TooLong": "the line is too long",
     "NotJson": "this is no JSON",
-    "NotARequest": "this is no command of estserve",
+    "NotARequest": "this is no command of estserve, or a word of it is out of form",
     "NoSession": "there is no login, or its session has ended",
     "AlreadyLoggedIn": "there is a login already",
     "SessionsExhausted": "there are no session numbers left",
@@ -28,7 +29,7 @@ SENTENCES = {
     "DsdShape": "a role is listed twice, or the number is under 2 or over that of the roles",
     "RoleInDsd": "the role is a member of the separation set {set}",
     "Full": "the table of {table} is full",
-    "Excluded": "relation {relation} excludes it, since {signal} is pending",
+    "Excluded": "relation {relation} excludes {offered}, since {signal} is pending",
     "Implied": "relation {relation} asks for {missing} too",
     "Stuck": "the instant has no constructive reaction; undecided: {undecided}",
     "NoSlot": "there is no such slot: they are 0 to 15",
@@ -54,14 +55,52 @@ SENTENCES = {
 }
 
 
+NAME = re.compile(r"[A-Za-z0-9_-]{1,24}")
+IDENTIFIER = re.compile(r"[A-Za-z][A-Za-z0-9_]{0,47}")
+OPERATIONS = ("offer", "observe", "step", "load", "administer", "audit")
+OPERATION = re.compile("|".join(OPERATIONS))
+OBJECT = re.compile(rf"policy|([0-9]|1[0-5])(\.{IDENTIFIER.pattern})?")
+A_NAME = (NAME, "a name: 1 to 24 letters, digits, _ and -")
+AN_IDENTIFIER = (IDENTIFIER, "an identifier: a letter, then letters, digits and _, at most 48")
+# The forms of docs/PROTOCOL.md, by the key: a word that has not its form is what the server takes for no command.
+FORMS = {
+    **dict.fromkeys(("user", "role", "senior", "junior", "name", "roles"), A_NAME),
+    **dict.fromkeys(("main", "signal"), AN_IDENTIFIER),
+    "op": (OPERATION, "an operation: " + " ".join(OPERATIONS)),
+    "object": (OBJECT, "an object: policy, a slot from 0 to 15, or a signal of one, as 0.A"),
+}
+ROLES, NUMBERS = 32, 2**64  # so many roles a command may have, and numbers are under this one
+
+
+def wrong_word(key, word):
+    """What the word of a command is not, that stands for this key; None where it is in form."""
+    form, wanted = FORMS.get(key, (None, ""))
+    if isinstance(word, int) and word >= NUMBERS:
+        return f"{word} is too large a number"
+    if form and not (isinstance(word, str) and form.fullmatch(word)):
+        return f"{word} is not {wanted}"
+    return None
+
+
+def out_of_form(keys):
+    """What the first word of a command is not, by its keys; None where each is in form, as the protocol has it."""
+    lists = {key: value if isinstance(value, list) else [value] for key, value in keys.items()}
+    wrong = [told for key, words in lists.items() for told in (wrong_word(key, word) for word in words) if told]
+    if any(len(words) > ROLES for words in lists.values()):
+        wrong.append(f"a command has at most {ROLES} roles")
+    return wrong[0] if wrong else None
+
+
 def sentence(refusal, relations=()):
     """The sentence of a refusal. Where the texts of the module's relations are given, a relation is told by its text."""
-    fields = dict(refusal.fields)
+    fields = {"offered": refusal.command.get("signal", "it"), **refusal.fields}
     number = fields.get("relation")
     if isinstance(number, int) and 0 < number <= len(relations):
         fields["relation"] = f"{number} ({relations[number - 1]})"
     if "undecided" in fields:
         fields["undecided"] = " ".join(fields["undecided"]) or "none that may be observed"
+    if refusal.fault == "NotARequest" and out_of_form(refusal.command):
+        return f"{refusal.fault}: {out_of_form(refusal.command)}"
     try:
         return f"{refusal.fault}: {SENTENCES[refusal.fault].format(**fields)}"
     except (KeyError, IndexError):

@@ -9,7 +9,9 @@ import unittest.mock
 
 CLIENTS = pathlib.Path(__file__).resolve().parents[1]
 ROOT = CLIENTS.parent
+EXAMPLES = ROOT / "examples"
 DIALOGUE = CLIENTS / "tests" / "dialogue.py"
+DIALOGUES = CLIENTS / "tests" / "dialogues"
 sys.path.insert(0, str(CLIENTS))
 
 
@@ -49,14 +51,26 @@ def run_client(words, typed="", variables=None):
     return Ran(status, printed.read(), told.read())
 
 
+def run_words(name, inputs=None, *more):
+    """The words by which the client runs a controller of the examples."""
+    folder = EXAMPLES / name
+    return ["run", folder / f"{name}.strl", "--inputs", folder / f"{inputs or name}.inputs", *more]
+
+
+def dialogue_variables(path, faults):
+    """The variables by which `dialogue.py` plays a stored dialogue, beside the real program that ESTSERVE names, if it does."""
+    variables = {"ESTSERVE": str(DIALOGUE), "DIALOGUE": str(path), "FAULTS": str(faults)}
+    for name, real in (("RECORD", "RECORDER"), ("BESIDE", "ESTSERVE")):
+        if os.environ.get(real):
+            variables[name] = os.environ[real]
+    return variables
+
+
 def play_dialogue(path, words, typed=""):
     """Runs the client over a stored dialogue, and fails where it doesn't ask for what is stored."""
     with tempfile.TemporaryDirectory() as folder:
         faults = pathlib.Path(folder) / "faults"
-        variables = {"ESTSERVE": str(DIALOGUE), "DIALOGUE": str(path), "FAULTS": str(faults)}
-        if "RECORDER" in os.environ:
-            variables["RECORD"] = os.environ["RECORDER"]
-        ran = run_client(words, typed, variables)
+        ran = run_client(words, typed, dialogue_variables(path, faults))
         if faults.exists():
             raise AssertionError(f"{path.name}: {faults.read_text()}")
     return ran

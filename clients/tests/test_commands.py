@@ -7,58 +7,66 @@ import tempfile
 import threading
 import unittest
 
-from support import DIALOGUE, ROOT, play_dialogue, read_vcd, run_client
+from support import DIALOGUE, DIALOGUES, EXAMPLES, dialogue_variables, play_dialogue, read_vcd, run_words
 
 import estserve
 
-EXAMPLES = ROOT / "examples"
-DIALOGUES = pathlib.Path(__file__).resolve().parent / "dialogues"
 
-
-def run_words(name, inputs=None, *more):
-    folder = EXAMPLES / name
-    return ["run", folder / f"{name}.strl", "--inputs", folder / f"{inputs or name}.inputs", *more]
+# what is told besides of the runs that end at an instant which is refused
+REFUSED = {
+    "paradox": "instant 2: Stuck: the instant has no constructive reaction; undecided: O",
+    "no_second": "instant 2: Implied: relation 1 (MINUTE => SECOND) asks for SECOND too",
+    "both": "instant 2: Excluded: relation 1 (A # R) excludes R, since A is pending",
+}
 
 
 class Controllers(unittest.TestCase):
-    """Each controller of the examples gives the picture that stands beside it."""
+    """Each controller of the examples gives the pictures that stand beside it."""
 
-    def check_picture(self, name, *more):
-        ran = play_dialogue(EXAMPLES / name / f"{name}.dialogue", run_words(name, None, *more))
-        self.assertEqual((ran.status, ran.told), (0, ""))
+    def check_picture(self, path, *more):
+        """What the client draws of the list of inputs by this name, over the dialogue by this name."""
+        words = run_words(path.parent.name, path.stem, *more)
+        ran = play_dialogue(path.with_suffix(".dialogue"), words)
+        told = REFUSED.get(path.stem)
+        self.assertEqual((ran.status, ran.told), (1, f"estserve.py: {told}\n") if told else (0, ""))
         return ran.printed
 
     def test_tables(self):
-        for path in sorted(EXAMPLES.glob("*/*.table")):
-            if path.stem not in ("paradox", "no_second"):
-                with self.subTest(path.stem):
-                    self.assertEqual(self.check_picture(path.stem), path.read_text())
+        paths = sorted(EXAMPLES.glob("*/*.table"))
+        self.assertEqual([path.with_suffix(".inputs") for path in paths], sorted(EXAMPLES.glob("*/*.inputs")))
+        for path in paths:
+            with self.subTest(path.stem):
+                self.assertEqual(self.check_picture(path), path.read_text())
 
     def test_waves(self):
         for path in sorted(EXAMPLES.glob("*/*.wave")):
             with self.subTest(path.stem):
-                self.assertEqual(self.check_picture(path.stem, "--wave"), path.read_text())
+                self.assertEqual(self.check_picture(path, "--wave"), path.read_text())
+
+    def test_a_vcd_file_of_each(self):
+        for path in sorted(EXAMPLES.glob("*/*.table")):
+            with self.subTest(path.stem), tempfile.TemporaryDirectory() as folder:
+                file = pathlib.Path(folder) / "out.vcd"
+                self.assertEqual(self.check_picture(path, "--vcd", file), "")
+                changes = read_vcd(file.read_text().splitlines())
+                self.check_changes(changes, path.read_text().splitlines()[1:])
+
+    def check_changes(self, changes, rows):
+        """Each wire is 1 in the instants in whose rows of the table its signal stands, and 0 in the others."""
+        for name, values in changes.items():
+            now, drawn = None, []
+            for time in range(len(rows)):
+                now = values.get(time, now)
+                drawn.append(now)
+            self.assertEqual(drawn, ["1" if name in row.split()[1:] else "0" for row in rows], name)
 
     def test_a_vcd_file_of_abro(self):
         with tempfile.TemporaryDirectory() as folder:
             path = pathlib.Path(folder) / "abro.vcd"
-            self.assertEqual(self.check_picture("abro", "--vcd", path), "")
+            self.assertEqual(self.check_picture(EXAMPLES / "abro" / "abro.table", "--vcd", path), "")
             changes = read_vcd(path.read_text().splitlines())
         self.assertEqual(changes["O"], {0: "0", 2: "1", 3: "0", 5: "1", 6: "0"})
         self.assertEqual(sorted(changes), ["A", "B", "O", "R"])
-
-    def test_a_paradox_is_told_with_its_instant(self):
-        folder = EXAMPLES / "paradox"
-        ran = play_dialogue(folder / "paradox.dialogue", run_words("paradox"))
-        self.assertEqual((ran.status, ran.printed), (1, (folder / "paradox.table").read_text()))
-        self.assertIn("instant 2: Stuck", ran.told)
-        self.assertIn("undecided: O", ran.told)
-
-    def test_a_relation_is_told_by_its_text(self):
-        folder = EXAMPLES / "crossing"
-        ran = play_dialogue(folder / "no_second.dialogue", run_words("crossing", "no_second"))
-        self.assertEqual(ran.status, 1)
-        self.assertIn("instant 2: Implied: relation 1 (MINUTE => SECOND) asks for SECOND too", ran.told)
 
 
 class Policies(unittest.TestCase):
@@ -76,73 +84,20 @@ class Policies(unittest.TestCase):
 
 
 class Dialogues(unittest.TestCase):
+    """What is typed into the shell, and what it prints; each ends at the end of standard input."""
+
+    def check(self, name):
+        typed, wanted = (
+            (DIALOGUES.parent / f"{name}.{kind}").read_text().replace("EXAMPLES", str(EXAMPLES)) for kind in ("typed", "printed")
+        )
+        ran = play_dialogue(DIALOGUES / name, ["shell"], typed)
+        self.assertEqual((ran.status, ran.printed, ran.told), (0, wanted, ""))
+
     def test_a_dialogue_for_people(self):
-        typed = (DIALOGUES.parent / "shell.typed").read_text().replace("EXAMPLES", str(EXAMPLES))
-        ran = play_dialogue(DIALOGUES / "shell", ["shell"], typed)
-        wanted = (DIALOGUES.parent / "shell.printed").read_text().replace("EXAMPLES", str(EXAMPLES))
-        self.assertEqual((ran.status, ran.printed), (0, wanted))
+        self.check("shell")
 
-
-class WhatGoesWrong(unittest.TestCase):
-    """Each ends with one clear line and a status that isn't 0."""
-
-    def fails(self, words, told, typed="", variables=None):
-        ran = run_client(words, typed, variables)
-        self.assertEqual((ran.status, ran.printed), (1, ""), ran.told)
-        self.assertRegex(ran.told, r"\Aestserve\.py: [^\n]*\n\Z")
-        self.assertIn(told, ran.told)
-
-    def test_files_that_cannot_be_read(self):
-        with tempfile.TemporaryDirectory() as folder:
-            bad = pathlib.Path(folder) / "bad.strl"
-            bad.write_bytes(b"module \xff")
-            self.fails(["run", bad], "is not UTF-8: byte 8")
-            self.fails(["run", folder], "cannot be read")
-            self.fails(["run", bad.with_name("none")], "cannot be read: No such file")
-            self.fails(["apply", bad.with_name("none")], "cannot be read: No such file")
-
-    def test_a_program_that_is_not_there(self):
-        words = run_words("abro")
-        self.fails([*words, "--program", "/nowhere/estserve"], "cannot be started")
-        self.fails(["shell", "--program", "/nowhere/estserve"], "cannot be started")
-
-    def test_a_program_that_goes_away(self):
-        self.fails([*run_words("abro"), "--program", "/bin/true"], "has gone away")
-        self.fails(["shell", "--program", "/bin/true"], "has gone away")
-        self.fails(["apply", EXAMPLES / "team" / "team.toml", "--program", "/bin/true"], "has gone away")
-
-    def test_a_server_that_is_not_there(self):
-        self.fails(["shell", "--socket", "/nowhere/socket"], "no server answers at /nowhere/socket")
-
-    def test_a_policy_that_is_none(self):
-        with tempfile.TemporaryDirectory() as folder:
-            path = pathlib.Path(folder) / "p.toml"
-            path.write_text("users = [1]\n")
-            self.fails(["apply", path], "p.toml: line 1")
-
-    def test_a_user_that_is_denied(self):
-        ran = play_dialogue(DIALOGUES / "denied", ["shell", "--user", "nobody"])
-        self.assertEqual((ran.status, ran.told), (1, "estserve.py: UnknownUser: there is no user nobody\n"))
-
-    def test_an_input_that_the_module_has_not(self):
-        with tempfile.TemporaryDirectory() as folder:
-            path = pathlib.Path(folder) / "wrong.inputs"
-            path.write_text("% comment\nO\n")
-            self.fails(["run", EXAMPLES / "abro" / "abro.strl", "--inputs", path], "line 2 of the inputs: ABRO has no input O")
-
-    def test_a_text_that_fills_no_line(self):
-        with tempfile.TemporaryDirectory() as folder:
-            path = pathlib.Path(folder) / "long.strl"
-            path.write_text("%" + "x" * 65_536 + "\nmodule M: pause end module\n")
-            self.fails(["run", path, "--program", "/bin/true"], "the text is too long")
-
-    def test_a_fault_of_the_text_is_shown_at_its_place(self):
-        with tempfile.TemporaryDirectory() as folder:
-            path = pathlib.Path(folder) / "m.strl"
-            path.write_text("module M:\noutput O;\n  emit end module\n")
-            ran = play_dialogue(DIALOGUES / "fault_of_a_text", ["run", path])
-        self.assertEqual(ran.status, 1)
-        self.assertTrue(ran.told.endswith("m.strl: Syntax: the text cannot go on so at line 3, column 8\n  emit end module\n       ^\n"), ran.told)
+    def test_policy_commands(self):
+        self.check("policy_commands")
 
 
 class OverASocket(unittest.TestCase):
@@ -155,8 +110,7 @@ class OverASocket(unittest.TestCase):
 
         def answer():
             connection, _ = server.accept()
-            variables = dict(os.environ, DIALOGUE=str(dialogue), FAULTS=str(faults))
-            variables.update({"RECORD": os.environ["RECORDER"]} if "RECORDER" in os.environ else {})
+            variables = dict(os.environ, **dialogue_variables(dialogue, faults))
             subprocess.run([str(DIALOGUE), "script"], stdin=connection, stdout=connection, env=variables)
             connection.close()
             server.close()

@@ -31,6 +31,10 @@ class Inputs(unittest.TestCase):
     def test_a_semicolon_ends_an_instant_too(self):
         self.assertEqual(self.names("A; B\nA;\n;\n;;\n"), [["A"], ["B"], ["A"], [], [], []])
 
+    def test_lines_end_at_their_line_feeds(self):
+        self.assertEqual(self.names("A\r\n\r\nB\x0cC\n"), [["A"], [], ["B", "C"]])
+        self.assertEqual([self.names(""), self.names("\n"), self.names("A")], [[], [[]], [["A"]]])
+
     def test_a_comment_is_no_instant(self):
         self.assertEqual(self.names("% nothing\nA % then B\n;% empty\n"), [["A"], []])
 
@@ -70,6 +74,32 @@ class Pictures(unittest.TestCase):
         self.assertEqual(lines[0].split(), ["instant", "1", "2"])
         self.assertEqual(lines[1:], ["I        input  _/^\\_/^\\", "J        input  ____....", "O        output ...._/^\\"])
 
+    def test_a_table_of_signals_of_which_no_more_is_known(self):
+        seen = Seen("slot0", [("I", "signal"), ("O", "signal")], [{"I": True, "O": True}, {"I": False}], first=7)
+        self.assertEqual(table_lines(seen), ["instant  signals", "      7  I O", "      8  ."])
+        self.assertEqual(table_lines(Seen("slot0", [], [{}])), ["instant  inputs  outputs", "      1"])
+
+    def test_a_table_that_goes_on_keeps_its_columns(self):
+        self.assertEqual(table_lines(SEEN, 9)[2], "      2  I .        O")
+
+    def test_waves_go_on_in_blocks_within_the_columns(self):
+        instants = [{"I": number % 2 == 0, "J": False, "O": True} for number in range(7)]
+        lines = wave_lines(Seen("A", SEEN.signals, instants), plain=True, columns=28)
+        self.assertEqual(lines[:5], [
+            "instant           1   2   3", "I        input  _/^\\_____/^\\", "J        input  ____________",
+            "O        output _/^\\_/^\\_/^\\", "",
+        ])
+        self.assertEqual([line for line in lines if line.startswith("instant")][1:], ["instant           4   5   6", "instant           7"])
+        self.assertEqual(len(wave_lines(Seen("A", SEEN.signals, instants), columns=3)), 7 * 5 - 1)
+        self.assertEqual(wave_lines(Seen("A", [], [])), ["instant"])
+
+    def test_the_ruler_of_many_instants_stands_over_their_waves(self):
+        lines = wave_lines(Seen("A", [("I", "input")], [{"I": number % 5 == 4} for number in range(1_200)]))
+        ruler, wave = lines[0][16:], lines[1][16:]
+        for number in (5, 995, 1_000, 1_200):
+            self.assertEqual(wave[4 * number - 4:4 * number], "_/‾\\")
+            self.assertEqual(ruler[4 * number - 3:].split()[0], str(number))
+
     def test_a_vcd_file(self):
         self.assertEqual(
             read_vcd(vcd_lines(SEEN)),
@@ -77,6 +107,8 @@ class Pictures(unittest.TestCase):
         )
         hidden = Seen("A", SEEN.signals, [{"I": True}, {"I": False}])
         self.assertEqual(read_vcd(vcd_lines(hidden)), {"I": {0: "1", 1: "0"}})
+        self.assertEqual(read_vcd(vcd_lines(Seen("A", SEEN.signals, []))), {})
+        self.assertEqual(vcd_lines(SEEN)[-1], "#2")
 
     def test_wires_have_names_of_their_own(self):
         codes = [code_of(number) for number in range(9000)]
@@ -120,9 +152,9 @@ class Policies(unittest.TestCase):
 
     def test_what_is_no_policy_is_told_with_its_line(self):
         wrong = {
-            'users = ["a"': 1, "users = a": 1, "\nhosts = []": 2, "[people]\na = []": 2, "users = [1]": 1,
+            'users = ["a"': 1, "users = a": 1, "\nhosts = []": 2, "[people]\na = []": 1, "users = [1]": 1,
             '[permissions]\na = ["offer"]': 2, "x": 1, 'users = []\nusers = []': 2, "[assign]\n[assign]": 2,
-            '[separate.s]\nroles = ["a"]': 2, '[separate.s]\nroles = ["a"]\ncount = ["b"]': 3, "[assign]\na = 1": 2,
+            "\n\n[people]": 3, '\n[separate.s]\nroles = ["a"]': 2, '[separate.s]\nroles = ["a"]\ncount = ["b"]': 3, "[assign]\na = 1": 2,
         }
         for text, line in wrong.items():
             with self.subTest(text), self.assertRaises(BadPolicy) as raised:

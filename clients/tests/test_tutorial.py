@@ -1,17 +1,20 @@
 """Each command of docs/TUTORIAL.md prints what stands there.
 
-A block between fences that are marked `console` is run: a line that begins with `$ ` is a command, the lines under it are what it prints, and
-where it reads standard input, lines that begin with `> ` are typed. `--unproved` is left out, since a stored dialogue stands for the program. A comment `<!-- dialogue: PATH -->` before a block names the stored
-dialogue that stands for the program, which `make examples` holds against the real one. The blocks behind `<!-- server -->` speak to a server;
-tests/socket runs them.
+A block between fences that are marked `console` is run: a line that begins with `$ ` is a command, the
+lines under it are what it prints, and where it reads standard input, lines that begin with `> ` are typed.
+A comment `<!-- dialogue: PATH -->` before a block names the stored dialogue that stands for the program,
+which `make examples` holds against the real one; so `--unproved` is left out. What is written into /tmp
+goes into a folder of the test's own. The blocks behind `<!-- server -->` speak to a server; tests/socket
+runs them.
 """
 import os
 import pathlib
 import re
 import shlex
+import tempfile
 import unittest
 
-from support import ROOT, play_dialogue
+from support import ROOT, play_dialogue, read_vcd
 
 BLOCK = re.compile(r"<!-- dialogue: (\S+) -->\s*```console\n(.*?)```", re.DOTALL)
 CLIENT = "python3 clients/estserve.py "
@@ -28,11 +31,19 @@ def commands_of(block):
 
 class Tutorial(unittest.TestCase):
     def setUp(self):
-        self.before = os.getcwd()
+        self.addCleanup(os.chdir, os.getcwd())
         os.chdir(ROOT)
+        held = tempfile.TemporaryDirectory()
+        self.addCleanup(held.cleanup)
+        self.folder = pathlib.Path(held.name)
 
-    def tearDown(self):
-        os.chdir(self.before)
+    def check(self, path, command, typed, printed):
+        """Runs a command over a stored dialogue."""
+        self.assertTrue(command.startswith(CLIENT), command)
+        words = shlex.split(command[len(CLIENT):].replace("/tmp/", f"{self.folder}/"))
+        words = [word for word in words if word != "--unproved"]
+        ran = play_dialogue(ROOT / path, words, typed)
+        self.assertEqual(ran.printed + ran.told, printed)
 
     def test_each_command_prints_what_is_told(self):
         text = (ROOT / "docs" / "TUTORIAL.md").read_text()
@@ -42,10 +53,14 @@ class Tutorial(unittest.TestCase):
         for path, block in blocks:
             for command, typed, printed in commands_of(block):
                 with self.subTest(command):
-                    self.assertTrue(command.startswith(CLIENT), command)
-                    words = [word for word in shlex.split(command[len(CLIENT):]) if word != "--unproved"]
-                    ran = play_dialogue(ROOT / pathlib.Path(path), words, typed)
-                    self.assertEqual(ran.printed + ran.told, printed)
+                    self.check(path, command, typed, printed)
+        changes = read_vcd((self.folder / "abro.vcd").read_text().splitlines())
+        self.assertEqual(sorted(changes), ["A", "B", "O", "R"])
+
+    def test_the_first_screen_shows_the_waves_of_abro(self):
+        screen = (ROOT / "README.md").read_text().partition("## ")[0]
+        for line in (ROOT / "examples" / "abro" / "abro.wave").read_text().splitlines():
+            self.assertIn(line, screen)
 
 
 if __name__ == "__main__":

@@ -1,0 +1,186 @@
+"""The dialogue in a terminal: its prompt, completion and history, Ctrl-C and Ctrl-D, and how wide its pictures are."""
+import fcntl
+import importlib.util
+import os
+import pathlib
+import pty
+import re
+import select
+import socket
+import struct
+import sys
+import tempfile
+import termios
+import time
+import unittest
+
+from support import CLIENTS, DIALOGUES, EXAMPLES, dialogue_variables
+
+SECONDS = 60  # whatever a terminal is to show comes in so many
+LOGIN = '{"ok":"login","session":1,"version":5}'
+# a program that takes its time with its second answer: up to when there is a file `go`
+SLOW = f"""#!/bin/sh
+cd "$(dirname "$0")"
+read line; echo '{LOGIN}'
+read line; : > begun
+while [ ! -e go ]; do sleep 0.05; done
+echo '{{"instant":1,"ok":"step","place":2,"version":5}}'
+read line; echo '{{"allowed":true,"ok":"check"}}'
+cat > /dev/null
+"""
+
+
+def wait_for(path):
+    """Waits for a file."""
+    end = time.monotonic() + SECONDS
+    while not path.exists():
+        if time.monotonic() > end:
+            raise AssertionError(f"{path.name} never came")
+        time.sleep(0.02)
+
+
+class Terminal:
+    """The client in a terminal that is so many columns wide. Used with `with`."""
+
+    def __init__(self, words, variables, columns=200):
+        self.words, self.columns = words, columns
+        self.variables = dict(os.environ, TERM="dumb", PYTHONIOENCODING="utf-8", **variables)
+        self.shown = ""
+
+    def __enter__(self):
+        command = [sys.executable, "-B", str(CLIENTS / "estserve.py"), *map(str, self.words)]
+        self.process, self.screen = pty.fork()
+        if self.process == 0:
+            fcntl.ioctl(0, termios.TIOCSWINSZ, struct.pack("HHHH", 50, self.columns, 0, 0))
+            os.execve(command[0], command, self.variables)
+        return self
+
+    def __exit__(self, *_):
+        if self.process:
+            os.kill(self.process, 9)
+            os.waitpid(self.process, 0)
+        os.close(self.screen)
+
+    def type(self, text):
+        os.write(self.screen, text.encode())
+
+    def read(self):
+        """What is shown next, without bells."""
+        return os.read(self.screen, 65_536).decode().replace("\r\n", "\n").replace("\a", "")
+
+    def sees(self, text):
+        """Waits until this text is shown behind what was seen so far."""
+        end = time.monotonic() + SECONDS
+        while text not in self.shown:
+            ready = select.select([self.screen], [], [], max(0, end - time.monotonic()))[0]
+            if not ready:
+                raise AssertionError(f"{text!r} is not shown: {self.shown!r}")
+            self.shown += self.read()
+        self.shown = self.shown.partition(text)[2]
+
+    def ends(self):
+        """What is shown up to the end, and the status."""
+        try:
+            while True:
+                self.shown += self.read()
+        except OSError:
+            pass
+        _, status = os.waitpid(self.process, 0)
+        self.process = None
+        return self.shown, os.WEXITSTATUS(status)
+
+
+class InATerminal(unittest.TestCase):
+    def setUp(self):
+        held = tempfile.TemporaryDirectory()
+        self.addCleanup(held.cleanup)
+        self.folder = pathlib.Path(held.name)
+
+    def over(self, path, words, **more):
+        return Terminal(words, dialogue_variables(path, self.folder / "faults"), **more)
+
+    def program(self, script):
+        path = self.folder / "program"
+        path.write_text(script)
+        path.chmod(0o755)
+        return path
+
+    @unittest.skipUnless(importlib.util.find_spec("readline"), "this Python has no readline")
+    def test_completion_and_history(self):
+        with self.over(DIALOGUES / "terminal", ["shell"]) as terminal:
+            terminal.sees("root> ")
+            terminal.type("addu\tann\n")
+            terminal.sees("adduser ann\nann is a user\nroot> ")
+            terminal.type("\x1b[A\n")
+            terminal.sees("adduser ann\nUserExists: the user ann is there already\nroot> ")
+            terminal.type("grant ro\tlo\t1\t5\n")
+            terminal.sees("grant root load 15\nroot may load on 15\nroot> ")
+            terminal.type(f"load 15 {EXAMPLES}/abro/abro.s\t\n")
+            terminal.sees("abro.strl \nABRO runs in slot 15\nroot> ")
+            terminal.type("grant root offer \t15.A\n")
+            terminal.sees("root may offer on 15.A\nroot> ")
+            terminal.type("off\t\tA\t\n")
+            terminal.sees("offer 15 A \nA is pending\nroot> ")
+            terminal.type("help ste\t\n")
+            terminal.sees("step SLOT: the next instant, with what is pending\n")
+            terminal.type("half a line\x03")
+            terminal.sees("\nroot> ")
+            terminal.type("logout\n")
+            terminal.sees("logged out\n> ")
+            terminal.type("\x04")
+            self.assertEqual(terminal.ends(), ("\n", 0))
+        faults = self.folder / "faults"
+        self.assertFalse(faults.exists(), faults.exists() and faults.read_text())
+
+    def test_ctrl_c_interrupts_a_command_and_not_the_program(self):
+        path = self.program(SLOW)
+        with Terminal(["shell", "--program", path], {}) as terminal:
+            terminal.sees("root> ")
+            terminal.type("step 0\n")
+            wait_for(self.folder / "begun")
+            terminal.type("\x03")
+            terminal.sees("interrupted; the command may have been carried out\nroot> ")
+            (self.folder / "go").touch()
+            terminal.type("check step 0\n")
+            terminal.sees("yes\nroot> ")
+            terminal.type("quit\n")
+            self.assertEqual(terminal.ends()[1], 0)
+
+    def test_a_person_is_told_that_the_server_is_waited_for(self):
+        path = self.folder / "socket"
+        with socket.socket(socket.AF_UNIX) as server:
+            server.bind(str(path))
+            server.listen()
+            with Terminal(["shell", "--socket", path], {}) as terminal:
+                terminal.sees("no answer yet: perhaps each worker of the server has a client\n")
+                connection, _ = server.accept()
+                connection.sendall(LOGIN.encode() + b"\n")
+                terminal.sees("session 1 of root, with root; help lists the commands\nroot> ")
+                terminal.type("\x04")
+                self.assertEqual(terminal.ends(), ("\n", 0))
+                connection.close()
+
+    def test_waves_are_as_wide_as_the_terminal(self):
+        words = ["run", EXAMPLES / "abro" / "abro.strl", "--inputs", EXAMPLES / "abro" / "abro.inputs", "--wave"]
+        with self.over(EXAMPLES / "abro" / "abro.dialogue", words, columns=33) as terminal:
+            shown, status = terminal.ends()
+        self.assertEqual(status, 0)
+        self.assertEqual([line for line in shown.split("\n") if line.startswith("instant")], [
+            "instant           1   2   3   4", "instant           5   6   7",
+        ])
+        self.assertTrue(all(len(line) <= 33 for line in shown.split("\n")), shown)
+
+    def test_inputs_from_the_keyboard(self):
+        with self.over(EXAMPLES / "abro" / "abro.dialogue", ["run", EXAMPLES / "abro" / "abro.strl"]) as terminal:
+            terminal.sees("the list of inputs is read from the keyboard, up to Ctrl-D:\n")
+            terminal.type((EXAMPLES / "abro" / "abro.inputs").read_text())
+            terminal.sees("R A B")
+            terminal.type("\x04")
+            terminal.sees("instant  inputs  outputs\n")
+            shown, status = terminal.ends()
+        self.assertEqual(status, 0)
+        self.assertEqual(re.findall(r"^ +(\d) .*O$", shown, re.MULTILINE), ["3", "6"])
+
+
+if __name__ == "__main__":
+    unittest.main()
