@@ -4,6 +4,7 @@ The program is built WITHOUT proof by `rt try`, once; the variable ESTSERVE name
 """
 import os
 import pathlib
+import re
 import shutil
 import signal
 import socket
@@ -72,11 +73,24 @@ def built_program(folder):
         trial.communicate()
 
 
-def is_listening(path):
-    """Whether a socket at this path takes connections. Its file is there a moment before, and a connection is refused then."""
+def sockets_of(process):
+    """The numbers of the sockets that a process has open."""
+    found = set()
+    for link in pathlib.Path(f"/proc/{process}/fd").glob("*"):
+        try:
+            found.update(re.findall(r"^socket:\[(\d+)\]$", os.readlink(link)))
+        except OSError:
+            pass
+    return found
+
+
+def is_listening(path, process):
+    """Whether a socket of this process takes connections at this path. Its file is there a moment before, and a connection is
+    refused then; another process may have one whose file was at this path."""
     with open("/proc/net/unix", encoding="utf-8", errors="replace") as sockets:
         rows = [row.split() for row in sockets]
-    return any(row[-1] == str(path) and int(row[3], 16) & ACCEPTS for row in rows[1:] if len(row) == 8)
+    listening = {row[6] for row in rows[1:] if len(row) == 8 and row[-1] == str(path) and int(row[3], 16) & ACCEPTS}
+    return bool(listening & sockets_of(process))
 
 
 _folder = tempfile.TemporaryDirectory(prefix="estserve-")
@@ -118,7 +132,7 @@ class Server:
 
     def answers(self):
         """Whether the program listens at its path, or has ended."""
-        return is_listening(self.path) or self.process.poll() is not None
+        return is_listening(self.path, self.process.pid) or self.process.poll() is not None
 
     def client(self):
         """A client of the server."""
