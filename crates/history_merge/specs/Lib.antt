@@ -1,0 +1,6 @@
+pub mod Events
+pub mod Order
+pub mod OneList
+pub mod Mismatches
+pub mod Once
+pub mod Inner

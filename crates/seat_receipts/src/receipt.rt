@@ -1,0 +1,39 @@
+//! Receipts: what tells an entry's caller which entry it was.
+use est_text::identifier::Identifier;
+use rbac_policy::commands::Entry;
+
+/// What a slot command that added an entry asked for; of a load without its name and its text.
+#[derive(Clone, Copy)]
+pub enum Asked {
+    Load,
+    Offer(Identifier),
+    Discard,
+    Step,
+    Unload,
+}
+
+/// The receipt of a slot command that added an entry.
+#[derive(Clone, Copy)]
+pub struct SlotReceipt {
+    /// The number of the slot.
+    pub slot: u64,
+    /// The place of the entry in the journal of the slot, counted from 1.
+    pub place: u64,
+    /// The policy version at which the command was judged.
+    pub version: u64,
+    /// The number of the session that gave the command.
+    pub session: u16,
+    /// The number of the command among all slot commands of the server.
+    pub number: u64,
+    /// What was asked for.
+    pub asked: Asked,
+}
+
+/// The receipt of a call that added an entry.
+#[derive(Drop)]
+pub enum Kept {
+    /// Of a policy command: its entry, and the policy version with it, which is its place in the policy list, counted from 1.
+    Admin { version: u64, entry: Entry },
+    /// Of a slot command.
+    Slot(SlotReceipt),
+}
