@@ -1,5 +1,5 @@
 -- Connections that a worker serves over its desk, one after another (this project's own form).
-use Rattle.std.specs.Prelude.{◌≡◌, ℕ, List, Option, Some, None}
+use Rattle.std.specs.Prelude.{◌≡◌, ℕ, List, Option, Some, None, Bool}
 use Rattle.line_reader.specs.declared.serving.Why.{Why}
 use Rattle.access_core.specs.declared.reply.Reply.{Reply}
 use Rattle.client_loop.specs.declared.login.Logout.{Logout}
@@ -12,11 +12,9 @@ abbrev pub LogsOutLeft : {D : Type 0} → (answers : D → Ask → Reply → D �
 LogsOutLeft answers None before after = after ≡ before
 LogsOutLeft answers (Some session) before after = (done : Logout) × LogsOutAtLast answers session before done after
 
--- a connection to this desk is served to its end, and no login of it is held any more
-pub record ServesConnection {D : Type 0} (answers : D → Ask → Reply → D → Type 0) (ahead written : Option (List ℕ)) (before after : D) : Type 0 where
-  pub why : Why
+-- a connection to this desk is served to its end, which comes for this reason, and no login of it is held any more
+pub record ServesConnection {D : Type 0} (answers : D → Ask → Reply → D → Type 0) (refused : Bool) (ahead : Option (List ℕ)) (before : D) (why : Why) (after : D) (written wrote : Option (List ℕ)) : Type 0 where
   pub desk : D
   pub left : Option ℕ
-  pub wrote : Option (List ℕ)
-  pub served : ServesDesk answers ahead before why desk left written wrote
+  pub served : ServesDesk answers refused ahead before why desk left written wrote
   pub logged_out : LogsOutLeft answers left desk after

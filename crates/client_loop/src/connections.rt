@@ -1,4 +1,7 @@
 //! A connection of a source, served to its end.
+ghost use Rattle.std.specs.Prelude.{◌≡◌, true};
+ghost use Rattle.line_reader.specs.Meters.{IsStopped};
+ghost use Rattle.line_reader.specs.declared.serving.Why.TheVariants as why;
 ghost use Rattle.client_loop.specs.Connections.{LogsOutLeft, ServesConnection};
 ghost use Rattle.client_loop.specs.Logins.{session_of};
 
@@ -7,7 +10,8 @@ use crate::gate::Gate;
 use crate::login::Login;
 use crate::serving::{End, serve_through};
 use crate::source::Connection;
-use line_reader::meter::{MeteredReader, MeteredWriter};
+use line_reader::meter::{MeteredMemory, MeteredReader, MeteredWriter};
+use line_reader::serving::Why;
 use std::alloc::Global;
 use std::io::{Read, Write};
 use std::sync::Wait;
@@ -24,8 +28,22 @@ pub fn log_out_left<R: Wait, D: Desk>(rt: &R, desk: &mut D, left: Option<Login>)
     }
 }
 
-/// Serves a connection to its end over this desk, and has this worker go through the gate round each answer. A login that is left, where
-/// memory was refused for its logout, is logged out at last.
+/// A connection that was served to its end.
+#[derive(Drop)]
+pub struct Served<I, O> {
+    /// Why it ended.
+    pub why: Why,
+    /// The lines of its client, in the meter through which they were read.
+    pub input: MeteredReader<I>,
+    /// The answers to its client, in the meter through which they were written.
+    pub output: MeteredWriter<O>,
+    /// The memory that its buffers were asked of.
+    pub memory: MeteredMemory,
+}
+
+/// Serves a connection to its end over this desk, and has this worker go through the gate round
+/// each answer. A login that is left, where memory was refused for its logout, is logged out at
+/// last.
 pub fn serve_connection<R: Wait, I: Read + Drop, O: Write + Drop, D: Desk, G: Gate>(
     rt: &R,
     alloc: Global,
@@ -33,13 +51,24 @@ pub fn serve_connection<R: Wait, I: Read + Drop, O: Write + Drop, D: Desk, G: Ga
     desk: &mut D,
     gate: &G,
     worker: usize,
-)
-    ensures { ServesConnection D.answers (I.remaining connection.reader)
-        (O.contents connection.writer) desk.old desk.new }
+) -> Served<I, O>
+    ensures serves { ServesConnection D.answers result.memory.refused
+        (I.remaining connection.reader) desk.old result.why desk.new
+        (O.contents connection.writer) (O.contents result.output.device) }
+    ensures read_fault { result.why ≡ why.ReadFault →
+        IsStopped result.input.failed result.input.left }
+    ensures write_fault { result.why ≡ why.WriteFault → result.output.failed ≡ true }
 {
     let Connection { reader, writer } = connection;
+    let mut memory = MeteredMemory::new(alloc);
     let mut input = MeteredReader::new(reader);
     let mut output = MeteredWriter::new(writer);
-    let End { why: _, left } = serve_through(alloc, &mut input, &mut output, desk, gate, worker);
+    let End { why, left } = serve_through(&mut memory, &mut input, &mut output, desk, gate, worker);
     log_out_left(rt, desk, left);
+    Served {
+        why,
+        input,
+        output,
+        memory,
+    }
 }

@@ -10,10 +10,9 @@ use crate::client::Client;
 use crate::desk::Desk;
 use crate::gate::{Gate, OpenGate};
 use crate::login::Login;
-use line_reader::meter::{MeteredReader, MeteredWriter};
+use line_reader::meter::{MeteredMemory, MeteredReader, MeteredWriter};
 use line_reader::serving;
 use line_reader::serving::Why;
-use std::alloc::Global;
 use std::io::{Read, Write};
 
 /// The answer to an over-long line.
@@ -36,15 +35,15 @@ fn too_long_line() -> &'static [u8]
 
 /// Answers the lines of a connection to its end, and hands out the login that it holds then.
 fn answer_lines<R: Read, W: Write, D: Desk, G: Gate>(
-    alloc: Global,
+    memory: &mut MeteredMemory,
     reader: &mut MeteredReader<R>,
     writer: &mut MeteredWriter<W>,
     desk: &mut D,
     gate: &G,
     worker: usize,
 ) -> (Why, Option<Login>)
-    ensures serves { ServesLines D.answers (R.remaining reader.old.device) desk.old
-        result.0 (with_login desk.new (session_of result.1))
+    ensures serves { ServesLines D.answers memory.new.refused (R.remaining reader.old.device)
+        desk.old result.0 (with_login desk.new (session_of result.1))
         (W.contents writer.old.device) (W.contents writer.new.device) }
     ensures read_fault { result.0 ≡ why.ReadFault → IsStopped reader.new.failed reader.new.left }
     ensures write_fault { result.0 ≡ why.WriteFault → writer.new.failed ≡ true }
@@ -54,7 +53,7 @@ fn answer_lines<R: Read, W: Write, D: Desk, G: Gate>(
         gate,
         worker,
     };
-    let why = serving::serve(alloc, reader, writer, &mut client, desk, too_long_line());
+    let why = serving::serve(memory, reader, writer, &mut client, desk, too_long_line());
     let Client {
         login,
         gate: _,
@@ -78,21 +77,21 @@ fn leave<D: Desk>(desk: &mut D, held: Option<Login>) -> Option<Login>
 
 /// Serves a connection to its end over this desk, as `serve` does, and has this worker go through the gate round each answer.
 pub fn serve_through<R: Read, W: Write, D: Desk, G: Gate>(
-    alloc: Global,
+    memory: &mut MeteredMemory,
     reader: &mut MeteredReader<R>,
     writer: &mut MeteredWriter<W>,
     desk: &mut D,
     gate: &G,
     worker: usize,
 ) -> End
-    ensures serves { ServesDesk D.answers (R.remaining reader.old.device) desk.old
-        result.why desk.new (session_of result.left)
+    ensures serves { ServesDesk D.answers memory.new.refused (R.remaining reader.old.device)
+        desk.old result.why desk.new (session_of result.left)
         (W.contents writer.old.device) (W.contents writer.new.device) }
     ensures read_fault { result.why ≡ why.ReadFault →
         IsStopped reader.new.failed reader.new.left }
     ensures write_fault { result.why ≡ why.WriteFault → writer.new.failed ≡ true }
 {
-    let (why, held) = answer_lines(alloc, reader, writer, desk, gate, worker);
+    let (why, held) = answer_lines(memory, reader, writer, desk, gate, worker);
     let left = leave(desk, held);
     End { why, left }
 }
@@ -101,17 +100,17 @@ pub fn serve_through<R: Read, W: Write, D: Desk, G: Gate>(
 /// turn. Answers are gathered, and are written before a read that could wait and before the end. An over-long line is answered TooLong, and
 /// ends the connection.
 pub fn serve<R: Read, W: Write, D: Desk>(
-    alloc: Global,
+    memory: &mut MeteredMemory,
     reader: &mut MeteredReader<R>,
     writer: &mut MeteredWriter<W>,
     desk: &mut D,
 ) -> End
-    ensures serves { ServesDesk D.answers (R.remaining reader.old.device) desk.old
-        result.why desk.new (session_of result.left)
+    ensures serves { ServesDesk D.answers memory.new.refused (R.remaining reader.old.device)
+        desk.old result.why desk.new (session_of result.left)
         (W.contents writer.old.device) (W.contents writer.new.device) }
     ensures read_fault { result.why ≡ why.ReadFault →
         IsStopped reader.new.failed reader.new.left }
     ensures write_fault { result.why ≡ why.WriteFault → writer.new.failed ≡ true }
 {
-    serve_through(alloc, reader, writer, desk, &OpenGate, 0)
+    serve_through(memory, reader, writer, desk, &OpenGate, 0)
 }

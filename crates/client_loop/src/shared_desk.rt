@@ -4,12 +4,13 @@ ghost use Rattle.access_core.specs.declared.reply.Reply.TheVariants.{Refused};
 ghost use Rattle.slot_table.specs.Conversions.{of_board};
 ghost use Rattle.rbac_policy.specs.declared.commands.Entry.{Entry};
 ghost use Rattle.policy_board.specs.PolicyCommands.{IsPublished};
-ghost use Rattle.access_core.specs.Desk.{change_of, accepted_reply};
+ghost use Rattle.access_core.specs.Desk.{accepted_reply};
 ghost use Rattle.client_loop.specs.SharedAnswers.{IsAdministered, SharedAnswers};
 
 use crate::desk::Desk;
 use access_core::command::SlotCommand;
-use access_core::reply::{Change, Reply};
+use access_core::reply::Reply;
+use access_core::single::change_of;
 use policy_board::board::Board;
 use policy_board::history::Naming;
 use policy_board::refusal::Refusal;
@@ -36,30 +37,6 @@ impl<'a, J: Naming, R> Model for SharedDesk<'a, J, R> {
     ghost Value = { SeatState };
 
     ghost view = { λ d. d.seat };
-}
-
-/// The change that the command makes of the policy; a login makes none.
-fn change_of(command: &AdminCommand) -> Option<Change>
-    ensures { result ≡ change_of command.now }
-{
-    match command {
-        AdminCommand::AddUser { .. } => Some(Change::AddUser),
-        AdminCommand::DeleteUser { .. } => Some(Change::DeleteUser),
-        AdminCommand::AddRole { .. } => Some(Change::AddRole),
-        AdminCommand::DeleteRole { .. } => Some(Change::DeleteRole),
-        AdminCommand::AssignUser { .. } => Some(Change::AssignUser),
-        AdminCommand::DeassignUser { .. } => Some(Change::DeassignUser),
-        AdminCommand::GrantPermission { .. } => Some(Change::GrantPermission),
-        AdminCommand::RevokePermission { .. } => Some(Change::RevokePermission),
-        AdminCommand::AddInheritance { .. } => Some(Change::AddInheritance),
-        AdminCommand::DeleteInheritance { .. } => Some(Change::DeleteInheritance),
-        AdminCommand::CreateDsdSet { .. } => Some(Change::CreateDsdSet),
-        AdminCommand::DeleteDsdSet { .. } => Some(Change::DeleteDsdSet),
-        AdminCommand::CreateSession { .. } => None,
-        AdminCommand::DeleteSession => Some(Change::DeleteSession),
-        AdminCommand::AddActiveRole { .. } => Some(Change::AddActiveRole),
-        AdminCommand::DropActiveRole { .. } => Some(Change::DropActiveRole),
-    }
 }
 
 /// The reply to an accepted policy command.

@@ -4,27 +4,17 @@ use Rattle.std.specs.Io.KnownBytes.{Keeps}
 use Rattle.access_core.specs.Desk.{DeskState, opening_desk}
 use Rattle.line_reader.specs.Meters.{IsStopped}
 use Rattle.line_reader.specs.declared.serving.Why.{Why}
-use Rattle.client_loop.specs.declared.login.Logout.{Logout}
 use Rattle.client_loop.specs.Asking.{DeskAnswers}
-use Rattle.client_loop.specs.Logins.{LogsOutAtLast}
-use Rattle.client_loop.specs.Serving.{ServesDesk}
+use Rattle.client_loop.specs.Connections.{ServesConnection}
 use Rattle.estserve.specs.declared.fault.Fault.{Fault}
 use Rattle.estserve.specs.declared.fault.Fault.TheVariants as fault
 use Rattle.estserve.specs.Faults.{status_of, IsOfWords, IsOutcome}
 use Rattle.estserve.specs.Serving.{ServesSocket}
 
--- where a connection left a login, that is logged out at last; and else the desk stays
-abbrev pub LogsOutLeft : (left : Option ℕ) → (before after : DeskState) → Type 0
-LogsOutLeft None before after = after ≡ before
-LogsOutLeft (Some session) before after = (done : Logout) × LogsOutAtLast (λ a ask given b. DeskAnswers a ask given b) session before done after
-
 -- one connection is served over a desk as it opens, for this reason it ends, and no login of it is held any more
-pub record ServesOne (ahead : Option (List ℕ)) (why : Why) (written after : Option (List ℕ)) : Type 0 where
+pub record ServesOne (refused : Bool) (ahead : Option (List ℕ)) (why : Why) (written after : Option (List ℕ)) : Type 0 where
   pub desk : DeskState
-  pub left : Option ℕ
-  pub last : DeskState
-  pub served : ServesDesk (λ a ask given b. DeskAnswers a ask given b) ahead opening_desk why desk left written after
-  pub logged_out : LogsOutLeft left desk last
+  pub one : ServesConnection (λ a ask given b. DeskAnswers a ask given b) refused ahead opening_desk why desk written after
 
 -- memory was refused before the connection was opened, and nothing is written
 pub record NeverOpens (answer : Result ⊤ Fault) (written after : Option (List ℕ)) : Type 0 where
@@ -32,14 +22,14 @@ pub record NeverOpens (answer : Result ⊤ Fault) (written after : Option (List 
   pub silent : Keeps written after
 
 -- what a connection that was served means for the program
-pub record Ends (ahead : Option (List ℕ)) (answer : Result ⊤ Fault) (written after : Option (List ℕ)) : Type 0 where
+pub record Ends (refused : Bool) (ahead : Option (List ℕ)) (answer : Result ⊤ Fault) (written after : Option (List ℕ)) : Type 0 where
   pub why : Why
-  pub one : ServesOne ahead why written after
+  pub one : ServesOne refused ahead why written after
   pub outcome : IsOutcome why answer
 
 -- standard input and output are served as one connection, or no memory was there for that
-abbrev pub RunsScript : (ahead : Option (List ℕ)) → Result ⊤ Fault → (written after : Option (List ℕ)) → Type 0
-RunsScript ahead answer written after = NeverOpens answer written after ⊎ Ends ahead answer written after
+abbrev pub RunsScript : (refused : Bool) → (ahead : Option (List ℕ)) → Result ⊤ Fault → (written after : Option (List ℕ)) → Type 0
+RunsScript refused ahead answer written after = NeverOpens answer written after ⊎ Ends refused ahead answer written after
 
 -- the words are no order, or no memory was there to read them, and nothing is written
 pub record IsNoOrder (answer : Result ⊤ Fault) (written after : Option (List ℕ)) : Type 0 where
@@ -55,9 +45,9 @@ pub record RunsServer (answer : Result ⊤ Fault) (written after : Option (List 
   pub silent : Keeps written after
 
 -- what the words ask for is done
-abbrev pub Obeys : (ahead : Option (List ℕ)) → Result ⊤ Fault → (written after : Option (List ℕ)) → Type 0
-Obeys ahead answer written after = IsNoOrder answer written after
-    ⊎ (RunsScript ahead answer written after ⊎ RunsServer answer written after)
+abbrev pub Obeys : (refused : Bool) → (ahead : Option (List ℕ)) → Result ⊤ Fault → (written after : Option (List ℕ)) → Type 0
+Obeys refused ahead answer written after = IsNoOrder answer written after
+    ⊎ (RunsScript refused ahead answer written after ⊎ RunsServer answer written after)
 
 -- the status with which the program ends: 0 without a fault, and else that of the fault
 abbrev pub status_after : Result ⊤ Fault → ℕ
@@ -70,8 +60,8 @@ pub record NamesDevices (answer : Result ⊤ Fault) (reader_failed : Bool) (read
   pub write : answer ≡ Err fault.Write → writer_failed ≡ true
 
 -- a run of the program: what its words ask for is done, and its status tells how that ended
-pub record Runs (ahead : Option (List ℕ)) (written after : Option (List ℕ)) (reader_failed : Bool) (reads_left : ℕ) (writer_failed : Bool) (status : ℕ) : Type 0 where
+pub record Runs (refused : Bool) (ahead : Option (List ℕ)) (written after : Option (List ℕ)) (reader_failed : Bool) (reads_left : ℕ) (writer_failed : Bool) (status : ℕ) : Type 0 where
   pub answer : Result ⊤ Fault
-  pub obeys : Obeys ahead answer written after
+  pub obeys : Obeys refused ahead answer written after
   pub devices : NamesDevices answer reader_failed reads_left writer_failed
   pub tells : status ≡ status_after answer

@@ -8,11 +8,13 @@ pub mod fault;
 pub mod run;
 pub mod server;
 pub mod socket;
+#[cfg(test)]
+mod tests;
 pub mod words;
 
 use crate::fault::{Fault, tell};
 use crate::run::run;
-use line_reader::meter::{MeteredReader, MeteredWriter};
+use line_reader::meter::{MeteredMemory, MeteredReader, MeteredWriter};
 use std::env;
 use std::process::ExitCode;
 
@@ -34,11 +36,12 @@ fn main(rt: HostRuntime) -> ExitCode {
             return ExitCode::from(fault.status());
         }
     };
+    let mut memory = MeteredMemory::new(rt.alloc());
     let mut input = MeteredReader::new(rt.stdin());
     let mut output = MeteredWriter::new(rt.stdout());
     let status = run(
         &rt,
-        rt.alloc(),
+        &mut memory,
         words.as_slice(),
         &mut input,
         &mut output,

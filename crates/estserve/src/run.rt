@@ -1,35 +1,21 @@
 //! A run of the program, over any words and streams.
-ghost use Rattle.estserve.specs.Runs.{LogsOutLeft, RunsScript, Obeys, NamesDevices, Runs};
-ghost use Rattle.client_loop.specs.Logins.{session_of};
+ghost use Rattle.estserve.specs.Runs.{RunsScript, Obeys, NamesDevices, Runs};
 
 use crate::fault::{Fault, outcome, tell};
 use crate::server::serve as serve_socket;
 use crate::words::Order;
 use access_core::single::Single;
-use client_loop::login::Login;
+use client_loop::connections::log_out_left;
 use client_loop::serving::{End, serve};
-use line_reader::meter::{MeteredReader, MeteredWriter};
+use line_reader::meter::{MeteredMemory, MeteredReader, MeteredWriter};
 use line_reader::serving::Why;
 use log::sink::Writer;
 use log::{Level, Logged, info};
-use std::alloc::Global;
 use std::fs::Files;
 use std::io::{Read, Write};
 use std::net::Net;
 use std::sync::Wait;
 use std::thread::Threads;
-
-/// Logs out the login that a connection left, where it left one.
-fn log_out_left<R: Wait>(rt: &R, desk: &mut Single, left: Option<Login>)
-    ensures { LogsOutLeft (session_of left) desk.old desk.new }
-{
-    match left {
-        Some(login) => {
-            login.logout_at_last(rt, desk);
-        }
-        None => {}
-    }
-}
 
 /// Writes a line on how the connection ended.
 fn log_end<E: Write>(errors: &mut E, why: Why) {
@@ -40,20 +26,20 @@ fn log_end<E: Write>(errors: &mut E, why: Why) {
 /// Serves the input and the output as one connection over a desk as it opens.
 fn script<R: Wait, I: Read, O: Write, E: Write>(
     rt: &R,
-    alloc: Global,
+    memory: &mut MeteredMemory,
     input: &mut MeteredReader<I>,
     output: &mut MeteredWriter<O>,
     errors: &mut E,
     log: bool,
 ) -> Result<(), Fault>
-    ensures runs { RunsScript (I.remaining input.old.device) result
+    ensures runs { RunsScript memory.new.refused (I.remaining input.old.device) result
         (O.contents output.old.device) (O.contents output.new.device) }
     ensures devices { NamesDevices result input.new.failed input.new.left output.new.failed }
 {
-    let Ok(mut desk) = Single::new(alloc) else {
+    let Ok(mut desk) = Single::new(memory.allocator()) else {
         return Err(Fault::Memory);
     };
-    let End { why, left } = serve(alloc, input, output, &mut desk);
+    let End { why, left } = serve(memory, input, output, &mut desk);
     log_out_left(rt, &mut desk, left);
     if log {
         log_end(errors, why);
@@ -64,19 +50,19 @@ fn script<R: Wait, I: Read, O: Write, E: Write>(
 /// Does what the words ask for.
 fn obey<R: Threads + Wait + Net + Files + Sync, I: Read, O: Write, E: Write>(
     rt: &R,
-    alloc: Global,
+    memory: &mut MeteredMemory,
     words: &[String],
     input: &mut MeteredReader<I>,
     output: &mut MeteredWriter<O>,
     errors: &mut E,
 ) -> Result<(), Fault>
-    ensures obeys { Obeys (I.remaining input.old.device) result
+    ensures obeys { Obeys memory.new.refused (I.remaining input.old.device) result
         (O.contents output.old.device) (O.contents output.new.device) }
     ensures devices { NamesDevices result input.new.failed input.new.left output.new.failed }
 {
-    match Order::from_words(alloc, words)? {
-        Order::Script { log } => script(rt, alloc, input, output, errors, log),
-        Order::Serve(service) => serve_socket(rt, alloc, &service),
+    match Order::from_words(memory.allocator(), words)? {
+        Order::Script { log } => script(rt, memory, input, output, errors, log),
+        Order::Serve(service) => serve_socket(rt, memory.allocator(), &service),
     }
 }
 
@@ -84,17 +70,17 @@ fn obey<R: Threads + Wait + Net + Files + Sync, I: Read, O: Write, E: Write>(
 /// cannot be written, the status tells it alone.
 pub fn run<R: Threads + Wait + Net + Files + Sync, I: Read, O: Write, E: Write>(
     rt: &R,
-    alloc: Global,
+    memory: &mut MeteredMemory,
     words: &[String],
     input: &mut MeteredReader<I>,
     output: &mut MeteredWriter<O>,
     errors: &mut E,
 ) -> u8
-    ensures { Runs (I.remaining input.old.device)
+    ensures { Runs memory.new.refused (I.remaining input.old.device)
         (O.contents output.old.device) (O.contents output.new.device)
         input.new.failed input.new.left output.new.failed result }
 {
-    match obey(rt, alloc, words, input, output, errors) {
+    match obey(rt, memory, words, input, output, errors) {
         Ok(()) => 0,
         Err(fault) => {
             let _ = tell(&fault, errors);

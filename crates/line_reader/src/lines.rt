@@ -2,15 +2,15 @@
 //!
 //! Bytes are read into a fixed buffer. A line ends with LF, and a last line without one counts if it is not empty.
 ghost use Rattle.std.specs.Prelude.{ℕ, List, [], ◌≡◌, ◌≤◌, ◌<◌, ◌+◌, ◌-◌, ◌∷◌, ◌++◌, ◌⊎◌, ◌↔◌, true, length, take};
-ghost use Rattle.std.specs.Prelude.{drop, slice_range, MatchOption, IfOk, OnOk, IfSome, IfNone, IsTrue, Some, None};
+ghost use Rattle.std.specs.Prelude.{drop, slice_range, MatchOption, IfOk, OnOk, OnErr, IfSome, IfNone, IsTrue, Some, None};
 ghost use Rattle.std.specs.Prelude.{Ok, Err};
 ghost use Rattle.line_reader.specs.Lines.{HasNoEnd, IsNext, IsTooLong};
 ghost use Rattle.line_reader.specs.Meters.{Reads, IsStopped};
 ghost use Rattle.line_reader.specs.declared.lines.TheConstants.{ROOM, LINE_BYTES};
 
-use crate::meter::MeteredReader;
+use crate::meter::{MeteredMemory, MeteredReader};
 use memchr::memchr;
-use std::alloc::{AllocError, Global};
+use std::alloc::AllocError;
 use std::io::Read;
 
 /// The most bytes that a line may have, without its LF.
@@ -120,10 +120,12 @@ impl LineReader {
     ghost use Rattle.line_reader.specs.declared.lines.Line.TheVariants as line;
 
     /// A reader of lines that has read nothing. This takes all the memory that it ever needs.
-    pub fn new(alloc: Global) -> Result<LineReader, AllocError>
-        ensures { IfOk result (λ r. (held_bytes r ≡ []) × (r.ending ≡ None)) }
+    pub fn new(memory: &mut MeteredMemory) -> Result<LineReader, AllocError>
+        ensures empty { IfOk result (λ r. (held_bytes r ≡ []) × (r.ending ≡ None)) }
+        ensures gave { OnOk result (memory.new.refused ≡ memory.old.refused) }
+        ensures refused { OnErr result (memory.new.refused ≡ true) }
     {
-        let bytes = vec![in alloc; 0; ROOM]?;
+        let bytes = memory.zeros(ROOM)?;
         Ok(LineReader {
             bytes,
             from: 0,

@@ -1,10 +1,11 @@
-//! Meters on a reader and on a writer: they note that the device failed, and the reader's lets a bounded number of reads through.
+//! Meters on a reader, a writer and an allocator: they note that it failed or refused, and the reader's lets a bounded number of reads through.
 ghost use Rattle.std.specs.Prelude.{◌≡◌, ◌≤◌, ◌<◌, ◌-◌, ◌⊎◌, length, take, true, false, MatchOption, IfNone, IfSome};
-ghost use Rattle.std.specs.Prelude.{IsTrue, IsFalse};
+ghost use Rattle.std.specs.Prelude.{IfOk, OnOk, OnErr, IsTrue, IsFalse};
 ghost use Rattle.std.specs.Io.KnownBytes.{Appends, Keeps};
 ghost use Rattle.line_reader.specs.Meters.{Reads};
 ghost use Rattle.line_reader.specs.declared.meter.TheConstants.{READS};
 
+use std::alloc::{AllocError, Global};
 use std::io::{Read, Write};
 
 /// The most reads that one meter lets through.
@@ -136,5 +137,55 @@ impl<W: Write> MeteredWriter<W> {
             return false;
         }
         true
+    }
+}
+
+/// An allocator, and whether it refused a buffer.
+#[derive(Drop)]
+pub struct MeteredMemory {
+    alloc: Global,
+    refused: bool,
+}
+
+impl MeteredMemory {
+    /// A meter on an allocator that was asked for nothing.
+    pub fn new(alloc: Global) -> MeteredMemory
+        ensures { result.refused ≡ false }
+    {
+        MeteredMemory {
+            alloc,
+            refused: false,
+        }
+    }
+
+    /// The allocator itself, for what is no buffer: what it refuses then is not noted.
+    pub fn allocator(&self) -> Global {
+        self.alloc
+    }
+
+    /// Whether the allocator refused a buffer.
+    pub fn has_refused(&self) -> bool
+        ensures { result ≡ self.now.refused }
+    {
+        self.refused
+    }
+
+    /// A buffer of so many zeros.
+    ///
+    /// # Errors
+    ///
+    /// Where the allocator refused it, which is noted.
+    pub fn zeros(&mut self, count: usize) -> Result<Vec<u8>, AllocError>
+        ensures len { IfOk result (λ zeros. length zeros.items ≡ count) }
+        ensures gave { OnOk result (self.new.refused ≡ self.old.refused) }
+        ensures refused { OnErr result (self.new.refused ≡ true) }
+    {
+        match vec![in self.alloc; 0; count] {
+            Ok(zeros) => Ok(zeros),
+            Err(refused) => {
+                self.refused = true;
+                Err(refused)
+            }
+        }
     }
 }

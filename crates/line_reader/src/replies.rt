@@ -6,8 +6,8 @@ ghost use Rattle.std.specs.Io.KnownBytes.{Appends};
 ghost use Rattle.line_reader.specs.Writing.{WritesUpTo, WritesFront};
 ghost use Rattle.line_reader.specs.declared.replies.TheConstants.{ROOM};
 
-use crate::meter::MeteredWriter;
-use std::alloc::{AllocError, Global};
+use crate::meter::{MeteredMemory, MeteredWriter};
+use std::alloc::AllocError;
 use std::io::Write;
 
 /// How many bytes may wait.
@@ -59,10 +59,12 @@ impl Replies {
     ghost use Rattle.line_reader.specs.Waiting.{waiting_bytes};
 
     /// No reply waits. This takes all the memory that is ever needed.
-    pub fn new(alloc: Global) -> Result<Replies, AllocError>
-        ensures { IfOk result (λ r. waiting_bytes r ≡ []) }
+    pub fn new(memory: &mut MeteredMemory) -> Result<Replies, AllocError>
+        ensures empty { IfOk result (λ r. waiting_bytes r ≡ []) }
+        ensures gave { OnOk result (memory.new.refused ≡ memory.old.refused) }
+        ensures refused { OnErr result (memory.new.refused ≡ true) }
     {
-        let bytes = vec![in alloc; 0; ROOM]?;
+        let bytes = memory.zeros(ROOM)?;
         Ok(Replies { bytes, filled: 0 })
     }
 

@@ -13,7 +13,7 @@ ghost use Rattle.line_reader.specs.declared.lines.LineFault.TheVariants as fault
 
 use crate::exchange::next_line;
 use crate::lines::{Line, LineFault, LineReader};
-use crate::meter::{MeteredReader, MeteredWriter};
+use crate::meter::{MeteredMemory, MeteredReader, MeteredWriter};
 use crate::replies::{Replies, WriteFault};
 use std::alloc::{AllocError, Global};
 use std::io::{Read, Write};
@@ -161,30 +161,30 @@ fn answer_all<R: Read, W: Write, D, A: Answerer<D>>(
 /// or no more have room, and are written before the next read and before the end. An over-long line is answered by `refusal`, and ends the
 /// connection.
 pub fn serve<R: Read, W: Write, D, A: Answerer<D>>(
-    alloc: Global,
+    memory: &mut MeteredMemory,
     reader: &mut MeteredReader<R>,
     writer: &mut MeteredWriter<W>,
     answerer: &mut A,
     desk: &mut D,
     refusal: &[u8],
 ) -> Why
-    // or the buffers found no memory
+    // or the allocator refused the buffers
     ensures serves { Serves A.tells A.fails refusal.now
         (between (R.remaining reader.old.device) (answerer.old, desk.old))
         result (answerer.new, desk.new) (W.contents writer.old.device) (W.contents writer.new.device) [] []
         ⊎ ((result ≡ why.Memory) × (reader.new ≡ reader.old) × (writer.new ≡ writer.old)
-        × (answerer.new ≡ answerer.old) × (desk.new ≡ desk.old)) }
+        × (answerer.new ≡ answerer.old) × (desk.new ≡ desk.old) × (memory.new.refused ≡ true)) }
     ensures read_fault { result ≡ why.ReadFault → IsStopped reader.new.failed reader.new.left }
     ensures write_fault { result ≡ why.WriteFault → writer.new.failed ≡ true }
 {
-    let Ok(mut lines) = LineReader::new(alloc) else {
+    let Ok(mut lines) = LineReader::new(memory) else {
         return Why::Memory;
     };
-    let Ok(mut replies) = Replies::new(alloc) else {
+    let Ok(mut replies) = Replies::new(memory) else {
         return Why::Memory;
     };
     match answer_all(
-        alloc,
+        memory.allocator(),
         &mut lines,
         &mut replies,
         reader,

@@ -3,7 +3,7 @@ ghost use Rattle.std.specs.Prelude.{⊤};
 
 use crate::exchange::next_line;
 use crate::lines::{LINE_BYTES, Line, LineFault, LineReader};
-use crate::meter::{MeteredReader, MeteredWriter, READS};
+use crate::meter::{MeteredMemory, MeteredReader, MeteredWriter, READS};
 use crate::replies::{Replies, WriteFault};
 use crate::serving::{Answerer, Why, serve};
 use std::alloc::{AllocError, Global};
@@ -94,7 +94,7 @@ fn told(
         second,
         calls_that_work,
     });
-    let mut lines = LineReader::new(alloc)?;
+    let mut lines = LineReader::new(&mut MeteredMemory::new(alloc))?;
     let mut text = Vec::new(alloc);
     for _ in 0..AMPLE {
         let next = lines.next_line(&mut reader);
@@ -184,7 +184,7 @@ fn a_line_lies_across_the_end_of_the_buffer(rt: HostRuntime) -> Result<(), Fail>
 #[test]
 fn a_million_reads(rt: HostRuntime) -> Result<(), Fail> {
     let mut reader = MeteredReader::new(ByBytes { is_end: false });
-    let mut lines = LineReader::new(rt.alloc())?;
+    let mut lines = LineReader::new(&mut MeteredMemory::new(rt.alloc()))?;
     for _ in 0..READS / 2 {
         assert!(rt; lines.next_line(&mut reader) == Ok(Line::Whole));
     }
@@ -204,7 +204,7 @@ fn replies_are_written_in_order(rt: HostRuntime) -> Result<(), Fail> {
         (5, 6, "one tw", true),
         (5, 0, "", true),
     ] {
-        let mut replies = Replies::new(alloc)?;
+        let mut replies = Replies::new(&mut MeteredMemory::new(alloc))?;
         let mut writer = MeteredWriter::new(Sink {
             written: Vec::new(alloc),
             step,
@@ -237,8 +237,8 @@ fn replies_are_written_before_a_read(rt: HostRuntime) -> Result<(), Fail> {
             step: 2,
             room,
         });
-        let mut lines = LineReader::new(alloc)?;
-        let mut replies = Replies::new(alloc)?;
+        let mut lines = LineReader::new(&mut MeteredMemory::new(alloc))?;
+        let mut replies = Replies::new(&mut MeteredMemory::new(alloc))?;
         let first = next_line(&mut lines, &mut replies, &mut reader, &mut writer);
         assert!(rt; first == Ok(Ok(Line::Whole)));
         assert!(rt; replies.add(&mut writer, b"reply") == Ok(()));
@@ -279,8 +279,9 @@ fn echoed(alloc: Global, reader: TwoParts<'_>, room: usize) -> (Why, Vec<u8>) {
         step: 3,
         room,
     });
+    let mut memory = MeteredMemory::new(alloc);
     let why = serve(
-        alloc,
+        &mut memory,
         &mut reader,
         &mut writer,
         &mut Echo,

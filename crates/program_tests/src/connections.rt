@@ -3,7 +3,7 @@ use access_core::refusal::Refusal;
 use access_core::reply::Reply;
 use access_core::single::Single;
 use client_loop::serving::{End, serve};
-use line_reader::meter::{MeteredReader, MeteredWriter};
+use line_reader::meter::{MeteredMemory, MeteredReader, MeteredWriter};
 use line_reader::serving::Why;
 use rbac_policy::commands::{AdminCommand, SessionId};
 use rbac_policy::objects::{Object, Operation};
@@ -100,7 +100,8 @@ fn served<R: Abort + Wait>(
         step: 11,
         calls_that_work: calls_that_write,
     });
-    let End { why, left } = serve(alloc, &mut reader, &mut writer, desk);
+    let mut memory = MeteredMemory::new(alloc);
+    let End { why, left } = serve(&mut memory, &mut reader, &mut writer, desk);
     assert!(rt; left.is_none(), "a login is left");
     if let Some(login) = left {
         login.logout_at_last(rt, desk);
