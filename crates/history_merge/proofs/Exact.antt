@@ -1,17 +1,16 @@
 -- Receipts that are there, in order and as many as the entries are those of one list.
-use Rattle.std.proofs.Common.{◌≡◌, inl, inr, ℕ, zero, suc, ◌+◌, ◌-◌, ◌<◌, ◌≤◌, List, [], ◌∷◌, length, drop, sym, ap, ◌∙◌, subst, Some, None, arith}
+use Rattle.std.proofs.Common.{◌≡◌, ℕ, zero, suc, ◌+◌, ◌-◌, ◌<◌, ◌≤◌, List, [], ◌∷◌, length, drop, sym, ap, ◌∙◌, subst, Some, arith}
 use Rattle.std.specs.Prelude.{Option, slice_get}
 use Rattle.std.proofs.Math.ListN.{drop_of_length-le}
 use Rattle.std.proofs.lemmas.Option.{slice_get_within}
 use Rattle.rbac_policy.specs.declared.commands.Entry.{Entry}
 use Rattle.reactor_core.specs.declared.entry.SlotEntry.{SlotEntry}
 use Rattle.seat_receipts.specs.declared.receipt.SlotReceipt.{SlotReceipt}
-use Rattle.seat_receipts.specs.declared.receipt.Kept.TheVariants.{Admin, Slot}
-use Rattle.history_merge.specs.declared.order.TheConstants.{OPENING_ENTRIES}
+use Rattle.seat_receipts.specs.declared.receipt.Kept.TheVariants.{Slot}
 use Rattle.history_merge.specs.declared.order.Rank.{Rank}
 use Rattle.history_merge.specs.declared.order.Rank.TheVariants as rank
 use Rattle.history_merge.specs.Events.{Event, Publishes, Commands, kept_of, of_policy}
-use Rattle.history_merge.specs.Order.{part_at, rank_of, version_at, Precedes, IsOver, InOrder}
+use Rattle.history_merge.specs.Order.{rank_of, version_at, Precedes, IsOver, InOrder}
 use Rattle.history_merge.specs.OneList.{Tell, Tells}
 use Rattle.history_merge.specs.Mismatches.{IsThere}
 

@@ -1,5 +1,5 @@
 -- The least of the next receipts.
-use Rattle.std.proofs.Common.{◌≡◌, inl, inr, ℕ, zero, suc, ◌+◌, ◌<◌, List, [], ◌∷◌, length, get_or, refl, sym, ap, subst, Some, None, arith}
+use Rattle.std.proofs.Common.{◌≡◌, inl, inr, ℕ, zero, suc, ◌+◌, ◌<◌, List, [], ◌∷◌, length, get_or, refl, sym, subst, Some, None, arith}
 use Rattle.std.specs.Prelude.{Option, option_map}
 use native.Mathlib.Decide.{dec_lt}
 use Rattle.seat_receipts.specs.declared.receipt.Kept.{Kept}

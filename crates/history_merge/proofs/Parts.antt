@@ -12,7 +12,7 @@ use Rattle.history_merge.specs.declared.order.TheConstants.{OPENING_ENTRIES}
 use Rattle.history_merge.specs.declared.order.Rank.{Rank}
 use Rattle.history_merge.specs.declared.order.Rank.TheVariants as rank
 use Rattle.history_merge.specs.Events.{Event, Publishes, Commands, of_seat, of_policy, of_slot}
-use Rattle.history_merge.specs.Order.{part_at, rank_of, version_at, IsOver, InOrder}
+use Rattle.history_merge.specs.Order.{part_at, rank_of, version_at, InOrder}
 use Rattle.history_merge.specs.OneList.{Tells, Tell, HasParts, AreOfOneList}
 use Rattle.history_merge.specs.Mismatches.{IsThere}
 use Rattle.history_merge.specs.Once.{ExactlyOne, IsOfPlace, IsOfVersion, EachOnce}

@@ -4,7 +4,7 @@ use Rattle.seat_receipts.specs.declared.receipt.Kept.{Kept}
 use Rattle.seat_receipts.specs.declared.receipt.Kept.TheVariants.{Admin, Slot}
 use Rattle.history_merge.specs.declared.order.Rank.{Rank}
 use Rattle.history_merge.specs.declared.order.Rank.TheVariants as rank
-use Rattle.history_merge.specs.Events.{Event, Publishes, Commands, kept_of}
+use Rattle.history_merge.specs.Events.{Event, kept_of}
 
 module _ {A : Type 0} where
   -- the list of this number; a number that none has is that of an empty one

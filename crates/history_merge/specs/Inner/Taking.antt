@@ -1,5 +1,5 @@
 -- How the receipts are taken, the first in order first (this project's own form).
-use Rattle.std.specs.Prelude.{◌≡◌, ◌≢◌, ◌⊎◌, ℕ, ◌+◌, ◌<◌, List, Option, Some, None, MatchOption, option_map, replicate, slice_get, slice_index, slice_index_or, slice_set, length}
+use Rattle.std.specs.Prelude.{◌≡◌, ◌≢◌, ◌⊎◌, ℕ, ◌+◌, ◌<◌, List, Option, Some, None, MatchOption, replicate, slice_get, slice_index, slice_index_or, slice_set, length}
 use Rattle.rbac_policy.specs.declared.commands.Entry.{Entry}
 use Rattle.rbac_policy.specs.declared.objects.TheConstants.{SLOTS}
 use Rattle.reactor_core.specs.declared.entry.SlotEntry.{SlotEntry}

@@ -1,6 +1,6 @@
 use Rattle.std.proofs.Common.{rules, inl, inr, arith}
 use Rattle.history_merge.proofs.Going.{state_on, refused_fault}
-use Rattle.history_merge.proofs.Ending.{start_state, takes_falls, whole_events, all_match, count_differs}
+use Rattle.history_merge.proofs.Ending.{takes_falls, whole_events, all_match, count_differs}
 use Rattle.history_merge.proofs.compare.compare.Goals as goal
 
 pub loop-seat-preserved : goal.loop-seat-preserved
