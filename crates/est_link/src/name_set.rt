@@ -4,13 +4,14 @@ ghost use Rattle.std.specs.Str.{bytes_eq};
 ghost use Rattle.est_link.specs.NameSets.{has};
 
 use est_text::identifier::Identifier;
-use indexmap::IndexSet;
 use std::alloc::{AllocError, Global};
+use std::collections::BTreeSet;
 
-/// A set of names, each found by its bytes.
+/// A set of names, in their order, so that a look-up among so many takes as many steps as their number has digits in
+/// binary, whatever names a text chooses.
 #[derive(Drop)]
 pub struct NameSet<'a> {
-    names: IndexSet<&'a [u8]>,
+    names: BTreeSet<&'a [u8]>,
 }
 
 impl<'a> NameSet<'a> {
@@ -19,7 +20,7 @@ impl<'a> NameSet<'a> {
         ensures { (s : List ℕ) → has result s ≡ false }
     {
         NameSet {
-            names: IndexSet::new(alloc),
+            names: BTreeSet::new(alloc),
         }
     }
 
@@ -27,7 +28,7 @@ impl<'a> NameSet<'a> {
     pub fn contains(&self, name: &Identifier) -> bool
         ensures { result ≡ has self.now name.now }
     {
-        self.names.contains(&name.as_bytes())
+        self.names.contains(name.as_bytes())
     }
 
     /// Puts a name into the set: whether it wasn't there.
