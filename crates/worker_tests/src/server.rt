@@ -1,0 +1,41 @@
+//! A board with its seats, and its slots.
+ghost use Rattle.std.specs.Prelude.{◌≡◌, ◌≤◌};
+
+use policy_board::board::Board;
+use policy_board::history::{Fresh, Naming};
+use policy_board::opening::{Opened, SEATS};
+use policy_board::seat::Seat;
+use slot_table::table::SlotTable;
+use std::alloc::Global;
+use std::process::Abort;
+
+/// A board with its seats, and the slots of its readers.
+pub(crate) struct Server<J: Naming> {
+    pub board: Board<J>,
+    pub seats: Vec<Seat<J>>,
+    pub table: SlotTable<J>,
+}
+
+/// A board with so many seats, and its slots.
+pub(crate) fn open<J: Naming, R: Abort>(
+    rt: &R,
+    alloc: Global,
+    fresh: Fresh,
+    count: usize,
+) -> Server<J>
+    requires name { fresh.seen.book ≡ J.book }
+    requires count { (1 ≤ count) × (count ≤ SEATS) }
+{
+    let Opened {
+        board,
+        seats,
+        readers,
+    } = Board::<J>::open(alloc, fresh, count)
+        .ok()
+        .expect(rt, "a board");
+    Server {
+        board,
+        seats,
+        table: SlotTable::open(alloc, readers),
+    }
+}

@@ -1,0 +1,83 @@
+//! Workers that serve two clients side by side.
+ghost use Rattle.std.specs.Prelude.{◌≡◌};
+
+use crate::clients::{Client, Clients};
+use crate::meeting::Meeting;
+use crate::server::{Server, open};
+use client_loop::workers::run_workers;
+use policy_board::history::{Fresh, Naming};
+use rbac_policy::journal::PolicyJournal;
+use std::alloc::Global;
+use std::marker::Brand;
+use std::process::Abort;
+use std::sync::Wait;
+use std::test::Fail;
+use std::thread::Threads;
+use std::time::Clock;
+
+/// A client that loads a module in slot 0 and steps it.
+const ON_SLOT_0: &str = "{\"cmd\":\"login\",\"roles\":[\"root\"],\"user\":\"root\"}
+{\"cmd\":\"grant\",\"object\":\"0\",\"op\":\"load\",\"role\":\"root\"}
+{\"cmd\":\"grant\",\"object\":\"0\",\"op\":\"step\",\"role\":\"root\"}
+{\"cmd\":\"load\",\"main\":\"M\",\"slot\":0,\"text\":\"module M: output O; emit O end module\"}
+{\"cmd\":\"step\",\"slot\":0}
+{\"cmd\":\"step\",\"slot\":0}
+{\"cmd\":\"logout\"}
+";
+
+/// A client that does so in slot 1.
+const ON_SLOT_1: &str = "{\"cmd\":\"login\",\"roles\":[\"root\"],\"user\":\"root\"}
+{\"cmd\":\"grant\",\"object\":\"1\",\"op\":\"load\",\"role\":\"root\"}
+{\"cmd\":\"grant\",\"object\":\"1\",\"op\":\"step\",\"role\":\"root\"}
+{\"cmd\":\"load\",\"main\":\"M\",\"slot\":1,\"text\":\"module M: output O; emit O end module\"}
+{\"cmd\":\"step\",\"slot\":1}
+{\"cmd\":\"step\",\"slot\":1}
+{\"cmd\":\"logout\"}
+";
+
+/// How many lines each of them sends.
+const LINES: u64 = 7;
+
+/// What a policy opens with, and four entries of each client: its login, two grants and its logout.
+const ENTRIES: usize = 12;
+
+/// The least that a seat has seen which served a client: the opening entries and that client's.
+const LEAST_SEEN: u64 = 8;
+
+/// Two workers serve two clients, each on a slot of its own. The first answer of all waits for one of the other worker.
+fn serve_two<J: Naming + Send + Sync, R: Threads + Wait + Abort + Clock + Sync>(
+    rt: &R,
+    alloc: Global,
+    fresh: Fresh,
+) -> PolicyJournal
+    requires { fresh.seen.book ≡ J.book }
+{
+    let Server {
+        board,
+        seats,
+        table,
+    } = open::<J, R>(rt, alloc, fresh, 2);
+    let clients = [Client::new(ON_SLOT_0), Client::new(ON_SLOT_1)];
+    let source = Clients { clients: &clients };
+    let gate = Meeting::new(rt);
+    let back = run_workers(rt, alloc, &table, &board, seats, &source, &gate)
+        .ok()
+        .expect(rt, "room for two workers");
+    assert!(rt; gate.is_met());
+    assert_eq!(rt; back.len(), 2);
+    for seat in &back {
+        assert!(rt; seat.seen() >= LEAST_SEEN);
+    }
+    for client in &clients {
+        assert_eq!(rt; client.counts(), (LINES, 0));
+    }
+    board.close().journal(rt)
+}
+
+/// Two answers are in work at once, each worker serves its own client, and what all of them did is in the one journal.
+#[test]
+fn two_at_once(rt: HostRuntime) -> Result<(), Fail> {
+    let journal = serve_two::<Brand, _>(&rt, rt.alloc(), Fresh::new());
+    assert_eq!(rt; journal.entries().len(), ENTRIES);
+    Ok(())
+}
