@@ -3,9 +3,13 @@ import contextlib
 import io
 import os
 import pathlib
+import signal
 import sys
 import tempfile
 import unittest.mock
+
+# What runs in the background may have been started with interrupts ignored, and programs inherit that.
+signal.signal(signal.SIGINT, signal.default_int_handler)
 
 CLIENTS = pathlib.Path(__file__).resolve().parents[1]
 ROOT = CLIENTS.parent
