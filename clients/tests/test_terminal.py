@@ -124,7 +124,7 @@ class InATerminal(unittest.TestCase):
             terminal.type("help ste\t\n")
             terminal.sees("step SLOT: the next instant, with what is pending\n")
             terminal.type("half a line\x03")
-            terminal.sees("\nroot> ")
+            terminal.sees("root> ")
             terminal.type("logout\n")
             terminal.sees("logged out\n> ")
             terminal.type("\x04")
