@@ -123,6 +123,7 @@ class InATerminal(unittest.TestCase):
             terminal.sees("offer 15 A \nA is pending\nroot> ")
             terminal.type("help ste\t\n")
             terminal.sees("step SLOT: the next instant, with what is pending\n")
+            terminal.sees("root> ")
             terminal.type("half a line\x03")
             terminal.sees("root> ")
             terminal.type("logout\n")
