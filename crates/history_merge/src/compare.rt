@@ -15,7 +15,7 @@ use seat_receipts::mismatch::{Mismatch, POLICY_LIST};
 use seat_receipts::receipt::Kept;
 use seat_receipts::receipts::Receipts;
 
-// The mismatch of a receipt that this seat keeps.
+/// The mismatch of a receipt that this seat keeps.
 fn name_mismatch(seat: usize, kept: &Kept) -> Mismatch
     ensures { result ≡ mismatch_of seat kept.now }
 {
@@ -33,7 +33,7 @@ fn name_mismatch(seat: usize, kept: &Kept) -> Mismatch
     }
 }
 
-// The first receipt with which the order of some seat's list breaks.
+/// The first receipt with which the order of some seat's list breaks.
 fn find_break(seats: &[Receipts]) -> Option<Mismatch>
     ensures { MatchOption result
         ((seat : ℕ) → seat < length seats.now → Rises 0 None (part_at seats.now seat))
@@ -48,7 +48,7 @@ fn find_break(seats: &[Receipts]) -> Option<Mismatch>
     None
 }
 
-// Where there are not as many receipts as entries.
+/// Where there are not as many receipts as entries.
 fn find_count(
     taken: &Taken,
     policy: &[Entry],
@@ -68,8 +68,9 @@ fn find_count(
     None
 }
 
-/// Whether the policy list, the journals of the slots and the receipts of the seats are the parts of one list of events. It takes no memory, and
-/// a time that grows with the receipts and the seats alone.
+/// Whether the policy list, the journals of the slots and the receipts of the seats are the parts
+/// of one list of events. It takes no memory, and a time that grows with the receipts and the seats
+/// alone.
 ///
 /// # Errors
 ///
@@ -91,6 +92,8 @@ pub fn compare(
     }
     let mut taken = Taken::start();
     while let Some((seat, kept)) = next(seats, &taken.read) {
+        // The length of a list is a number, so one more than the receipts that were taken is one
+        // too, as `take` asks.
         let _receipts = seats[seat].as_slice().len();
         if !take(&mut taken, policy, journals, seat, kept) {
             return Err(name_mismatch(seat, kept));

@@ -1,4 +1,5 @@
-//! The merge of the seats' lists: the receipts are taken one by one, the first in order of those that come next.
+//! The merge of the seats' lists: the receipts are taken one by one, the first in order of those
+//! that come next.
 ghost use Rattle.std.specs.Prelude.{◌≡◌, ◌<◌, ◌≤◌, ◌+◌, ◌^◌, ℕ, MatchOption, length, option_map, slice_index};
 ghost use Rattle.std.specs.Bool.{Decides, MatchBool};
 ghost use Rattle.rbac_policy.specs.declared.objects.TheConstants.{SLOTS};
@@ -50,7 +51,7 @@ impl Taken {
     }
 }
 
-// Whether place and number are over the last ones of the slot.
+/// Whether place and number are over the last ones of the slot.
 fn is_in_line(taken: &Taken, receipt: &SlotReceipt) -> bool
     requires { receipt.now.slot < SLOTS }
     ensures { Decides result (IsInLine taken.now receipt.now) }
@@ -126,7 +127,7 @@ pub(crate) fn take(
     }
 }
 
-// What comes first, of what was found and the next receipt of a seat.
+/// What comes first, of what was found and the next receipt of a seat.
 fn lesser(least: Option<(usize, Rank)>, seat: usize, next: Option<Rank>) -> Option<(usize, Rank)>
     ensures { Lesser least seat next result }
 {
@@ -142,7 +143,7 @@ fn lesser(least: Option<(usize, Rank)>, seat: usize, next: Option<Rank>) -> Opti
     least
 }
 
-// The receipt of a seat that comes next.
+/// The receipt of a seat that comes next.
 fn head<'a>(seats: &'a [Receipts], read: &[usize; SEATS], seat: usize) -> Option<&'a Kept>
     requires inside { seat < length seats.now }
     requires few { seat < SEATS }
@@ -151,7 +152,7 @@ fn head<'a>(seats: &'a [Receipts], read: &[usize; SEATS], seat: usize) -> Option
     seats[seat].as_slice().get(read[seat])
 }
 
-// Where that stands.
+/// Where that stands.
 fn rank_head(seats: &[Receipts], read: &[usize; SEATS], seat: usize) -> Option<Rank>
     requires inside { seat < length seats.now }
     requires few { seat < SEATS }
@@ -163,7 +164,7 @@ fn rank_head(seats: &[Receipts], read: &[usize; SEATS], seat: usize) -> Option<R
     }
 }
 
-// The seat whose next receipt stands before those of the others, and where that stands.
+/// The seat whose next receipt stands before those of the others, and where that stands.
 fn find_least(seats: &[Receipts], read: &[usize; SEATS]) -> Option<(usize, Rank)>
     requires { length seats.now ≤ SEATS }
     ensures { LeastOf seats.now read.now (length seats.now) result }

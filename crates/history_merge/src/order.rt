@@ -9,8 +9,8 @@ use seat_receipts::receipt::Kept;
 /// How many entries a policy list opens with: nobody gave them, and nobody keeps a receipt of them.
 pub const OPENING_ENTRIES: u64 = 4;
 
-/// Where a receipt stands in the order of all: by version, first the policy entry that made it, and then the slot commands by number, and those
-/// of one number by slot.
+/// Where a receipt stands in the order of all: by version, first the policy entry that made it, and
+/// then the slot commands by number, and those of one number by slot.
 #[derive(Clone, Copy)]
 pub enum Rank {
     /// A policy entry's.
@@ -80,7 +80,7 @@ pub(crate) fn is_over(before: Option<u64>, number: u64) -> bool
     }
 }
 
-// Whether a receipt may come after this version and number in a seat's list.
+/// Whether a receipt may come after this version and number in a seat's list.
 fn rises(version: u64, number: Option<u64>, kept: &Kept) -> bool
     ensures { Decides result (Rises version number (kept.now ∷ [])) }
 {

@@ -16,7 +16,7 @@ use reactor_core::entry::{Action, SlotEntry};
 use reactor_core::journal::Journal;
 use seat_receipts::receipt::{Asked, Kept, SlotReceipt};
 
-// Whether this was asked for by the command that the action was accepted for.
+/// Whether this was asked for by the command that the action was accepted for.
 fn asks(asked: &Asked, action: &Action) -> bool
     ensures { Decides result (asked.now ≡ asked_of action.now) }
 {
@@ -32,7 +32,7 @@ fn asks(asked: &Asked, action: &Action) -> bool
     }
 }
 
-// Whether the receipt tells the entry.
+/// Whether the receipt tells the entry.
 fn tells(receipt: &SlotReceipt, entry: &SlotEntry) -> bool
     ensures { Decides result (Tells receipt.now entry.now) }
 {
@@ -41,7 +41,8 @@ fn tells(receipt: &SlotReceipt, entry: &SlotEntry) -> bool
         && asks(&receipt.asked, &entry.action)
 }
 
-// Whether this entry stands in the policy list behind the opening ones, at the place of this version.
+/// Whether this entry stands in the policy list behind the opening ones, at the place of this
+/// version.
 fn is_entry_there(policy: &[Entry], version: u64, entry: &Entry) -> bool
     ensures { Decides result ((OPENING_ENTRIES < version)
         × (slice_get policy.now (version - 1) ≡ Some entry.now)) }
@@ -55,7 +56,7 @@ fn is_entry_there(policy: &[Entry], version: u64, entry: &Entry) -> bool
     }
 }
 
-// The entry at this place of the slot's journal, counted from 1.
+/// The entry at this place of the slot's journal, counted from 1.
 fn entry_at(journals: &[Journal; SLOTS as usize], slot: u64, place: u64) -> Option<&SlotEntry>
     requires slot { slot < SLOTS }
     requires place { 0 < place }
@@ -65,7 +66,7 @@ fn entry_at(journals: &[Journal; SLOTS as usize], slot: u64, place: u64) -> Opti
     journals[slot as usize].entries().get((place - 1) as usize)
 }
 
-// Whether the entry of the receipt of a slot command stands in its place.
+/// Whether the entry of the receipt of a slot command stands in its place.
 fn is_command_there(
     policy: &[Entry],
     journals: &[Journal; SLOTS as usize],

@@ -24,6 +24,8 @@ enum Fault {
     OtherSignal,
     /// Its receipt has the number of the one before it.
     SameNumber,
+    /// Seat 0 keeps the command on slot 3 too, whose number is below that of its command before.
+    FallingNumber,
     /// The other seat keeps a receipt of it too.
     TwoReceipts,
     /// Nobody keeps a receipt of the last policy entry.
@@ -34,7 +36,7 @@ enum Fault {
     OtherPolicyEntry,
 }
 
-// A policy command of session 1, as an entry.
+/// A policy command of session 1, as an entry.
 fn entry(command: AdminCommand) -> Entry {
     Entry {
         session: Some(SessionId::new(1)),
@@ -42,7 +44,7 @@ fn entry(command: AdminCommand) -> Entry {
     }
 }
 
-// The user root is added, and deleted: the two policy entries after the opening ones.
+/// The user root is added, and deleted: the two policy entries after the opening ones.
 fn fifth() -> Entry {
     entry(AdminCommand::AddUser { user: Name::root() })
 }
@@ -51,7 +53,7 @@ fn sixth() -> Entry {
     entry(AdminCommand::DeleteUser { user: Name::root() })
 }
 
-// An entry of session 1, at this version.
+/// An entry of session 1, at this version.
 fn slot_entry(version: u64, action: Action) -> SlotEntry {
     SlotEntry {
         stamp: Stamp {
@@ -62,7 +64,7 @@ fn slot_entry(version: u64, action: Action) -> SlotEntry {
     }
 }
 
-// The receipt of a command of session 1.
+/// The receipt of a command of session 1.
 fn receipt(slot: u64, place: u64, version: u64, number: u64, asked: Asked) -> Kept {
     Kept::Slot(SlotReceipt {
         slot,
@@ -74,7 +76,7 @@ fn receipt(slot: u64, place: u64, version: u64, number: u64, asked: Asked) -> Ke
     })
 }
 
-// Sixteen journals, all empty but those of slots 2 and 3.
+/// Sixteen journals, all empty but those of slots 2 and 3.
 fn journals(
     alloc: Global,
     two: Vec<SlotEntry>,
@@ -100,7 +102,7 @@ fn journals(
     ]
 }
 
-// What seat 0 keeps: the fifth policy entry, and both commands on slot 2.
+/// What seat 0 keeps: the fifth policy entry, and both commands on slot 2.
 fn first_seat(
     alloc: Global,
     fault: Fault,
@@ -117,6 +119,10 @@ fn first_seat(
         Fault::NoReceipt => {}
         Fault::OtherSignal => kept.push(receipt(2, 2, 6, 4, Asked::Offer(a)))?,
         Fault::SameNumber => kept.push(receipt(2, 2, 6, 2, Asked::Offer(b)))?,
+        Fault::FallingNumber => {
+            kept.push(receipt(3, 1, 6, 1, Asked::Step))?;
+            kept.push(receipt(2, 2, 6, 4, Asked::Offer(b)))?;
+        }
         Fault::None
         | Fault::TwoReceipts
         | Fault::NoPolicyReceipt
@@ -126,7 +132,7 @@ fn first_seat(
     Ok(kept)
 }
 
-// What seat 1 keeps: the sixth policy entry, and the command on slot 3.
+/// What seat 1 keeps: the sixth policy entry, and the command on slot 3.
 fn second_seat(alloc: Global, fault: Fault, b: Identifier) -> Result<Receipts, AllocError> {
     let mut kept = Receipts::new(alloc);
     if fault != Fault::NoPolicyReceipt {
@@ -139,14 +145,16 @@ fn second_seat(alloc: Global, fault: Fault, b: Identifier) -> Result<Receipts, A
             },
         })?;
     }
-    kept.push(receipt(3, 1, 6, 1, Asked::Step))?;
+    if fault != Fault::FallingNumber {
+        kept.push(receipt(3, 1, 6, 1, Asked::Step))?;
+    }
     if fault == Fault::TwoReceipts {
         kept.push(receipt(2, 2, 6, 5, Asked::Offer(b)))?;
     }
     Ok(kept)
 }
 
-// What seat 2 keeps: nothing, where there is no fault.
+/// What seat 2 keeps: nothing, where there is no fault.
 fn third_seat(alloc: Global, fault: Fault) -> Result<Receipts, AllocError> {
     let mut kept = Receipts::new(alloc);
     if fault == Fault::TwoPolicyReceipts {
@@ -158,8 +166,8 @@ fn third_seat(alloc: Global, fault: Fault) -> Result<Receipts, AllocError> {
     Ok(kept)
 }
 
-// Slot 3 reads version 6 and draws number 1, while slot 2, which read version 5 before, waits and draws number 2. Then slot 2 reads version 6, and
-// draws number 4.
+/// Slot 3 reads version 6 and draws number 1, while slot 2, which read version 5 before, waits and
+/// draws number 2. Then slot 2 reads version 6, and draws number 4.
 fn answer<R: Abort>(
     rt: &R,
     alloc: Global,
@@ -188,12 +196,12 @@ fn answer<R: Abort>(
     Ok(compare(policy.as_slice(), &journals, &seats))
 }
 
-// The mismatch that names this list.
+/// The mismatch that names this list.
 fn of_list(slot: u64) -> Result<(), Mismatch> {
     Err(Mismatch::Count { slot })
 }
 
-// The mismatch that names this receipt.
+/// The mismatch that names this receipt.
 fn of_receipt(seat: u64, slot: u64, place: u64) -> Result<(), Mismatch> {
     Err(Mismatch::Receipt { seat, slot, place })
 }
@@ -208,6 +216,10 @@ fn journals_and_receipts(rt: HostRuntime) -> Result<(), Fail> {
         of_receipt(0, 2, 2)
     );
     assert_eq!(rt; answer(&rt, alloc, Fault::SameNumber)?, of_receipt(0, 2, 2));
+    assert_eq!(rt;
+        answer(&rt, alloc, Fault::FallingNumber)?,
+        of_receipt(0, 3, 1)
+    );
     assert_eq!(rt;
         answer(&rt, alloc, Fault::TwoReceipts)?,
         of_receipt(1, 2, 2)

@@ -32,7 +32,8 @@ pub struct SlotReceipt {
 /// The receipt of a call that added an entry.
 #[derive(Drop)]
 pub enum Kept {
-    /// Of a policy command: its entry, and the policy version with it, which is its place in the policy list, counted from 1.
+    /// Of a policy command: its entry, and the policy version with it, which is its place in the
+    /// policy list, counted from 1.
     Admin { version: u64, entry: Entry },
     /// Of a slot command.
     Slot(SlotReceipt),
