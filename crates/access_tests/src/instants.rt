@@ -13,7 +13,7 @@ fn three_steps_of_an_emit_and_a_pause(rt: HostRuntime) {
                 "load module M: output O, P; emit O; pause; emit P end module",
                 "done",
             ),
-            ("interface", "kept 0 3"),
+            ("interface", "signals 0 3"),
             ("step", "done"),
             ("step", "done"),
             ("step", "done"),
@@ -28,8 +28,9 @@ fn three_steps_of_an_emit_and_a_pause(rt: HostRuntime) {
     );
 }
 
-/// Of two inputs that exclude each other the second can't be offered while the first is pending, and can after the step that
-/// takes it. Relations are numbered over all of them, each part between commas by itself.
+/// Of two inputs that exclude each other the second can't be offered while the first is pending,
+/// and can after the step that takes it. Relations are numbered over all of them, each part between
+/// commas by itself.
 #[test]
 fn an_excluded_input_is_refused(rt: HostRuntime) {
     follow(
@@ -52,7 +53,8 @@ fn an_excluded_input_is_refused(rt: HostRuntime) {
     );
 }
 
-/// A step whose inputs lack an implied one is refused before the reaction is asked for, and what was offered stays pending.
+/// A step whose inputs lack an implied one is refused before the reaction is asked for, and what
+/// was offered stays pending.
 #[test]
 fn an_implied_input_is_asked_for(rt: HostRuntime) {
     follow(
@@ -74,7 +76,8 @@ fn an_implied_input_is_asked_for(rt: HostRuntime) {
     );
 }
 
-/// An output that would be emitted whether it is present or not has no reaction: what was offered stays pending.
+/// An output that would be emitted whether it is present or not has no reaction: what was offered
+/// stays pending.
 #[test]
 fn a_stuck_step_keeps_what_is_pending(rt: HostRuntime) {
     follow(
@@ -85,7 +88,7 @@ fn a_stuck_step_keeps_what_is_pending(rt: HostRuntime) {
                 "load module M: input I; output O; present O then emit O else emit O end end module",
                 "done",
             ),
-            ("interface", "kept 1 2"),
+            ("interface", "signals 1 2"),
             ("offer I", "done"),
             ("step", "stuck 2"),
             ("offer I", "AlreadyOffered"),
@@ -113,14 +116,15 @@ fn an_offer_is_in_the_next_instant(rt: HostRuntime) {
             ("step", "done"),
             ("show 1 3", "shown 3 3"),
             ("show 2 3", "shown 3 0"),
-            ("entry 3", "kept 1 2"),
-            ("entry 4", "kept 0 0"),
+            ("entry 3", "signals 1 2"),
+            ("entry 4", "signals 0 0"),
             ("count", "counted 0 2 4"),
         ],
     );
 }
 
-/// An instant that is given up, opened or settled, leaves the reactor: what was offered is in the next one that is committed.
+/// An instant that is given up, opened or settled, leaves the reactor: what was offered is in the
+/// next one that is committed.
 #[test]
 fn an_abandoned_instant_leaves_the_reactor(rt: HostRuntime) {
     follow(
@@ -140,7 +144,8 @@ fn an_abandoned_instant_leaves_the_reactor(rt: HostRuntime) {
     );
 }
 
-/// A text that is no module, or has no module M, is refused by its fault, and the journal keeps what stood in it.
+/// A text that is no module, or has no module M, is refused by its fault, and the journal keeps
+/// what stood in it.
 #[test]
 fn a_refused_load_keeps_the_journal(rt: HostRuntime) {
     follow(
@@ -184,7 +189,8 @@ fn an_unloaded_journal_is_loaded_again(rt: HostRuntime) {
 /// The most entries that a journal has.
 const FULL: usize = 65_536;
 
-/// A full journal takes no discard, which keeps the offer, and no unload, which hands the module back; it still shows its instants.
+/// A full journal takes no discard, which keeps the offer, and no unload, which hands the module
+/// back; it still shows its instants.
 #[test]
 fn a_full_journal_takes_no_discard_and_no_unload(rt: HostRuntime) {
     let alloc = rt.alloc();

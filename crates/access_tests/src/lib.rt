@@ -1,7 +1,9 @@
-//! The worked examples of access and the desk: running modules, and slots under a policy, through public calls alone.
+//! The worked examples of access and the desk: running modules, and slots under a policy, through
+//! public calls alone.
 //!
-//! This crate has no function but tests, and stands above the crates that it calls, so that each of those is proved once. A test is a
-//! story: what is asked and what is told, line by line, as text (`reactors` for one reactor, `stories` for a desk).
+//! This crate has no function but tests, and stands above the crates that it calls, so that each of
+//! those is proved once. A test is a story: what is asked and what is told, line by line, as text
+//! (`reactors` for one reactor, `stories` for a desk).
 #![tactic(auto)]
 
 #[cfg(test)]

@@ -101,7 +101,8 @@ fn names_are_checked(rt: HostRuntime) {
     );
 }
 
-/// Libraries of several modules, with two faults each, of which the first by the order of the checks counts.
+/// Libraries of several modules, with two faults each, of which the first by the order of the
+/// checks counts.
 #[test]
 fn libraries_are_checked(rt: HostRuntime) {
     judge(
@@ -136,7 +137,8 @@ fn libraries_are_checked(rt: HostRuntime) {
     );
 }
 
-/// What a load answers of a text: what stands before, the middle so many times, and what stands after.
+/// What a load answers of a text: what stands before, the middle so many times, and what stands
+/// after.
 fn answer_to_repeated(
     rt: &impl Abort,
     alloc: Global,

@@ -1,6 +1,7 @@
-//! Want of memory: where a call takes none, the reactor is as it was, and the same call is accepted afterwards. With ample memory
-//! nothing is refused. Where one allocation is refused, a test ends with the words for the call that took none; the faults script has
-//! each allocation refused in turn.
+//! Want of memory: where a call takes none, the reactor is as it was, and the same call is accepted
+//! afterwards. With ample memory nothing is refused. Where one allocation is refused, a test ends
+//! with the words for the call that took none; the faults script has each allocation refused in
+//! turn.
 use crate::reactors::{Held, STAMP, Told, identifier, show, step, unload};
 use reactor_core::journal::Journal;
 use reactor_core::reactor::Reactor;
@@ -25,7 +26,8 @@ fn offer(rt: &impl Abort, reactor: &mut Reactor) -> Result<(), Fail> {
     }
 }
 
-/// An instant of a table: how many instants and entries there are before it, its number, and what it shows.
+/// An instant of a table: how many instants and entries there are before it, its number, and what
+/// it shows.
 struct Row {
     instants: u64,
     entries: usize,
@@ -54,7 +56,8 @@ const ROWS: [Row; 3] = [
     },
 ];
 
-/// The reactor after a step that was accepted, in which nothing is left pending, and which shows what the row has.
+/// The reactor after a step that was accepted, in which nothing is left pending, and which shows
+/// what the row has.
 fn stepped(rt: &impl Abort, held: Held, row: &Row) -> Reactor {
     match held {
         Held::Module(reactor) => {
@@ -149,7 +152,8 @@ fn unload_offered(rt: &impl Abort, reactor: Reactor) -> Result<(), Fail> {
     }
 }
 
-/// What is refused is the load, an offer, a discard, which leaves what is pending, or the unload, which hands the reactor back.
+/// What is refused is the load, an offer, a discard, which leaves what is pending, or the unload,
+/// which hands the reactor back.
 #[test]
 fn entries_without_memory(rt: HostRuntime) -> Result<(), Fail> {
     let mut reactor = load(rt.alloc(), "module M: input I; pause end module")?;

@@ -32,10 +32,12 @@ pub enum Told {
     Stuck(u64),
     /// The signals that are shown, and those of them that are present, as masks.
     Shown(u64, u64),
-    /// How many inputs are pending as a mask, how many instants there were, and how many entries the journal has.
+    /// How many inputs are pending as a mask, how many instants there were, and how many entries
+    /// the journal has.
     Counted(u64, u64, usize),
-    /// The inputs and the outputs that the entry of a step keeps, as masks.
-    Kept(u64, u64),
+    /// The inputs and the outputs of the interface, or those that the entry of a step keeps, as
+    /// masks.
+    Signals(u64, u64),
 }
 
 pub fn identifier(rt: &impl Abort, text: &str) -> Identifier {
@@ -119,7 +121,7 @@ pub fn parse_answer(rt: &impl Abort, alloc: Global, text: &str) -> Told {
         ["done"] => Told::Done,
         ["stuck", outputs] => Told::Stuck(number(rt, outputs)),
         ["shown", mask, present] => Told::Shown(number(rt, mask), number(rt, present)),
-        ["kept", inputs, outputs] => Told::Kept(number(rt, inputs), number(rt, outputs)),
+        ["signals", inputs, outputs] => Told::Signals(number(rt, inputs), number(rt, outputs)),
         ["counted", pending, instants, entries] => Told::Counted(
             number(rt, pending),
             number(rt, instants),
@@ -193,7 +195,7 @@ fn kept(rt: &impl Abort, reactor: &Reactor, place: usize) -> Told {
         .get(place.wrapping_sub(1))
         .expect(rt, "an entry");
     match &entry.action {
-        Action::Step(instant) => Told::Kept(instant.inputs, instant.outputs),
+        Action::Step(instant) => Told::Signals(instant.inputs, instant.outputs),
         Action::Load(_) | Action::Offer(_) | Action::Discard | Action::Unload => Told::Done,
     }
 }
@@ -217,7 +219,9 @@ fn ask(rt: &impl Abort, reactor: &mut Reactor, words: &[&str]) -> Told {
             reactor,
             place.parse::<usize>().ok().expect(rt, "a number"),
         ),
-        ["interface"] => { Told::Kept(reactor.interface().inputs(), reactor.interface().outputs()) }
+        ["interface"] => {
+            Told::Signals(reactor.interface().inputs(), reactor.interface().outputs())
+        }
         ["count"] => {
             Told::Counted(
                 reactor.pending(),

@@ -1,7 +1,9 @@
-//! Worked examples on one slot: a module is taken out and loaded again, offers are taken back, entries and instants are counted.
+//! Worked examples on one slot: a module is taken out and loaded again, offers are taken back,
+//! entries and instants are counted.
 use crate::stories::follow;
 
-/// An empty slot takes a load alone; a loaded one takes no second load; after an unload its instants begin anew, and its places go on.
+/// An empty slot takes a load alone; a loaded one takes no second load; after an unload its
+/// instants begin anew, and its places go on.
 #[test]
 fn a_module_is_taken_out_and_loaded_again(rt: HostRuntime) {
     let _desk = follow(

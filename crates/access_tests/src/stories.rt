@@ -1,4 +1,5 @@
-//! Stories of a desk on which root is logged in: what root asks, and what it is told, as text, so that a story is a table.
+//! Stories of a desk on which root is logged in: what root asks, and what it is told, as text, so
+//! that a story is a table.
 use crate::reactors::{identifier, number, words_of};
 use access_core::command::SlotCommand;
 use access_core::refusal::Refusal;
@@ -114,7 +115,8 @@ fn are(rt: &impl Abort, words: &[&str], numbers: &[u64]) -> bool {
             .all(|(word, wanted)| number(rt, word) == *wanted)
 }
 
-/// Whether the reply is the one of these words: a word, places and instants or counts, and the version.
+/// Whether the reply is the one of these words: a word, places and instants or counts, and the
+/// version.
 fn is_told(rt: &impl Abort, reply: &Reply, words: &[&str]) -> bool {
     match (reply, words) {
         (Reply::Refused(refusal), words) => is_refused(rt, refusal, words),
