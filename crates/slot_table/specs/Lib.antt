@@ -1,3 +1,5 @@
 pub mod LockedState
 pub mod Conversions
+pub mod Receipts
 pub mod SlotCommands
+pub mod Closing
