@@ -3,3 +3,4 @@ pub mod Conversions
 pub mod Receipts
 pub mod SlotCommands
 pub mod Closing
+pub mod Inner

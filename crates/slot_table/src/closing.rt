@@ -1,12 +1,12 @@
 //! The end of a server: what is left of it, once its locks are opened and its journals compared.
-ghost use Rattle.std.specs.Prelude.{◌≡◌, ◌<◌, ◌≤◌, [], None, take, replicate, vec_len, IsNone, OnOk, IfOk, IfErr};
-ghost use Rattle.access_core.specs.Journals.{IsLegal};
+ghost use Rattle.std.specs.Prelude.{◌≡◌, ◌<◌, ◌≤◌, [], None, take, replicate, vec_len, OnOk, IfOk, IfErr};
 ghost use Rattle.rbac_admin.specs.PolicyLists.{IsPolicyList};
 ghost use Rattle.rbac_policy.specs.declared.objects.TheConstants.{SLOTS};
 ghost use Rattle.seat_receipts.specs.declared.receipts.TheConstants.{SEATS};
 ghost use Rattle.history_merge.specs.OneList.{AreOfOneList};
 ghost use Rattle.history_merge.specs.Mismatches.{IsMismatch};
 ghost use Rattle.slot_table.specs.Closing.{AllRise, IsReadersFault, kept_of};
+ghost use Rattle.slot_table.specs.Inner.Ending.{Ends};
 
 use crate::slot::LockedSlot;
 use history_merge::compare::compare;
@@ -60,9 +60,7 @@ impl<J: Naming> Closing<J> {
     /// Opens the lock of a slot, hands its reader back, and gives its journal.
     pub(crate) fn end<const NUMBER: u8>(&mut self, slot: Mutex<LockedSlot<J, NUMBER>>) -> Journal
         requires { NUMBER < SLOTS }
-        ensures policy { self.new.policy ≡ self.old.policy }
-        ensures legal { IsNone self.new.fault
-            → IsNone self.old.fault × IsLegal self.old.policy NUMBER result }
+        ensures { Ends NUMBER self.old result self.new }
     {
         let (journal, handed) = slot.into_inner().end(&mut self.board);
         if let Err(mismatch) = handed {

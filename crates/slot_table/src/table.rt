@@ -1,10 +1,11 @@
 //! Sixteen slots, each under a lock of its own.
-ghost use Rattle.std.specs.Prelude.{◌≡◌, ◌⊎◌, ◌<◌, ◌≤◌, ◌+◌, vec_len, IsNone, OnOk, IfOk, IfErr};
+ghost use Rattle.std.specs.Prelude.{◌≡◌, ◌⊎◌, ◌<◌, ◌≤◌, ◌+◌, vec_len, OnOk, IfOk, IfErr};
 ghost use Rattle.rbac_policy.specs.declared.objects.TheConstants.{SLOTS};
 ghost use Rattle.rbac_admin.specs.PolicyLists.{IsPolicyList};
 ghost use Rattle.seat_receipts.specs.declared.receipts.TheConstants.{SEATS};
 ghost use Rattle.history_merge.specs.OneList.{AreOfOneList};
 ghost use Rattle.slot_table.specs.Closing.{AllRise, AreLegal, IsJustified, kept_of};
+ghost use Rattle.slot_table.specs.Inner.Ending.{EndFrom};
 ghost use Rattle.slot_table.specs.SlotCommands.{IsAnswered, IsNoSlot, IsNotAsked, TableCommand};
 
 use crate::closing::{Closing, Histories, settle};
@@ -152,8 +153,7 @@ impl<J: Naming> SlotTable<J> {
 
     // The journals, by number. Each lock is opened, and its reader handed back.
     fn end(self, closing: &mut Closing<J>) -> [Journal; SLOTS as usize]
-        ensures policy { closing.new.policy ≡ closing.old.policy }
-        ensures legal { IsNone closing.new.fault → AreLegal closing.old.policy result }
+        ensures { EndFrom 0 closing.old result closing.new }
     {
         let SlotTable {
             slot0,

@@ -1,0 +1,56 @@
+-- The slots of a closing server end with journals that are legal.
+use Rattle.std.proofs.Common.{◌≡◌, ◌∙◌, ℕ, zero, suc, ◌+◌, ◌<◌, List, [], ◌∷◌, length, sym, ap, subst, arith}
+use Rattle.std.specs.Prelude.{IsNone}
+use Rattle.rbac_policy.specs.declared.commands.Entry.{Entry}
+use Rattle.rbac_policy.specs.declared.objects.TheConstants.{SLOTS}
+use Rattle.reactor_core.specs.declared.entry.SlotEntry.{SlotEntry}
+use Rattle.history_merge.specs.Order.{part_at}
+use Rattle.access_core.specs.Journals.{IsLegal}
+use Rattle.slot_table.specs.Closing.{AreLegal, ClosingState}
+use Rattle.slot_table.specs.Inner.Ending.{Ends, EndFrom}
+
+-- the journals of the slots from this number on are legal over the policy list
+LegalFrom : (policy : List Entry) → (slot : ℕ) → List (List SlotEntry) → Type 0
+LegalFrom policy slot journals = (at : ℕ) → at < length journals → IsLegal policy (slot + at) (part_at journals at)
+
+legal_next : (policy : List Entry) (slot : ℕ) (journal : List SlotEntry) (journals : List (List SlotEntry)) → IsLegal policy slot journal
+    → LegalFrom policy (slot + 1) journals → LegalFrom policy slot (journal ∷ journals)
+unfolding LegalFrom
+legal_next policy slot journal journals here later zero low =
+    subst (λ n. IsLegal policy n journal) (let e : slot ≡ slot + 0 = omega arith in e) here
+legal_next policy slot journal journals here later (suc at) low =
+    subst (λ n. IsLegal policy n (part_at journals at)) (let e : slot + 1 + at ≡ slot + suc at = omega arith in e) (later at (omega arith))
+
+-- what the slots that ended one after the other leave: the policy list, and where there is still no fault, none before and legal journals
+record Left (slot : ℕ) (old : ClosingState) (journals : List (List SlotEntry)) (new : ClosingState) : Type 0 where
+  policy : new.policy ≡ old.policy
+  legal : IsNone new.fault → IsNone old.fault × LegalFrom old.policy slot journals
+
+left_of : (slot : ℕ) (old : ClosingState) (journals : List (List SlotEntry)) (new : ClosingState) → EndFrom slot old journals new → Left slot old journals new
+unfolding LegalFrom
+left_of slot old [] new same = record {
+  policy = ap (λ (s : ClosingState). s.policy) same;
+  legal = λ none. (subst (λ (s : ClosingState). IsNone s.fault) same none, λ at low. absurd (omega arith));
+}
+left_of slot old (journal ∷ journals) new ends =
+    let next = ends.0 in
+    let here = ends.1 in
+    let later = left_of (slot + 1) next journals new ends.2 in
+    record {
+      policy = later.policy ∙ here.policy;
+      legal = λ none.
+          let after = later.legal none in
+          let now = here.legal after.0 in
+          (now.0, legal_next old.policy slot journal journals now.1
+              (subst (λ (p : List Entry). LegalFrom p (slot + 1) journals) here.policy after.1));
+    }
+
+-- where all slots have ended and there is no fault, their journals are legal over the policy list
+pub all_legal : (old : ClosingState) (journals : List (List SlotEntry)) (new : ClosingState) → EndFrom 0 old journals new → length journals ≡ SLOTS
+    → IsNone new.fault → AreLegal new.policy journals
+unfolding LegalFrom
+all_legal old journals new ends sixteen none = λ slot low.
+    let left = left_of 0 old journals new ends in
+    let legal = (left.legal none).1 slot (subst (λ n. slot < n) (sym sixteen) low) in
+    subst (λ (p : List Entry). IsLegal p slot (part_at journals slot)) (sym left.policy)
+    (subst (λ n. IsLegal old.policy n (part_at journals slot)) (let e : 0 + slot ≡ slot = omega arith in e) legal)
