@@ -76,7 +76,11 @@ impl<J: Naming> Model for Seat<J> {
     ghost Value = { SeatState };
 
     ghost view = { λ s. record {
-        known = s.known; seen = s.seen; kept = s.kept.items; room = vec_capacity s.kept } };
+      known = s.known;
+      seen = s.seen;
+      kept = s.kept.items;
+      room = vec_capacity s.kept;
+    } };
 
     ghost invariant = { λ s. length s.known ≤ max s.seen (length opening_entries) };
 }
