@@ -1,5 +1,5 @@
 -- Which replies tell a place.
-use Rattle.std.proofs.Common.{◌≡◌, ℕ, List, ap, subst}
+use Rattle.std.proofs.Common.{◌≡◌, ℕ, List, refl, ap, subst}
 use Rattle.std.specs.Prelude.{None, IsSome}
 use Rattle.refusal_rules.proofs.RuleLemmas.{answered}
 use Rattle.rbac_policy.specs.declared.commands.Entry.{Entry}
@@ -22,10 +22,10 @@ module _ (list : List Entry) (slot session : ℕ) (before : List SlotEntry) (rep
 
   -- a reply that tells a place is one to a command that asks for an entry
   pub tells_asked : (command : SlotCommand) → SlotStep list slot session command before reply after → IsSome (place_told reply) → IsSome (asked_by command)
-  tells_asked (Load main text) step told = tt
-  tells_asked (Offer signal) step told = tt
-  tells_asked Discard step told = tt
-  tells_asked Step step told = tt
-  tells_asked Unload step told = tt
+  tells_asked (Load main text) step told = refl
+  tells_asked (Offer signal) step told = refl
+  tells_asked Discard step told = refl
+  tells_asked Step step told = refl
+  tells_asked Unload step told = refl
   tells_asked (Look n) step told = subst IsSome (tells_none (Look n) (λ looks. ap place_told looks.replied) step) told
   tells_asked Audit step told = subst IsSome (tells_none Audit (λ audits. ap place_told audits.replied) step) told

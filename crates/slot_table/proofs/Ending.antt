@@ -1,13 +1,25 @@
 -- The slots of a closing server end with journals that are legal.
 use Rattle.std.proofs.Common.{◌≡◌, ◌∙◌, ℕ, zero, suc, ◌+◌, ◌<◌, List, [], ◌∷◌, length, sym, ap, subst, arith}
-use Rattle.std.specs.Prelude.{IsNone}
+use Rattle.std.specs.Prelude.{IsNone, Result, Ok, Err, MatchResult}
 use Rattle.rbac_policy.specs.declared.commands.Entry.{Entry}
 use Rattle.rbac_policy.specs.declared.objects.TheConstants.{SLOTS}
+use Rattle.rbac_admin.specs.PolicyLists.{Begins}
 use Rattle.reactor_core.specs.declared.entry.SlotEntry.{SlotEntry}
+use Rattle.seat_receipts.specs.declared.mismatch.TheConstants.{POLICY_LIST}
+use Rattle.seat_receipts.specs.declared.mismatch.Mismatch.{Mismatch}
+use Rattle.seat_receipts.specs.declared.mismatch.Mismatch.TheVariants.{Count}
 use Rattle.history_merge.specs.Order.{part_at}
 use Rattle.access_core.specs.Journals.{IsLegal}
+use Rattle.access_core.proofs.Legality.{still_legal}
 use Rattle.slot_table.specs.Closing.{AreLegal, ClosingState}
 use Rattle.slot_table.specs.Inner.Ending.{Ends, EndFrom}
+
+-- a journal that is legal over what its reader has seen is legal over the policy list that begins with it
+pub handed_legal : (seen policy : List Entry) (slot : ℕ) (journal : List SlotEntry) (handed : Result (Unit {0}) Mismatch) → IsLegal seen slot journal
+    → MatchResult handed (λ _. Begins seen policy) (λ mismatch. (mismatch ≡ Count POLICY_LIST) × (length policy < length seen))
+    → MatchResult handed (λ _. IsLegal policy slot journal) (λ mismatch. (mismatch ≡ Count POLICY_LIST) × (length policy < length seen))
+handed_legal seen policy slot journal (Ok done) legal begins = still_legal seen policy slot journal begins legal
+handed_legal seen policy slot journal (Err mismatch) legal more = more
 
 -- the journals of the slots from this number on are legal over the policy list
 LegalFrom : (policy : List Entry) → (slot : ℕ) → List (List SlotEntry) → Type 0

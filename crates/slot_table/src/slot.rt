@@ -70,10 +70,10 @@ impl<J: Naming, const NUMBER: u8> LockedSlot<J, NUMBER> {
         ensures command { LockedCommand NUMBER session command self.old seat.old result self.new
             seat.new }
     {
-        if seat.room().is_err() {
-            return Reply::Refused(Refusal::Memory);
-        }
         let away = SlotReader::vacant(self.reader.front().again());
+        let Ok(()) = seat.room() else {
+            return Reply::Refused(Refusal::Memory);
+        };
         let reading = match replace(&mut self.reader, away).enter() {
             Ok(reading) => reading,
             Err(reader) => {
