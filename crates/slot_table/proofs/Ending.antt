@@ -1,6 +1,6 @@
 -- The slots of a closing server end with journals that are legal.
 use Rattle.std.proofs.Common.{◌≡◌, ◌∙◌, ℕ, zero, suc, ◌+◌, ◌<◌, List, [], ◌∷◌, length, sym, ap, subst, arith}
-use Rattle.std.specs.Prelude.{IsNone, Result, Ok, Err, MatchResult}
+use Rattle.std.specs.Prelude.{IsNone, Result, Ok, Err, MatchResult, IfOk, OnOk}
 use Rattle.rbac_policy.specs.declared.commands.Entry.{Entry}
 use Rattle.rbac_policy.specs.declared.objects.TheConstants.{SLOTS}
 use Rattle.rbac_admin.specs.PolicyLists.{Begins}
@@ -66,3 +66,9 @@ all_legal old journals new ends sixteen none = λ slot low.
     let legal = (left.legal none).1 slot (subst (λ n. slot < n) (sym sixteen) low) in
     subst (λ (p : List Entry). IsLegal p slot (part_at journals slot)) (sym left.policy)
     (subst (λ n. IsLegal old.policy n (part_at journals slot)) (let e : 0 + slot ≡ slot = omega arith in e) legal)
+
+-- what is given back where all is well has what was asked of it
+pub given_back : {A E : Type 0} (Has : A → Type 0) (result : Result A E) (given : A) → IfOk result (λ a. a ≡ given) → OnOk result (Has given)
+    → IfOk result Has
+given_back Has (Ok a) given same has = subst Has (sym same) has
+given_back Has (Err e) given same has = tt
