@@ -1,7 +1,7 @@
 //! What the seats of a board keep of their calls.
 ghost use Rattle.std.specs.Prelude.{◌≡◌};
 
-use crate::sharing::{close, enter, give, grant, login, may_audit, open};
+use crate::sharing::{close, enter, give, grant, login, may_audit, open, revoke};
 use policy_board::board::Board;
 use policy_board::history::{Fresh, Naming};
 use policy_board::seat::Seat;
@@ -84,6 +84,25 @@ fn command<J: Naming, R: Wait + Abort>(rt: &R, alloc: Global, fresh: Fresh) -> P
     close(rt, board, readers)
 }
 
+/// Whatever is refused, a seat keeps a receipt for each entry and no other. It gives a login, grants and revokes, and passes over refusals.
+fn give_all<J: Naming, R: Wait + Abort>(rt: &R, alloc: Global, fresh: Fresh) -> PolicyJournal
+    requires { fresh.seen.book ≡ J.book }
+{
+    let (board, mut seats, readers) = open::<J, R>(rt, alloc, fresh, 1);
+    let mut seat = seats.pop().expect(rt, "a seat");
+    let session = Some(SessionId::new(1));
+    if let Ok(command) = login(alloc) {
+        let _answer = board.admin(rt, &mut seat, None, command);
+    }
+    for _ in 0..3u32 {
+        let _answer = board.admin(rt, &mut seat, session, grant());
+        let _answer = board.admin(rt, &mut seat, session, revoke());
+    }
+    let journal = close(rt, board, readers);
+    assert_eq!(rt; journal.len().saturating_sub(4), seat.kept().len());
+    journal
+}
+
 /// A seat that is told of a grant has seen its version, keeps no receipt of it, and finds it.
 fn learn<J: Naming, R: Wait + Abort>(rt: &R, alloc: Global, fresh: Fresh) -> PolicyJournal
     requires { fresh.seen.book ≡ J.book }
@@ -126,6 +145,13 @@ fn count_three<J: Naming, R: Wait + Abort>(rt: &R, alloc: Global, fresh: Fresh) 
 fn accepted_commands_leave_receipts(rt: HostRuntime) -> Result<(), Fail> {
     let journal = command::<Brand, _>(&rt, rt.alloc(), Fresh::new());
     assert_eq!(rt; journal.len(), 7);
+    Ok(())
+}
+
+#[test]
+fn receipts_without_memory(rt: HostRuntime) -> Result<(), Fail> {
+    let journal = give_all::<Brand, _>(&rt, rt.alloc(), Fresh::new());
+    assert!(rt; 4 <= journal.len());
     Ok(())
 }
 

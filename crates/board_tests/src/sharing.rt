@@ -38,7 +38,7 @@ pub(crate) fn grant() -> AdminCommand {
     }
 }
 
-fn revoke() -> AdminCommand {
+pub(crate) fn revoke() -> AdminCommand {
     AdminCommand::RevokePermission {
         role: Name::root(),
         operation: Operation::Audit,
