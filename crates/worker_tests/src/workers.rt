@@ -6,7 +6,7 @@ use crate::meeting::Meeting;
 use crate::server::{Server, open};
 use client_loop::workers::run_workers;
 use policy_board::history::{Fresh, Naming};
-use rbac_policy::journal::PolicyJournal;
+use slot_table::closing::Histories;
 use std::alloc::Global;
 use std::marker::Brand;
 use std::process::Abort;
@@ -44,12 +44,19 @@ const ENTRIES: usize = 12;
 /// The least that a seat has seen which served a client: the opening entries and that client's.
 const LEAST_SEEN: u64 = 8;
 
-/// Two workers serve two clients, each on a slot of its own. The first answer of all waits for one of the other worker.
+/// The receipts that a seat keeps which served a client: each of its lines adds an entry.
+const RECEIPTS: usize = 7;
+
+/// The entries of a client's slot: a load and two steps.
+const SLOT_ENTRIES: usize = 3;
+
+/// Two workers serve two clients, each on a slot of its own. The first answer of all waits for one of the other worker. When the server is
+/// closed, each entry is one that a seat has the receipt of.
 fn serve_two<J: Naming + Send + Sync, R: Threads + Wait + Abort + Clock + Sync>(
     rt: &R,
     alloc: Global,
     fresh: Fresh,
-) -> PolicyJournal
+) -> Histories
     requires { fresh.seen.book ≡ J.book }
 {
     let Server {
@@ -67,17 +74,24 @@ fn serve_two<J: Naming + Send + Sync, R: Threads + Wait + Abort + Clock + Sync>(
     assert_eq!(rt; back.len(), 2);
     for seat in &back {
         assert!(rt; seat.seen() >= LEAST_SEEN);
+        assert_eq!(rt; seat.kept().len(), RECEIPTS);
     }
     for client in &clients {
         assert_eq!(rt; client.counts(), (LINES, 0));
     }
-    board.close().journal(rt)
+    table
+        .close(rt, alloc, board, back)
+        .ok()
+        .expect(rt, "journals that match the receipts")
 }
 
-/// Two answers are in work at once, each worker serves its own client, and what all of them did is in the one journal.
+/// Two answers are in work at once, each worker serves its own client, and what all of them did is in the journals.
 #[test]
 fn two_at_once(rt: HostRuntime) -> Result<(), Fail> {
-    let journal = serve_two::<Brand, _>(&rt, rt.alloc(), Fresh::new());
-    assert_eq!(rt; journal.entries().len(), ENTRIES);
+    let Histories { policy, slots } = serve_two::<Brand, _>(&rt, rt.alloc(), Fresh::new());
+    assert_eq!(rt; policy.len(), ENTRIES);
+    assert_eq!(rt; slots[0].len(), SLOT_ENTRIES);
+    assert_eq!(rt; slots[1].len(), SLOT_ENTRIES);
+    assert_eq!(rt; slots[2].len(), 0);
     Ok(())
 }
