@@ -318,5 +318,5 @@ one_run policy journals seats sixteen few lawful legal one =
       events = events;
       parts = parts;
       run = g.moments;
-      ran = record { is = g.follow; calls = g.calls; entries = g.entries; slots = g.slots };
+      ran = record { is = g.follow; calls = g.calls; leaves = record { entries = g.entries; slots = g.slots } };
     }

@@ -5,13 +5,15 @@ use Rattle.rbac_policy.specs.declared.commands.Entry.{Entry}
 use Rattle.reactor_core.specs.declared.entry.SlotEntry.{SlotEntry}
 use Rattle.access_core.specs.declared.command.SlotCommand.{SlotCommand}
 use Rattle.access_core.specs.declared.command.SlotCommand.TheVariants.{Load, Offer, Discard, Step, Unload, Look, Audit}
+use Rattle.access_core.specs.declared.reply.Reply.{Reply}
 use Rattle.access_core.specs.Desk.{accepted_reply}
 use Rattle.access_core.specs.Needs.{IsAccepted}
 use Rattle.access_core.specs.SlotState.{SlotState}
 use Rattle.access_events.specs.declared.event.TheConstants.{SEATS}
 use Rattle.access_events.specs.declared.event.Event.TheVariants as event
 use Rattle.access_events.specs.Changing.{Tells}
-use Rattle.access_events.specs.Runs.{Moment, IsRun, world_after, opening_world, journal_at}
+use Rattle.access_events.specs.OneRun.{events_of}
+use Rattle.access_events.specs.Runs.{WorldState, Moment, IsRun, EndsIn, world_after, opening_world, journal_at}
 use Rattle.seat_receipts.specs.declared.receipt.Asked.{Asked}
 use Rattle.seat_receipts.specs.declared.receipt.Asked.TheVariants as asked
 use Rattle.seat_receipts.specs.declared.receipt.SlotReceipt.{SlotReceipt}
@@ -56,13 +58,17 @@ abbrev pub IsCallOf : Event → Moment → Type 0
 IsCallOf (Publishes seat version entry) = IsPolicyCall seat version entry
 IsCallOf (Commands seat r) = IsSlotCall seat r
 
+-- policy list and journals are those of the world
+pub record AreOfWorld (policy : List Entry) (journals : List (List SlotEntry)) (world : WorldState) : Type 0 where
+  pub entries : world.entries ≡ policy
+  pub slots : map (λ (slot : SlotState). slot.journal) world.slots ≡ journals
+
 -- the run is that of the events, one call for each and in their order, and it leaves this policy list and these journals
 pub record IsRunOf (policy : List Entry) (journals : List (List SlotEntry)) (events : List Event) (run : List Moment)
     : Type 0 where
   pub is : IsRun run
   pub calls : AllZip IsCallOf events run
-  pub entries : (world_after opening_world run).entries ≡ policy
-  pub slots : map (λ (slot : SlotState). slot.journal) (world_after opening_world run).slots ≡ journals
+  pub leaves : AreOfWorld policy journals (world_after opening_world run)
 
 -- there is one list of events, of which the policy list, the journals and the seats' receipts are the parts, and a run of the
 -- calls of which these events tell, which leaves this policy list and these journals. None is behind: each is accepted
@@ -71,3 +77,11 @@ pub record AreOfOneRun (policy : List Entry) (journals : List (List SlotEntry)) 
   pub parts : HasParts policy journals seats events
   pub run : List Moment
   pub ran : IsRunOf policy journals events run
+
+-- whatever the calls of such a run are answered and end in, made one after another from the opening on: the replies are those of
+-- the run, and policy list and journals are those of the world
+abbrev pub CallsEndSo : Type 0
+CallsEndSo =
+    (policy : List Entry) (journals : List (List SlotEntry)) (seats : List (List Kept)) (one : AreOfOneRun policy journals seats)
+    (replies : List Reply) (world : WorldState) → EndsIn (events_of one.run) replies world
+    → (replies ≡ map (λ (m : Moment). m.reply) one.run) × AreOfWorld policy journals world

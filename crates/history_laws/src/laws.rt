@@ -1,4 +1,5 @@
-//! The law of closed journals. The function does nothing: its contract is the law.
+//! The laws of closed journals. Each function does nothing but call the law that it follows from,
+//! if there is one: its contract is the law.
 ghost use Rattle.std.specs.Prelude.{◌≡◌, ◌<◌, ◌≤◌, ℕ, List, length};
 ghost use Rattle.rbac_policy.specs.declared.commands.Entry.{Entry};
 ghost use Rattle.rbac_policy.specs.declared.objects.TheConstants.{SLOTS};
@@ -9,7 +10,9 @@ ghost use Rattle.access_events.specs.declared.event.TheConstants.{SEATS};
 ghost use Rattle.seat_receipts.specs.declared.receipt.Kept.{Kept};
 ghost use Rattle.history_merge.specs.Order.{part_at};
 ghost use Rattle.history_merge.specs.OneList.{AreOfOneList};
-ghost use Rattle.history_laws.specs.CallsInTurn.{AreOfOneRun};
+ghost use Rattle.history_laws.specs.CallsInTurn.{AreOfOneRun, CallsEndSo};
+
+use access_events::laws::one_run;
 
 /// Where the policy list is lawful, the journal of each slot is legal over it, and one list of
 /// events has the journals and the receipts of the seats as its parts, these are the journals of
@@ -22,3 +25,12 @@ pub fn journals_are_of_one_run()
         → ((slot : ℕ) → slot < SLOTS → IsLegal policy slot (part_at journals slot))
         → AreOfOneList policy journals seats → AreOfOneRun policy journals seats }
 {}
+
+/// The calls of such a run, made one after another from the opening on, have no other replies and
+/// leave nothing else, want of memory aside: so what `run_events` answers of them has this policy
+/// list and these journals.
+pub fn calls_end_in_these_journals()
+    ensures { CallsEndSo }
+{
+    one_run();
+}
