@@ -1,6 +1,6 @@
 //! The connections of a socket, served side by side over one policy and one table of slots.
 ghost use Rattle.std.specs.Prelude.{◌≡◌, ◌≤◌, MatchOption};
-ghost use Rattle.policy_board.specs.declared.opening.TheConstants.{SEATS};
+ghost use Rattle.seat_receipts.specs.declared.receipts.TheConstants.{SEATS};
 ghost use Rattle.estserve.specs.Serving.{ServesSocket};
 
 use crate::fault::Fault;
@@ -9,7 +9,8 @@ use client_loop::gate::OpenGate;
 use client_loop::workers::run_workers;
 use policy_board::board::Board;
 use policy_board::history::{Fresh, Naming};
-use policy_board::opening::{Opened, SEATS};
+use policy_board::opening::Opened;
+use seat_receipts::receipts::SEATS;
 use slot_table::table::SlotTable;
 use std::alloc::Global;
 use std::fs::Files;
