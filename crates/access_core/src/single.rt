@@ -1,6 +1,6 @@
 //! A policy with its list, and sixteen slots, in one hand.
 ghost use Rattle.std.specs.Prelude.{◌≡◌, ◌↔◌, ◌<◌, ◌≤◌, ◌++◌, ◌∷◌, [], List, IsTrue, IfOk, MatchOption, MatchResult};
-ghost use Rattle.std.specs.Prelude.{length, take};
+ghost use Rattle.std.specs.Prelude.{length, map, take};
 ghost use Rattle.rbac_policy.specs.declared.commands.Entry.{Entry};
 ghost use Rattle.rbac_policy.specs.Change.{absorbed, policy_of};
 ghost use Rattle.rbac_policy.specs.Facts.{May};
@@ -8,6 +8,7 @@ ghost use Rattle.rbac_policy.specs.Fits.{Fits};
 ghost use Rattle.rbac_policy.specs.StandsFor.{StandsFor};
 ghost use Rattle.refusal_rules.specs.Rules.{accept, ◌▸◌};
 ghost use Rattle.access_core.specs.Answering.{ByRules, no_memory};
+ghost use Rattle.access_core.specs.SlotState.{SlotState};
 ghost use Rattle.access_core.specs.Inner.Ending.{EndsLiving};
 ghost use Rattle.access_core.specs.Desk.{DeskState, AreSlots, opening_desk, desk_at, empty_slot, change_of};
 ghost use Rattle.access_core.specs.Desk.{accepted_reply, HasRoomFor, list_full, Appends, AdminStep, DeskStep};
@@ -22,6 +23,7 @@ use rbac_policy::journal::PolicyJournal;
 use rbac_policy::objects::{Object, Operation, SLOTS, SlotNumber};
 use rbac_policy::policy::Policy;
 use rbac_policy::sizes::LAST_VERSION;
+use reactor_core::journal::Journal;
 use std::alloc::{AllocError, Global};
 use std::marker::Model;
 
@@ -244,6 +246,15 @@ impl Single {
         ensures { result.now ≡ self.now.slots }
     {
         &self.slots
+    }
+
+    /// The policy list and the journals of the slots, by number. It adds no entry and takes no memory.
+    pub fn into_journals(self) -> (PolicyJournal, [Journal; SLOTS as usize])
+        ensures policy { result.0 ≡ self.entries }
+        ensures slots { result.1 ≡ map (λ (s : SlotState). s.journal) self.slots }
+    {
+        let Single { entries, slots, .. } = self;
+        (entries, slots.map(|slot| slot.into_journal()))
     }
 
     // Adds an entry to the list and takes it into the policy, or refuses it as JournalFull or Memory.
