@@ -52,9 +52,11 @@ left_of slot old (journal ∷ journals) new ends =
       policy = later.policy ∙ here.policy;
       legal = λ none.
           let after = later.legal none in
-          let now = here.legal after.0 in
-          (now.0, legal_next old.policy slot journal journals now.1
-              (subst (λ (p : List Entry). LegalFrom p (slot + 1) journals) here.policy after.1));
+          let now = here.legal after.0 in (
+            now.0,
+            legal_next old.policy slot journal journals now.1
+                (subst (λ (p : List Entry). LegalFrom p (slot + 1) journals) here.policy after.1),
+          );
     }
 
 -- where all slots have ended and there is no fault, their journals are legal over the policy list
