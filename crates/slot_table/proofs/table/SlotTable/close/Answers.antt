@@ -1,12 +1,13 @@
 use Rattle.std.proofs.Common.{rules, ◌≡◌, List, length, refl, inl, inr, sym, subst}
 use Rattle.std.specs.Prelude.{IsNone}
-use Rattle.std.proofs.lemmas.Result.{IfOk-weaker, MatchResult-weaker, err_from_is_err_and}
+use Rattle.std.proofs.lemmas.Result.{IfOk-weaker, err_from_is_err_and}
 use Rattle.rbac_policy.specs.declared.commands.Entry.{Entry}
 use Rattle.rbac_policy.specs.declared.objects.TheConstants.{SLOTS}
 use Rattle.history_merge.specs.OneList.{AreOfOneList}
+use Rattle.history_merge.specs.Mismatches.{IsMismatch}
 use Rattle.slot_table.specs.declared.closing.Histories.{Histories}
-use Rattle.slot_table.specs.Closing.{AreLegal, kept_of}
-use Rattle.slot_table.proofs.Ending.{all_legal, given_back}
+use Rattle.slot_table.specs.Closing.{AreLegal, IsJustified, kept_of}
+use Rattle.slot_table.proofs.Ending.{all_legal, err_weaker, given_back}
 use Rattle.slot_table.proofs.table.SlotTable.close.Given.{Over}
 use Rattle.slot_table.proofs.table.SlotTable.close.Goals as goal
 use Rattle.slot_table.proofs.table.SlotTable.close.Goals.{After-settle}
@@ -38,8 +39,9 @@ pub returns-clause-err : goal.returns-clause-err
 returns-clause-err g c =
     let told = c.in_ok-policy.ensures.journal in
     let sixteen : length c.end-slots.result ≡ SLOTS = search rules in
-    MatchResult-weaker c.settle.result c.settle.ensures.err (λ _ done. done) (λ mismatch differs. record {
+    err_weaker c.settle.result (IsMismatch c.in_ok-policy.policy c.end-slots.result (kept_of c.args.seats.items))
+    (IsJustified (kept_of c.args.seats.items)) (λ mismatch differs. record {
       policy = c.in_ok-policy.policy;
       is_list = search (rules, told.0, c.journal.ensures.list);
       fault = inl (record { slots = c.end-slots.result; sixteen = sixteen; legal = legal_of g c; differs = differs });
-    })
+    }) c.settle.ensures.err
