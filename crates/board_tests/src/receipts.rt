@@ -30,14 +30,16 @@ fn keeps_admin<J: Naming>(
 /// The number of the slot command whose receipt the seat keeps at this place: the second of slot 3, a step.
 fn counted<J: Naming>(seat: &Seat<J>, place: usize) -> Option<u64> {
     match seat.kept().get(place)? {
-        Kept::Slot(SlotReceipt {
-            slot: 3,
-            place: 2,
-            version: 5,
-            session: 1,
-            number,
-            asked: Asked::Step,
-        }) => Some(*number),
+        Kept::Slot(
+            SlotReceipt {
+                slot: 3,
+                place: 2,
+                version: 5,
+                session: 1,
+                number,
+                asked: Asked::Step,
+            },
+        ) => Some(*number),
         Kept::Slot(_) | Kept::Admin { .. } => None,
     }
 }
@@ -68,12 +70,19 @@ fn command<J: Naming, R: Wait + Abort>(rt: &R, alloc: Global, fresh: Fresh) -> P
     let (board, mut seats, readers) = open::<J, R>(rt, alloc, fresh, 2);
     let mut seat = seats.pop().expect(rt, "a seat");
     let mut other = seats.pop().expect(rt, "a seat");
-    let session = Some(SessionId::new(1));
-    assert!(rt; board.admin(rt, &mut seat, session, grant()).is_err());
+    assert!(rt;
+        board
+            .admin(rt, &mut seat, Some(SessionId::new(1)), grant())
+            .is_err()
+    );
     assert_eq!(rt; seat.kept().len(), 0);
     enter(rt, alloc, &board, &mut seat);
     give(rt, &board, &mut seat, grant());
-    assert!(rt; board.admin(rt, &mut seat, session, grant()).is_err());
+    assert!(rt;
+        board
+            .admin(rt, &mut seat, Some(SessionId::new(1)), grant())
+            .is_err()
+    );
     assert_eq!(rt; seat.kept().len(), 2);
     let command = login(alloc).expect(rt, "room");
     assert!(rt; keeps_admin(&seat, 0, 5, &command));
@@ -90,13 +99,12 @@ fn give_all<J: Naming, R: Wait + Abort>(rt: &R, alloc: Global, fresh: Fresh) -> 
 {
     let (board, mut seats, readers) = open::<J, R>(rt, alloc, fresh, 1);
     let mut seat = seats.pop().expect(rt, "a seat");
-    let session = Some(SessionId::new(1));
     if let Ok(command) = login(alloc) {
         let _answer = board.admin(rt, &mut seat, None, command);
     }
     for _ in 0..3u32 {
-        let _answer = board.admin(rt, &mut seat, session, grant());
-        let _answer = board.admin(rt, &mut seat, session, revoke());
+        let _answer = board.admin(rt, &mut seat, Some(SessionId::new(1)), grant());
+        let _answer = board.admin(rt, &mut seat, Some(SessionId::new(1)), revoke());
     }
     let journal = close(rt, board, readers);
     assert_eq!(rt; journal.len().saturating_sub(4), seat.kept().len());

@@ -52,7 +52,12 @@ pub(crate) fn may_audit<J: Naming>(board: &Board<J>, seat: &mut Seat<J>) -> Resu
 }
 
 /// Logs root in, whose session is the first.
-pub(crate) fn enter<J: Naming, R: Wait + Abort>(rt: &R, alloc: Global, board: &Board<J>, seat: &mut Seat<J>) {
+pub(crate) fn enter<J: Naming, R: Wait + Abort>(
+    rt: &R,
+    alloc: Global,
+    board: &Board<J>,
+    seat: &mut Seat<J>,
+) {
     let command = login(alloc).expect(rt, "room");
     match board.admin(rt, seat, None, command) {
         Ok(receipt) => {

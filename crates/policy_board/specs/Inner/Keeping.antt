@@ -1,5 +1,5 @@
 -- What an answer leaves in the seat before the seat knows the list (this project's own form).
-use Rattle.std.specs.Prelude.{◌≡◌, ℕ, List, ◌++◌, Result}
+use Rattle.std.specs.Prelude.{◌≡◌, List, ◌++◌, Result}
 use Rattle.rbac_policy.specs.declared.commands.Entry.{Entry}
 use Rattle.policy_board.specs.SeatState.{SeatState}
 use Rattle.policy_board.specs.PolicyCommands.{admin_receipt}
