@@ -1,7 +1,7 @@
 use Rattle.std.proofs.Common.{rules, ◌≡◌, ◌≤◌, List, length, refl, inl, inr, sym, subst, Result, Ok, Err}
 use Rattle.std.specs.Prelude.{IsNone, OnOk}
 use Rattle.std.proofs.lemmas.List.{length-map}
-use Rattle.std.proofs.lemmas.Result.{IfOk-weaker, MatchResult-weaker, err_from_is_err_and}
+use Rattle.std.proofs.lemmas.Result.{IfOk-weaker, err_from_is_err_and}
 use Rattle.rbac_policy.specs.declared.commands.Entry.{Entry}
 use Rattle.rbac_policy.specs.declared.objects.TheConstants.{SLOTS}
 use Rattle.rbac_admin.specs.PolicyLists.{IsPolicyList}
@@ -9,9 +9,10 @@ use Rattle.seat_receipts.specs.declared.receipts.TheConstants.{SEATS}
 use Rattle.policy_board.specs.SeatState.{SeatState}
 use Rattle.history_merge.specs.OneList.{AreOfOneList}
 use Rattle.history_laws.specs.CallsInTurn.{AreOfOneRun}
+use Rattle.history_merge.specs.Mismatches.{IsMismatch}
 use Rattle.slot_table.specs.declared.closing.Histories.{Histories}
-use Rattle.slot_table.specs.Closing.{AreLegal, kept_of}
-use Rattle.slot_table.proofs.Ending.{all_legal, given_back}
+use Rattle.slot_table.specs.Closing.{AreLegal, IsJustified, kept_of}
+use Rattle.slot_table.proofs.Ending.{all_legal, err_weaker, given_back}
 use Rattle.slot_table.proofs.table.SlotTable.close.Given.{Over}
 use Rattle.slot_table.proofs.table.SlotTable.close.Goals as goal
 use Rattle.slot_table.proofs.table.SlotTable.close.Goals.{After-settle}
@@ -60,8 +61,9 @@ pub returns-clause-err : goal.returns-clause-err
 returns-clause-err g c =
     let told = c.in_ok-policy.ensures.journal in
     let sixteen : length c.end-slots.result ≡ SLOTS = search rules in
-    MatchResult-weaker c.settle.result c.settle.ensures.err (λ _ done. done) (λ mismatch differs. record {
+    err_weaker c.settle.result (IsMismatch c.in_ok-policy.policy c.end-slots.result (kept_of c.args.seats.items))
+    (IsJustified (kept_of c.args.seats.items)) (λ mismatch differs. record {
       policy = c.in_ok-policy.policy;
       is_list = search (rules, told.0, c.journal.ensures.list);
       fault = inl (record { slots = c.end-slots.result; sixteen = sixteen; legal = legal_of g c; differs = differs });
-    })
+    }) c.settle.ensures.err
