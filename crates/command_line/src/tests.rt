@@ -1,0 +1,1 @@
+//! Orders and faults, word by word.
