@@ -3,17 +3,19 @@ use Rattle.std.proofs.Common.{◌≡◌, ◌∙◌, ◌<◌, ◌≤◌, ◌^◌,
 use Rattle.std.specs.Prelude.{option_map, option_and_then, unwrap_or, is_some}
 use Rattle.std.specs.List.{list_all}
 use Rattle.std.specs.Char.{digit_value}
-use Rattle.std.specs.Str.Parse.{AllDigits, ParsesUnsigned, digits_value, without_leading_plus}
-use Rattle.clap.specs.Words.{App, ReadsOne, Row, Rule, Text, app_of, is_simple_and_free, rule_of, shape_of, subcommand_name_of, subcommand_rows_of}
+use Rattle.std.specs.Str.Parse.{AllDigits, ExplainsUnsignedError, HasUnsignedDigitsIfOk, ParsesUnsigned, digits_value, without_leading_plus}
+use Rattle.std.specs.declared.num.ParseIntError.{ParseIntError}
+use Rattle.clap.specs.Words.{App, ReadsOne, Row, Rule, Text, app_of, is_simple_and_free, one_text, rows_of, rule_of, shape_of, subcommand_name_of, subcommand_rows_of}
 use Rattle.clap.specs.Walk.{is_empty, is_simple_arg}
 use Rattle.clap.specs.ValueTests.{is_numeral}
 use Rattle.clap.specs.declared.builder.arg.Arg.{Arg}
 use Rattle.clap.specs.declared.builder.command.Command.{Command}
 use Rattle.clap.specs.declared.parser.matches.ArgMatches.{ArgMatches}
+use Rattle.clap.specs.declared.parser.matches.Found.{Found}
 use Rattle.clap.proofs.OnLiterals.{clap_on_literals}
-use Rattle.clap.proofs.WalkLemmas.{both}
+use Rattle.clap.proofs.WalkLemmas.{both, one_text-rows}
 use Rattle.clap.proofs.SimpleLemmas.{is_false}
-use Rattle.command_line.specs.Words.{command_line, number_in}
+use Rattle.command_line.specs.Words.{command_line, number_in, number_of}
 
 -- ---- arguments and commands
 
@@ -79,23 +81,30 @@ digits_from (d ∷ ds) e =
 abbrev fits : List ℕ → Bool
 fits ds = is_numeral ds && nat_lt (digits_value 10 ds) (2 ^ 64)
 
+-- how the code reads a number of 64 bits
+abbrev pub Reads64 : List ℕ → Result ℕ ParseIntError → Type 0
+Reads64 text read = ParsesUnsigned 64 10 text read × ExplainsUnsignedError 10 text read × HasUnsignedDigitsIfOk text read
+
 -- what is read of a text as a number of 64 bits
-number_reads : {E : Type 0} (G : List ℕ → Result ℕ E → Type 0) → ((u : List ℕ) (r : Result ℕ E) → G u r → ParsesUnsigned 64 10 u r)
-    → (t : List ℕ) (o : Option ℕ) → ReadsOne G t o → o ≡ number_in t
-number_reads G parses t (Some n) h =
+number_reads : (t : List ℕ) (o : Option ℕ) → ReadsOne Reads64 t o → o ≡ number_in t
+number_reads t (Some n) h =
     let ds = without_leading_plus t in
-    let p = parses t (Ok n) h in
+    let p = h.0 in
     rw (lt-ltb 0 (length ds) p.0.0.0, digits_pass ds p.0.0.1, lt-ltb (digits_value 10 ds) (2 ^ 64) p.0.1) (ap (λ k. Some k) p.1)
-number_reads G parses t None h = go (fits (without_leading_plus t)) refl
+number_reads t None h = go (fits (without_leading_plus t)) refl
   where
     go : (b : Bool) → fits (without_leading_plus t) ≡ b → None ≡ number_in t
     go false e = rw e refl
     go true e =
         let outer = both _ _ e in
         let inner = both _ _ outer.0 in
-        absurd (parses t (Err h.0) h.1 ((ltb-true _ _ inner.0, digits_from (without_leading_plus t) inner.1), ltb-true _ _ outer.1))
+        absurd (h.1.0 ((ltb-true _ _ inner.0, digits_from (without_leading_plus t) inner.1), ltb-true _ _ outer.1))
 
-pub one_number : {E : Type 0} (G : List ℕ → Result ℕ E → Type 0) → ((u : List ℕ) (r : Result ℕ E) → G u r → ParsesUnsigned 64 10 u r)
-    → (text : Option Text) (o : Option ℕ) → (text ≡ None → o ≡ None) → ((t : Text) → text ≡ Some t → ReadsOne G t o) → o ≡ option_and_then number_in text
-one_number G parses None o none some = none refl
-one_number G parses (Some t) o none some = number_reads G parses t o (some t refl)
+one_number : (text : Option Text) (o : Option ℕ) → (text ≡ None → o ≡ None) → ((t : Text) → text ≡ Some t → ReadsOne Reads64 t o) → o ≡ option_and_then number_in text
+one_number None o none some = none refl
+one_number (Some t) o none some = number_reads t o (some t refl)
+
+-- what a typed getter reads of an option as a number
+pub number_is : (f : Found) (name : Text) (o : Option ℕ) → (one_text f name ≡ None → o ≡ None) → ((t : Text) → one_text f name ≡ Some t → ReadsOne Reads64 t o)
+    → o ≡ number_of name (rows_of f)
+number_is f name o none some = one_number (one_text f name) o none some ∙ ap (option_and_then number_in) (one_text-rows f name)

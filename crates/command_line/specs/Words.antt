@@ -1,5 +1,5 @@
 -- Which words are an order, by clap's rules for the program's command line (this project's own form).
-use Rattle.std.specs.Prelude.{◌≡◌, ◌⊎◌, ◌&&◌, ◌^◌, ℕ, Bool, true, false, List, [], ◌∷◌, Option, Some, None, if◌then◌else◌, nat_lt, nat_le, codes, option_and_then, unwrap_or}
+use Rattle.std.specs.Prelude.{◌≡◌, ◌⊎◌, ◌&&◌, ◌^◌, ℕ, Bool, true, false, List, [], ◌∷◌, Option, Some, None, if◌then◌else◌, nat_lt, codes, option_and_then, unwrap_or}
 use Rattle.std.specs.Option.{option_map_or}
 use Rattle.std.specs.Str.{bytes_eq}
 use Rattle.std.specs.Str.Parse.{digits_value, without_leading_plus}
@@ -7,6 +7,7 @@ use Rattle.clap.specs.Words.{App, IsAmong, Row, Rule, Text, fault_of, first_of, 
 use Rattle.clap.specs.ValueTests.{is_numeral}
 use Rattle.clap.specs.declared.builder.action.ArgAction.TheVariants.{Set, SetTrue}
 use Rattle.clap.specs.declared.builder.value_parser.ValueParser.TheVariants.{Unsigned}
+use Rattle.command_line.specs.Counts.{may_work}
 use Rattle.command_line.specs.declared.fault.WordFault.{WordFault}
 use Rattle.command_line.specs.declared.fault.WordFault.TheVariants as fault
 use Rattle.command_line.specs.declared.order.Order.{Order}
@@ -67,13 +68,17 @@ abbrev pub number_of : (name : Text) → List Row → Option ℕ
 number_of name rows = option_and_then number_in (one_of name rows)
 
 -- so many workers where there may be so many, and else as many as there are without a number
-abbrev pub allowed : ℕ → ℕ
-allowed count = if nat_le 1 count && nat_le count MOST_WORKERS then count else WORKERS
+abbrev pub allowed : (count : ℕ) → ℕ
+allowed count = if may_work count then count else WORKERS
+
+-- the number of workers for which these options ask
+abbrev pub workers_in : List Row → ℕ
+workers_in rows = option_map_or allowed (number_of (codes "workers") rows) WORKERS
 
 -- the service for which these options ask
 pub record IsService (rows : List Row) (service : Service) : Type 0 where
   pub path : service.path.now ≡ unwrap_or (first_of (codes "socket") rows) []
-  pub workers : service.workers ≡ option_map_or allowed (number_of (codes "workers") rows) WORKERS
+  pub workers : service.workers ≡ workers_in rows
   pub connections : service.connections ≡ number_of (codes "connections") rows
 
 -- ---- orders

@@ -1,5 +1,6 @@
 //! What the program is asked to do.
-ghost use Rattle.std.specs.Prelude.{◌≡◌, ◌≤◌, MatchOption};
+ghost use Rattle.std.specs.Prelude.{◌≡◌, ◌≤◌, Some, None, if◌then◌else◌};
+ghost use Rattle.command_line.specs.Counts.{may_work};
 ghost use Rattle.command_line.specs.declared.order.TheConstants.{MOST_WORKERS, WORKERS};
 
 use std::marker::Model;
@@ -35,7 +36,7 @@ impl Model for WorkerCount {
 impl WorkerCount {
     /// The number of workers, if there may be so many.
     pub fn new(count: usize) -> Option<WorkerCount>
-        ensures { MatchOption result ((1 ≤ count) × (count ≤ MOST_WORKERS) → ⊥) (λ w. w ≡ count) }
+        ensures { result ≡ (if may_work count then Some count else None) }
     {
         if 1 <= count && count <= MOST_WORKERS {
             Some(WorkerCount { count })

@@ -4,7 +4,8 @@ ghost use Rattle.clap.specs.Words.{app_of, rule_of, rows_of, found_of};
 ghost use Rattle.clap.specs.Words.{HasKind, fault_of, subcommand_rows_of};
 ghost use Rattle.command_line.specs.Words.{flag_rule, option_rule, socket_rule, number_rule};
 ghost use Rattle.command_line.specs.Words.{script_line, serve_line, command_line};
-ghost use Rattle.command_line.specs.Words.{IsNamed, IsService, Gives, IsOrder, IsRefused, is_set};
+ghost use Rattle.command_line.specs.Words.{IsNamed, IsService, Gives, IsOrder, IsRefused};
+ghost use Rattle.command_line.specs.Words.{is_set, workers_in};
 ghost use Rattle.command_line.specs.declared.order.TheConstants.{MOST_CONNECTIONS, MOST_WORKERS};
 
 use crate::fault::WordFault;
@@ -107,17 +108,23 @@ fn has_flag(matches: &ArgMatches<'_>, name: &str) -> bool
     }
 }
 
+/// How many workers the words after `serve` ask for.
+fn workers_of(matches: &ArgMatches<'_>) -> WorkerCount
+    ensures { result ≡ workers_in (rows_of (found_of matches.now)) }
+{
+    match matches.get_one("workers") {
+        Some(count) => WorkerCount::new(count).unwrap_or_default(),
+        None => WorkerCount::default(),
+    }
+}
+
 /// The service that the words after `serve` ask for.
 fn service_of<'a>(matches: &ArgMatches<'a>) -> Service<'a>
     ensures { IsService (rows_of (found_of matches.now)) result }
 {
-    let workers = match matches.get_one("workers") {
-        Some(count) => WorkerCount::new(count),
-        None => None,
-    };
     Service {
         path: matches.get_str("socket").unwrap_or(""),
-        workers: workers.unwrap_or_default(),
+        workers: workers_of(matches),
         connections: matches.get_one("connections"),
     }
 }
