@@ -5,7 +5,7 @@ use Rattle.std.specs.List.{list_all}
 use Rattle.std.specs.Char.{digit_value}
 use Rattle.std.specs.Str.Parse.{AllDigits, ExplainsUnsignedError, HasUnsignedDigitsIfOk, ParsesUnsigned, digits_value, without_leading_plus}
 use Rattle.std.specs.declared.num.ParseIntError.{ParseIntError}
-use Rattle.clap.specs.Words.{App, ReadsOne, Row, Rule, Text, app_of, is_simple_and_free, one_text, rows_of, rule_of, shape_of, subcommand_name_of, subcommand_rows_of}
+use Rattle.clap.specs.Words.{App, ReadsOne, Row, Rule, Text, app_of, is_simple, is_simple_and_free, one_text, rows_of, rule_of, shape_of, subcommand_name_of, subcommand_rows_of}
 use Rattle.clap.specs.Walk.{is_empty, is_simple_arg}
 use Rattle.clap.specs.ValueTests.{is_numeral}
 use Rattle.clap.specs.declared.builder.arg.Arg.{Arg}
@@ -46,6 +46,10 @@ is_plain_line c a e plain = ap (λ (b : App). b.top.is_plain) e ∙ plain
 pub is_simple_line : is_simple_and_free command_line ≡ true
 unfolding clap_on_literals
 is_simple_line = refl
+
+pub has_known_matches : is_simple command_line ≡ true
+unfolding clap_on_literals
+has_known_matches = refl
 
 -- ---- subcommands
 
