@@ -97,6 +97,12 @@ IsNamed named = ((rows : List Row) × (named ≡ Some (codes "script", rows))) �
 abbrev pub IsOrder : (words : List Text) → Order → Type 0
 IsOrder words order = (fault_of command_line words ≡ []) × Gives (subcommand_of command_line words) order
 
+-- two orders are the same, wherever their texts lie in memory
+abbrev pub IsSame : Order → Order → Type 0
+IsSame (Script log report) (Script log2 report2) = (log ≡ log2) × (report ≡ report2)
+IsSame (Serve one) (Serve other) = (one.path.now ≡ other.path.now) × (one.workers ≡ other.workers) × (one.connections ≡ other.connections)
+IsSame _ _ = ⊥
+
 -- the words have a fault, of the kind that the error tells; or memory was refused
 abbrev pub IsRefused : (words : List Text) → WordFault → Type 0
 IsRefused words (fault.Words e) = IsAmong (kind_of e) (fault_of command_line words)
