@@ -1,9 +1,11 @@
 -- Which words are an order, by clap's rules for the program's command line (this project's own form).
-use Rattle.std.specs.Prelude.{◌≡◌, ◌⊎◌, ◌&&◌, ◌^◌, ℕ, Bool, true, false, List, [], ◌∷◌, Option, Some, None, if◌then◌else◌, nat_lt, codes, option_and_then, unwrap_or}
+use Rattle.std.specs.Prelude.{◌≡◌, ◌⊎◌, ◌&&◌, ◌^◌, ℕ, Bool, true, false, List, [], Option, Some, None, if◌then◌else◌, nat_lt}
+use Rattle.std.specs.Prelude.{codes, option_and_then, unwrap_or}
 use Rattle.std.specs.Option.{option_map_or}
 use Rattle.std.specs.Str.{bytes_eq}
 use Rattle.std.specs.Str.Parse.{digits_value, without_leading_plus}
-use Rattle.clap.specs.Words.{App, IsAmong, Row, Rule, Text, fault_of, first_of, kind_of, new_app, new_rule, one_of, subcommand_of, with_rule, with_subcommand}
+use Rattle.clap.specs.Words.{App, IsAmong, Row, Rule, Text, fault_of, first_of, kind_of, new_app, new_rule, one_of}
+use Rattle.clap.specs.Words.{subcommand_of, with_rule, with_subcommand}
 use Rattle.clap.specs.ValueTests.{is_numeral}
 use Rattle.clap.specs.declared.builder.action.ArgAction.TheVariants.{Set, SetTrue}
 use Rattle.clap.specs.declared.builder.value_parser.ValueParser.TheVariants.{Unsigned}
@@ -89,9 +91,13 @@ Gives named (Script log report) = (rows : List Row) × (named ≡ Some (codes "s
     × (log ≡ is_set (codes "log") rows) × (report ≡ is_set (codes "report") rows)
 Gives named (Serve service) = (rows : List Row) × (named ≡ Some (codes "serve", rows)) × IsService rows service
 
+-- what is named is the order of this name
+abbrev pub Names : (name : Text) → (named : Option (Text × List Row)) → Type 0
+Names name named = (rows : List Row) × (named ≡ Some (name, rows))
+
 -- one of the orders is named
 abbrev pub IsNamed : (named : Option (Text × List Row)) → Type 0
-IsNamed named = ((rows : List Row) × (named ≡ Some (codes "script", rows))) ⊎ ((rows : List Row) × (named ≡ Some (codes "serve", rows)))
+IsNamed named = Names (codes "script") named ⊎ Names (codes "serve") named
 
 -- the words are a command line without a fault, and give this order
 abbrev pub IsOrder : (words : List Text) → Order → Type 0
@@ -100,7 +106,8 @@ IsOrder words order = (fault_of command_line words ≡ []) × Gives (subcommand_
 -- two orders are the same, wherever their texts lie in memory
 abbrev pub IsSame : Order → Order → Type 0
 IsSame (Script log report) (Script log2 report2) = (log ≡ log2) × (report ≡ report2)
-IsSame (Serve one) (Serve other) = (one.path.now ≡ other.path.now) × (one.workers ≡ other.workers) × (one.connections ≡ other.connections)
+IsSame (Serve one) (Serve other) =
+    (one.path.now ≡ other.path.now) × (one.workers ≡ other.workers) × (one.connections ≡ other.connections)
 IsSame _ _ = ⊥
 
 -- the words have a fault, of the kind that the error tells; or memory was refused

@@ -30,8 +30,16 @@ fn flag<'a>(alloc: Global, name: &'a str, help: &'a str) -> Arg<'a>
 fn script_words<'a>(alloc: Global) -> Result<Command<'a>, AllocError>
     ensures { IfOk result (λ words. app_of words ≡ script_line) }
 {
-    let log = flag(alloc, "log", "Tells on standard error how the connection ended");
-    let report = flag(alloc, "report", "Prints the audit report behind the answers");
+    let log = flag(
+        alloc,
+        "log",
+        "Tells on standard error how the connection ended",
+    );
+    let report = flag(
+        alloc,
+        "report",
+        "Prints the audit report behind the answers",
+    );
     Command::new(alloc, "script")
         .about("Serves standard input and standard output as one connection")
         .arg(log)?

@@ -6,7 +6,8 @@ use Rattle.command_line.specs.declared.order.Order.{Order}
 use Rattle.command_line.specs.declared.order.Order.TheVariants.{Script, Serve}
 use Rattle.command_line.proofs.laws.words_are_one_order.Goals as goal
 
-rows_are : (named : Option (Text × List Row)) (name other : Text) (xs ys : List Row) → named ≡ Some (name, xs) → named ≡ Some (other, ys) → (name ≡ other) × (xs ≡ ys)
+rows_are : (named : Option (Text × List Row)) (name other : Text) (xs ys : List Row) → named ≡ Some (name, xs)
+    → named ≡ Some (other, ys) → (name ≡ other) × (xs ≡ ys)
 rows_are named name other xs ys e f =
     let same : ◌≡◌ {A = Option (Text × List Row)} (Some (name, xs)) (Some (other, ys)) = sym e ∙ f in
     let pairs = ap (λ (o : Option (Text × List Row)). unwrap_or o (name, xs)) same in

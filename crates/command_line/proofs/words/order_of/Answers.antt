@@ -1,4 +1,4 @@
-use Rattle.std.proofs.Common.{◌≡◌, ◌∙◌, true, false, refl, ap, sym, codes, rules, true≢false, is_some, option_map, inl, inr, Option, Some, None}
+use Rattle.std.proofs.Common.{◌∙◌, refl, codes}
 use Rattle.clap.specs.Words.{found_of, rows_of, subcommand_rows_of}
 use Rattle.command_line.proofs.CommandLines.{both_parts, first_names}
 use Rattle.command_line.proofs.words.order_of.Goals as goal
@@ -7,4 +7,5 @@ pub returns-in-Some : goal.returns-in-Some
 returns-in-Some c =
     let m = c.args.matches.now in
     let rows = rows_of (found_of c.in-Some.serve.now) in
-    (rows, both_parts (subcommand_rows_of m) (codes "serve") rows (first_names m ∙ c.in-Some.ensures.found.0 refl) c.in-Some.ensures.rows, c.service_of.ensures)
+    let name = first_names m ∙ c.in-Some.ensures.found.0 refl in
+    (rows, both_parts (subcommand_rows_of m) (codes "serve") rows name c.in-Some.ensures.rows, c.service_of.ensures)

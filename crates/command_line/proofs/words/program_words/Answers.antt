@@ -18,7 +18,10 @@ returns c =
     let script_local = (plain_fields script (is_plain_line script script_line c.in_ok-script.ensures refl)).globals in
     let serve_local = (plain_fields serve (is_plain_line serve serve_line c.in_ok-serve.ensures refl)).globals in
     let about : app_of c.about.result ≡ new_app (codes "estserve") = ap app_of_fields c.about.ensures ∙ c.new.ensures.app in
-    let named : app_of c.subcommand_required.result ≡ required (new_app (codes "estserve")) = ap app_of_fields c.subcommand_required.ensures ∙ ap required about in
-    let first = c.in_ok-subcommand.ensures.shape script_local ∙ ap₂ with_subcommand named (ap (λ (a : App). a.top) c.in_ok-script.ensures) in
+    let named : app_of c.subcommand_required.result ≡ required (new_app (codes "estserve"))
+    = ap app_of_fields c.subcommand_required.ensures ∙ ap required about in
+    let script_is = ap (λ (a : App). a.top) c.in_ok-script.ensures in
+    let serve_is = ap (λ (a : App). a.top) c.in_ok-serve.ensures in
+    let first = c.in_ok-subcommand.ensures.shape script_local ∙ ap₂ with_subcommand named script_is in
     IfOk-weaker c.subcommand-2.result _ _ (λ words added.
-        added.shape serve_local ∙ ap₂ with_subcommand first (ap (λ (a : App). a.top) c.in_ok-serve.ensures)) c.subcommand-2.ensures
+    added.shape serve_local ∙ ap₂ with_subcommand first serve_is) c.subcommand-2.ensures

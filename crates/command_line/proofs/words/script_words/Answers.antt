@@ -13,4 +13,4 @@ returns c =
     let bare : app_of c.about.result ≡ new_app (codes "script") = ap app_of_fields c.about.ensures ∙ c.new.ensures.app in
     let logged = c.in_ok-arg.ensures.shape (is_local c.flag-log.result _ log_is refl) ∙ ap₂ with_rule bare log_is in
     IfOk-weaker c.arg-2.result _ _ (λ words added.
-        added.shape (is_local c.flag-report.result _ report_is refl) ∙ ap₂ with_rule logged report_is) c.arg-2.ensures
+    added.shape (is_local c.flag-report.result _ report_is refl) ∙ ap₂ with_rule logged report_is) c.arg-2.ensures

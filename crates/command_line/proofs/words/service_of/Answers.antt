@@ -1,4 +1,4 @@
-use Rattle.std.proofs.Common.{◌≡◌, ◌∙◌, [], Option, Some, None, refl, ap, sym, codes, option_map}
+use Rattle.std.proofs.Common.{◌≡◌, ◌∙◌, [], Option, Some, None, refl, ap, codes, option_map}
 use Rattle.std.specs.Prelude.{unwrap_or}
 use Rattle.std.specs.Borrow.{Bor}
 use Rattle.clap.specs.Words.{Text, found_of}
