@@ -38,7 +38,7 @@ fn script_words<'a>(alloc: Global) -> Result<Command<'a>, AllocError>
     let report = flag(
         alloc,
         "report",
-        "Prints the audit report behind the answers",
+        "Ends with the report of an audit of the journals",
     );
     Command::new(alloc, "script")
         .about("Serves standard input and standard output as one connection")
