@@ -1,5 +1,5 @@
 -- What a run of the program does (this project's own form).
-use Rattle.std.specs.Prelude.{◌≡◌, ℕ, List, ◌⊎◌, Option, Some, None, Result, Ok, Err, Bool, true, false, ⊤, map}
+use Rattle.std.specs.Prelude.{◌≡◌, ℕ, List, ◌⊎◌, Option, Result, Ok, Err, Bool, true, false, ⊤, map}
 use Rattle.std.specs.Io.KnownBytes.{Keeps}
 use Rattle.access_core.specs.Desk.{DeskState, opening_desk}
 use Rattle.access_core.specs.SlotState.{SlotState}

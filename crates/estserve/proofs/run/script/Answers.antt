@@ -1,4 +1,4 @@
-use Rattle.std.proofs.Common.{inr, rules}
+use Rattle.std.proofs.Common.{inr}
 use Rattle.client_loop.specs.Logins.{session_of}
 use Rattle.estserve.proofs.run.script.Goals as goal
 
