@@ -4,4 +4,6 @@
 #![tactic(auto)]
 
 #[cfg(test)]
+mod receipts;
+#[cfg(test)]
 mod sharing;

@@ -3,7 +3,7 @@ ghost use Rattle.std.specs.Prelude.{◌≡◌, ◌≤◌};
 
 use policy_board::board::Board;
 use policy_board::history::{Fresh, Naming};
-use policy_board::opening::{Opened, SEATS};
+use policy_board::opening::Opened;
 use policy_board::reader::SlotReader;
 use policy_board::refusal::Refusal;
 use policy_board::seat::{Receipt, Seat};
@@ -12,6 +12,7 @@ use rbac_policy::commands::{AdminCommand, SessionId};
 use rbac_policy::journal::PolicyJournal;
 use rbac_policy::names::{Name, RoleNames};
 use rbac_policy::objects::{Object, Operation};
+use seat_receipts::receipts::SEATS;
 use std::alloc::{AllocError, Global};
 use std::marker::Brand;
 use std::process::Abort;
@@ -20,7 +21,7 @@ use std::test::Fail;
 use std::thread::{Threads, join};
 
 /// A login of root, in its role.
-fn login(alloc: Global) -> Result<AdminCommand, AllocError> {
+pub(crate) fn login(alloc: Global) -> Result<AdminCommand, AllocError> {
     let roles = RoleNames::from_vec(vec![in alloc; Name::root()]?)?;
     Ok(AdminCommand::CreateSession {
         user: Name::root(),
@@ -29,7 +30,7 @@ fn login(alloc: Global) -> Result<AdminCommand, AllocError> {
 }
 
 /// The permission to audit the policy, which role root doesn't have at the start.
-fn grant() -> AdminCommand {
+pub(crate) fn grant() -> AdminCommand {
     AdminCommand::GrantPermission {
         role: Name::root(),
         operation: Operation::Audit,
@@ -37,7 +38,7 @@ fn grant() -> AdminCommand {
     }
 }
 
-fn revoke() -> AdminCommand {
+pub(crate) fn revoke() -> AdminCommand {
     AdminCommand::RevokePermission {
         role: Name::root(),
         operation: Operation::Audit,
@@ -46,12 +47,17 @@ fn revoke() -> AdminCommand {
 }
 
 /// Whether the first session may audit the policy, as this seat reads it.
-fn may_audit<J: Naming>(board: &Board<J>, seat: &mut Seat<J>) -> Result<bool, Refusal> {
+pub(crate) fn may_audit<J: Naming>(board: &Board<J>, seat: &mut Seat<J>) -> Result<bool, Refusal> {
     board.check_access(seat, SessionId::new(1), Operation::Audit, &Object::Policy)
 }
 
 /// Logs root in, whose session is the first.
-fn enter<J: Naming, R: Wait + Abort>(rt: &R, alloc: Global, board: &Board<J>, seat: &mut Seat<J>) {
+pub(crate) fn enter<J: Naming, R: Wait + Abort>(
+    rt: &R,
+    alloc: Global,
+    board: &Board<J>,
+    seat: &mut Seat<J>,
+) {
     let command = login(alloc).expect(rt, "room");
     match board.admin(rt, seat, None, command) {
         Ok(receipt) => {
@@ -63,7 +69,7 @@ fn enter<J: Naming, R: Wait + Abort>(rt: &R, alloc: Global, board: &Board<J>, se
 }
 
 /// The receipt of a command that the first session gives, and which is accepted.
-fn give<J: Naming, R: Wait + Abort>(
+pub(crate) fn give<J: Naming, R: Wait + Abort>(
     rt: &R,
     board: &Board<J>,
     seat: &mut Seat<J>,
@@ -116,7 +122,7 @@ fn change<J: Naming, R: Wait + Abort>(
 }
 
 /// A board with so many seats, and its readers.
-fn open<J: Naming, R: Abort>(
+pub(crate) fn open<J: Naming, R: Abort>(
     rt: &R,
     alloc: Global,
     fresh: Fresh,
@@ -136,7 +142,7 @@ fn open<J: Naming, R: Abort>(
 }
 
 /// Closes the board: its readers saw beginnings of the journal.
-fn close<J: Naming, R: Wait + Abort>(
+pub(crate) fn close<J: Naming, R: Wait + Abort>(
     rt: &R,
     board: Board<J>,
     readers: Vec<SlotReader<J>>,

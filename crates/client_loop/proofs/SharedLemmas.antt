@@ -1,6 +1,6 @@
 -- What the board answers, as the reply of a desk of one client.
 use Rattle.std.proofs.Common.{◌≡◌, ◌∙◌, inl, inr, ℕ, ◌+◌, List, [], ◌∷◌, ◌++◌, length, refl, sym, ap, subst, Option, Some, None, Result, Ok, Err, MatchResult, if◌then◌else◌, true}
-use Rattle.std.proofs.lemmas.List.{length-append}
+use Rattle.std.proofs.lemmas.List.{append-nil, length-append}
 use Rattle.refusal_rules.specs.Rules.{accept, ◌▸◌, Answers}
 use Rattle.refusal_rules.proofs.RuleLemmas.{all_passed}
 use Rattle.std.specs.Prelude.{IfOk, IfErr}
@@ -26,8 +26,10 @@ use Rattle.policy_board.specs.declared.refusal.Refusal.TheVariants as board
 use Rattle.policy_board.specs.declared.seat.Receipt.{Receipt}
 use Rattle.policy_board.specs.PolicyCommands as board_step
 use Rattle.policy_board.specs.PolicyCommands.{IsPublished, session_made}
+use Rattle.policy_board.specs.SeatState.{SeatState}
+use Rattle.seat_receipts.specs.declared.receipt.Kept.TheVariants.{Admin}
 use Rattle.slot_table.specs.Conversions.{of_board}
-use Rattle.client_loop.specs.SharedAnswers.{desk_with}
+use Rattle.client_loop.specs.SharedAnswers.{KeepsAdded, desk_with}
 
 -- the room of a policy list is the same for board and desk
 room_there : (command : AdminCommand) (list : List Entry) → HasRoomFor command list → DeskHasRoomFor command list
@@ -138,6 +140,28 @@ module _ {J : Type 0} where
       (λ r refused. let is = refused.answered in absurd cc) h in
       (e, all.1)
   published_by old new receipt (Err r) h = let is = h.answered in absurd cc
+
+  stayed_by : (old new : List Entry) (refusal : Refusal) (decided : Result Entry PolicyRefusal)
+      → MatchResult decided
+      (λ entry. Answers (board_step.list_full old entry ▸ board_step.no_memory ▸ accept) (λ r. board_step.IsRefused {J = J} r old (Err refusal) new) (IsPublished {J = J} entry old (Err refusal) new))
+      (λ r. board_step.IsRefused {J = J} (board.Policy r) old (Err refusal) new)
+      → new ≡ old
+  stayed_by old new refusal (Ok e) (inl r) = r.answered.stays
+  stayed_by old new refusal (Ok e) (inr p) = later p.next where
+    later : Answers (board_step.no_memory ▸ accept) (λ r. board_step.IsRefused {J = J} r old (Err refusal) new) (IsPublished {J = J} e old (Err refusal) new) → new ≡ old
+    later (inl m) = m.answered.stays
+    later (inr q) = let is = q.next.answered in absurd cc
+  stayed_by old new refusal (Err r) h = h.stays
+
+  -- the seat keeps the receipt of the entry that the command added, if it added one
+  pub keeps_added : (old new : List Entry) (answer : Result (Receipt J) Refusal) (seat after : SeatState) (session : Option ℕ) (command : AdminCommand)
+      → board_step.AdminStep old session command answer new → board_step.SeatAfter seat answer new after → KeepsAdded old new seat after
+  keeps_added old new (Ok receipt) seat after session command step keeps =
+      let p = published_by old new receipt step.decided step.replied in
+      let entry : receipt.entry ≡ p.0 = (published_tells receipt p.0 old new p.1).entry_is in
+      inr (p.0, p.1.appended, keeps.kept ∙ ap (λ (e : Entry). seat.kept ++ Admin (length new) e ∷ []) entry)
+  keeps_added old new (Err refusal) seat after session command step keeps =
+      inl (stayed_by old new refusal step.decided step.replied, keeps.kept ∙ append-nil seat.kept)
 
   -- the receipt, if the answer is one, is of a published entry
   pub published : (session : Option ℕ) (command : AdminCommand) (old new : List Entry) (answer : Result (Receipt J) Refusal)

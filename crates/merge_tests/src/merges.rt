@@ -109,7 +109,7 @@ fn first_seat(
     a: Identifier,
     b: Identifier,
 ) -> Result<Receipts, AllocError> {
-    let mut kept = Receipts::new(alloc);
+    let mut kept = Vec::new(alloc);
     kept.push(Kept::Admin {
         version: 5,
         entry: fifth(),
@@ -129,12 +129,12 @@ fn first_seat(
         | Fault::TwoPolicyReceipts
         | Fault::OtherPolicyEntry => kept.push(receipt(2, 2, 6, 4, Asked::Offer(b)))?,
     }
-    Ok(kept)
+    Ok(Receipts::from_vec(kept))
 }
 
 /// What seat 1 keeps: the sixth policy entry, and the command on slot 3.
 fn second_seat(alloc: Global, fault: Fault, b: Identifier) -> Result<Receipts, AllocError> {
-    let mut kept = Receipts::new(alloc);
+    let mut kept = Vec::new(alloc);
     if fault != Fault::NoPolicyReceipt {
         kept.push(Kept::Admin {
             version: 6,
@@ -151,19 +151,19 @@ fn second_seat(alloc: Global, fault: Fault, b: Identifier) -> Result<Receipts, A
     if fault == Fault::TwoReceipts {
         kept.push(receipt(2, 2, 6, 5, Asked::Offer(b)))?;
     }
-    Ok(kept)
+    Ok(Receipts::from_vec(kept))
 }
 
 /// What seat 2 keeps: nothing, where there is no fault.
 fn third_seat(alloc: Global, fault: Fault) -> Result<Receipts, AllocError> {
-    let mut kept = Receipts::new(alloc);
+    let mut kept = Vec::new(alloc);
     if fault == Fault::TwoPolicyReceipts {
         kept.push(Kept::Admin {
             version: 6,
             entry: sixth(),
         })?;
     }
-    Ok(kept)
+    Ok(Receipts::from_vec(kept))
 }
 
 /// Slot 3 reads version 6 and draws number 1, while slot 2, which read version 5 before, waits and

@@ -1,5 +1,5 @@
--- What a receipt tells, and a seat that knows one list after the other.
-use Rattle.std.proofs.Common.{◌≡◌, ℕ, ◌≤◌, max, List, length, sym, ap, ◌∙◌, subst, arith}
+-- What a receipt tells, and the seat of a command that is answered.
+use Rattle.std.proofs.Common.{◌≡◌, ℕ, ◌≤◌, max, List, ◌++◌, length, sym, ap, ◌∙◌, subst, arith}
 use Rattle.std.specs.Prelude.{Option, Result, Ok, Err, MatchResult}
 use Rattle.refusal_rules.specs.Rules.{accept, ◌▸◌, Answers}
 use Rattle.refusal_rules.proofs.RuleLemmas.{all_passed}
@@ -8,7 +8,9 @@ use Rattle.rbac_policy.specs.declared.commands.Entry.{Entry}
 use Rattle.rbac_admin.specs.declared.refusals.Refusal.{Refusal as PolicyRefusal}
 use Rattle.rbac_admin.specs.PolicyLists.{Begins}
 use Rattle.policy_board.specs.SeatState.{SeatState}
-use Rattle.policy_board.specs.PolicyCommands.{AdminStep, IsPublished, IsRefused, list_full, no_memory, seat_after}
+use Rattle.policy_board.specs.PolicyCommands.{AdminStep, IsPublished, IsRefused, SeatAfter, admin_receipt, list_full, no_memory, seat_after}
+use Rattle.policy_board.specs.Inner.Keeping.{KeepsAnswer}
+use Rattle.seat_receipts.specs.declared.receipt.Kept.{Kept}
 use Rattle.policy_board.specs.declared.refusal.Refusal.{Refusal}
 use Rattle.policy_board.specs.declared.refusal.Refusal.TheVariants.{Policy}
 use Rattle.policy_board.specs.declared.seat.Receipt.{Receipt}
@@ -43,9 +45,16 @@ module _ {J : Type 0} where
       let step' : AdminStep before session command (Ok receipt) after = subst (λ a. AdminStep before session command a after) is step in
       replied_tells before receipt after step'.decided step'.replied
 
--- a seat that knows a list, and then a longer one, knows the longer one
-pub seat_again : (seat : SeatState) (l m : List Entry) → Begins l m → seat_after (seat_after seat l) m ≡ seat_after seat m
-seat_again seat l m b =
+-- a seat that knows a list, keeps an answer's receipt, and then knows the longer list that the answer leaves, is as the command leaves it
+pub seat_answered : {J : Type 0} (seat known kept new : SeatState) (l m : List Entry) (answer : Result (Receipt J) Refusal) → Begins l m → known ≡ seat_after seat l
+    → KeepsAnswer known answer m kept → new ≡ seat_after kept m → SeatAfter seat answer m new
+seat_answered seat known kept new l m answer b first keeps last =
     let le : length l ≤ length m = begins_length b in
-    let seen : max (max seat.seen (length l)) (length m) ≡ max seat.seen (length m) = omega (arith, le) in
-    ap (λ n. let s : SeatState = record { known = m; seen = n } in s) seen
+    let seen : known.seen ≡ max seat.seen (length l) = ap (λ (s : SeatState). s.seen) first in
+    let was : known.kept ≡ seat.kept = ap (λ (s : SeatState). s.kept) first in
+    let now : new.seen ≡ max kept.seen (length m) = ap (λ (s : SeatState). s.seen) last in
+    record {
+      known = ap (λ (s : SeatState). s.known) last;
+      seen = omega (arith, le, seen, now, keeps.seen);
+      kept = ap (λ (s : SeatState). s.kept) last ∙ (keeps.kept ∙ ap (λ (ks : List Kept). ks ++ admin_receipt answer m) was);
+    }

@@ -1,3 +1,4 @@
 pub mod Book
 pub mod Steps
 pub mod Publishing
+pub mod Keeping

@@ -1,5 +1,6 @@
 pub mod Traced
 pub mod SeatState
+pub mod Receipts
 pub mod Rule
 pub mod PolicyCommands
 pub mod Reads

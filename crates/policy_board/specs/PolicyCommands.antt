@@ -7,6 +7,8 @@ use Rattle.rbac_policy.specs.Entries.{is_login, logins}
 use Rattle.rbac_admin.specs.declared.refusals.Refusal.{Refusal as PolicyRefusal}
 use Rattle.rbac_admin.specs.PolicyStep.{PolicyStep}
 use Rattle.rbac_admin.specs.Room.{HasRoomFor}
+use Rattle.seat_receipts.specs.declared.receipt.Kept.{Kept}
+use Rattle.seat_receipts.specs.declared.receipt.Kept.TheVariants.{Admin}
 use Rattle.policy_board.specs.SeatState.{SeatState}
 use Rattle.policy_board.specs.declared.refusal.Refusal.{Refusal}
 use Rattle.policy_board.specs.declared.refusal.Refusal.TheVariants.{Policy, JournalFull, Memory}
@@ -50,6 +52,20 @@ module _ {J : Type 0} where
         (IsPublished entry before answer after))
         (λ refusal. IsRefused (Policy refusal) before answer after)
 
--- the seat knows the whole list as the call leaves it, whatever the answer
+-- the seat knows this list, and nothing else of it changes
 abbrev pub seat_after : SeatState → List Entry → SeatState
-seat_after old list = record { known = list; seen = max old.seen (length list) }
+seat_after old list = record old { known = list; seen = max old.seen (length list) }
+
+module _ {J : Type 0} where
+  -- the receipt that is kept of a policy command with this answer, which leaves this list: of an accepted one its entry, and the version of
+  -- the policy with it
+  abbrev pub admin_receipt : (answer : Result (Receipt J) Refusal) → (after : List Entry) → List Kept
+  admin_receipt (Ok receipt) after = Admin (length after) receipt.entry ∷ []
+  admin_receipt (Err refusal) after = []
+
+  -- the seat knows the whole list as the policy command leaves it, whatever the answer. The receipt of an accepted one stands at the end of its
+  -- receipts; a refused one leaves them
+  pub record SeatAfter (old : SeatState) (answer : Result (Receipt J) Refusal) (after : List Entry) (new : SeatState) : Type 0 where
+    pub known : new.known ≡ after
+    pub seen : new.seen ≡ max old.seen (length after)
+    pub kept : new.kept ≡ old.kept ++ admin_receipt answer after

@@ -2,17 +2,19 @@
 use Rattle.std.specs.Prelude.{◌≡◌, ◌⊎◌, ◌↔◌, ◌<◌, ◌≤◌, Bool, IsTrue, List, length, Result, MatchResult}
 use Rattle.rbac_policy.specs.declared.commands.Entry.{Entry}
 use Rattle.rbac_admin.specs.PolicyLists.{Begins, IsPolicyList}
-use Rattle.policy_board.specs.SeatState.{SeatState}
+use Rattle.policy_board.specs.SeatState.{SeatState, KeepsReceipts}
 use Rattle.policy_board.specs.declared.refusal.Refusal.{Refusal}
 use Rattle.policy_board.specs.declared.refusal.Refusal.TheVariants.{Behind, Memory}
 
--- the seat has read a policy list. It begins with all that the seat knew, and is no shorter than its seen number; the seat then knows it
+-- the seat has read a policy list. It begins with all that the seat knew, and is no shorter than its seen number; the seat then knows it, and
+-- keeps its receipts
 pub record HasRead (old : SeatState) (list : List Entry) (new : SeatState) : Type 0 where
   pub is_list : IsPolicyList list
   pub later : Begins old.known list
   pub fresh : old.seen ≤ length list
   pub known : new.known ≡ list
   pub seen : new.seen ≡ length list
+  pub receipts : KeepsReceipts old new
 
 -- the list that the seat read is shorter than its seen number, and the refusal tells both lengths
 pub record IsBehind (old : SeatState) (refusal : Refusal) : Type 0 where

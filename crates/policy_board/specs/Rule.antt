@@ -5,8 +5,11 @@
 --   publish   the shown policy takes in one entry, once, and the writer's view is the list with it
 --   enter     one reader's view becomes the list that is shown; what is shown stays
 --   leave     ends that reader's read; nothing that the rule speaks of changes
+--   tell      a receipt has a note of the writer's view
+--   learn     a seat takes over such a note, where it is longer than what the seat knows
 --
--- and, beside the rule, get and release of the admin lock, between which one thread has the writer and the journal.
+-- and, beside the rule, get and release of the admin lock, between which one thread has the writer and the journal, of the tally, between
+-- which it has the number of the last slot command that was counted, and of a slot, which lies above this crate.
 use Rattle.std.specs.Prelude.{◌≡◌, ℕ, List}
 use mathlib.Core.Option.{some}
 use lib.ListN.{get_elem?}

@@ -3,10 +3,11 @@ ghost use Rattle.std.specs.Prelude.{◌≡◌, ◌<◌, List, length, MatchResul
 ghost use Rattle.rbac_policy.specs.declared.commands.Entry.{Entry};
 ghost use Rattle.rbac_policy.specs.Facts.{May};
 ghost use Rattle.rbac_admin.specs.PolicyLists.{Begins, IsPolicyList};
-ghost use Rattle.policy_board.specs.PolicyCommands.{AdminStep, seat_after};
+ghost use Rattle.policy_board.specs.PolicyCommands.{AdminStep, SeatAfter};
 ghost use Rattle.policy_board.specs.Reads.{Asks};
-ghost use Rattle.policy_board.specs.declared.board.TheConstants.{POLICY_LIST};
-ghost use Rattle.policy_board.specs.declared.board.Mismatch.TheVariants.{Count};
+ghost use Rattle.policy_board.specs.Receipts.{HasRoom, IsCounted};
+ghost use Rattle.seat_receipts.specs.declared.mismatch.TheConstants.{POLICY_LIST};
+ghost use Rattle.seat_receipts.specs.declared.mismatch.Mismatch.TheVariants.{Count};
 
 use crate::desk::Desk;
 use crate::history::Naming;
@@ -16,32 +17,28 @@ use crate::seat::{Receipt, Seat};
 use rbac_policy::commands::{AdminCommand, SessionId};
 use rbac_policy::journal::PolicyJournal;
 use rbac_policy::objects::{Object, Operation};
+use seat_receipts::mismatch::Mismatch;
+use seat_receipts::receipt::{Kept, SlotReceipt};
 use std::sync::{Mutex, MutexGuard, Wait};
 
-/// The number that stands for the policy list where a slot is named.
-pub const POLICY_LIST: u64 = 16;
-
-/// Where a history doesn't match what was seen of it.
-#[derive(Clone, Copy, PartialEq, Eq, Debug)]
-pub enum Mismatch {
-    /// More was seen of the list of this slot than it has; `POLICY_LIST` stands for the policy list.
-    Count { slot: u64 },
-}
-
-/// The policy of a server, which many threads share. Commands take turns under the admin lock; reads wait for nobody.
+/// The policy of a server, which many threads share, and the tally of its slot commands. Commands take turns under the admin lock; reads wait
+/// for nobody.
 pub struct Board<J: Naming> {
     desk: Mutex<Desk<J>>,
+    // The number of the last slot command that was counted.
+    tally: Mutex<u64>,
 }
 
 impl<J: Naming> Board<J> {
     pub(crate) fn new(desk: Desk<J>) -> Board<J> {
         Board {
             desk: Mutex::new(desk),
+            tally: Mutex::new(0),
         }
     }
 
     /// Answers a policy command, which this session gives, on the list as it is under the admin lock: `before`. It waits for that lock, and
-    /// for reads that still have the older policy.
+    /// for reads that still have the older policy. The seat keeps the receipt of an accepted one.
     ///
     /// # Errors
     ///
@@ -57,13 +54,26 @@ impl<J: Naming> Board<J> {
     ) -> Result<Receipt<J>, Refusal>
         ensures { (before : List Entry) × (after : List Entry)
             × IsPolicyList before × Begins seat.old.known before
-            × AdminStep before session command result after × (seat.new ≡ seat_after seat.old
-            after) }
+            × AdminStep before session command result after
+            × SeatAfter seat.old result after seat.new }
     {
         let mut desk = self.desk.lock(rt);
         let answer = desk.admin(rt, seat, session, command);
         MutexGuard::unlock(desk);
         answer
+    }
+
+    /// Gives the receipt of a slot command the next number of the tally, for which it waits, and has the seat keep it. The first number is 1;
+    /// the greatest would be given again.
+    pub fn count<R: Wait>(&self, rt: &R, seat: &mut Seat<J>, receipt: SlotReceipt)
+        requires { HasRoom seat.old }
+        ensures { IsCounted seat.old receipt seat.new }
+    {
+        let mut tally = self.tally.lock(rt);
+        let number = tally.saturating_add(1);
+        *tally = number;
+        MutexGuard::unlock(tally);
+        seat.keep(Kept::Slot(SlotReceipt { number, ..receipt }));
     }
 
     /// Whether the session may do the operation on the object. It waits for nobody.
@@ -87,7 +97,7 @@ impl<J: Naming> Board<J> {
 
     /// Ends the board.
     pub fn close(self) -> Closed<J> {
-        let Board { desk } = self;
+        let Board { desk, tally: _ } = self;
         Closed {
             desk: desk.into_inner(),
         }

@@ -4,11 +4,11 @@ ghost use Rattle.rbac_policy.specs.declared.commands.Entry.{Entry};
 ghost use Rattle.rbac_policy.specs.StandsFor.{StandsFor};
 ghost use Rattle.refusal_rules.specs.Rules.{accept, ◌▸◌, Answers};
 ghost use Rattle.rbac_admin.specs.PolicyLists.{Begins, IsAccepted, IsPolicyList};
-ghost use Rattle.policy_board.specs.PolicyCommands.{AdminStep, IsPublished, IsRefused, no_memory, seat_after, session_made};
-ghost use Rattle.policy_board.specs.declared.board.TheConstants.{POLICY_LIST};
-ghost use Rattle.policy_board.specs.declared.board.Mismatch.TheVariants.{Count};
+ghost use Rattle.policy_board.specs.PolicyCommands.{AdminStep, IsPublished, IsRefused, SeatAfter, no_memory, session_made};
+ghost use Rattle.policy_board.specs.Inner.Keeping.{KeepsAnswer};
+ghost use Rattle.seat_receipts.specs.declared.mismatch.TheConstants.{POLICY_LIST};
+ghost use Rattle.seat_receipts.specs.declared.mismatch.Mismatch.TheVariants.{Count};
 
-use crate::board::{Mismatch, POLICY_LIST};
 use crate::history::Naming;
 use crate::publisher::Publisher;
 use crate::reader::SlotReader;
@@ -19,6 +19,8 @@ use rbac_admin::room::has_room;
 use rbac_policy::commands::{AdminCommand, Entry, SessionId};
 use rbac_policy::journal::PolicyJournal;
 use rbac_policy::policy::Policy;
+use seat_receipts::mismatch::{Mismatch, POLICY_LIST};
+use seat_receipts::receipt::Kept;
 use std::alloc::AllocError;
 use std::marker::Model;
 use std::sync::Wait;
@@ -51,13 +53,14 @@ fn put_back<T>(place: &mut Option<T>, value: T)
     }
 }
 
-// Two copies of the entry: one is published, the other goes into its receipt.
-fn copies(entry: &Entry) -> Result<(Entry, Entry), AllocError>
-    ensures { IfOk result (λ both. (both.0 ≡ entry.now) × (both.1 ≡ entry.now)) }
+// Three copies of the entry: one is published, one goes into the answer, and one into the receipt that the seat keeps.
+fn copies(entry: &Entry) -> Result<(Entry, Entry, Entry), AllocError>
+    ensures { IfOk result (λ all. (all.0 ≡ entry.now) × (all.1 ≡ entry.now) × (all.2 ≡ entry.now)) }
 {
     let published = entry.clone()?;
     let told = entry.clone()?;
-    Ok((published, told))
+    let kept = entry.clone()?;
+    Ok((published, told, kept))
 }
 
 // The session that the entry, which the policy took in last, has made.
@@ -97,15 +100,22 @@ impl<J: Naming> Desk<J> {
         }
     }
 
-    // Publishes the entry. All that may be refused has been asked, but for the journal's place, which is taken first.
-    fn append<R: Wait>(&mut self, rt: &R, entry: Entry) -> Result<Receipt<J>, Refusal>
+    // Publishes the entry, and has the seat keep its receipt. All that may be refused has been asked, but for memory, which is taken first.
+    fn append<R: Wait>(
+        &mut self,
+        rt: &R,
+        seat: &mut Seat<J>,
+        entry: Entry,
+    ) -> Result<Receipt<J>, Refusal>
         requires { IsAccepted self.old entry }
-        ensures { Answers (no_memory ▸ accept) (λ refusal. IsRefused refusal self.old result
+        ensures answer { Answers (no_memory ▸ accept) (λ refusal. IsRefused refusal self.old result
             self.new) (IsPublished entry self.old result self.new) }
+        ensures seat { KeepsAnswer seat.old result self.new seat.new }
     {
-        let Ok((published, told)) = copies(&entry) else {
+        let Ok((published, told, kept)) = copies(&entry) else {
             return Err(Refusal::Memory);
         };
+        seat.room()?;
         let Ok(()) = self.journal.push(entry) else {
             return Err(Refusal::Memory);
         };
@@ -116,6 +126,10 @@ impl<J: Naming> Desk<J> {
             list: publisher.front(),
         };
         put_back(&mut self.publisher, publisher);
+        seat.keep(Kept::Admin {
+            version: receipt.version(),
+            entry: kept,
+        });
         Ok(receipt)
     }
 
@@ -123,10 +137,12 @@ impl<J: Naming> Desk<J> {
     fn answer<R: Wait>(
         &mut self,
         rt: &R,
+        seat: &mut Seat<J>,
         session: Option<SessionId>,
         command: AdminCommand,
     ) -> Result<Receipt<J>, Refusal>
-        ensures { AdminStep self.old session command result self.new }
+        ensures step { AdminStep self.old session command result self.new }
+        ensures seat { KeepsAnswer seat.old result self.new seat.new }
     {
         let policy = self.publisher.as_ref().unwrap().policy();
         let entry = match decide(policy, session, command) {
@@ -136,10 +152,11 @@ impl<J: Naming> Desk<J> {
         if !has_room(self.journal.entries(), &entry.command) {
             return Err(Refusal::JournalFull);
         }
-        self.append(rt, entry)
+        self.append(rt, seat, entry)
     }
 
-    /// Answers a policy command. An accepted one adds its entry at the end, and publishes it. The seat then knows the list.
+    /// Answers a policy command. An accepted one adds its entry at the end, and publishes it. The seat then knows the list, and keeps the
+    /// receipt of an accepted one.
     pub fn admin<R: Wait>(
         &mut self,
         rt: &R,
@@ -150,12 +167,12 @@ impl<J: Naming> Desk<J> {
         ensures known { Begins seat.old.known self.old }
         ensures list { IsPolicyList self.old }
         ensures step { AdminStep self.old session command result self.new }
-        ensures seat { seat.new ≡ seat_after seat.old self.new }
+        ensures seat { SeatAfter seat.old result self.new seat.new }
     {
         let publisher = self.publisher.as_ref().unwrap();
         publisher.wait_whole(rt, seat.known());
         seat.know(&publisher.front());
-        let answer = self.answer(rt, session, command);
+        let answer = self.answer(rt, seat, session, command);
         if let Ok(receipt) = &answer {
             seat.know(receipt.list());
         }

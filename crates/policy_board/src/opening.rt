@@ -2,6 +2,7 @@
 ghost use Rattle.std.specs.Prelude.{◌≡◌, ◌≤◌, [], drop, replicate, vec_capacity, IfOk, IfErr};
 ghost use Rattle.rbac_policy.specs.Opening.{opening_entries};
 ghost use Rattle.rbac_policy.specs.declared.objects.TheConstants.{SLOTS};
+ghost use Rattle.seat_receipts.specs.declared.receipts.TheConstants.{SEATS};
 ghost use Rattle.policy_board.specs.SeatState.{new_seat};
 ghost use Rattle.policy_board.specs.Inner.Publishing.{IsPublishing};
 ghost use Rattle.policy_board.specs.declared.refusal.Refusal.TheVariants.{Memory};
@@ -17,10 +18,8 @@ use crate::shown::{PolicyWriter, Shown};
 use rbac_policy::journal::PolicyJournal;
 use rbac_policy::objects::SLOTS;
 use rbac_policy::policy::Policy;
+use seat_receipts::receipts::SEATS;
 use std::alloc::{AllocError, Global};
-
-/// The most seats of a board.
-pub const SEATS: usize = 16;
 
 /// A board with its seats, and a reader for each slot.
 pub struct Opened<J: Naming> {
@@ -73,6 +72,7 @@ fn fill_readers<J: Naming>(
 
 // So many seats, in room that was made for them.
 fn fill_seats<J: Naming>(
+    alloc: Global,
     room: Vec<Seat<J>>,
     publisher: &Publisher<J>,
     opening: &Front<J>,
@@ -84,7 +84,7 @@ fn fill_seats<J: Naming>(
 {
     let mut seats = room;
     while seats.len() < count {
-        seats.push_reserved(Seat::new(publisher.reader(opening)));
+        seats.push_reserved(Seat::new(alloc, publisher.reader(opening)));
     }
     seats
 }
@@ -102,7 +102,7 @@ fn open_parts<J: Naming>(alloc: Global, fresh: Fresh, seats: usize) -> Result<Op
     let seat_room = Vec::with_capacity(alloc, seats)?;
     let reader_room = Vec::with_capacity(alloc, slots)?;
     let publisher = Publisher::new(open_writer(alloc, &opening, seats + slots)?, head);
-    let seats = fill_seats(seat_room, &publisher, &opening, seats);
+    let seats = fill_seats(alloc, seat_room, &publisher, &opening, seats);
     let readers = fill_readers(reader_room, &publisher, &opening, slots);
     Ok(Opened {
         board: Board::new(Desk::new(publisher, journal)),

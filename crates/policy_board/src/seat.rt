@@ -1,16 +1,22 @@
 //! A caller's place at the board: what it has seen, and its own reader.
-ghost use Rattle.std.specs.Prelude.{◌≡◌, ◌≤◌, max, length, MatchResult};
+ghost use Rattle.std.specs.Prelude.{◌≡◌, ◌⊎◌, ◌≤◌, max, length, MatchResult};
 ghost use Rattle.rbac_policy.specs.Facts.{IsLive, May};
 ghost use Rattle.rbac_policy.specs.Opening.{opening_entries};
 ghost use Rattle.rbac_admin.specs.PolicyLists.{Begins, IsPolicyList};
 ghost use Rattle.policy_board.specs.Reads.{Asks, HasRead, IsUnread};
 ghost use Rattle.policy_board.specs.PolicyCommands.{seat_after};
+ghost use Rattle.policy_board.specs.Receipts.{HasRoom, seat_keeping};
+ghost use Rattle.policy_board.specs.SeatState.{KeepsReceipts, new_seat};
+ghost use Rattle.policy_board.specs.declared.refusal.Refusal.TheVariants.{Memory};
 
 use crate::history::{Front, Naming};
 use crate::reader::{Reading, SlotReader};
 use crate::refusal::Refusal;
 use rbac_policy::commands::{Entry, SessionId};
 use rbac_policy::objects::{Object, Operation};
+use seat_receipts::receipt::Kept;
+use seat_receipts::receipts::Receipts;
+use std::alloc::Global;
 use std::marker::Model;
 use std::mem::replace;
 
@@ -52,36 +58,44 @@ impl<J: Naming> Receipt<J> {
     }
 }
 
-/// A caller's place. What it asks is answered for a policy that is no older than any that it has seen or was told of.
+/// A caller's place. What it asks is answered for a policy that is no older than any that it has seen or was told of. It keeps the receipts
+/// of its calls that added an entry, in their order.
 #[derive(Drop)]
 pub struct Seat<J: Naming> {
     reader: SlotReader<J>,
     known: Front<J>,
     seen: u64,
+    kept: Vec<Kept>,
 }
 
 impl<J: Naming> Model for Seat<J> {
-    ghost use Rattle.std.specs.Prelude.{◌≤◌, max, length};
+    ghost use Rattle.std.specs.Prelude.{◌≤◌, max, length, vec_capacity};
     ghost use Rattle.rbac_policy.specs.Opening.{opening_entries};
     ghost use Rattle.policy_board.specs.SeatState.{SeatState};
 
     ghost Value = { SeatState };
 
-    ghost view = { λ s. record { known = s.known; seen = s.seen } };
+    ghost view = { λ s. record {
+      known = s.known;
+      seen = s.seen;
+      kept = s.kept.items;
+      room = vec_capacity s.kept;
+    } };
 
     ghost invariant = { λ s. length s.known ≤ max s.seen (length opening_entries) };
 }
 
 impl<J: Naming> Seat<J> {
     /// A seat that has seen nothing but the opening entries.
-    pub(crate) fn new(reader: SlotReader<J>) -> Seat<J>
+    pub(crate) fn new(alloc: Global, reader: SlotReader<J>) -> Seat<J>
         requires { reader ≡ opening_entries }
-        ensures { result ≡ record { known = opening_entries; seen = 0 } }
+        ensures { result ≡ new_seat }
     {
         Seat {
             known: reader.front().again(),
             reader,
             seen: 0,
+            kept: Vec::new(alloc),
         }
     }
 
@@ -97,6 +111,45 @@ impl<J: Naming> Seat<J> {
         ensures { self.new ≡ record self.old { seen = max self.old.seen version } }
     {
         self.seen = self.seen.max(version);
+    }
+
+    /// The receipts of its calls, the oldest first.
+    pub fn kept(&self) -> &[Kept]
+        ensures { result.now ≡ self.now.kept }
+    {
+        self.kept.as_slice()
+    }
+
+    /// Makes room for one receipt.
+    ///
+    /// # Errors
+    ///
+    /// Memory, where memory was refused. The seat is then as it was.
+    pub fn room(&mut self) -> Result<(), Refusal>
+        ensures { MatchResult result
+            (λ _. HasRoom self.new × (self.new ≡ record self.old { room = self.new.room }))
+            (λ refusal. (refusal ≡ Memory) × (self.new ≡ self.old)) }
+    {
+        match self.kept.reserve(1) {
+            Ok(()) => Ok(()),
+            Err(_) => Err(Refusal::Memory),
+        }
+    }
+
+    /// It keeps this receipt, at the end of the others.
+    pub(crate) fn keep(&mut self, kept: Kept)
+        requires { HasRoom self.old }
+        ensures { self.new ≡ seat_keeping self.old kept }
+    {
+        self.kept.push_reserved(kept);
+    }
+
+    /// Its receipts. This ends the seat.
+    pub fn into_receipts(self) -> Receipts
+        ensures { result ≡ self.kept }
+    {
+        let Seat { kept, .. } = self;
+        Receipts::from_vec(kept)
     }
 
     /// It has seen this list, which is no shorter than its seen number: so the list begins with all that it knew.
@@ -132,7 +185,9 @@ impl<J: Naming> Seat<J> {
     pub fn learn(&mut self, receipt: Receipt<J>)
         ensures before { Begins self.old.known self.new.known }
         ensures told { Begins receipt.list self.new.known }
+        ensures one { (self.new.known ≡ self.old.known) ⊎ (self.new.known ≡ receipt.list) }
         ensures seen { self.new.seen ≡ max self.old.seen (length receipt.list) }
+        ensures kept { KeepsReceipts self.old self.new }
     {
         let Receipt { list, .. } = receipt;
         self.seen = self.seen.max(list.version());

@@ -1,8 +1,7 @@
 //! The list of a seat's receipts.
-ghost use Rattle.std.specs.Prelude.{◌≡◌, ◌++◌, ◌∷◌, [], MatchResult};
+ghost use Rattle.std.specs.Prelude.{◌≡◌};
 
 use crate::receipt::Kept;
-use std::alloc::{AllocError, Global};
 use std::marker::Model;
 
 /// The most seats that a server has.
@@ -24,13 +23,11 @@ impl Model for Receipts {
 }
 
 impl Receipts {
-    /// No receipt yet. It takes no memory.
-    pub fn new(alloc: Global) -> Receipts
-        ensures { result ≡ [] }
+    /// These receipts, the oldest first.
+    pub fn from_vec(receipts: Vec<Kept>) -> Receipts
+        ensures { result ≡ receipts.items }
     {
-        Receipts {
-            receipts: Vec::new(alloc),
-        }
+        Receipts { receipts }
     }
 
     /// The receipts, the oldest first.
@@ -38,14 +35,5 @@ impl Receipts {
         ensures { result.now ≡ self.now }
     {
         self.receipts.as_slice()
-    }
-
-    /// Adds a receipt at the end, or stays as it is where memory is refused.
-    pub fn push(&mut self, kept: Kept) -> Result<(), AllocError>
-        ensures { MatchResult result (λ _. self.new ≡ self.old ++ kept ∷ [])
-            (λ _. self.new ≡ self.old) }
-    {
-        self.receipts.push(kept)?;
-        Ok(())
     }
 }

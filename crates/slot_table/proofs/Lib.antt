@@ -1,1 +1,4 @@
 pub mod Legality
+pub mod Asking
+pub mod Ending
+pub mod Handing

@@ -17,32 +17,35 @@ use Rattle.access_core.specs.SlotStep.{SlotStep}
 use Rattle.slot_table.specs.Conversions.{of_board}
 use Rattle.access_core.specs.Journals.{IsLegal}
 use Rattle.slot_table.specs.LockedState.{LockedState}
+use Rattle.slot_table.specs.Receipts.{asked_by, Keeps}
 
 -- the slot's reader has read a policy list. It begins with all that this reader had seen and all that the seat knew, and is no shorter than
--- the seat's seen number. The slot step on it gives the reply and the journal, and the seat then knows it
+-- the seat's seen number. The slot step on it gives the reply and the journal. The seat then knows it, and
+-- keeps a receipt of a reply that tells a place
 pub record IsJudged (slot session : ℕ) (command : SlotCommand) (old : LockedState) (seat : SeatState) (reply : Reply) (new : LockedState) (after : SeatState) : Type 0 where
   pub is_list : IsPolicyList new.list
   pub later : Begins old.list new.list
   pub known : Begins seat.known new.list
   pub fresh : seat.seen ≤ length new.list
   pub step : SlotStep new.list slot session command old.journal reply new.journal
-  pub seat_knows : after ≡ seat_after seat new.list
+  pub seat_knows : after ≡ record (seat_after seat new.list) { kept = after.kept; room = after.room }
+  pub keeps : Keeps slot session (asked_by command) reply seat.kept after.kept
 
 -- the policy list that the slot's reader has read is shorter than the seat's seen number, and the refusal tells both lengths. Journal and
--- seat stay
+-- seat stay, but for the seat's room
 pub record IsBehind (old : LockedState) (seat : SeatState) (reply : Reply) (new : LockedState) (after : SeatState) : Type 0 where
   pub is_list : IsPolicyList new.list
   pub later : Begins old.list new.list
   pub stale : length new.list < seat.seen
   pub answered : reply ≡ Refused (Behind (length new.list) seat.seen)
   pub journal_stays : new.journal ≡ old.journal
-  pub seat_stays : after ≡ seat
+  pub seat_stays : after ≡ record seat { room = after.room }
 
--- the slot's reader could read nothing, and all stays
+-- the slot's reader could read nothing, or the seat has no room for a receipt, and all stays but for the seat's room
 pub record IsUnreadable (old : LockedState) (seat : SeatState) (reply : Reply) (new : LockedState) (after : SeatState) : Type 0 where
   pub answered : reply ≡ Refused Memory
   pub slot_stays : new ≡ old
-  pub seat_stays : after ≡ seat
+  pub seat_stays : after ≡ record seat { room = after.room }
 
 -- a command on the slot that is lent under its lock: it is judged, or what was read is behind, or nothing could be read
 abbrev pub LockedCommand : (slot session : ℕ) → SlotCommand → (old : LockedState) → (seat : SeatState) → Reply → (new : LockedState) → (after : SeatState) → Type 0

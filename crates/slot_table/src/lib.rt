@@ -7,7 +7,9 @@
 //! wait ends.
 #![tactic(auto)]
 
+pub mod closing;
 pub mod conversions;
 pub mod laws;
+mod receipts;
 mod slot;
 pub mod table;

@@ -1,21 +1,28 @@
 //! What lies under a slot's lock.
-ghost use Rattle.std.specs.Prelude.{◌≡◌, ◌<◌, []};
+ghost use Rattle.std.specs.Prelude.{◌≡◌, ◌<◌, [], length, MatchResult};
 ghost use Rattle.rbac_policy.specs.declared.objects.TheConstants.{SLOTS};
 ghost use Rattle.access_core.specs.Journals.{IsLegal};
+ghost use Rattle.seat_receipts.specs.declared.mismatch.TheConstants.{POLICY_LIST};
+ghost use Rattle.seat_receipts.specs.declared.mismatch.Mismatch.TheVariants.{Count};
 ghost use Rattle.slot_table.specs.SlotCommands.{LockedCommand};
 
+use crate::receipts::{asked_by, keep};
 use access_core::command::SlotCommand;
 use access_core::refusal::Refusal;
 use access_core::reply::Reply;
 use access_core::slot::{Slot, decide_slot};
+use policy_board::board::{Board, Closed};
 use policy_board::history::Naming;
 use policy_board::reader::SlotReader;
 use policy_board::seat::Seat;
 use rbac_policy::commands::SessionId;
 use rbac_policy::objects::SlotNumber;
+use reactor_core::journal::Journal;
+use seat_receipts::mismatch::Mismatch;
 use std::alloc::Global;
 use std::marker::Model;
 use std::mem::replace;
+use std::sync::Wait;
 
 /// The slot of this number with its reader. A contract sees its journal, and the policy list that the reader has seen. The journal is legal
 /// over that list.
@@ -49,14 +56,24 @@ impl<J: Naming, const NUMBER: u8> LockedSlot<J, NUMBER> {
         }
     }
 
-    /// Answers a command on the policy as the slot's own reader reads it.
-    pub fn command(&mut self, seat: &mut Seat<J>, session: SessionId, command: SlotCommand) -> Reply
+    /// Answers a command on the policy as the slot's own reader reads it. The seat keeps a receipt of a reply that tells a place.
+    pub fn command<R: Wait>(
+        &mut self,
+        rt: &R,
+        board: &Board<J>,
+        seat: &mut Seat<J>,
+        session: SessionId,
+        command: SlotCommand,
+    ) -> Reply
         ensures before { IsLegal self.old.list NUMBER self.old.journal }
         ensures after { IsLegal self.new.list NUMBER self.new.journal }
         ensures command { LockedCommand NUMBER session command self.old seat.old result self.new
             seat.new }
     {
         let away = SlotReader::vacant(self.reader.front().again());
+        let Ok(()) = seat.room() else {
+            return Reply::Refused(Refusal::Memory);
+        };
         let reading = match replace(&mut self.reader, away).enter() {
             Ok(reading) => reading,
             Err(reader) => {
@@ -70,8 +87,25 @@ impl<J: Naming, const NUMBER: u8> LockedSlot<J, NUMBER> {
             return Reply::Refused(Refusal::Behind { found, seen });
         }
         seat.saw_list(reading.front());
+        let asked = asked_by(&command);
         let reply = decide_slot(reading.policy(), &mut self.core, session, command);
         self.reader = reading.leave();
+        keep(rt, board, seat, NUMBER, session, asked, &reply);
         reply
+    }
+
+    /// Hands the reader back to the board, and gives the journal. It is legal over the policy list, or the reader has seen more of that.
+    pub fn end(self, board: &mut Closed<J>) -> (Journal, Result<(), Mismatch>)
+        ensures journal { result.0 ≡ self.journal }
+        ensures seen { IsLegal self.list NUMBER self.journal }
+        ensures handed { MatchResult result.1
+            (λ _. IsLegal board.old.desk NUMBER self.journal)
+            (λ mismatch. (mismatch ≡ Count POLICY_LIST)
+            × (length board.old.desk < length self.list)) }
+        ensures board { board.new.desk ≡ board.old.desk }
+    {
+        let LockedSlot { core, reader } = self;
+        let handed = board.reader(reader);
+        (core.into_journal(), handed)
     }
 }

@@ -1,18 +1,28 @@
 //! Sixteen slots, each under a lock of its own.
-ghost use Rattle.std.specs.Prelude.{◌≡◌, ◌⊎◌, ◌<◌, ◌≤◌, ◌+◌, vec_len};
+ghost use Rattle.std.specs.Prelude.{◌≡◌, ◌⊎◌, ◌<◌, ◌≤◌, ◌+◌, vec_len, OnOk, IfOk, IfErr};
 ghost use Rattle.rbac_policy.specs.declared.objects.TheConstants.{SLOTS};
+ghost use Rattle.rbac_admin.specs.PolicyLists.{IsPolicyList};
+ghost use Rattle.seat_receipts.specs.declared.receipts.TheConstants.{SEATS};
+ghost use Rattle.history_merge.specs.OneList.{AreOfOneList};
+ghost use Rattle.slot_table.specs.Closing.{AllRise, AreLegal, IsJustified, kept_of};
+ghost use Rattle.slot_table.specs.Inner.Ending.{EndFrom};
 ghost use Rattle.slot_table.specs.SlotCommands.{IsAnswered, IsNoSlot, IsNotAsked, TableCommand};
 
+use crate::closing::{Closing, Histories, settle};
 use crate::conversions::of_board;
 use crate::slot::LockedSlot;
 use access_core::command::SlotCommand;
 use access_core::refusal::Refusal;
 use access_core::reply::Reply;
+use policy_board::board::Board;
 use policy_board::history::Naming;
 use policy_board::reader::SlotReader;
 use policy_board::seat::Seat;
 use rbac_policy::commands::SessionId;
 use rbac_policy::objects::SLOTS;
+use reactor_core::journal::Journal;
+use seat_receipts::mismatch::Mismatch;
+use seat_receipts::receipts::SEATS;
 use std::alloc::Global;
 use std::sync::{Mutex, MutexGuard, Wait};
 
@@ -53,6 +63,7 @@ fn open_slot<J: Naming, const NUMBER: u8>(
 // Answers a command on the slot under this lock.
 fn answer<J: Naming, const NUMBER: u8, R: Wait>(
     rt: &R,
+    board: &Board<J>,
     slot: &Mutex<LockedSlot<J, NUMBER>>,
     seat: &mut Seat<J>,
     session: SessionId,
@@ -62,7 +73,7 @@ fn answer<J: Naming, const NUMBER: u8, R: Wait>(
     ensures { IsAnswered NUMBER session command seat.old result seat.new }
 {
     let mut locked = slot.lock(rt);
-    let reply = locked.command(seat, session, command);
+    let reply = locked.command(rt, board, seat, session, command);
     MutexGuard::unlock(locked);
     reply
 }
@@ -107,10 +118,11 @@ impl<J: Naming> SlotTable<J> {
     }
 
     /// Answers a command of this session on the slot of this number, under the slot's lock, for which it waits. A number that no slot has
-    /// takes no lock: the seat's own reader tells whether the session lives.
+    /// takes no lock: the seat's own reader tells whether the session lives. A reply that tells a place leaves a receipt with the seat.
     pub fn command<R: Wait>(
         &self,
         rt: &R,
+        board: &Board<J>,
         seat: &mut Seat<J>,
         session: SessionId,
         slot: u64,
@@ -119,23 +131,93 @@ impl<J: Naming> SlotTable<J> {
         ensures { TableCommand slot session command seat.old result seat.new }
     {
         match slot {
-            0 => answer(rt, &self.slot0, seat, session, command),
-            1 => answer(rt, &self.slot1, seat, session, command),
-            2 => answer(rt, &self.slot2, seat, session, command),
-            3 => answer(rt, &self.slot3, seat, session, command),
-            4 => answer(rt, &self.slot4, seat, session, command),
-            5 => answer(rt, &self.slot5, seat, session, command),
-            6 => answer(rt, &self.slot6, seat, session, command),
-            7 => answer(rt, &self.slot7, seat, session, command),
-            8 => answer(rt, &self.slot8, seat, session, command),
-            9 => answer(rt, &self.slot9, seat, session, command),
-            10 => answer(rt, &self.slot10, seat, session, command),
-            11 => answer(rt, &self.slot11, seat, session, command),
-            12 => answer(rt, &self.slot12, seat, session, command),
-            13 => answer(rt, &self.slot13, seat, session, command),
-            14 => answer(rt, &self.slot14, seat, session, command),
-            15 => answer(rt, &self.slot15, seat, session, command),
+            0 => answer(rt, board, &self.slot0, seat, session, command),
+            1 => answer(rt, board, &self.slot1, seat, session, command),
+            2 => answer(rt, board, &self.slot2, seat, session, command),
+            3 => answer(rt, board, &self.slot3, seat, session, command),
+            4 => answer(rt, board, &self.slot4, seat, session, command),
+            5 => answer(rt, board, &self.slot5, seat, session, command),
+            6 => answer(rt, board, &self.slot6, seat, session, command),
+            7 => answer(rt, board, &self.slot7, seat, session, command),
+            8 => answer(rt, board, &self.slot8, seat, session, command),
+            9 => answer(rt, board, &self.slot9, seat, session, command),
+            10 => answer(rt, board, &self.slot10, seat, session, command),
+            11 => answer(rt, board, &self.slot11, seat, session, command),
+            12 => answer(rt, board, &self.slot12, seat, session, command),
+            13 => answer(rt, board, &self.slot13, seat, session, command),
+            14 => answer(rt, board, &self.slot14, seat, session, command),
+            15 => answer(rt, board, &self.slot15, seat, session, command),
             _ => refuse_number(seat, session, slot),
         }
+    }
+
+    // The journals, by number. Each lock is opened, and its reader handed back.
+    fn end(self, closing: &mut Closing<J>) -> [Journal; SLOTS as usize]
+        ensures { EndFrom 0 closing.old result closing.new }
+    {
+        let SlotTable {
+            slot0,
+            slot1,
+            slot2,
+            slot3,
+            slot4,
+            slot5,
+            slot6,
+            slot7,
+            slot8,
+            slot9,
+            slot10,
+            slot11,
+            slot12,
+            slot13,
+            slot14,
+            slot15,
+        } = self;
+        [
+            closing.end(slot0),
+            closing.end(slot1),
+            closing.end(slot2),
+            closing.end(slot3),
+            closing.end(slot4),
+            closing.end(slot5),
+            closing.end(slot6),
+            closing.end(slot7),
+            closing.end(slot8),
+            closing.end(slot9),
+            closing.end(slot10),
+            closing.end(slot11),
+            closing.end(slot12),
+            closing.end(slot13),
+            closing.end(slot14),
+            closing.end(slot15),
+        ]
+    }
+
+    /// Ends a server: its journals, where each of their entries was asked for by one call of one of these seats, which keeps its
+    /// receipt. Board and seats are those of its readers. It waits for reads of the policy, and takes no memory.
+    ///
+    /// # Errors
+    ///
+    /// - Count, where the reader of a slot has seen more policy entries than there are, or the receipts of a list are not as many as its
+    ///   entries;
+    /// - Receipt, where what it names is not there, has the place of another, or breaks the order.
+    pub fn close<R: Wait>(
+        self,
+        rt: &R,
+        alloc: Global,
+        board: Board<J>,
+        seats: Vec<Seat<J>>,
+    ) -> Result<Histories, Mismatch>
+        requires few { vec_len seats ≤ SEATS }
+        ensures one { IfOk result (λ h. AreOfOneList h.policy h.slots (kept_of seats.items)) }
+        ensures rises { OnOk result (AllRise (kept_of seats.items)) }
+        ensures list { IfOk result (λ h. IsPolicyList h.policy) }
+        ensures legal { IfOk result (λ h. AreLegal h.policy h.slots) }
+        ensures err { IfErr result (λ mismatch. IsJustified (kept_of seats.items) mismatch) }
+    {
+        let mut closing = Closing::begin(board);
+        let slots = self.end(&mut closing);
+        let policy = closing.journal(rt)?;
+        settle(alloc, Histories { policy, slots }, seats)
     }
 }

@@ -3,8 +3,9 @@ ghost use Rattle.std.specs.Prelude.{◌≡◌, ◌≤◌};
 
 use policy_board::board::Board;
 use policy_board::history::{Fresh, Naming};
-use policy_board::opening::{Opened, SEATS};
+use policy_board::opening::Opened;
 use policy_board::seat::Seat;
+use seat_receipts::receipts::SEATS;
 use slot_table::table::SlotTable;
 use std::alloc::Global;
 use std::process::Abort;

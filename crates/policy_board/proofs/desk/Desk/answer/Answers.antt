@@ -22,8 +22,8 @@ append-requires g c =
     let accepted : IsAccepted journal e = record { step = accepted_again journal c.args.session c.args.command e step; room = room } in
     subst (λ (l : List Entry). IsAccepted l e) c.self.view_is accepted
 
-pub returns : goal.returns
-returns g c =
+pub returns-clause-step : goal.returns-clause-step
+returns-clause-step g c =
     let journal = c.self.inside.journal in
     let e = c.in-Ok.entry in
     let is : Some c.unwrap.result.now ≡ Some journal = ap option_copied (sym c.unwrap.ensures) ∙ (c.as_ref.ensures.value ∙ c.self.invariant) in
@@ -35,5 +35,5 @@ returns g c =
     record {
       decided = Ok e;
       given = step;
-      replied = pass (subst (HasRoomFor e.command) c.self.view_is room) c.append.ensures;
+      replied = pass (subst (HasRoomFor e.command) c.self.view_is room) c.append.ensures.answer;
     }

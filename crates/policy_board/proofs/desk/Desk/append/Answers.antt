@@ -5,8 +5,8 @@ use Rattle.rbac_policy.specs.StandsFor.{StandsFor}
 use Rattle.policy_board.specs.PolicyCommands.{session_made}
 use Rattle.policy_board.proofs.desk.Desk.append.Goals as goal
 
-pub returns : goal.returns
-returns g c =
+pub returns-clause-answer : goal.returns-clause-answer
+returns-clause-answer g c =
     let journal = c.self.inside.journal in
     let e = c.args.entry in
     let is : Some c.unwrap.result ≡ Some journal = sym c.unwrap.ensures ∙ (c.take.ensures.value ∙ c.self.invariant) in

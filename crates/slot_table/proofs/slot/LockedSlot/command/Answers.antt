@@ -1,27 +1,29 @@
 use Rattle.std.proofs.Common.{◌∙◌, List, sym, subst}
+use Rattle.std.specs.Prelude.{IsSome}
 use Rattle.rbac_policy.specs.declared.commands.Entry.{Entry}
 use Rattle.access_core.specs.Journals.{IsLegal}
 use Rattle.slot_table.specs.LockedState.{LockedState}
+use Rattle.slot_table.proofs.Asking.{tells_asked}
 use Rattle.slot_table.proofs.Legality.{read_legal, judged_legal}
 use Rattle.slot_table.proofs.slot.LockedSlot.command.Goals as goal
 
 pub invariant_of-self-then-found-seen : goal.invariant_of-self-then-found-seen
-invariant_of-self-then-found-seen g c = (c.self.invariant.0, read_legal _ _ _ _ _ _ c.replace.ensures.value c.leave.ensures c.in-Ok.ensures c.self.invariant.1)
+invariant_of-self-then-found-seen g c = (c.self.invariant.0, read_legal _ _ _ _ _ _ c.replace.ensures.value c.leave.ensures c.in-Ok-enter.ensures c.self.invariant.1)
 
 pub returns-then-found-seen-clause-after : goal.returns-then-found-seen-clause-after
-returns-then-found-seen-clause-after g c = read_legal _ _ _ _ _ _ c.replace.ensures.value c.leave.ensures c.in-Ok.ensures c.self.invariant.1
+returns-then-found-seen-clause-after g c = read_legal _ _ _ _ _ _ c.replace.ensures.value c.leave.ensures c.in-Ok-enter.ensures c.self.invariant.1
 
 pub invariant_of-self-2 : goal.invariant_of-self-2
 invariant_of-self-2 g c = (
   c.decide_slot-reply.ensures.number ∙ c.self.invariant.0,
-  judged_legal _ _ _ _ _ _ _ _ _ _ _ c.replace.ensures.value c.leave-2.ensures c.in-Ok.ensures c.self.invariant.1 c.self.invariant.0
-      (c.decide_slot-reply.ensures.step c.in-Ok.reading c.policy.ensures),
+  judged_legal _ _ _ _ _ _ _ _ _ _ _ c.replace.ensures.value c.leave-2.ensures c.in-Ok-enter.ensures c.self.invariant.1 c.self.invariant.0
+      (c.decide_slot-reply.ensures.step c.in-Ok-enter.reading c.policy.ensures),
 )
 
 pub returns-clause-after : goal.returns-clause-after
 returns-clause-after g c =
-    judged_legal _ _ _ _ _ _ _ _ _ _ _ c.replace.ensures.value c.leave-2.ensures c.in-Ok.ensures c.self.invariant.1 c.self.invariant.0
-    (c.decide_slot-reply.ensures.step c.in-Ok.reading c.policy.ensures)
+    judged_legal _ _ _ _ _ _ _ _ _ _ _ c.replace.ensures.value c.leave-2.ensures c.in-Ok-enter.ensures c.self.invariant.1 c.self.invariant.0
+    (c.decide_slot-reply.ensures.step c.in-Ok-enter.reading c.policy.ensures)
 
 pub invariant_of-self : goal.invariant_of-self
 invariant_of-self g c = (
@@ -44,3 +46,14 @@ returns-then-found-seen-clause-before g c =
 
 pub returns-clause-before : goal.returns-clause-before
 returns-clause-before g c = subst (λ (s : LockedState). IsLegal s.list g.row.NUMBER s.journal) c.self.view_is c.self.invariant.1
+
+pub returns-in_default-clause-before : goal.returns-in_default-clause-before
+returns-in_default-clause-before g c = subst (λ (s : LockedState). IsLegal s.list g.row.NUMBER s.journal) c.self.view_is c.self.invariant.1
+
+pub returns-in_default-clause-after : goal.returns-in_default-clause-after
+returns-in_default-clause-after g c = subst (λ (s : LockedState). IsLegal s.list g.row.NUMBER s.journal) c.self.view_is c.self.invariant.1
+
+pub keep-requires-clause-asked : goal.keep-requires-clause-asked
+keep-requires-clause-asked g c = λ told.
+    subst IsSome (sym c.asked_by-asked.ensures)
+    (tells_asked _ _ _ _ _ _ c.args.command (c.decide_slot-reply.ensures.step c.in-Ok-enter.reading c.policy.ensures) told)

@@ -1,0 +1,13 @@
+-- What an answer leaves in the seat before the seat knows the list (this project's own form).
+use Rattle.std.specs.Prelude.{◌≡◌, List, ◌++◌, Result}
+use Rattle.rbac_policy.specs.declared.commands.Entry.{Entry}
+use Rattle.policy_board.specs.SeatState.{SeatState}
+use Rattle.policy_board.specs.PolicyCommands.{admin_receipt}
+use Rattle.policy_board.specs.declared.refusal.Refusal.{Refusal}
+use Rattle.policy_board.specs.declared.seat.Receipt.{Receipt}
+
+-- the receipt of an accepted command stands at the end of the receipts, which a refused one leaves; what the seat has seen stays
+pub record KeepsAnswer {J : Type 0} (old : SeatState) (answer : Result (Receipt J) Refusal) (after : List Entry) (new : SeatState) : Type 0 where
+  pub known : new.known ≡ old.known
+  pub seen : new.seen ≡ old.seen
+  pub kept : new.kept ≡ old.kept ++ admin_receipt answer after

@@ -1,0 +1,61 @@
+-- The seats hand their receipts over, from the last one on.
+use Rattle.std.proofs.Common.{◌≡◌, ◌∙◌, ℕ, ◌+◌, ◌-◌, ◌≤◌, List, [], ◌∷◌, ◌++◌, length, take, map, refl, sym, ap, subst, arith, append_assoc, length-append}
+use Rattle.std.specs.Prelude.{slice_set}
+use Rattle.std.proofs.Math.ListN.{replicate}
+use Rattle.std.proofs.Math.Seq.{set-append_seam, take-append_seam}
+use Rattle.std.proofs.lemmas.List.{append-nil, length-map, length-replicate, replicate-append-replicate, replicate_more}
+use Rattle.seat_receipts.specs.declared.receipt.Kept.{Kept}
+use Rattle.seat_receipts.specs.declared.receipts.TheConstants.{SEATS}
+use Rattle.policy_board.specs.SeatState.{SeatState}
+use Rattle.slot_table.specs.Closing.{kept_of}
+
+abbrev none_kept : ℕ → List (List Kept)
+none_kept n = replicate n []
+
+-- no receipts of the seats that are left, then those of the seats that were taken, and none behind them
+pub record AreHanded (all left : List SeatState) (receipts : List (List Kept)) : Type 0 where
+  pub taken : List SeatState
+  pub whole : left ++ taken ≡ all
+  pub handed : receipts ≡ none_kept (length left) ++ (kept_of taken ++ none_kept (SEATS - length all))
+
+-- none is handed over yet
+pub none_handed : (all : List SeatState) (receipts : List (List Kept)) → length all ≤ SEATS → receipts ≡ none_kept SEATS → AreHanded all all receipts
+none_handed all receipts few none = record {
+  taken = [];
+  whole = append-nil all;
+  handed =
+      none ∙ (ap none_kept (let e : SEATS ≡ length all + (SEATS - length all) = omega arith in e)
+      ∙ sym (replicate-append-replicate (length all) (SEATS - length all) []));
+}
+
+-- one seat more
+pub one_handed : (all left : List SeatState) (seat : SeatState) (receipts : List (List Kept)) → AreHanded all (left ++ seat ∷ []) receipts
+    → AreHanded all left (slice_set receipts (length left) seat.kept)
+one_handed all left seat receipts handed =
+    let n = length left in
+    let rest = kept_of handed.taken ++ none_kept (SEATS - length all) in
+    let more : none_kept (length (left ++ seat ∷ [])) ≡ none_kept n ++ [] ∷ [] =
+    ap none_kept (length-append left (seat ∷ [])) ∙ sym (replicate_more n []) in
+    let before : receipts ≡ none_kept n ++ [] ∷ rest =
+    handed.handed ∙ (ap (λ l. l ++ rest) more ∙ append_assoc (none_kept n) ([] ∷ []) rest) in
+    let long : length (none_kept n) ≡ n = length-replicate n [] in
+    record {
+      taken = seat ∷ handed.taken;
+      whole = sym (append_assoc left (seat ∷ []) handed.taken) ∙ handed.whole;
+      handed =
+          ap (λ l. slice_set l n seat.kept) before
+          ∙ (ap (λ m. slice_set (none_kept n ++ [] ∷ rest) m seat.kept) (sym long) ∙ set-append_seam (none_kept n) [] rest seat.kept);
+    }
+
+-- the seats that are left are no more than all
+pub few_left : (all left : List SeatState) (receipts : List (List Kept)) → AreHanded all left receipts → length left ≤ length all
+few_left all left receipts handed = let n = ap length handed.whole in omega (arith, n, length-append left handed.taken)
+
+-- all are handed over
+pub all_handed : (all : List SeatState) (receipts : List (List Kept)) → AreHanded all [] receipts → take (length all) receipts ≡ kept_of all
+all_handed all receipts handed =
+    let pad = none_kept (SEATS - length all) in
+    let same : handed.taken ≡ all = handed.whole in
+    let long : length (kept_of all) ≡ length all = length-map all (λ (s : SeatState). s.kept) in
+    ap (take (length all)) (handed.handed ∙ ap (λ l. kept_of l ++ pad) same)
+    ∙ (ap (λ n. take n (kept_of all ++ pad)) (sym long) ∙ take-append_seam (kept_of all) pad)

@@ -1,0 +1,45 @@
+use Rattle.std.proofs.Common.{rules, ◌≡◌, List, length, refl, inl, inr, sym, subst}
+use Rattle.std.specs.Prelude.{IsNone}
+use Rattle.std.proofs.lemmas.Result.{IfOk-weaker, MatchResult-weaker, err_from_is_err_and}
+use Rattle.rbac_policy.specs.declared.commands.Entry.{Entry}
+use Rattle.rbac_policy.specs.declared.objects.TheConstants.{SLOTS}
+use Rattle.history_merge.specs.OneList.{AreOfOneList}
+use Rattle.slot_table.specs.declared.closing.Histories.{Histories}
+use Rattle.slot_table.specs.Closing.{AreLegal, kept_of}
+use Rattle.slot_table.proofs.Ending.{all_legal, given_back}
+use Rattle.slot_table.proofs.table.SlotTable.close.Given.{Over}
+use Rattle.slot_table.proofs.table.SlotTable.close.Goals as goal
+use Rattle.slot_table.proofs.table.SlotTable.close.Goals.{After-settle}
+
+-- the journals are legal over the policy journal
+legal_of : (g : Over) (c : After-settle g) → AreLegal c.in_ok-policy.policy c.end-slots.result
+legal_of g c =
+    let slots = c.end-slots.result in
+    let told = c.in_ok-policy.ensures.journal in
+    let sixteen : length slots ≡ SLOTS = search rules in
+    subst (λ (p : List Entry). AreLegal p slots) (sym told.0)
+    (all_legal c.begin-closing.result slots c.end-slots.new.closing c.end-slots.ensures sixteen (subst IsNone (sym told.1) refl))
+
+pub returns-in_err-policy-clause-err : goal.returns-in_err-policy-clause-err
+returns-in_err-policy-clause-err g c =
+    let p = err_from_is_err_and c.from_residual.result c.from_residual.ensures.1 in
+    rw (p.1, p.2) (record { policy = c.end-slots.new.closing.policy; is_list = c.journal.ensures.list; fault = inr c.in_err-policy.ensures.err })
+
+pub returns-clause-one : goal.returns-clause-one
+returns-clause-one g c =
+    given_back (λ (h : Histories). AreOfOneList h.policy h.slots (kept_of c.args.seats.items)) c.settle.result _ c.settle.ensures.same c.settle.ensures.one
+
+pub returns-clause-legal : goal.returns-clause-legal
+returns-clause-legal g c =
+    IfOk-weaker c.settle.result _ (λ (h : Histories). AreLegal h.policy h.slots)
+    (λ h same. subst (λ (h : Histories). AreLegal h.policy h.slots) (sym same) (legal_of g c)) c.settle.ensures.same
+
+pub returns-clause-err : goal.returns-clause-err
+returns-clause-err g c =
+    let told = c.in_ok-policy.ensures.journal in
+    let sixteen : length c.end-slots.result ≡ SLOTS = search rules in
+    MatchResult-weaker c.settle.result c.settle.ensures.err (λ _ done. done) (λ mismatch differs. record {
+      policy = c.in_ok-policy.policy;
+      is_list = search (rules, told.0, c.journal.ensures.list);
+      fault = inl (record { slots = c.end-slots.result; sixteen = sixteen; legal = legal_of g c; differs = differs });
+    })
