@@ -24,6 +24,6 @@ pub nothing_is_found : (policy : List Entry) (slots : List (List SlotEntry)) →
 nothing_is_found policy slots sixteen list legal = record {
   policy = list;
   journals = λ number journal there.
-    let within : number < SLOTS = rw (← sixteen) (slice_get_within slots number journal there) in
-    subst (IsLegal policy number) (ap (λ found. unwrap_or found []) there) (legal number within);
+      let within : number < SLOTS = rw (← sixteen) (slice_get_within slots number journal there) in
+      subst (IsLegal policy number) (ap (λ found. unwrap_or found []) there) (legal number within);
 }
