@@ -53,11 +53,10 @@ pub record IsNoOrder (answer : Result ⊤ Fault) (written after : Option (List �
   pub of_words : IsOfWords given
   pub silent : Keeps written after
 
--- the connections of a socket are served by some number of workers, and nothing is written on standard output
+-- the connections of a socket are served by some number of workers, and standard output gets the report alone
 pub record RunsServer (answer : Result ⊤ Fault) (written after : Option (List ℕ)) : Type 0 where
   pub workers : ℕ
-  pub serves : ServesSocket workers answer
-  pub silent : Keeps written after
+  pub serves : ServesSocket workers answer written after
 
 -- what the words ask for is done: of a script with the report or without
 abbrev pub Obeys : (refused : Bool) → (ahead : Option (List ℕ)) → Result ⊤ Fault → (written after : Option (List ℕ)) → Type 0

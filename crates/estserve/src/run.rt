@@ -95,7 +95,7 @@ fn obey<R: Threads + Wait + Net + Files + Sync, I: Read, O: Write, E: Write>(
 {
     match Order::from_words(memory.allocator(), words)? {
         Order::Script { log, report } => { script(rt, memory, input, output, errors, log, report) },
-        Order::Serve(service) => serve_socket(rt, memory.allocator(), &service),
+        Order::Serve(service) => serve_socket(rt, memory.allocator(), &service, output),
     }
 }
 

@@ -2,6 +2,7 @@
 ghost use Rattle.std.specs.Prelude.{◌≤◌, length};
 
 mod rows;
+mod sockets;
 
 use crate::run::run;
 use line_reader::lines::LINE_BYTES;
