@@ -3,6 +3,8 @@ use Rattle.std.specs.Prelude.{◌≡◌, ℕ, List, Option, Some, None, Result, 
 use Rattle.std.specs.Io.KnownBytes.{Appends}
 use Rattle.estserve.specs.declared.fault.Fault.{Fault}
 use Rattle.estserve.specs.declared.fault.Fault.TheVariants as fault
+use Rattle.command_line.specs.declared.fault.WordFault.{WordFault}
+use Rattle.command_line.specs.declared.fault.WordFault.TheVariants as words
 use Rattle.line_reader.specs.declared.serving.Why.{Why}
 use Rattle.line_reader.specs.declared.serving.Why.TheVariants as why
 
@@ -28,11 +30,10 @@ told_line fault.Mismatch = Some (codes "estserve: mismatch\n")
 abbrev pub IsTold : Fault → (before after : Option (List ℕ)) → Type 0
 IsTold given before after = IfSome (told_line given) (λ line. Appends before after line)
 
--- the fault of words that are no order, or of memory
-abbrev pub IsOfWords : Fault → Type 0
-IsOfWords (fault.Words e) = Unit {0}
-IsOfWords fault.Memory = Unit {0}
-IsOfWords _ = ⊥
+-- the fault of the program where its words have this one
+abbrev pub IsOfWords : WordFault → Fault → Type 0
+IsOfWords (words.Words e) given = given ≡ fault.Words e
+IsOfWords words.Memory given = given ≡ fault.Memory
 
 -- what the end of a connection means for the program
 abbrev pub IsOutcome : Why → Result ⊤ Fault → Type 0

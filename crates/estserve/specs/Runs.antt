@@ -13,6 +13,11 @@ use Rattle.estserve.specs.declared.fault.Fault.TheVariants as fault
 use Rattle.estserve.specs.Reports.{Reports}
 use Rattle.estserve.specs.Faults.{status_of, IsOfWords, IsOutcome}
 use Rattle.estserve.specs.Serving.{ServesSocket}
+use Rattle.command_line.specs.Words.{IsOrder, IsRefused}
+use Rattle.command_line.specs.declared.fault.WordFault.{WordFault}
+use Rattle.command_line.specs.declared.order.Order.{Order}
+use Rattle.command_line.specs.declared.order.Order.TheVariants.{Script, Serve}
+use Rattle.clap.specs.Words.{Text}
 
 -- one connection is served over a desk as it opens, for this reason it ends, and no login of it is held any more
 pub record ServesOne (refused : Bool) (ahead : Option (List ℕ)) (why : Why) (written after : Option (List ℕ)) : Type 0 where
@@ -47,21 +52,29 @@ abbrev pub RunsScript : (refused report : Bool) → (ahead : Option (List ℕ)) 
 RunsScript refused report ahead answer written after = NeverOpens answer written after ⊎ Ends refused report ahead answer written after
 
 -- the words are no order, or no memory was there to read them, and nothing is written
-pub record IsNoOrder (answer : Result ⊤ Fault) (written after : Option (List ℕ)) : Type 0 where
+pub record IsNoOrder (words : List Text) (answer : Result ⊤ Fault) (written after : Option (List ℕ)) : Type 0 where
+  pub why : WordFault
+  pub refused : IsRefused words why
   pub given : Fault
   pub answered : answer ≡ Err given
-  pub of_words : IsOfWords given
+  pub of_words : IsOfWords why given
   pub silent : Keeps written after
 
--- the connections of a socket are served by some number of workers, and standard output gets the report alone
-pub record RunsServer (answer : Result ⊤ Fault) (written after : Option (List ℕ)) : Type 0 where
-  pub workers : ℕ
-  pub serves : ServesSocket workers answer written after
+-- what the order asks for is done: of a script with the report or without; of a service by so many workers, and standard output gets the report
+-- of its end alone
+abbrev pub Does : Order → (refused : Bool) → (ahead : Option (List ℕ)) → Result ⊤ Fault → (written after : Option (List ℕ)) → Type 0
+Does (Script log report) refused ahead answer written after = RunsScript refused report ahead answer written after
+Does (Serve service) refused ahead answer written after = ServesSocket service.workers answer written after
 
--- what the words ask for is done: of a script with the report or without
-abbrev pub Obeys : (refused : Bool) → (ahead : Option (List ℕ)) → Result ⊤ Fault → (written after : Option (List ℕ)) → Type 0
-Obeys refused ahead answer written after = IsNoOrder answer written after
-    ⊎ (((report : Bool) × RunsScript refused report ahead answer written after) ⊎ RunsServer answer written after)
+-- the order that the words are is done
+pub record DoesOrder (words : List Text) (refused : Bool) (ahead : Option (List ℕ)) (answer : Result ⊤ Fault) (written after : Option (List ℕ)) : Type 0 where
+  pub order : Order
+  pub is : IsOrder words order
+  pub does : Does order refused ahead answer written after
+
+-- the words are no order, or the one that they are is done
+abbrev pub Obeys : (words : List Text) → (refused : Bool) → (ahead : Option (List ℕ)) → Result ⊤ Fault → (written after : Option (List ℕ)) → Type 0
+Obeys words refused ahead answer written after = IsNoOrder words answer written after ⊎ DoesOrder words refused ahead answer written after
 
 -- the status with which the program ends: 0 without a fault, and else that of the fault
 abbrev pub status_after : Result ⊤ Fault → ℕ
@@ -74,8 +87,8 @@ pub record NamesDevices (answer : Result ⊤ Fault) (reader_failed : Bool) (read
   pub write : answer ≡ Err fault.Write → writer_failed ≡ true
 
 -- a run of the program: what its words ask for is done, and its status tells how that ended
-pub record Runs (refused : Bool) (ahead : Option (List ℕ)) (written after : Option (List ℕ)) (reader_failed : Bool) (reads_left : ℕ) (writer_failed : Bool) (status : ℕ) : Type 0 where
+pub record Runs (words : List Text) (refused : Bool) (ahead : Option (List ℕ)) (written after : Option (List ℕ)) (reader_failed : Bool) (reads_left : ℕ) (writer_failed : Bool) (status : ℕ) : Type 0 where
   pub answer : Result ⊤ Fault
-  pub obeys : Obeys refused ahead answer written after
+  pub obeys : Obeys words refused ahead answer written after
   pub devices : NamesDevices answer reader_failed reads_left writer_failed
   pub tells : status ≡ status_after answer

@@ -1,7 +1,8 @@
 //! Why the program ends with another status than 0.
 ghost use Rattle.std.specs.Prelude.{◌≡◌, OnOk};
-ghost use Rattle.estserve.specs.Faults.{status_of, IsTold, IsOutcome};
+ghost use Rattle.estserve.specs.Faults.{status_of, IsOfWords, IsTold, IsOutcome};
 
+use command_line::fault::WordFault;
 use line_reader::serving::Why;
 use std::io;
 use std::io::Write;
@@ -33,6 +34,17 @@ impl Fault {
         match self {
             Fault::Words(_) => 2,
             Fault::Read | Fault::Write | Fault::Memory | Fault::Socket | Fault::Mismatch => 1,
+        }
+    }
+}
+
+impl From<WordFault> for Fault {
+    ghost from_gives = { IsOfWords };
+
+    fn from(fault: WordFault) -> Fault {
+        match fault {
+            WordFault::Words(error) => Fault::Words(error),
+            WordFault::Memory => Fault::Memory,
         }
     }
 }

@@ -1,7 +1,7 @@
 //! The program: a shared simulator of Pure Esterel modules under role-based access control, one JSON command a line.
 //!
 //! Standard input and standard output are one connection: `client_loop` serves it, and its contracts carry the program. `run` is the program
-//! over any words and streams, `words` reads the command line, `reports` writes
+//! over any words and streams, `command_line` reads the words, `reports` writes
 //! the report of an audit, and `fault` says how the program ends.
 #![tactic(auto)]
 
@@ -12,7 +12,6 @@ pub mod server;
 pub mod socket;
 #[cfg(test)]
 mod tests;
-pub mod words;
 
 use crate::fault::{Fault, tell};
 use crate::run::run;

@@ -1,5 +1,5 @@
 //! A run of the program, over any words and streams.
-ghost use Rattle.std.specs.Prelude.{◌≡◌, Err, true};
+ghost use Rattle.std.specs.Prelude.{◌≡◌, Err, true, map, string_bytes};
 ghost use Rattle.line_reader.specs.declared.serving.Why.TheVariants.{ReadFault, WriteFault};
 ghost use Rattle.estserve.specs.declared.fault.Fault.TheVariants as fault;
 ghost use Rattle.estserve.specs.Runs.{EndsSo, RunsScript, Obeys, NamesDevices, Runs};
@@ -7,10 +7,10 @@ ghost use Rattle.estserve.specs.Runs.{EndsSo, RunsScript, Obeys, NamesDevices, R
 use crate::fault::{Fault, outcome, tell};
 use crate::reports::write_report;
 use crate::server::serve as serve_socket;
-use crate::words::Order;
 use access_core::single::Single;
 use client_loop::connections::log_out_left;
 use client_loop::serving::{End, serve};
+use command_line::order::Order;
 use line_reader::meter::{MeteredMemory, MeteredReader, MeteredWriter};
 use line_reader::serving::Why;
 use log::sink::Writer;
@@ -89,8 +89,9 @@ fn obey<R: Threads + Wait + Net + Files + Sync, I: Read, O: Write, E: Write>(
     output: &mut MeteredWriter<O>,
     errors: &mut E,
 ) -> Result<(), Fault>
-    ensures obeys { Obeys memory.new.refused (I.remaining input.old.device) result
-        (O.contents output.old.device) (O.contents output.new.device) }
+    ensures obeys { Obeys (map string_bytes words.now) memory.new.refused
+        (I.remaining input.old.device) result (O.contents output.old.device)
+        (O.contents output.new.device) }
     ensures devices { NamesDevices result input.new.failed input.new.left output.new.failed }
 {
     match Order::from_words(memory.allocator(), words)? {
@@ -109,7 +110,7 @@ pub fn run<R: Threads + Wait + Net + Files + Sync, I: Read, O: Write, E: Write>(
     output: &mut MeteredWriter<O>,
     errors: &mut E,
 ) -> u8
-    ensures { Runs memory.new.refused (I.remaining input.old.device)
+    ensures { Runs (map string_bytes words.now) memory.new.refused (I.remaining input.old.device)
         (O.contents output.old.device) (O.contents output.new.device)
         input.new.failed input.new.left output.new.failed result }
 {

@@ -1,5 +1,5 @@
 //! The connections of a socket, served side by side over one policy and one table of slots.
-ghost use Rattle.std.specs.Prelude.{◌≡◌, ◌≤◌, Err, true, vec_len, MatchOption};
+ghost use Rattle.std.specs.Prelude.{◌≡◌, ◌≤◌, Err, true, vec_len};
 ghost use Rattle.seat_receipts.specs.declared.receipts.TheConstants.{SEATS};
 ghost use Rattle.estserve.specs.declared.fault.Fault.TheVariants as fault;
 ghost use Rattle.estserve.specs.Serving.{ClosesSo, ServesSocket};
@@ -9,12 +9,12 @@ use crate::reports::write_report;
 use crate::socket::{Socket, SocketSource};
 use client_loop::gate::OpenGate;
 use client_loop::workers::run_workers;
+use command_line::order::{Service, WorkerCount};
 use line_reader::meter::MeteredWriter;
 use policy_board::board::Board;
 use policy_board::history::{Fresh, Naming};
 use policy_board::opening::Opened;
 use policy_board::seat::Seat;
-use seat_receipts::receipts::SEATS;
 use slot_table::table::SlotTable;
 use std::alloc::Global;
 use std::fs::Files;
@@ -23,44 +23,6 @@ use std::marker::Brand;
 use std::net::Net;
 use std::sync::Wait;
 use std::thread::Threads;
-
-/// A number of workers: from 1 to as many as a board has seats.
-#[derive(Clone, Copy)]
-pub struct WorkerCount {
-    count: usize,
-    ghost some: { 1 ≤ count },
-    ghost few: { count ≤ SEATS },
-}
-
-impl WorkerCount {
-    /// The number of workers, if there may be so many.
-    pub fn new(count: usize) -> Option<WorkerCount>
-        ensures { MatchOption result ((1 ≤ count) × (count ≤ SEATS) → ⊥) (λ w. w.count ≡ count) }
-    {
-        if 1 <= count && count <= SEATS {
-            Some(WorkerCount { count })
-        } else {
-            None
-        }
-    }
-}
-
-impl Default for WorkerCount {
-    fn default() -> WorkerCount {
-        WorkerCount { count: 4 }
-    }
-}
-
-/// A service of the connections that come to a socket.
-#[derive(Clone, Copy)]
-pub struct Service<'a> {
-    /// Where the socket is made.
-    pub path: &'a str,
-    /// How many connections are served at a time.
-    pub workers: WorkerCount,
-    /// After how many connections each worker ends; without a number they serve as many as come.
-    pub connections: Option<u64>,
-}
 
 /// Closes a server whose workers have left its seats so, and writes the report on its journals.
 fn close<J: Naming, R: Wait, O: Write>(
@@ -92,7 +54,7 @@ fn serve_source<J: Naming + Send + Sync, R: Threads + Wait + Sync, O: Write>(
     output: &mut MeteredWriter<O>,
 ) -> Result<(), Fault>
     requires { fresh.seen.book ≡ J.book }
-    ensures serves { ServesSocket workers.count result (O.contents output.old.device)
+    ensures serves { ServesSocket workers result (O.contents output.old.device)
         (O.contents output.new.device) }
     ensures failed { result ≡ Err fault.Write → output.new.failed ≡ true }
 {
@@ -102,7 +64,7 @@ fn serve_source<J: Naming + Send + Sync, R: Threads + Wait + Sync, O: Write>(
             seats,
             readers,
         },
-    ) = Board::<J>::open(alloc, fresh, workers.count)
+    ) = Board::<J>::open(alloc, fresh, workers.count())
     else {
         return Err(Fault::Memory);
     };
@@ -126,12 +88,12 @@ fn serve_socket<R: Threads + Wait + Sync, O: Write>(
     service: &Service<'_>,
     output: &mut MeteredWriter<O>,
 ) -> Result<(), Fault>
-    ensures serves { ServesSocket service.now.workers.count result (O.contents output.old.device)
+    ensures serves { ServesSocket service.now.workers result (O.contents output.old.device)
         (O.contents output.new.device) }
     ensures failed { result ≡ Err fault.Write → output.new.failed ≡ true }
 {
     let workers = service.workers;
-    match SocketSource::new(alloc, socket, workers.count, service.connections) {
+    match SocketSource::new(alloc, socket, workers.count(), service.connections) {
         Ok(source) => {
             serve_source::<Brand, R, O>(rt, alloc, Fresh::new(), workers, &source, output)
         }
@@ -155,7 +117,7 @@ pub fn serve<R: Threads + Wait + Net + Files + Sync, O: Write>(
     service: &Service<'_>,
     output: &mut MeteredWriter<O>,
 ) -> Result<(), Fault>
-    ensures serves { ServesSocket service.now.workers.count result (O.contents output.old.device)
+    ensures serves { ServesSocket service.now.workers result (O.contents output.old.device)
         (O.contents output.new.device) }
     ensures failed { result ≡ Err fault.Write → output.new.failed ≡ true }
 {
