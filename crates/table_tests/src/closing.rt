@@ -53,7 +53,15 @@ fn tell<J: Naming, R: Wait + Abort>(rt: &R, alloc: Global, fresh: Fresh) -> Stor
     let reply = ask(rt, &board, &table, &mut seat, 7, SlotCommand::Step);
     assert!(rt; matches!(reply, Reply::Refused(_)));
     let reply = ask(rt, &board, &table, &mut seat, 15, SlotCommand::Unload);
-    assert!(rt; matches!(reply, Reply::Unload { place: 2, version: 12 }));
+    assert!(rt;
+        matches!(
+            reply,
+            Reply::Unload {
+                place: 2,
+                version: 12
+            }
+        )
+    );
     Story {
         board,
         table,

@@ -46,7 +46,15 @@ fn keep<J: Naming, R: Wait + Abort>(rt: &R, alloc: Global, fresh: Fresh) -> usiz
     give(rt, &board, &mut seat, Some(root()), offering(3, signal, rt));
     let offer = SlotCommand::Offer { signal };
     let reply = ask(rt, &board, &table, &mut seat, 3, offer);
-    assert!(rt; matches!(reply, Reply::Offer { place: 2, version: 8 }));
+    assert!(rt;
+        matches!(
+            reply,
+            Reply::Offer {
+                place: 2,
+                version: 8
+            }
+        )
+    );
     let offered = last(rt, &seat, 6);
     assert!(rt; matches!(&offered.asked, Asked::Offer(name) if *name == signal));
     assert!(rt; offered.place == 2 && offered.version == 8 && offered.number == 2);
@@ -55,11 +63,27 @@ fn keep<J: Naming, R: Wait + Abort>(rt: &R, alloc: Global, fresh: Fresh) -> usiz
     assert!(rt; matches!(reply, Reply::Refused(Refusal::AlreadyOffered)));
     assert_eq!(rt; seat.kept().len(), 6);
     let reply = ask(rt, &board, &table, &mut seat, 3, SlotCommand::Step);
-    assert!(rt; matches!(reply, Reply::Step { instant: 1, place: 3, version: 8 }));
+    assert!(rt;
+        matches!(
+            reply,
+            Reply::Step {
+                instant: 1,
+                place: 3,
+                version: 8
+            }
+        )
+    );
     let stepped = last(rt, &seat, 7);
     assert!(rt; matches!(stepped.asked, Asked::Step));
     assert!(rt; stepped.place == 3 && stepped.version == 8 && stepped.number == 3);
-    let reply = ask(rt, &board, &table, &mut seat, 3, SlotCommand::Look { instant: 1 });
+    let reply = ask(
+        rt,
+        &board,
+        &table,
+        &mut seat,
+        3,
+        SlotCommand::Look { instant: 1 },
+    );
     assert!(rt; matches!(reply, Reply::Look { instant: 1, .. }));
     let reply = ask(rt, &board, &table, &mut seat, 2, SlotCommand::Step);
     assert!(rt; matches!(reply, Reply::Refused(Refusal::Permission { .. })));

@@ -79,7 +79,12 @@ fn load<R: Abort>(rt: &R, alloc: Global) -> SlotCommand {
 }
 
 /// A board with so many seats, and its slots.
-pub(crate) fn open<J: Naming, R: Abort>(rt: &R, alloc: Global, fresh: Fresh, count: usize) -> Server<J>
+pub(crate) fn open<J: Naming, R: Abort>(
+    rt: &R,
+    alloc: Global,
+    fresh: Fresh,
+    count: usize,
+) -> Server<J>
     requires name { fresh.seen.book ≡ J.book }
     requires count { (1 ≤ count) × (count ≤ SEATS) }
 {
@@ -113,7 +118,12 @@ pub(crate) fn give<J: Naming, R: Wait + Abort>(
 }
 
 /// Logs root in, and grants it loads and steps of the slot.
-pub(crate) fn enter<J: Naming, R: Wait + Abort>(rt: &R, alloc: Global, board: &Board<J>, seat: &mut Seat<J>) {
+pub(crate) fn enter<J: Naming, R: Wait + Abort>(
+    rt: &R,
+    alloc: Global,
+    board: &Board<J>,
+    seat: &mut Seat<J>,
+) {
     let command = login(alloc).ok().expect(rt, "room");
     assert_eq!(rt; give(rt, board, seat, None, command), 5);
 }
