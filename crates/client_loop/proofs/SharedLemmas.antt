@@ -141,17 +141,18 @@ module _ {J : Type 0} where
       (e, all.1)
   published_by old new receipt (Err r) h = let is = h.answered in absurd cc
 
-  stayed_by : (old new : List Entry) (refusal : Refusal) (decided : Result Entry PolicyRefusal)
+  -- a refused command left the list
+  stayed_by : (old new : List Entry) (answer : Result (Receipt J) Refusal) (refusal : Refusal) (decided : Result Entry PolicyRefusal) → answer ≡ Err refusal
       → MatchResult decided
-      (λ entry. Answers (board_step.list_full old entry ▸ board_step.no_memory ▸ accept) (λ r. board_step.IsRefused {J = J} r old (Err refusal) new) (IsPublished {J = J} entry old (Err refusal) new))
-      (λ r. board_step.IsRefused {J = J} (board.Policy r) old (Err refusal) new)
+      (λ entry. Answers (board_step.list_full old entry ▸ board_step.no_memory ▸ accept) (λ r. board_step.IsRefused r old answer new) (IsPublished entry old answer new))
+      (λ r. board_step.IsRefused (board.Policy r) old answer new)
       → new ≡ old
-  stayed_by old new refusal (Ok e) (inl r) = r.answered.stays
-  stayed_by old new refusal (Ok e) (inr p) = later p.next where
-    later : Answers (board_step.no_memory ▸ accept) (λ r. board_step.IsRefused {J = J} r old (Err refusal) new) (IsPublished {J = J} e old (Err refusal) new) → new ≡ old
+  stayed_by old new answer refusal (Ok e) is (inl r) = r.answered.stays
+  stayed_by old new answer refusal (Ok e) is (inr p) = later p.next where
+    later : Answers (board_step.no_memory ▸ accept) (λ r. board_step.IsRefused r old answer new) (IsPublished e old answer new) → new ≡ old
     later (inl m) = m.answered.stays
-    later (inr q) = let is = q.next.answered in absurd cc
-  stayed_by old new refusal (Err r) h = h.stays
+    later (inr q) = let was = q.next.answered in absurd cc
+  stayed_by old new answer refusal (Err r) is h = h.stays
 
   -- the seat keeps the receipt of the entry that the command added, if it added one
   pub keeps_added : (old new : List Entry) (answer : Result (Receipt J) Refusal) (seat after : SeatState) (session : Option ℕ) (command : AdminCommand)
@@ -161,7 +162,7 @@ module _ {J : Type 0} where
       let entry : receipt.entry ≡ p.0 = (published_tells receipt p.0 old new p.1).entry_is in
       inr (p.0, p.1.appended, keeps.kept ∙ ap (λ (e : Entry). seat.kept ++ Admin (length new) e ∷ []) entry)
   keeps_added old new (Err refusal) seat after session command step keeps =
-      inl (stayed_by old new refusal step.decided step.replied, keeps.kept ∙ append-nil seat.kept)
+      inl (stayed_by old new (Err refusal) refusal step.decided refl step.replied, keeps.kept ∙ append-nil seat.kept)
 
   -- the receipt, if the answer is one, is of a published entry
   pub published : (session : Option ℕ) (command : AdminCommand) (old new : List Entry) (answer : Result (Receipt J) Refusal)

@@ -91,8 +91,14 @@ impl<'a, J: Naming, R: Wait> Desk for SharedDesk<'a, J, R> {
     }
 
     fn slot(&mut self, session: SessionId, number: u64, command: SlotCommand) -> Reply {
-        self.table
-            .command(self.rt, self.board, &mut self.seat, session, number, command)
+        self.table.command(
+            self.rt,
+            self.board,
+            &mut self.seat,
+            session,
+            number,
+            command,
+        )
     }
 
     fn check(&mut self, session: SessionId, operation: Operation, object: &Object) -> Reply {
