@@ -1,5 +1,5 @@
 //! Many threads, over all slots.
-ghost use Rattle.std.specs.Prelude.{◌≡◌, Unit};
+ghost use Rattle.std.specs.Prelude.{◌≡◌};
 ghost use Rattle.worker_threads.specs.Turns.{IsTurn};
 
 use crate::asking::{begin, enter, grant, revoke, root};

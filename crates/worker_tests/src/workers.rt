@@ -48,10 +48,14 @@ const ENTRIES: usize = 12;
 /// How many policy commands each of them gives in its session.
 const GIVEN: usize = 3;
 
+/// The receipts that a seat keeps which served a client: each of its lines adds an entry.
+const RECEIPTS: usize = 7;
+
 /// The least that a seat has seen which served a client: the opening entries and that client's.
 const LEAST_SEEN: u64 = 8;
 
-/// Two workers serve two clients, each on a slot of its own. The first answer of all waits for one of the other worker.
+/// Two workers serve two clients, each on a slot of its own. The first answer of all waits for one of the other worker. Then the server is
+/// closed, each entry of which is one that a seat has the receipt of.
 fn serve_two<J: Naming + Send + Sync, R: Threads + Wait + Abort + Clock + Sync>(
     rt: &R,
     alloc: Global,
@@ -74,6 +78,7 @@ fn serve_two<J: Naming + Send + Sync, R: Threads + Wait + Abort + Clock + Sync>(
     assert_eq!(rt; back.len(), 2);
     for seat in &back {
         assert!(rt; seat.seen() >= LEAST_SEEN);
+        assert_eq!(rt; seat.kept().len(), RECEIPTS);
     }
     for client in &clients {
         assert_eq!(rt; client.counts(), (LINES, 0));
@@ -115,11 +120,11 @@ fn given_by(policy: &PolicyJournal, session: u16) -> usize {
 fn two_at_once(rt: HostRuntime) -> Result<(), Fail> {
     let Histories { policy, slots } = serve_two::<Brand, _>(&rt, rt.alloc(), Fresh::new());
     assert_eq!(rt; policy.len(), ENTRIES);
-    let [first, second, rest @ ..] = &slots;
+    let [first, second, ..] = &slots;
     let sessions = (session_of(&rt, first), session_of(&rt, second));
     assert!(rt; sessions == (1, 2) || sessions == (2, 1));
     assert_eq!(rt; given_by(&policy, 1), GIVEN);
     assert_eq!(rt; given_by(&policy, 2), GIVEN);
-    assert!(rt; rest.iter().all(|journal| journal.len() == 0));
+    assert!(rt; slots.iter().skip(2).all(|journal| journal.len() == 0));
     Ok(())
 }
