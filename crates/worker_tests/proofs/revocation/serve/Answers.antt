@@ -4,8 +4,8 @@ use Rattle.policy_board.specs.contracts.reader.SlotReader as reader
 use Rattle.client_loop.proofs.Sharing.{table_shares}
 use Rattle.worker_tests.proofs.revocation.serve.Goals as goal
 
-pub play-requires-sync-T : goal.play-requires-sync-T
-play-requires-sync-T g c =
+pub play-giver-requires-sync-T : goal.play-giver-requires-sync-T
+play-giver-requires-sync-T g c =
     let reads : IsSend (reader.the_row (param 0 g.row.J) g.J.Naming) = record { owned = c.may_cross.ensures.owned; leaving = λ k d w. tt } in
     let shares = table_shares (param 0 g.row.J) g.J.Naming reads in
     search shares
