@@ -108,6 +108,12 @@ def program():
     return _program
 
 
+def report(entries, *slots):
+    """The report on the journals of a server that has ended: how many entries its policy list has, and the lines of its slots."""
+    lines = [f"policy: {entries} entries", *slots, "check: ok"]
+    return "".join(f"{line}\n" for line in lines).encode()
+
+
 class Server:
     """The program, which serves at a socket of its own. Used with `with`, it is stopped at the end if it runs still."""
 

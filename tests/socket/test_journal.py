@@ -1,4 +1,4 @@
-"""A slot's journal that is filled up to its limit, by `estserve script`."""
+"""A slot's journal that is filled up to its limit, by `estserve script --report`."""
 import subprocess
 import sys
 import unittest
@@ -15,10 +15,10 @@ class Journals(unittest.TestCase):
     def test_a_full_journal_refuses_what_adds_an_entry(self):
         lines, answers = full.dialogue()
         ran = subprocess.run(
-            [*program(), "script"], input=lines, stdout=subprocess.PIPE, stderr=subprocess.PIPE, text=True, timeout=FILL_SECONDS,
+            [*program(), "script", "--report"], input=lines, stdout=subprocess.PIPE, stderr=subprocess.PIPE, text=True, timeout=FILL_SECONDS,
         )
         self.assertEqual((ran.returncode, ran.stderr), (0, ""))
-        self.assertTrue(ran.stdout == answers, "other answers than those of full.py")
+        self.assertTrue(ran.stdout == answers + full.REPORT, "other answers, or another report, than those of full.py")
 
 
 if __name__ == "__main__":

@@ -3,7 +3,7 @@ import os
 import threading
 import unittest
 
-from running import Server
+from running import Server, report
 
 CLIENTS = 8
 COMMANDS = int(os.environ.get("COMMANDS", "2000"))  # of each client
@@ -42,6 +42,14 @@ def one_round(number, slot):
     """The commands of a client's round: every other instant has A."""
     offers = [{"cmd": "offer", "signal": "A", "slot": slot}] if number % 2 else []
     return [*offers, {"cmd": "step", "slot": slot}, {"cmd": "look", "instant": number, "slot": slot}]
+
+
+def audits(root):
+    """The version, and the lines that a report has of the slots, into each of which one module was loaded at most."""
+    told = {slot: root.audit(slot) for slot in range(16)}
+    counts = {slot: (answer["entries"], answer["instants"]) for slot, answer in told.items() if answer["entries"]}
+    lines = [f"slot {slot}: {entries} entries, 1 loads, {instants} instants" for slot, (entries, instants) in counts.items()]
+    return told[0]["version"], lines
 
 
 class ManyClients(unittest.TestCase):
@@ -88,9 +96,10 @@ class ManyClients(unittest.TestCase):
                     done.set()
 
             together([work_all, lambda: self.change_policy(root, done)])
+            version, lines = audits(root)
             for client in [*clients, root]:
                 client.close()
-            self.assertEqual(server.end(), (0, b"", b""))
+            self.assertEqual(server.end(), (0, report(version + CLIENTS + 1, *lines), b""))
 
     def test_each_on_its_own_slot(self):
         self.with_clients(lambda at, client: self.drive_own(client, at))

@@ -1,10 +1,15 @@
 """The life of connections at a socket, and what becomes of the server's file."""
 import pathlib
 import socket
+import sys
 import tempfile
 import unittest
 
-from running import ROOT, Disconnected, Server, connect, run, wait_for
+from running import ROOT, Disconnected, Server, connect, report, run, wait_for
+
+sys.path.insert(0, str(ROOT / "tests" / "journals"))
+from replay import lines_of, replayed  # noqa: E402
+from estserve_client.connection import Refusal  # noqa: E402
 
 SOCKET_FAULT = (1, b"", b"estserve: socket fault\n")
 LOGIN = b'{"cmd":"login","roles":["root"],"user":"root"}\n'
@@ -31,14 +36,35 @@ class Connections(unittest.TestCase):
         stored = ROOT / "crates" / "estserve"
         with Server("--workers", "1", "--connections", "1") as server:
             self.assertEqual(answers_to(server.path, (stored / "stdin").read_bytes()), (stored / "stdout").read_bytes())
-            self.assertEqual(server.end(), (0, b"", b""))
+            self.assertEqual(server.end(), (0, report(10, "slot 0: 4 entries, 1 loads, 3 instants"), b""))
             self.assertFalse(server.path.exists())
 
-    def test_each_script_of_the_examples_has_its_answers(self):
+    def test_each_script_of_the_examples_has_its_answers_and_its_report(self):
         for answers in sorted((ROOT / "examples" / "scripts").glob("*.stdout")):
-            with self.subTest(answers.stem), Server("--workers", "1") as server:
+            with self.subTest(answers.stem), Server("--workers", "1", "--connections", "1") as server:
                 script = answers.with_suffix("").read_bytes()
                 self.assertEqual(answers_to(server.path, script), answers.read_bytes())
+                judged = replayed(lines_of(script.decode()), lines_of(answers.read_text()))
+                self.assertEqual(server.end(), (0, judged.report().encode(), b""))
+
+    def test_the_calls_of_two_clients_are_the_entries_of_its_journals(self):
+        with Server("--workers", "2", "--connections", "1") as server, server.root() as root, server.client() as ann:
+            for command, *words in [("adduser", "ann"), ("addrole", "driver"), ("assign", "ann", "driver")]:
+                getattr(root, command)(*words)
+            for op, what in [("load", "3"), ("step", "3"), ("offer", "3.A")]:
+                root.grant("driver", op, what)
+            root.grant("root", "step", "3")
+            ann.login("ann", ["driver"])
+            ann.load(3, "M", "module M: input A; halt end module")
+            ann.offer(3, "A")
+            self.assertEqual([root.step(3)["place"], ann.step(3)["place"], root.step(3)["place"]], [3, 4, 5])
+            root.revoke("driver", "step", "3")
+            with self.assertRaises(Refusal):
+                ann.step(3)
+            ann.unload(3)
+            ann.close()
+            root.close()
+            self.assertEqual(server.end(), (0, report(16, "slot 3: 6 entries, 1 loads, 3 instants"), b""))
 
     def test_one_policy_and_one_table_for_all(self):
         with Server("--workers", "2") as server, server.root() as root, server.client() as ann:
@@ -96,7 +122,7 @@ class CountedConnections(unittest.TestCase):
             self.assertEqual(answers_to(server.path, b"\n"), b'{"code":2,"fault":"NotJson"}\n')
             self.assertIsNone(server.process.poll())
             self.assertEqual(answers_to(server.path, LOGIN), b'{"ok":"login","session":1,"version":5}\n')
-            self.assertEqual(server.end(), (0, b"", b""))
+            self.assertEqual(server.end(), (0, report(6), b""))
             with self.assertRaises(Disconnected):
                 connect(server.path)
 
@@ -108,7 +134,7 @@ class CountedConnections(unittest.TestCase):
                 self.assertIsNone(server.process.poll())
                 for client in held:
                     client.close()
-            self.assertEqual(server.end(), (0, b"", b""))
+            self.assertEqual(server.end(), (0, report(16), b""))
 
 
 class PathsAndWords(unittest.TestCase):
@@ -137,7 +163,7 @@ class PathsAndWords(unittest.TestCase):
             server.path.unlink()
             with Server("--workers", "1", "--connections", "1", path=server.path) as other:
                 other.root().close()
-                self.assertEqual(other.end(), (0, b"", b""))
+                self.assertEqual(other.end(), (0, report(6), b""))
 
     def test_a_file_that_is_not_its_own_any_more(self):
         with Server("--workers", "1", "--connections", "1") as server:
@@ -145,7 +171,7 @@ class PathsAndWords(unittest.TestCase):
             server.path.unlink()
             with Server("--workers", "1", path=server.path) as other:
                 client.close()
-                self.assertEqual(server.end(), (0, b"", b""))
+                self.assertEqual(server.end(), (0, report(6), b""))
                 other.root().close()
 
     def test_words_that_are_no_order(self):

@@ -13,14 +13,16 @@ status_of fault.Read = 1
 status_of fault.Write = 1
 status_of fault.Memory = 1
 status_of fault.Socket = 1
+status_of fault.Mismatch = 1
 
--- the line that tells a fault of a device or of memory
+-- the line that tells a fault of a device, of memory or of what was kept
 abbrev pub told_line : Fault → Option (List ℕ)
 told_line (fault.Words e) = None
 told_line fault.Read = Some (codes "estserve: read fault\n")
 told_line fault.Write = Some (codes "estserve: write fault\n")
 told_line fault.Memory = Some (codes "estserve: no memory\n")
 told_line fault.Socket = Some (codes "estserve: socket fault\n")
+told_line fault.Mismatch = Some (codes "estserve: mismatch\n")
 
 -- the fault's line was written; what is written of words is clap's text
 abbrev pub IsTold : Fault → (before after : Option (List ℕ)) → Type 0

@@ -1,3 +1,4 @@
 pub mod Faults
+pub mod Reports
 pub mod Serving
 pub mod Runs

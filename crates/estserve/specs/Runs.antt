@@ -1,13 +1,16 @@
 -- What a run of the program does (this project's own form).
-use Rattle.std.specs.Prelude.{◌≡◌, ℕ, List, ◌⊎◌, Option, Some, None, Result, Ok, Err, Bool, true, ⊤}
+use Rattle.std.specs.Prelude.{◌≡◌, ℕ, List, ◌⊎◌, Option, Result, Ok, Err, Bool, true, false, ⊤, map}
 use Rattle.std.specs.Io.KnownBytes.{Keeps}
 use Rattle.access_core.specs.Desk.{DeskState, opening_desk}
+use Rattle.access_core.specs.SlotState.{SlotState}
 use Rattle.line_reader.specs.Meters.{IsStopped}
 use Rattle.line_reader.specs.declared.serving.Why.{Why}
+use Rattle.line_reader.specs.declared.serving.Why.TheVariants as why
 use Rattle.client_loop.specs.Asking.{DeskAnswers}
 use Rattle.client_loop.specs.Connections.{ServesConnection}
 use Rattle.estserve.specs.declared.fault.Fault.{Fault}
 use Rattle.estserve.specs.declared.fault.Fault.TheVariants as fault
+use Rattle.estserve.specs.Reports.{Reports}
 use Rattle.estserve.specs.Faults.{status_of, IsOfWords, IsOutcome}
 use Rattle.estserve.specs.Serving.{ServesSocket}
 
@@ -21,15 +24,27 @@ pub record NeverOpens (answer : Result ⊤ Fault) (written after : Option (List 
   pub no_memory : answer ≡ Err fault.Memory
   pub silent : Keeps written after
 
+-- the end of a run without a fault: the report on the desk's list and journals, where it is asked for, and else no more is written
+abbrev pub Finishes : (report : Bool) → DeskState → Result ⊤ Fault → (written after : Option (List ℕ)) → Type 0
+Finishes true desk answer written after = Reports desk.entries (map (λ (s : SlotState). s.journal) desk.slots) written answer after
+Finishes false desk answer written after = (answer ≡ Ok tt) × (after ≡ written)
+
+-- what the end of a connection means for the program, which has written so much by then: a fault, or what follows it
+abbrev pub EndsSo : (report : Bool) → Why → DeskState → Result ⊤ Fault → (written after : Option (List ℕ)) → Type 0
+EndsSo report why.Closed desk answer written after = Finishes report desk answer written after
+EndsSo report why.TooLong desk answer written after = Finishes report desk answer written after
+EndsSo report other desk answer written after = IsOutcome other answer × (after ≡ written)
+
 -- what a connection that was served means for the program
-pub record Ends (refused : Bool) (ahead : Option (List ℕ)) (answer : Result ⊤ Fault) (written after : Option (List ℕ)) : Type 0 where
+pub record Ends (refused report : Bool) (ahead : Option (List ℕ)) (answer : Result ⊤ Fault) (written after : Option (List ℕ)) : Type 0 where
   pub why : Why
-  pub one : ServesOne refused ahead why written after
-  pub outcome : IsOutcome why answer
+  pub answers : Option (List ℕ)
+  pub one : ServesOne refused ahead why written answers
+  pub ends : EndsSo report why one.desk answer answers after
 
 -- standard input and output are served as one connection, or no memory was there for that
-abbrev pub RunsScript : (refused : Bool) → (ahead : Option (List ℕ)) → Result ⊤ Fault → (written after : Option (List ℕ)) → Type 0
-RunsScript refused ahead answer written after = NeverOpens answer written after ⊎ Ends refused ahead answer written after
+abbrev pub RunsScript : (refused report : Bool) → (ahead : Option (List ℕ)) → Result ⊤ Fault → (written after : Option (List ℕ)) → Type 0
+RunsScript refused report ahead answer written after = NeverOpens answer written after ⊎ Ends refused report ahead answer written after
 
 -- the words are no order, or no memory was there to read them, and nothing is written
 pub record IsNoOrder (answer : Result ⊤ Fault) (written after : Option (List ℕ)) : Type 0 where
@@ -38,16 +53,15 @@ pub record IsNoOrder (answer : Result ⊤ Fault) (written after : Option (List �
   pub of_words : IsOfWords given
   pub silent : Keeps written after
 
--- the connections of a socket are served by some number of workers, and nothing is written on standard output
+-- the connections of a socket are served by some number of workers, and standard output gets the report alone
 pub record RunsServer (answer : Result ⊤ Fault) (written after : Option (List ℕ)) : Type 0 where
   pub workers : ℕ
-  pub serves : ServesSocket workers answer
-  pub silent : Keeps written after
+  pub serves : ServesSocket workers answer written after
 
--- what the words ask for is done
+-- what the words ask for is done: of a script with the report or without
 abbrev pub Obeys : (refused : Bool) → (ahead : Option (List ℕ)) → Result ⊤ Fault → (written after : Option (List ℕ)) → Type 0
 Obeys refused ahead answer written after = IsNoOrder answer written after
-    ⊎ (RunsScript refused ahead answer written after ⊎ RunsServer answer written after)
+    ⊎ (((report : Bool) × RunsScript refused report ahead answer written after) ⊎ RunsServer answer written after)
 
 -- the status with which the program ends: 0 without a fault, and else that of the fault
 abbrev pub status_after : Result ⊤ Fault → ℕ

@@ -1,17 +1,61 @@
 -- What serving the connections of a socket comes to (this project's own form).
-use Rattle.std.specs.Prelude.{◌≡◌, ℕ, List, ◌⊎◌, Result, Ok, Err, ⊤, replicate}
+use Rattle.std.specs.Prelude.{◌≡◌, ℕ, List, ◌⊎◌, Option, Result, Err, ⊤, replicate}
+use Rattle.std.specs.Io.KnownBytes.{Keeps}
+use Rattle.rbac_policy.specs.declared.commands.Entry.{Entry}
+use Rattle.reactor_core.specs.declared.entry.SlotEntry.{SlotEntry}
+use Rattle.seat_receipts.specs.declared.mismatch.Mismatch.{Mismatch}
+use Rattle.history_merge.specs.OneList.{AreOfOneList}
 use Rattle.policy_board.specs.SeatState.{SeatState, new_seat}
+use Rattle.slot_table.specs.Closing.{AllRise, IsJustified, kept_of}
 use Rattle.worker_threads.specs.Turns.{AreBack}
 use Rattle.client_loop.specs.Workers.{ServesNext}
+use Rattle.audit_report.specs.Findings.{HaveNoFinding}
 use Rattle.estserve.specs.declared.fault.Fault.{Fault}
 use Rattle.estserve.specs.declared.fault.Fault.TheVariants as fault
+use Rattle.estserve.specs.Reports.{Reports}
 
--- each of so many workers served connections to their ends, one after another, at a seat of its own that was new
-pub record ServesAll (workers : ℕ) : Type 0 where
+-- each of so many workers served connections to their ends, one after another, at a seat of its own that was new, and left it so
+abbrev pub ServesAll : (workers : ℕ) → (seats : List SeatState) → Type 0
+ServesAll workers seats = AreBack ServesNext (replicate workers new_seat) seats
+
+-- the journals of a server that left its seats so: one list of events has them and what the seats keep as its parts, along what each seat
+-- keeps the order is right, and an audit finds nothing
+pub record AreHistories (seats : List SeatState) (policy : List Entry) (slots : List (List SlotEntry)) : Type 0 where
+  pub one : AreOfOneList policy slots (kept_of seats)
+  pub rises : AllRise (kept_of seats)
+  pub sound : HaveNoFinding policy slots
+
+-- the report on the journals is written, or memory or its writer was wanting
+pub record ReportsHistories (seats : List SeatState) (answer : Result ⊤ Fault) (written after : Option (List ℕ)) : Type 0 where
+  pub policy : List Entry
+  pub slots : List (List SlotEntry)
+  pub are : AreHistories seats policy slots
+  pub reports : Reports policy slots written answer after
+
+-- journals and receipts don't match, and nothing is written
+pub record TellsMismatch (seats : List SeatState) (answer : Result ⊤ Fault) (written after : Option (List ℕ)) : Type 0 where
+  pub mismatch : Mismatch
+  pub justified : IsJustified (kept_of seats) mismatch
+  pub told : answer ≡ Err fault.Mismatch
+  pub silent : Keeps written after
+
+-- what comes behind the last connection of all, when no accept failed
+abbrev pub ClosesSo : (seats : List SeatState) → Result ⊤ Fault → (written after : Option (List ℕ)) → Type 0
+ClosesSo seats answer written after = ReportsHistories seats answer written after ⊎ TellsMismatch seats answer written after
+
+-- the connections of a socket are served to their ends, and the server is closed
+pub record ServesAndCloses (workers : ℕ) (answer : Result ⊤ Fault) (written after : Option (List ℕ)) : Type 0 where
   pub seats : List SeatState
-  pub back : AreBack ServesNext (replicate workers new_seat) seats
+  pub back : ServesAll workers seats
+  pub closes : ClosesSo seats answer written after
 
--- the connections of a socket are served, and no accept failed; else a fault of memory, or of the socket
-abbrev pub ServesSocket : (workers : ℕ) → Result ⊤ Fault → Type 0
-ServesSocket workers (Ok _) = ServesAll workers
-ServesSocket workers (Err f) = f ≡ fault.Memory ⊎ f ≡ fault.Socket
+-- a fault of memory or of the socket, and nothing is written
+pub record FailsToServe (answer : Result ⊤ Fault) (written after : Option (List ℕ)) : Type 0 where
+  pub given : Fault
+  pub told : answer ≡ Err given
+  pub named : given ≡ fault.Memory ⊎ given ≡ fault.Socket
+  pub silent : Keeps written after
+
+-- the connections of a socket are served and the server is closed; or memory was refused before, or the socket failed
+abbrev pub ServesSocket : (workers : ℕ) → Result ⊤ Fault → (written after : Option (List ℕ)) → Type 0
+ServesSocket workers answer written after = ServesAndCloses workers answer written after ⊎ FailsToServe answer written after

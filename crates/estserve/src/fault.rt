@@ -21,6 +21,8 @@ pub enum Fault {
     Memory,
     #[error("estserve: socket fault")]
     Socket,
+    #[error("estserve: mismatch")]
+    Mismatch,
 }
 
 impl Fault {
@@ -30,7 +32,7 @@ impl Fault {
     {
         match self {
             Fault::Words(_) => 2,
-            Fault::Read | Fault::Write | Fault::Memory | Fault::Socket => 1,
+            Fault::Read | Fault::Write | Fault::Memory | Fault::Socket | Fault::Mismatch => 1,
         }
     }
 }
@@ -50,6 +52,7 @@ pub fn tell<E: Write>(fault: &Fault, errors: &mut E) -> io::Result<()>
         Fault::Write => errors.write_all(b"estserve: write fault\n"),
         Fault::Memory => errors.write_all(b"estserve: no memory\n"),
         Fault::Socket => errors.write_all(b"estserve: socket fault\n"),
+        Fault::Mismatch => errors.write_all(b"estserve: mismatch\n"),
     }
 }
 

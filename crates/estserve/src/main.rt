@@ -1,10 +1,12 @@
 //! The program: a shared simulator of Pure Esterel modules under role-based access control, one JSON command a line.
 //!
 //! Standard input and standard output are one connection: `client_loop` serves it, and its contracts carry the program. `run` is the program
-//! over any words and streams, `words` reads the command line, and `fault` says how the program ends.
+//! over any words and streams, `words` reads the command line, `reports` writes
+//! the report of an audit, and `fault` says how the program ends.
 #![tactic(auto)]
 
 pub mod fault;
+pub mod reports;
 pub mod run;
 pub mod server;
 pub mod socket;

@@ -1,7 +1,11 @@
 //! A run of the program, over any words and streams.
-ghost use Rattle.estserve.specs.Runs.{RunsScript, Obeys, NamesDevices, Runs};
+ghost use Rattle.std.specs.Prelude.{◌≡◌, Err, true};
+ghost use Rattle.line_reader.specs.declared.serving.Why.TheVariants.{ReadFault, WriteFault};
+ghost use Rattle.estserve.specs.declared.fault.Fault.TheVariants as fault;
+ghost use Rattle.estserve.specs.Runs.{EndsSo, RunsScript, Obeys, NamesDevices, Runs};
 
 use crate::fault::{Fault, outcome, tell};
+use crate::reports::write_report;
 use crate::server::serve as serve_socket;
 use crate::words::Order;
 use access_core::single::Single;
@@ -11,6 +15,7 @@ use line_reader::meter::{MeteredMemory, MeteredReader, MeteredWriter};
 use line_reader::serving::Why;
 use log::sink::Writer;
 use log::{Level, Logged, info};
+use std::alloc::Global;
 use std::fs::Files;
 use std::io::{Read, Write};
 use std::net::Net;
@@ -23,7 +28,34 @@ fn log_end<E: Write>(errors: &mut E, why: Why) {
     info!(log; "connection ended: {why:?}");
 }
 
-/// Serves the input and the output as one connection over a desk as it opens.
+/// What comes behind a connection that ended so: its fault; or the report on the desk, where it is asked for.
+fn finish<O: Write>(
+    alloc: Global,
+    why: Why,
+    desk: Single,
+    output: &mut MeteredWriter<O>,
+    report: bool,
+) -> Result<(), Fault>
+    requires { why ≡ WriteFault → output.old.failed ≡ true }
+    ensures ends { EndsSo report why desk result (O.contents output.old.device)
+        (O.contents output.new.device) }
+    ensures read { result ≡ Err fault.Read → why ≡ ReadFault }
+    ensures write { result ≡ Err fault.Write → output.new.failed ≡ true }
+{
+    match why {
+        Why::Closed | Why::TooLong => {
+            if !report {
+                return Ok(());
+            }
+            let (policy, slots) = desk.into_journals();
+            write_report(alloc, &policy, &slots, output)
+        }
+        Why::ReadFault | Why::WriteFault | Why::Memory => outcome(why),
+    }
+}
+
+/// Serves the input and the output as one connection over a desk as it opens, and writes the report on the desk behind it where that is
+/// asked for.
 fn script<R: Wait, I: Read, O: Write, E: Write>(
     rt: &R,
     memory: &mut MeteredMemory,
@@ -31,8 +63,9 @@ fn script<R: Wait, I: Read, O: Write, E: Write>(
     output: &mut MeteredWriter<O>,
     errors: &mut E,
     log: bool,
+    report: bool,
 ) -> Result<(), Fault>
-    ensures runs { RunsScript memory.new.refused (I.remaining input.old.device) result
+    ensures runs { RunsScript memory.new.refused report (I.remaining input.old.device) result
         (O.contents output.old.device) (O.contents output.new.device) }
     ensures devices { NamesDevices result input.new.failed input.new.left output.new.failed }
 {
@@ -44,7 +77,7 @@ fn script<R: Wait, I: Read, O: Write, E: Write>(
     if log {
         log_end(errors, why);
     }
-    outcome(why)
+    finish(memory.allocator(), why, desk, output, report)
 }
 
 /// Does what the words ask for.
@@ -61,8 +94,8 @@ fn obey<R: Threads + Wait + Net + Files + Sync, I: Read, O: Write, E: Write>(
     ensures devices { NamesDevices result input.new.failed input.new.left output.new.failed }
 {
     match Order::from_words(memory.allocator(), words)? {
-        Order::Script { log } => script(rt, memory, input, output, errors, log),
-        Order::Serve(service) => serve_socket(rt, memory.allocator(), &service),
+        Order::Script { log, report } => { script(rt, memory, input, output, errors, log, report) },
+        Order::Serve(service) => serve_socket(rt, memory.allocator(), &service, output),
     }
 }
 

@@ -1,19 +1,24 @@
 //! The connections of a socket, served side by side over one policy and one table of slots.
-ghost use Rattle.std.specs.Prelude.{◌≡◌, ◌≤◌, MatchOption};
+ghost use Rattle.std.specs.Prelude.{◌≡◌, ◌≤◌, Err, true, vec_len, MatchOption};
 ghost use Rattle.seat_receipts.specs.declared.receipts.TheConstants.{SEATS};
-ghost use Rattle.estserve.specs.Serving.{ServesSocket};
+ghost use Rattle.estserve.specs.declared.fault.Fault.TheVariants as fault;
+ghost use Rattle.estserve.specs.Serving.{ClosesSo, ServesSocket};
 
 use crate::fault::Fault;
+use crate::reports::write_report;
 use crate::socket::{Socket, SocketSource};
 use client_loop::gate::OpenGate;
 use client_loop::workers::run_workers;
+use line_reader::meter::MeteredWriter;
 use policy_board::board::Board;
 use policy_board::history::{Fresh, Naming};
 use policy_board::opening::Opened;
+use policy_board::seat::Seat;
 use seat_receipts::receipts::SEATS;
 use slot_table::table::SlotTable;
 use std::alloc::Global;
 use std::fs::Files;
+use std::io::Write;
 use std::marker::Brand;
 use std::net::Net;
 use std::sync::Wait;
@@ -57,16 +62,39 @@ pub struct Service<'a> {
     pub connections: Option<u64>,
 }
 
-/// Serves the connections of a source over a board of this name as it opens, at a seat for each worker.
-fn serve_source<J: Naming + Send + Sync, R: Threads + Wait + Sync>(
+/// Closes a server whose workers have left its seats so, and writes the report on its journals.
+fn close<J: Naming, R: Wait, O: Write>(
+    rt: &R,
+    alloc: Global,
+    board: Board<J>,
+    table: SlotTable<J>,
+    seats: Vec<Seat<J>>,
+    output: &mut MeteredWriter<O>,
+) -> Result<(), Fault>
+    requires { vec_len seats ≤ SEATS }
+    ensures closes { ClosesSo seats.items result (O.contents output.old.device)
+        (O.contents output.new.device) }
+    ensures failed { result ≡ Err fault.Write → output.new.failed ≡ true }
+{
+    match table.close(rt, alloc, board, seats) {
+        Ok(histories) => write_report(alloc, &histories.policy, &histories.slots, output),
+        Err(_) => Err(Fault::Mismatch),
+    }
+}
+
+/// Serves the connections of a source over a board of this name as it opens, at a seat for each worker, and closes the server.
+fn serve_source<J: Naming + Send + Sync, R: Threads + Wait + Sync, O: Write>(
     rt: &R,
     alloc: Global,
     fresh: Fresh,
     workers: WorkerCount,
     source: &SocketSource<'_, '_>,
+    output: &mut MeteredWriter<O>,
 ) -> Result<(), Fault>
     requires { fresh.seen.book ≡ J.book }
-    ensures { ServesSocket workers.count result }
+    ensures serves { ServesSocket workers.count result (O.contents output.old.device)
+        (O.contents output.new.device) }
+    ensures failed { result ≡ Err fault.Write → output.new.failed ≡ true }
 {
     let Ok(
         Opened {
@@ -79,48 +107,60 @@ fn serve_source<J: Naming + Send + Sync, R: Threads + Wait + Sync>(
         return Err(Fault::Memory);
     };
     let table = SlotTable::open(alloc, readers);
-    let back = run_workers(rt, alloc, &table, &board, seats, source, &OpenGate);
+    let fault = match run_workers(rt, alloc, &table, &board, seats, source, &OpenGate) {
+        Ok(seats) if !source.has_failed() => {
+            return close(rt, alloc, board, table, seats, output);
+        }
+        Ok(_) => Fault::Socket,
+        Err(_) => Fault::Memory,
+    };
     board.close().journal(rt);
-    match back {
-        Err(_) => Err(Fault::Memory),
-        Ok(_) if source.has_failed() => Err(Fault::Socket),
-        Ok(_) => Ok(()),
-    }
+    Err(fault)
 }
 
 /// Serves the connections that come to a socket, which is open.
-fn serve_socket<R: Threads + Wait + Sync>(
+fn serve_socket<R: Threads + Wait + Sync, O: Write>(
     rt: &R,
     alloc: Global,
     socket: &Socket<'_>,
     service: &Service<'_>,
+    output: &mut MeteredWriter<O>,
 ) -> Result<(), Fault>
-    ensures { ServesSocket service.now.workers.count result }
+    ensures serves { ServesSocket service.now.workers.count result (O.contents output.old.device)
+        (O.contents output.new.device) }
+    ensures failed { result ≡ Err fault.Write → output.new.failed ≡ true }
 {
     let workers = service.workers;
     match SocketSource::new(alloc, socket, workers.count, service.connections) {
-        Ok(source) => serve_source::<Brand, R>(rt, alloc, Fresh::new(), workers, &source),
+        Ok(source) => {
+            serve_source::<Brand, R, O>(rt, alloc, Fresh::new(), workers, &source, output)
+        }
         Err(_) => Err(Fault::Memory),
     }
 }
 
 /// Serves the connections that come to a socket, of which each worker serves one after another. It ends when all workers have
-/// ended: each after so many connections, if there is a number of them, or when it can accept no more. Its file is then taken
-/// away.
+/// ended: each after so many connections, if there is a number of them, or when it can accept no more. If no accept failed, the
+/// report on its journals is written. Its file is then taken away.
 ///
 /// # Errors
 ///
 /// - Socket, where the socket can't be made, or a connection could not be accepted;
-/// - Memory, where memory was refused, or a thread could not be started.
-pub fn serve<R: Threads + Wait + Net + Files + Sync>(
+/// - Memory, where memory was refused, or a thread could not be started;
+/// - Mismatch, where the journals are not those of the calls that the workers made;
+/// - Write, where the report could not be written.
+pub fn serve<R: Threads + Wait + Net + Files + Sync, O: Write>(
     rt: &R,
     alloc: Global,
     service: &Service<'_>,
+    output: &mut MeteredWriter<O>,
 ) -> Result<(), Fault>
-    ensures { ServesSocket service.now.workers.count result }
+    ensures serves { ServesSocket service.now.workers.count result (O.contents output.old.device)
+        (O.contents output.new.device) }
+    ensures failed { result ≡ Err fault.Write → output.new.failed ≡ true }
 {
     let socket = Socket::bind(rt, service.path)?;
-    let answer = serve_socket(rt, alloc, &socket, service);
+    let answer = serve_socket(rt, alloc, &socket, service, output);
     socket.close(rt);
     answer
 }

@@ -2,6 +2,7 @@
 ghost use Rattle.std.specs.Prelude.{◌≤◌, length};
 
 mod rows;
+mod sockets;
 
 use crate::run::run;
 use line_reader::lines::LINE_BYTES;
@@ -203,17 +204,33 @@ const OPENING: Turns<'static> = &[
 
 const SCRIPT: &[&str] = &["estserve", "script"];
 
+const REPORT: &[&str] = &["estserve", "script", "--report"];
+
+/// The report on the journals of the opening script.
+const OPENING_REPORT: &str =
+    "policy: 10 entries\nslot 0: 4 entries, 1 loads, 3 instants\ncheck: ok\n";
+
+/// The report where no command came.
+const REPORT_OF_NOTHING: &str = "policy: 4 entries\ncheck: ok\n";
+
 #[test]
 fn words(rt: HostRuntime) -> Result<(), Fail> {
-    for (words, status) in [
-        (SCRIPT, 0u8),
-        (&["estserve"].as_slice(), 2),
-        (&["estserve", "serve"], 2),
-        (&["estserve", "script", "more"], 2),
-        (&["estserve", "--help"], 2),
-        (&["estserve", "script", "--report"], 2),
-        (&["estserve", "--log", "script"], 2),
-        (&["estserve", "script", "--log"], 0),
+    for (words, status, output, is_silent) in [
+        (SCRIPT, 0u8, "", true),
+        (REPORT, 0, REPORT_OF_NOTHING, true),
+        (&["estserve"].as_slice(), 2, "", false),
+        (&["estserve", "serve"], 2, "", false),
+        (&["estserve", "script", "more"], 2, "", false),
+        (&["estserve", "--help"], 2, "", false),
+        (&["estserve", "--report", "script"], 2, "", false),
+        (&["estserve", "--log", "script"], 2, "", false),
+        (&["estserve", "script", "--log"], 0, "", false),
+        (
+            &["estserve", "script", "--log", "--report"],
+            0,
+            REPORT_OF_NOTHING,
+            false,
+        ),
     ] {
         let end = ran(
             &rt,
@@ -223,8 +240,8 @@ fn words(rt: HostRuntime) -> Result<(), Fail> {
             Sink::new(rt.alloc(), AMPLE),
         )?;
         assert_eq!(rt; end.status, status, "{words:?}");
-        assert!(rt; end.output.is_empty(), "{words:?}");
-        assert!(rt; end.errors.is_empty() == (words == SCRIPT), "{words:?}");
+        assert!(rt; end.output.as_slice() == output.as_bytes(), "{words:?}");
+        assert!(rt; end.errors.is_empty() == is_silent, "{words:?}");
     }
     Ok(())
 }
@@ -243,6 +260,19 @@ fn an_end_is_told(rt: HostRuntime) -> Result<(), Fail> {
             .as_slice()
             .ends_with(b"connection ended: Closed\n")
     );
+    Ok(())
+}
+
+#[test]
+fn a_report_follows_the_last_answer(rt: HostRuntime) -> Result<(), Fail> {
+    let alloc = rt.alloc();
+    let (lines, mut answers) = joined(alloc, OPENING)?;
+    answers.extend_from_slice(OPENING_REPORT.as_bytes())?;
+    let feed = Feed::whole(lines.as_slice());
+    let end = ran(&rt, alloc, REPORT, feed, Sink::new(alloc, AMPLE))?;
+    assert_eq!(rt; end.status, 0);
+    assert!(rt; end.output.as_slice() == answers.as_slice());
+    assert!(rt; end.errors.is_empty());
     Ok(())
 }
 
@@ -306,7 +336,7 @@ fn a_reader_fails_at_each_call(rt: HostRuntime) -> Result<(), Fail> {
             .filter(|b| **b == b'\n')
             .count();
         let told = length_of(answers.as_slice(), whole);
-        let end = ran(&rt, alloc, SCRIPT, feed, Sink::new(alloc, AMPLE))?;
+        let end = ran(&rt, alloc, REPORT, feed, Sink::new(alloc, AMPLE))?;
         assert_eq!(rt; end.status, 1, "{calls_that_work}");
         assert!(rt;
             end.output.as_slice() == &answers.as_slice()[..told],
@@ -323,12 +353,16 @@ fn a_reader_fails_at_each_call(rt: HostRuntime) -> Result<(), Fail> {
 #[test]
 fn a_writer_fails_at_each_call(rt: HostRuntime) -> Result<(), Fail> {
     let alloc = rt.alloc();
-    let (lines, answers) = joined(alloc, OPENING)?;
-    for calls_that_work in 0..answers.len().div_ceil(50) {
+    let (lines, mut answers) = joined(alloc, OPENING)?;
+    let calls = answers.len().div_ceil(50);
+    let answered = answers.len();
+    answers.extend_from_slice(OPENING_REPORT.as_bytes())?;
+    for calls_that_work in 0..calls + OPENING_REPORT.len().div_ceil(50) {
         let mut sink = Sink::new(alloc, 50);
         sink.calls_that_work = calls_that_work;
-        let told = answers.len().min(calls_that_work * 50);
-        let end = ran(&rt, alloc, SCRIPT, Feed::whole(lines.as_slice()), sink)?;
+        let reported = calls_that_work.saturating_sub(calls) * 50;
+        let told = answered.min(calls_that_work * 50) + reported;
+        let end = ran(&rt, alloc, REPORT, Feed::whole(lines.as_slice()), sink)?;
         assert_eq!(rt; end.status, 1, "{calls_that_work}");
         assert!(rt;
             end.output.as_slice() == &answers.as_slice()[..told],
@@ -359,15 +393,19 @@ fn after_bytes<R: Threads + Wait + Net + Files + Sync>(
     let mut lines = vec![in alloc; byte; count]?;
     lines.extend_from_slice(rest.as_bytes())?;
     let feed = Feed::whole(lines.as_slice());
-    ran(rt, alloc, SCRIPT, feed, Sink::new(alloc, AMPLE))
+    ran(rt, alloc, REPORT, feed, Sink::new(alloc, AMPLE))
 }
 
-/// Whether the bytes are the one text and then the other.
-fn are_joined(bytes: &[u8], first: &str, second: &str) -> bool {
-    match bytes.strip_prefix(first.as_bytes()) {
-        Some(after) => after == second.as_bytes(),
-        None => false,
+/// Whether the bytes are these texts, one after another.
+fn are_joined(bytes: &[u8], texts: &[&str]) -> bool {
+    let mut rest = bytes;
+    for text in texts {
+        let Some(after) = rest.strip_prefix(text.as_bytes()) else {
+            return false;
+        };
+        rest = after;
     }
+    rest.is_empty()
 }
 
 #[test]
@@ -383,7 +421,7 @@ fn long_lines_and_bytes_that_are_no_text(rt: HostRuntime) -> Result<(), Fail> {
         let end = after_bytes(&rt, rt.alloc(), byte, count, rest)?;
         assert_eq!(rt; end.status, 0, "{byte} {count} {rest:?}");
         assert!(rt;
-            are_joined(end.output.as_slice(), first, second),
+            are_joined(end.output.as_slice(), &[first, second, REPORT_OF_NOTHING]),
             "{byte} {count} {rest:?}"
         );
         assert!(rt; end.errors.is_empty(), "{byte} {count} {rest:?}");

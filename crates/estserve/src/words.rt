@@ -15,6 +15,8 @@ pub enum Order<'a> {
     Script {
         /// Whether a line on standard error tells how it ended.
         log: bool,
+        /// Whether the report of an audit follows the last answer.
+        report: bool,
     },
     /// To serve the connections of a socket.
     Serve(Service<'a>),
@@ -26,8 +28,13 @@ fn script_words<'a>(alloc: Global) -> Result<Command<'a>, AllocError> {
         .long("log")
         .help("Tells on standard error how the connection ended")
         .action(ArgAction::SetTrue);
+    let report = Arg::new(alloc, "report")
+        .long("report")
+        .help("Ends with the report of an audit of the journals")
+        .action(ArgAction::SetTrue);
     Command::new(alloc, "script")
         .about("Serves standard input and standard output as one connection")
+        .arg(report)?
         .arg(log)
 }
 
@@ -82,11 +89,11 @@ fn parse<'a>(alloc: Global, words: &'a [String]) -> Result<Order<'a>, Error> {
     if let Some(serve) = matches.subcommand_matches("serve") {
         return Ok(Order::Serve(service_of(serve)));
     }
-    let log = match matches.subcommand_matches("script") {
-        Some(script) => script.get_flag("log"),
-        None => false,
+    let (log, report) = match matches.subcommand_matches("script") {
+        Some(script) => (script.get_flag("log"), script.get_flag("report")),
+        None => (false, false),
     };
-    Ok(Order::Script { log })
+    Ok(Order::Script { log, report })
 }
 
 impl<'a> Order<'a> {

@@ -9,7 +9,8 @@ use Rattle.access_core.specs.declared.command.SlotCommand.TheVariants.{Load, Off
 use Rattle.access_core.specs.declared.reply.Reply.{Reply}
 use Rattle.access_core.specs.Answering.{IsRefused}
 use Rattle.access_core.specs.SlotStep.{SlotStep, slot_rules, Does}
-use Rattle.slot_table.specs.Receipts.{asked_by, place_told}
+use Rattle.history_laws.specs.CallsInTurn.{asked_by}
+use Rattle.slot_table.specs.Receipts.{place_told}
 
 module _ (list : List Entry) (slot session : ℕ) (before : List SlotEntry) (reply : Reply) (after : List SlotEntry) where
   -- a command that does nothing which tells a place is answered by a reply that tells none

@@ -1,6 +1,6 @@
 -- The slots of a closing server end with journals that are legal.
-use Rattle.std.proofs.Common.{◌≡◌, ◌∙◌, ℕ, zero, suc, ◌+◌, ◌<◌, List, [], ◌∷◌, length, sym, ap, subst, arith}
-use Rattle.std.specs.Prelude.{IsNone, Result, Ok, Err, MatchResult, IfOk, OnOk}
+use Rattle.std.proofs.Common.{◌≡◌, ◌∙◌, ℕ, zero, suc, ◌+◌, ◌<◌, List, ◌∷◌, length, refl, sym, subst, arith}
+use Rattle.std.specs.Prelude.{IsNone, Result, Ok, Err, MatchResult, IfOk, IfErr, OnOk}
 use Rattle.rbac_policy.specs.declared.commands.Entry.{Entry}
 use Rattle.rbac_policy.specs.declared.objects.TheConstants.{SLOTS}
 use Rattle.rbac_admin.specs.PolicyLists.{Begins}
@@ -12,7 +12,7 @@ use Rattle.history_merge.specs.Order.{part_at}
 use Rattle.access_core.specs.Journals.{IsLegal}
 use Rattle.access_core.proofs.Legality.{still_legal}
 use Rattle.slot_table.specs.Closing.{AreLegal, ClosingState}
-use Rattle.slot_table.specs.Inner.Ending.{Ends, EndFrom}
+use Rattle.slot_table.specs.Inner.Ending.{Ends, EndFrom, all_ended, one_ended}
 
 -- a journal that is legal over what its reader has seen is legal over the policy list that begins with it
 pub handed_legal : (seen policy : List Entry) (slot : ℕ) (journal : List SlotEntry) (handed : Result (Unit {0}) Mismatch) → IsLegal seen slot journal
@@ -38,31 +38,34 @@ record Left (slot : ℕ) (old : ClosingState) (journals : List (List SlotEntry))
   policy : new.policy ≡ old.policy
   legal : IsNone new.fault → IsNone old.fault × LegalFrom old.policy slot journals
 
-left_of : (slot : ℕ) (old : ClosingState) (journals : List (List SlotEntry)) (new : ClosingState) → EndFrom slot old journals new → Left slot old journals new
+left_of : {slot : ℕ} {old new : ClosingState} {journals : List (List SlotEntry)} → EndFrom slot old journals new → Left slot old journals new
 unfolding LegalFrom
-left_of slot old [] new same = record {
-  policy = ap (λ (s : ClosingState). s.policy) same;
-  legal = λ none. (subst (λ (s : ClosingState). IsNone s.fault) same none, λ at low. absurd (omega arith));
-}
-left_of slot old (journal ∷ journals) new ends =
-    let next = ends.0 in
-    let here = ends.1 in
-    let later = left_of (slot + 1) next journals new ends.2 in
+left_of all_ended = record { policy = refl; legal = λ none. (none, λ at low. absurd (omega arith)) }
+left_of {slot} {old} (one_ended {journal = journal} {journals = journals} here later) =
+    let left = left_of later in
     record {
-      policy = later.policy ∙ here.policy;
+      policy = left.policy ∙ here.policy;
       legal = λ none.
-          let after = later.legal none in
-          let now = here.legal after.0 in
-          (now.0, legal_next old.policy slot journal journals now.1
-              (subst (λ (p : List Entry). LegalFrom p (slot + 1) journals) here.policy after.1));
+          let after = left.legal none in
+          let now = here.legal after.0 in (
+            now.0,
+            legal_next old.policy slot journal journals now.1
+                (subst (λ (p : List Entry). LegalFrom p (slot + 1) journals) here.policy after.1),
+          );
     }
+
+infixr 4 ◌▹◌
+-- one slot more has ended, before the others
+abbrev pub ◌▹◌ : {slot : ℕ} {old next new : ClosingState} {journal : List SlotEntry} {journals : List (List SlotEntry)} → Ends slot old journal next
+    → EndFrom (slot + 1) next journals new → EndFrom slot old (journal ∷ journals) new
+here ▹ later = one_ended here later
 
 -- where all slots have ended and there is no fault, their journals are legal over the policy list
 pub all_legal : (old : ClosingState) (journals : List (List SlotEntry)) (new : ClosingState) → EndFrom 0 old journals new → length journals ≡ SLOTS
     → IsNone new.fault → AreLegal new.policy journals
 unfolding LegalFrom
 all_legal old journals new ends sixteen none = λ slot low.
-    let left = left_of 0 old journals new ends in
+    let left = left_of ends in
     let legal = (left.legal none).1 slot (subst (λ n. slot < n) (sym sixteen) low) in
     subst (λ (p : List Entry). IsLegal p slot (part_at journals slot)) (sym left.policy)
     (subst (λ n. IsLegal old.policy n (part_at journals slot)) (let e : 0 + slot ≡ slot = omega arith in e) legal)
@@ -72,3 +75,8 @@ pub given_back : {A E : Type 0} (Has : A → Type 0) (result : Result A E) (give
     → IfOk result Has
 given_back Has (Ok a) given same has = subst Has (sym same) has
 given_back Has (Err e) given same has = tt
+
+-- an error that has the one has the other
+pub err_weaker : {A E : Type 0} (result : Result A E) (Has Other : E → Type 0) → ((e : E) → Has e → Other e) → IfErr result Has → IfErr result Other
+err_weaker (Ok a) Has Other weaker has = tt
+err_weaker (Err e) Has Other weaker has = weaker e has

@@ -1,24 +1,11 @@
 -- What a seat keeps of its commands on slots (this project's own form).
 use Rattle.std.specs.Prelude.{◌≡◌, ℕ, List, [], ◌∷◌, ◌++◌, Option, Some, None, MatchOption}
 use Rattle.seat_receipts.specs.declared.receipt.Asked.{Asked}
-use Rattle.seat_receipts.specs.declared.receipt.Asked.TheVariants as asked
 use Rattle.seat_receipts.specs.declared.receipt.Kept.{Kept}
 use Rattle.seat_receipts.specs.declared.receipt.Kept.TheVariants.{Slot}
-use Rattle.access_core.specs.declared.command.SlotCommand.{SlotCommand}
-use Rattle.access_core.specs.declared.command.SlotCommand.TheVariants.{Load, Offer, Discard, Step, Unload, Look, Audit}
 use Rattle.access_core.specs.declared.reply.Reply.{Reply}
 use Rattle.access_core.specs.declared.reply.Reply.TheVariants.{Refused, Login, Changed, Check}
 use Rattle.access_core.specs.declared.reply.Reply.TheVariants.{Load as Loaded, Offer as Offered, Discard as Discarded, Step as Stepped, Unload as Unloaded, Look as Shown, Audit as Audited}
-
--- the entry that the command asks for, of a load without its name and its text; a look and an audit ask for none
-abbrev pub asked_by : SlotCommand → Option Asked
-asked_by (Load main text) = Some asked.Load
-asked_by (Offer signal) = Some (asked.Offer signal)
-asked_by Discard = Some asked.Discard
-asked_by Step = Some asked.Step
-asked_by Unload = Some asked.Unload
-asked_by (Look n) = None
-asked_by Audit = None
 
 -- the place and the version that the reply tells of the entry that was added, if one was
 abbrev pub place_told : Reply → Option (ℕ × ℕ)

@@ -17,7 +17,8 @@ use Rattle.access_core.specs.SlotStep.{SlotStep}
 use Rattle.slot_table.specs.Conversions.{of_board}
 use Rattle.access_core.specs.Journals.{IsLegal}
 use Rattle.slot_table.specs.LockedState.{LockedState}
-use Rattle.slot_table.specs.Receipts.{asked_by, Keeps}
+use Rattle.history_laws.specs.CallsInTurn.{asked_by}
+use Rattle.slot_table.specs.Receipts.{Keeps}
 
 -- the slot's reader has read a policy list. It begins with all that this reader had seen and all that the seat knew, and is no shorter than
 -- the seat's seen number. The slot step on it gives the reply and the journal. The seat then knows it, and

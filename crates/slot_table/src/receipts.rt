@@ -1,6 +1,7 @@
 //! What a seat keeps of its commands on slots.
 ghost use Rattle.std.specs.Prelude.{◌≡◌, ◌<◌, Option, length, option_map, IsSome};
-ghost use Rattle.slot_table.specs.Receipts.{asked_by, place_told, Keeps};
+ghost use Rattle.history_laws.specs.CallsInTurn.{asked_by};
+ghost use Rattle.slot_table.specs.Receipts.{place_told, Keeps};
 
 use access_core::command::SlotCommand;
 use access_core::reply::Reply;

@@ -3,6 +3,7 @@ ghost use Rattle.std.specs.Prelude.{◌≡◌, ◌⊎◌, ◌<◌, ◌≤◌, �
 ghost use Rattle.rbac_policy.specs.declared.objects.TheConstants.{SLOTS};
 ghost use Rattle.rbac_admin.specs.PolicyLists.{IsPolicyList};
 ghost use Rattle.seat_receipts.specs.declared.receipts.TheConstants.{SEATS};
+ghost use Rattle.history_laws.specs.CallsInTurn.{AreOfOneRun};
 ghost use Rattle.history_merge.specs.OneList.{AreOfOneList};
 ghost use Rattle.slot_table.specs.Closing.{AllRise, AreLegal, IsJustified, kept_of};
 ghost use Rattle.slot_table.specs.Inner.Ending.{EndFrom};
@@ -14,6 +15,7 @@ use crate::slot::LockedSlot;
 use access_core::command::SlotCommand;
 use access_core::refusal::Refusal;
 use access_core::reply::Reply;
+use history_laws::laws::journals_are_of_one_run;
 use policy_board::board::Board;
 use policy_board::history::Naming;
 use policy_board::reader::SlotReader;
@@ -194,7 +196,8 @@ impl<J: Naming> SlotTable<J> {
     }
 
     /// Ends a server: its journals, where each of their entries was asked for by one call of one of these seats, which keeps its
-    /// receipt. Board and seats are those of its readers. It waits for reads of the policy, and takes no memory.
+    /// receipt: they are the journals of clients that took turns. Board and seats are those of its readers. It waits for reads of the
+    /// policy, and takes no memory.
     ///
     /// # Errors
     ///
@@ -210,6 +213,7 @@ impl<J: Naming> SlotTable<J> {
     ) -> Result<Histories, Mismatch>
         requires few { vec_len seats ≤ SEATS }
         ensures one { IfOk result (λ h. AreOfOneList h.policy h.slots (kept_of seats.items)) }
+        ensures run { IfOk result (λ h. AreOfOneRun h.policy h.slots (kept_of seats.items)) }
         ensures rises { OnOk result (AllRise (kept_of seats.items)) }
         ensures list { IfOk result (λ h. IsPolicyList h.policy) }
         ensures legal { IfOk result (λ h. AreLegal h.policy h.slots) }
@@ -218,6 +222,7 @@ impl<J: Naming> SlotTable<J> {
         let mut closing = Closing::begin(board);
         let slots = self.end(&mut closing);
         let policy = closing.journal(rt)?;
+        journals_are_of_one_run();
         settle(alloc, Histories { policy, slots }, seats)
     }
 }

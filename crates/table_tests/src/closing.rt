@@ -77,13 +77,12 @@ fn close<J: Naming, R: Wait + Abort>(rt: &R, alloc: Global, fresh: Fresh) -> usi
         .close(rt, alloc, board, seats)
         .ok()
         .expect(rt, "histories");
-    let [first, second, .., last] = &histories.slots;
-    assert_eq!(rt; first.len(), 7);
-    assert_eq!(rt; second.len(), 0);
-    assert_eq!(rt; last.len(), 2);
+    assert_eq!(rt; histories.slots[0].len(), 7);
+    assert_eq!(rt; histories.slots[1].len(), 0);
     assert_eq!(rt; histories.slots[7].len(), 4);
-    for entry in last.entries() {
-        assert_eq!(rt; entry.stamp.session, 1);
+    assert_eq!(rt; histories.slots[15].len(), 2);
+    for entry in histories.slots[7].entries() {
+        assert!(rt; entry.stamp.session == 1 && entry.stamp.version <= 11);
     }
     histories.policy.len()
 }

@@ -100,7 +100,8 @@ fn answers_of<R: Wait + Abort, D: Desk>(rt: &R, alloc: Global, desk: &mut D) -> 
     writer.into_device().written
 }
 
-/// What a seat at this board and table is answered, which then has seen the whole list.
+/// What a seat at this board and table is answered, which then has seen the whole list, and keeps a receipt of each of the six policy entries
+/// and four slot entries that it added.
 fn answers_at<J: Naming, R: Wait + Abort>(
     rt: &R,
     alloc: Global,
@@ -122,6 +123,7 @@ fn answers_at<J: Naming, R: Wait + Abort>(
         seat,
     } = desk;
     assert_eq!(rt; seat.seen(), 10);
+    assert_eq!(rt; seat.kept().len(), 10);
     answers
 }
 

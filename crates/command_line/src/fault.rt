@@ -1,0 +1,10 @@
+//! Why words give no order.
+
+/// Why words give no order.
+#[derive(Debug, Drop)]
+pub enum WordFault {
+    /// They are none, or ask for help: clap's text about them is for the user.
+    Words(clap::Error),
+    /// Memory was refused.
+    Memory,
+}

@@ -1,0 +1,19 @@
+use Rattle.std.proofs.Common.{inr}
+use Rattle.client_loop.specs.Logins.{session_of}
+use Rattle.estserve.proofs.run.script.Goals as goal
+
+pub returns-clause-runs : goal.returns-clause-runs
+returns-clause-runs g c = inr (record {
+  why = c.serve-why.result.why;
+  answers = g.O.Write.contents c.serve-why.new.writer.device;
+  one = record {
+    desk = c.log_out_left.new.desk;
+    one = record {
+      desk = c.serve-why.new.desk;
+      left = session_of c.serve-why.result.left;
+      served = rw c.in-Ok.ensures at c.serve-why.ensures.serves;
+      logged_out = c.log_out_left.ensures;
+    };
+  };
+  ends = c.finish.ensures.ends;
+})

@@ -1,0 +1,45 @@
+//! The report of an audit, written behind what else was written.
+ghost use Rattle.std.specs.Prelude.{◌≡◌, Err, true};
+ghost use Rattle.estserve.specs.declared.fault.Fault.TheVariants as fault;
+ghost use Rattle.estserve.specs.Reports.{Reports};
+
+use crate::fault::Fault;
+use audit_report::reports::report;
+use line_reader::meter::{MeteredMemory, MeteredWriter};
+use line_reader::replies::Replies;
+use rbac_policy::journal::PolicyJournal;
+use rbac_policy::objects::SLOTS;
+use reactor_core::journal::Journal;
+use std::alloc::Global;
+use std::io::Write;
+
+/// Writes the report on these journals.
+///
+/// # Errors
+///
+/// Where memory was refused for it, and then nothing is written; or where it could not be written, and then a front of it is.
+pub fn write_report<O: Write>(
+    alloc: Global,
+    policy: &PolicyJournal,
+    slots: &[Journal; SLOTS as usize],
+    output: &mut MeteredWriter<O>,
+) -> Result<(), Fault>
+    ensures reports { Reports policy.now slots.now (O.contents output.old.device) result
+        (O.contents output.new.device) }
+    ensures failed { result ≡ Err fault.Write → output.new.failed ≡ true }
+{
+    let Ok(text) = report(alloc, policy, slots) else {
+        return Err(Fault::Memory);
+    };
+    let mut memory = MeteredMemory::new(alloc);
+    let Ok(mut waiting) = Replies::new(&mut memory) else {
+        return Err(Fault::Memory);
+    };
+    let Ok(()) = waiting.add(output, text.as_bytes()) else {
+        return Err(Fault::Write);
+    };
+    let Ok(()) = waiting.write_out(output) else {
+        return Err(Fault::Write);
+    };
+    Ok(())
+}

@@ -1,0 +1,4 @@
+mod Parts
+mod Accepted
+mod InTurn
+mod OneEnd

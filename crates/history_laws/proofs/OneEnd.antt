@@ -1,0 +1,54 @@
+-- What the calls of such a run are answered and end in is one, since memory is refused to none of them.
+use Rattle.std.proofs.Common.{◌≡◌, ℕ, zero, suc, false, List, [], ◌∷◌, map, refl, sym, subst, Some}
+use Rattle.std.specs.Prelude.{slice_get}
+use Rattle.std.specs.List.{AllZip}
+use Rattle.std.proofs.lemmas.Option.{same_Some}
+use Rattle.access_core.specs.declared.reply.Reply.{Reply}
+use Rattle.access_core.specs.declared.reply.Reply.TheVariants.{Refused, Login, Changed, Check}
+use Rattle.access_core.specs.declared.reply.Reply.TheVariants.{Load as Loaded, Offer as Offered, Discard as Discarded, Step as Stepped, Unload as Unloaded, Look as Shown, Audit as Audited}
+use Rattle.access_core.specs.Needs.{IsAccepted}
+use Rattle.access_events.specs.OneRun.{OneEnd}
+use Rattle.access_events.specs.Runs.{Moment, wants_memory}
+use Rattle.history_merge.specs.Events.{Event, Publishes, Commands}
+use Rattle.history_laws.specs.CallsInTurn.{IsCallOf, AreOfWorld, CallsEndSo}
+
+-- an accepted reply is no want of memory
+ample : (reply : Reply) → IsAccepted reply → wants_memory reply ≡ false
+ample (Refused refusal) accepted = absurd accepted
+ample (Login session version) accepted = refl
+ample (Changed change version) accepted = refl
+ample (Loaded place version) accepted = refl
+ample (Offered place version) accepted = refl
+ample (Discarded place version) accepted = refl
+ample (Stepped instant place version) accepted = refl
+ample (Unloaded place version) accepted = refl
+ample (Shown instant signals version) accepted = refl
+ample (Audited entries instants version) accepted = refl
+ample (Check allowed) accepted = refl
+
+accepted_call : (event : Event) (m : Moment) → IsCallOf event m → IsAccepted m.reply
+accepted_call (Publishes seat version entry) m call = call.accepted
+accepted_call (Commands seat r) m call = call.accepted
+
+all_ample : (events : List Event) (run : List Moment) → AllZip IsCallOf events run → (place : ℕ) (reply : Reply)
+    → slice_get (map (λ (m : Moment). m.reply) run) place ≡ Some reply → wants_memory reply ≡ false
+all_ample [] [] calls place reply there = cc
+all_ample [] (m ∷ run) calls place reply there = absurd calls
+all_ample (e ∷ events) [] calls place reply there = absurd calls
+all_ample (e ∷ events) (m ∷ run) calls zero reply there =
+    subst (λ r. wants_memory r ≡ false) (same_Some m.reply reply there) (ample m.reply (accepted_call e m calls.0))
+all_ample (e ∷ events) (m ∷ run) calls (suc place) reply there = all_ample events run calls.1 place reply there
+
+-- so replies and world are those of the run
+pub one_world : OneEnd → CallsEndSo
+one_world ends policy journals seats one replies world end =
+    let ran = one.ran in
+    let same = ends _ _ replies _ world (record {
+      moments = one.run;
+      run = ran.is;
+      are = refl;
+      answered = refl;
+      ends = refl;
+      ample = all_ample one.events one.run ran.calls;
+    }) end in
+    (sym same.0, subst (AreOfWorld policy journals) same.1 ran.leaves)

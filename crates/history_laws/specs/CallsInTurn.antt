@@ -1,0 +1,87 @@
+-- The calls of which receipts tell, one at a time: the run of one list of events (this project's own form).
+use Rattle.std.specs.Prelude.{◌≡◌, ◌<◌, ℕ, List, ◌∷◌, [], ◌++◌, Option, Some, None, length, map}
+use Rattle.std.specs.List.{AllZip}
+use Rattle.rbac_policy.specs.declared.commands.Entry.{Entry}
+use Rattle.reactor_core.specs.declared.entry.SlotEntry.{SlotEntry}
+use Rattle.access_core.specs.declared.command.SlotCommand.{SlotCommand}
+use Rattle.access_core.specs.declared.command.SlotCommand.TheVariants.{Load, Offer, Discard, Step, Unload, Look, Audit}
+use Rattle.access_core.specs.declared.reply.Reply.{Reply}
+use Rattle.access_core.specs.Desk.{accepted_reply}
+use Rattle.access_core.specs.Needs.{IsAccepted}
+use Rattle.access_core.specs.SlotState.{SlotState}
+use Rattle.access_events.specs.declared.event.TheConstants.{SEATS}
+use Rattle.access_events.specs.declared.event.Event.TheVariants as event
+use Rattle.access_events.specs.Changing.{Tells}
+use Rattle.access_events.specs.OneRun.{events_of}
+use Rattle.access_events.specs.Runs.{WorldState, Moment, IsRun, EndsIn, world_after, opening_world, journal_at}
+use Rattle.seat_receipts.specs.declared.receipt.Asked.{Asked}
+use Rattle.seat_receipts.specs.declared.receipt.Asked.TheVariants as asked
+use Rattle.seat_receipts.specs.declared.receipt.SlotReceipt.{SlotReceipt}
+use Rattle.seat_receipts.specs.declared.receipt.Kept.{Kept}
+use Rattle.history_merge.specs.Events.{Event, Publishes, Commands}
+use Rattle.history_merge.specs.OneList.{HasParts}
+
+-- what a receipt keeps of the command, of a load neither name nor text; a look and an audit have no receipt
+abbrev pub asked_by : SlotCommand → Option Asked
+asked_by (Load main text) = Some asked.Load
+asked_by (Offer signal) = Some (asked.Offer signal)
+asked_by Discard = Some asked.Discard
+asked_by Step = Some asked.Step
+asked_by Unload = Some asked.Unload
+asked_by (Look n) = None
+asked_by Audit = None
+
+-- the moment is the call of which this seat keeps the receipt of this entry: the entry's command, which the entry's session gives
+-- through the seat, is accepted and adds the entry to the policy list, which then has this version; and the reply tells so
+pub record IsPolicyCall (seat version : ℕ) (entry : Entry) (m : Moment) : Type 0 where
+  pub seated : seat < SEATS
+  pub is : m.event ≡ event.Admin seat entry.session entry.command
+  pub accepted : IsAccepted m.reply
+  pub told : m.reply ≡ accepted_reply m.before.entries entry.command
+  pub added : m.after.entries ≡ m.before.entries ++ entry ∷ []
+  pub makes : length m.after.entries ≡ version
+
+-- the moment is the call of which this seat keeps this receipt: a command of which the receipt keeps this, which its session
+-- gives through the seat on its slot and which is judged at its version, is accepted; the slot's journal then ends at its place,
+-- and the reply tells place and version
+pub record IsSlotCall (seat : ℕ) (r : SlotReceipt) (m : Moment) : Type 0 where
+  pub seated : seat < SEATS
+  pub command : SlotCommand
+  pub asked : asked_by command ≡ Some r.asked
+  pub is : m.event ≡ event.OnSlot seat r.version r.slot r.session command
+  pub accepted : IsAccepted m.reply
+  pub told : Tells command r.version (journal_at m.after r.slot) m.reply
+  pub place : length (journal_at m.after r.slot) ≡ r.place
+
+-- the moment is the call of which the event tells
+abbrev pub IsCallOf : Event → Moment → Type 0
+IsCallOf (Publishes seat version entry) = IsPolicyCall seat version entry
+IsCallOf (Commands seat r) = IsSlotCall seat r
+
+-- policy list and journals are those of the world
+pub record AreOfWorld (policy : List Entry) (journals : List (List SlotEntry)) (world : WorldState) : Type 0 where
+  pub entries : world.entries ≡ policy
+  pub slots : map (λ (slot : SlotState). slot.journal) world.slots ≡ journals
+
+-- the run is that of the events, one call for each and in their order, and it leaves this policy list and these journals
+pub record IsRunOf (policy : List Entry) (journals : List (List SlotEntry)) (events : List Event) (run : List Moment)
+    : Type 0 where
+  pub is : IsRun run
+  pub calls : AllZip IsCallOf events run
+  pub leaves : AreOfWorld policy journals (world_after opening_world run)
+
+-- there is one list of events, of which the policy list, the journals and the seats' receipts are the parts, and a run of the
+-- calls of which these events tell, which leaves this policy list and these journals. None is behind: each is accepted
+pub record AreOfOneRun (policy : List Entry) (journals : List (List SlotEntry)) (seats : List (List Kept)) : Type 0 where
+  pub events : List Event
+  pub parts : HasParts policy journals seats events
+  pub run : List Moment
+  pub ran : IsRunOf policy journals events run
+
+-- whatever the calls of such a run are answered and end in, made one after another from the opening on: the replies are those of
+-- the run, and policy list and journals are those of the world
+abbrev pub CallsEndSo : Type 0
+CallsEndSo =
+    (policy : List Entry) (journals : List (List SlotEntry)) (seats : List (List Kept)) (one : AreOfOneRun policy journals seats)
+    (replies : List Reply) (world : WorldState) → EndsIn (events_of one.run) replies world
+    → (replies ≡ map (λ (m : Moment). m.reply) one.run) × AreOfWorld policy journals world

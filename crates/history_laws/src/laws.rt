@@ -1,0 +1,36 @@
+//! The laws of closed journals. Each function does nothing but call the law that it follows from,
+//! if there is one: its contract is the law.
+ghost use Rattle.std.specs.Prelude.{◌≡◌, ◌<◌, ◌≤◌, ℕ, List, length};
+ghost use Rattle.rbac_policy.specs.declared.commands.Entry.{Entry};
+ghost use Rattle.rbac_policy.specs.declared.objects.TheConstants.{SLOTS};
+ghost use Rattle.rbac_admin.specs.PolicyLists.{IsPolicyList};
+ghost use Rattle.reactor_core.specs.declared.entry.SlotEntry.{SlotEntry};
+ghost use Rattle.access_core.specs.Journals.{IsLegal};
+ghost use Rattle.access_events.specs.declared.event.TheConstants.{SEATS};
+ghost use Rattle.seat_receipts.specs.declared.receipt.Kept.{Kept};
+ghost use Rattle.history_merge.specs.Order.{part_at};
+ghost use Rattle.history_merge.specs.OneList.{AreOfOneList};
+ghost use Rattle.history_laws.specs.CallsInTurn.{AreOfOneRun, CallsEndSo};
+
+use access_events::laws::one_run;
+
+/// Where the policy list is lawful, the journal of each slot is legal over it, and one list of
+/// events has the journals and the receipts of the seats as its parts, these are the journals of
+/// the world of a run of exactly those events: each comes by the seat that keeps its receipt, those
+/// of a seat in the order of its receipts, and each is accepted with the place and the version that
+/// the receipt tells, so that none is behind.
+pub fn journals_are_of_one_run()
+    ensures { (policy : List Entry) (journals : List (List SlotEntry)) (seats : List (List Kept))
+        → length journals ≡ SLOTS → length seats ≤ SEATS → IsPolicyList policy
+        → ((slot : ℕ) → slot < SLOTS → IsLegal policy slot (part_at journals slot))
+        → AreOfOneList policy journals seats → AreOfOneRun policy journals seats }
+{}
+
+/// The calls of such a run, made one after another from the opening on, have no other replies and
+/// leave nothing else, want of memory aside: so what `run_events` answers of them has this policy
+/// list and these journals.
+pub fn calls_end_in_these_journals()
+    ensures { CallsEndSo }
+{
+    one_run();
+}
