@@ -1,4 +1,4 @@
 pub mod LeavingLemmas
 pub mod MappedStates
 mod SharedLemmas
-mod Sharing
+pub mod Sharing

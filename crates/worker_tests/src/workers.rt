@@ -6,6 +6,10 @@ use crate::meeting::Meeting;
 use crate::server::{Server, open};
 use client_loop::workers::run_workers;
 use policy_board::history::{Fresh, Naming};
+use rbac_policy::commands::SessionId;
+use rbac_policy::journal::PolicyJournal;
+use reactor_core::entry::{Action, SlotEntry};
+use reactor_core::journal::Journal;
 use slot_table::closing::Histories;
 use std::alloc::Global;
 use std::marker::Brand;
@@ -41,17 +45,17 @@ const LINES: u64 = 7;
 /// What a policy opens with, and four entries of each client: its login, two grants and its logout.
 const ENTRIES: usize = 12;
 
-/// The least that a seat has seen which served a client: the opening entries and that client's.
-const LEAST_SEEN: u64 = 8;
+/// How many policy commands each of them gives in its session.
+const GIVEN: usize = 3;
 
 /// The receipts that a seat keeps which served a client: each of its lines adds an entry.
 const RECEIPTS: usize = 7;
 
-/// The entries of a client's slot: a load and two steps.
-const SLOT_ENTRIES: usize = 3;
+/// The least that a seat has seen which served a client: the opening entries and that client's.
+const LEAST_SEEN: u64 = 8;
 
-/// Two workers serve two clients, each on a slot of its own. The first answer of all waits for one of the other worker. When the server is
-/// closed, each entry is one that a seat has the receipt of.
+/// Two workers serve two clients, each on a slot of its own. The first answer of all waits for one of the other worker. Then the server is
+/// closed, each entry of which is one that a seat has the receipt of.
 fn serve_two<J: Naming + Send + Sync, R: Threads + Wait + Abort + Clock + Sync>(
     rt: &R,
     alloc: Global,
@@ -82,16 +86,45 @@ fn serve_two<J: Naming + Send + Sync, R: Threads + Wait + Abort + Clock + Sync>(
     table
         .close(rt, alloc, board, back)
         .ok()
-        .expect(rt, "journals that match the receipts")
+        .expect(rt, "histories")
 }
 
-/// Two answers are in work at once, each worker serves its own client, and what all of them did is in the journals.
+/// The journal is that of a load and two steps. Answers their session.
+fn session_of<R: Abort>(rt: &R, journal: &Journal) -> u16 {
+    match journal.entries() {
+        [
+            SlotEntry { stamp: loaded, action: Action::Load(_) },
+            SlotEntry { stamp: first, action: Action::Step(_) },
+            SlotEntry { stamp: second, action: Action::Step(_) },
+        ] => {
+            assert_eq!(rt; loaded.session, first.session);
+            assert_eq!(rt; first.session, second.session);
+            Some(loaded.session)
+        }
+        _ => None,
+    }
+    .expect(rt, "a load and two steps")
+}
+
+/// How many entries of the policy list this session gave.
+fn given_by(policy: &PolicyJournal, session: u16) -> usize {
+    policy
+        .entries()
+        .iter()
+        .filter(|entry| entry.session == Some(SessionId::new(session)))
+        .count()
+}
+
+/// Two answers are in work at once, each worker serves its own client, and the histories are what the two clients did.
 #[test]
 fn two_at_once(rt: HostRuntime) -> Result<(), Fail> {
     let Histories { policy, slots } = serve_two::<Brand, _>(&rt, rt.alloc(), Fresh::new());
     assert_eq!(rt; policy.len(), ENTRIES);
-    assert_eq!(rt; slots[0].len(), SLOT_ENTRIES);
-    assert_eq!(rt; slots[1].len(), SLOT_ENTRIES);
-    assert_eq!(rt; slots[2].len(), 0);
+    let [first, second, ..] = &slots;
+    let sessions = (session_of(&rt, first), session_of(&rt, second));
+    assert!(rt; sessions == (1, 2) || sessions == (2, 1));
+    assert_eq!(rt; given_by(&policy, 1), GIVEN);
+    assert_eq!(rt; given_by(&policy, 2), GIVEN);
+    assert!(rt; slots.iter().skip(2).all(|journal| journal.len() == 0));
     Ok(())
 }

@@ -1,0 +1,104 @@
+//! Commands to a board and to its slots, and what is answered.
+ghost use Rattle.std.specs.Prelude.{◌≡◌};
+
+use access_core::command::SlotCommand;
+use access_core::reply::Reply;
+use est_text::identifier::Identifier;
+use policy_board::board::Board;
+use policy_board::history::Naming;
+use policy_board::seat::{Receipt, Seat};
+use rbac_policy::commands::{AdminCommand, SessionId};
+use rbac_policy::names::{Name, RoleNames};
+use rbac_policy::objects::{Object, Operation, SlotNumber};
+use reactor_core::text::Text;
+use slot_table::table::SlotTable;
+use std::alloc::{AllocError, Global};
+use std::process::Abort;
+use std::sync::Wait;
+
+/// An output in the first instant, and nothing more.
+const ONCE: &str = "module M: output O; emit O end module";
+
+/// The session that root logs in with, the first of all.
+pub(crate) fn root() -> SessionId {
+    SessionId::new(1)
+}
+
+/// The name of a user or of a role.
+pub(crate) fn name<R: Abort>(rt: &R, text: &str) -> Name {
+    Name::from_bytes(text.as_bytes()).expect(rt, "a name")
+}
+
+/// A login of the user, in this role.
+fn login(alloc: Global, user: Name, role: Name) -> Result<AdminCommand, AllocError> {
+    let roles = RoleNames::from_vec(vec![in alloc; role]?)?;
+    Ok(AdminCommand::CreateSession { user, roles })
+}
+
+/// The permission for the operation on the slot, given to the role.
+pub(crate) fn grant(role: Name, operation: Operation, slot: SlotNumber) -> AdminCommand {
+    AdminCommand::GrantPermission {
+        role,
+        operation,
+        object: Object::Slot(slot),
+    }
+}
+
+/// The permission for the operation on the slot, taken from the role.
+pub(crate) fn revoke(role: Name, operation: Operation, slot: SlotNumber) -> AdminCommand {
+    AdminCommand::RevokePermission {
+        role,
+        operation,
+        object: Object::Slot(slot),
+    }
+}
+
+/// A policy command, which is accepted.
+pub(crate) fn give<J: Naming, R: Wait + Abort>(
+    rt: &R,
+    board: &Board<J>,
+    seat: &mut Seat<J>,
+    session: Option<SessionId>,
+    command: AdminCommand,
+) -> Receipt<J> {
+    board
+        .admin(rt, seat, session, command)
+        .ok()
+        .expect(rt, "a receipt")
+}
+
+/// Logs the user in, in this role, and answers the session.
+pub(crate) fn enter<J: Naming, R: Wait + Abort>(
+    rt: &R,
+    alloc: Global,
+    board: &Board<J>,
+    seat: &mut Seat<J>,
+    user: Name,
+    role: Name,
+) -> SessionId {
+    let command = login(alloc, user, role).ok().expect(rt, "room");
+    give(rt, board, seat, None, command)
+        .session()
+        .expect(rt, "a session")
+}
+
+/// Grants root loads and steps of the slot, and loads the module there: the first entry of the slot.
+pub(crate) fn begin<J: Naming, R: Wait + Abort>(
+    rt: &R,
+    alloc: Global,
+    board: &Board<J>,
+    table: &SlotTable<J>,
+    seat: &mut Seat<J>,
+    number: u8,
+) {
+    let slot = SlotNumber::new(number).expect(rt, "a slot");
+    for operation in [Operation::Load, Operation::Step] {
+        give(rt, board, seat, Some(root()), grant(Name::root(), operation, slot));
+    }
+    let load = SlotCommand::Load {
+        main: Identifier::from_text("M").expect(rt, "a name"),
+        text: Text::copied(alloc, ONCE).ok().expect(rt, "room"),
+    };
+    let reply = table.command(rt, board, seat, root(), u64::from(number), load);
+    assert!(rt; matches!(reply, Reply::Load { place: 1, .. }));
+}

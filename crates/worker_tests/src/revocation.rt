@@ -1,0 +1,226 @@
+//! A revocation that is answered in one thread, and obeyed in another that was told of it.
+ghost use Rattle.std.specs.Prelude.{◌≡◌};
+
+use crate::asking::{begin, enter, give, grant, name, revoke, root};
+use crate::lending::{Lends, may_cross};
+use crate::server::{Server, open};
+use access_core::command::SlotCommand;
+use access_core::refusal::Refusal;
+use access_core::reply::Reply;
+use audit_report::audit::check;
+use policy_board::board::Board;
+use policy_board::history::{Fresh, Naming};
+use policy_board::reader::SlotReader;
+use policy_board::seat::{Receipt, Seat};
+use rbac_policy::commands::{AdminCommand, SessionId};
+use rbac_policy::names::Name;
+use rbac_policy::objects::{Operation, SlotNumber};
+use slot_table::closing::Histories;
+use slot_table::table::SlotTable;
+use std::alloc::Global;
+use std::marker::Brand;
+use std::process::Abort;
+use std::sync::Wait;
+use std::test::Fail;
+use std::thread::{Threads, join};
+
+/// How many steps are given while the policy is changed.
+const STEPS: u32 = 3;
+
+/// What a policy opens with, and what is given before the rounds: root's login and two grants, a user, a role, its assignment, and a login.
+const BEFORE: usize = 4 + 3 + 3 + 1;
+
+/// Who is served: root, who changes the policy; ann, whose permission is given and taken; and one more client of root's session.
+struct Seats<J: Naming> {
+    giver: Seat<J>,
+    asker: Seat<J>,
+    third: Seat<J>,
+}
+
+/// The session that ann logs in with, the second of all.
+fn ann() -> SessionId {
+    SessionId::new(2)
+}
+
+/// A module runs in slot 0, and ann is logged in as a driver, who may do nothing yet.
+fn prepare<J: Naming, R: Wait + Abort>(
+    rt: &R,
+    alloc: Global,
+    board: &Board<J>,
+    table: &SlotTable<J>,
+    seats: &mut Seats<J>,
+) {
+    let (user, role) = (name(rt, "ann"), name(rt, "driver"));
+    enter(rt, alloc, board, &mut seats.giver, Name::root(), Name::root());
+    begin(rt, alloc, board, table, &mut seats.giver, 0);
+    give(rt, board, &mut seats.giver, Some(root()), AdminCommand::AddUser { user });
+    give(rt, board, &mut seats.giver, Some(root()), AdminCommand::AddRole { role });
+    give(rt, board, &mut seats.giver, Some(root()), AdminCommand::AssignUser { user, role });
+    let session = enter(rt, alloc, board, &mut seats.asker, user, role);
+    assert_eq!(rt; session, ann());
+}
+
+/// What the session is answered to a step of slot 0.
+fn step<J: Naming, R: Wait>(
+    rt: &R,
+    board: &Board<J>,
+    table: &SlotTable<J>,
+    seat: &mut Seat<J>,
+    session: SessionId,
+) -> Reply {
+    table.command(rt, board, seat, session, 0, SlotCommand::Step)
+}
+
+/// The session steps slot 0, as far as it may. What its seat has seen never falls.
+fn step_on<J: Naming, R: Wait + Abort>(
+    rt: &R,
+    board: &Board<J>,
+    table: &SlotTable<J>,
+    mut seat: Seat<J>,
+    session: SessionId,
+) -> Seat<J> {
+    for _ in 0..STEPS {
+        let before = seat.seen();
+        step(rt, board, table, &mut seat, session);
+        assert!(rt; before <= seat.seen());
+    }
+    seat
+}
+
+/// Root gives the command, and hands its receipt over.
+fn change<J: Naming, R: Wait + Abort>(
+    rt: &R,
+    board: &Board<J>,
+    mut seat: Seat<J>,
+    command: AdminCommand,
+) -> (Seat<J>, Receipt<J>) {
+    let receipt = give(rt, board, &mut seat, Some(root()), command);
+    (seat, receipt)
+}
+
+/// Root gives the command in a thread of its own, while two more threads step. Where they join, ann is told. Answers the version, too.
+fn change_at_once<
+    J: Naming + Send + Sync,
+    T: Lends<SlotTable<J>> + Sync,
+    R: Threads + Wait + Abort + Sync,
+>(
+    rt: &R,
+    board: &Board<J>,
+    table: &T,
+    seats: Seats<J>,
+    command: AdminCommand,
+) -> (Seats<J>, u64) {
+    let Seats {
+        giver,
+        asker,
+        third,
+    } = seats;
+    let ((giver, receipt), (mut asker, third)) = join(
+        rt,
+        || change(rt, board, giver, command),
+        || {
+            join(
+                rt,
+                || step_on(rt, board, table.lent(), asker, ann()),
+                || step_on(rt, board, table.lent(), third, root()),
+            )
+        },
+    );
+    let version = receipt.version();
+    asker.learn(receipt);
+    let seats = Seats {
+        giver,
+        asker,
+        third,
+    };
+    (seats, version)
+}
+
+/// A grant that ann is told of, and then a revocation: her next step is accepted, and refused.
+fn play_round<
+    J: Naming + Send + Sync,
+    T: Lends<SlotTable<J>> + Sync,
+    R: Threads + Wait + Abort + Sync,
+>(rt: &R, board: &Board<J>, table: &T, seats: Seats<J>) -> Seats<J> {
+    let role = name(rt, "driver");
+    let slot = SlotNumber::new(0).expect(rt, "a slot");
+    let granted = grant(role, Operation::Step, slot);
+    let (mut seats, told) = change_at_once(rt, board, table, seats, granted);
+    let reply = step(rt, board, table.lent(), &mut seats.asker, ann());
+    assert!(rt; matches!(reply, Reply::Step { version, .. } if version == told));
+    let revoked = revoke(role, Operation::Step, slot);
+    let (mut seats, told) = change_at_once(rt, board, table, seats, revoked);
+    let reply = step(rt, board, table.lent(), &mut seats.asker, ann());
+    assert!(rt; matches!(reply, Reply::Refused(Refusal::Permission { .. })));
+    assert_eq!(rt; seats.asker.seen(), told);
+    seats
+}
+
+/// So many rounds; then root removes ann, and she has no session any more.
+fn play<
+    J: Naming + Send + Sync,
+    T: Lends<SlotTable<J>> + Sync,
+    R: Threads + Wait + Abort + Sync,
+>(rt: &R, board: &Board<J>, table: &T, seats: Seats<J>, rounds: u32) -> Seats<J> {
+    let mut seats = seats;
+    for _ in 0..rounds {
+        seats = play_round(rt, board, table, seats);
+    }
+    let removed = AdminCommand::DeleteUser { user: name(rt, "ann") };
+    let (mut seats, told) = change_at_once(rt, board, table, seats, removed);
+    let reply = step(rt, board, table.lent(), &mut seats.asker, ann());
+    assert!(rt; matches!(reply, Reply::Refused(Refusal::NoSession)));
+    assert_eq!(rt; seats.asker.seen(), told);
+    seats
+}
+
+/// After so many rounds the server is closed, and nothing is found in its histories.
+fn serve<J: Naming + Send + Sync, R: Threads + Wait + Abort + Sync>(
+    rt: &R,
+    alloc: Global,
+    fresh: Fresh,
+    rounds: u32,
+) -> Histories
+    requires { fresh.seen.book ≡ J.book }
+{
+    let Server {
+        board,
+        mut seats,
+        table,
+    } = open::<J, R>(rt, alloc, fresh, 3);
+    let mut seats = Seats {
+        giver: seats.pop().expect(rt, "a seat"),
+        asker: seats.pop().expect(rt, "a seat"),
+        third: seats.pop().expect(rt, "a seat"),
+    };
+    prepare(rt, alloc, &board, &table, &mut seats);
+    may_cross::<SlotReader<J>>();
+    let Seats {
+        giver,
+        asker,
+        third,
+    } = play(rt, &board, &table, seats, rounds);
+    let seats = vec![in alloc; giver, asker, third].ok().expect(rt, "room");
+    let histories = table
+        .close(rt, alloc, board, seats)
+        .ok()
+        .expect(rt, "histories");
+    assert!(rt; check(alloc, &histories.policy, &histories.slots).is_ok());
+    histories
+}
+
+/// A step that is refused, since its permission was taken, or its session ended, in another thread.
+#[test]
+fn revoked_is_denied(rt: HostRuntime) -> Result<(), Fail> {
+    let histories = serve::<Brand, _>(&rt, rt.alloc(), Fresh::new(), 1);
+    assert_eq!(rt; histories.policy.len(), BEFORE + 3);
+    Ok(())
+}
+
+/// The same a thousand times.
+#[test]
+fn revoked_is_denied_a_thousand_times(rt: HostRuntime) -> Result<(), Fail> {
+    let histories = serve::<Brand, _>(&rt, rt.alloc(), Fresh::new(), 1000);
+    assert_eq!(rt; histories.policy.len(), BEFORE + 2001);
+    Ok(())
+}
