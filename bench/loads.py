@@ -87,6 +87,13 @@ def renamings():
     return filled(f"module N:input {inputs};nothing end module module M:input A64,{mine};", run, "nothing end module")
 
 
+def emitting(names):
+    """A module of outputs that it emits, and one that has the same outputs and runs it."""
+    listed = ",".join(names)
+    emissions = ";".join("emit " + name for name in names)
+    return filled(f"module M:output {listed};", "run N;", f"halt end module module N:output {listed};{emissions} end module")
+
+
 def relations():
     last = short_names(2000, MOST_BYTES)
     head = "module M:input " + ",".join(last) + ";relation A=>A"
@@ -125,6 +132,7 @@ def texts():
             filled(f"module M:output {some};", "run N;", f"halt end module module N:output {some};halt end module"),
             "TooLarge(Signals)",
         ),
+        ("1,000 outputs that a module emits, run by another as often as a line holds", emitting(half[:1000]), "TooLarge(Signals)"),
     )
 
 

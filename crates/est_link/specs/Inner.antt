@@ -3,6 +3,7 @@ pub mod Tables
 pub mod Numbers
 pub mod Binds
 pub mod Needs
+pub mod Noted
 pub mod Sent
 pub mod Recursion
 pub mod Checked
