@@ -94,6 +94,12 @@ def emitting(names):
     return filled(f"module M:output {listed};", "run N;", f"halt end module module N:output {listed};{emissions} end module")
 
 
+def inside_signal(names):
+    """A module that runs another inside a `signal` that declares all its outputs."""
+    listed = ",".join(names)
+    return filled(f"module M:signal {listed} in ", "run N;", f"halt end end module module N:output {listed};halt end module")
+
+
 def relations():
     last = short_names(2000, MOST_BYTES)
     head = "module M:input " + ",".join(last) + ";relation A=>A"
@@ -132,6 +138,9 @@ def texts():
             filled(f"module M:output {some};", "run N;", f"halt end module module N:output {some};halt end module"),
             "TooLarge(Signals)",
         ),
+        ("500 names of a `signal`, and runs inside it of a module that has them as outputs", inside_signal(half[:500]), "TooLarge(Statements)"),
+        ("2,000 names of a `signal`, and runs inside it of a module that has them as outputs", inside_signal(half[:2000]), "TooLarge(Statements)"),
+        ("5,461 names of a `signal`, and runs inside it of a module that has them as outputs", inside_signal(half[:5461]), "TooLarge(Statements)"),
         ("1,000 outputs that a module emits, run by another as often as a line holds", emitting(half[:1000]), "TooLarge(Signals)"),
     )
 

@@ -13,7 +13,7 @@ use Rattle.est_link.specs.Inner.Noted.{Noted, has_signals, is_plain, has_name, i
 use Rattle.est_link.specs.Modules.{Program, program_named}
 use Rattle.est_link.specs.Occurrences.{Binder, signals, a_trap, Act, emits, tests, exits, binds, runs, Occurrence}
 use Rattle.est_link.specs.Visible.{is_local}
-use Rattle.est_link.proofs.Covering.{both, either}
+use Rattle.est_link.proofs.Deciding.{both, either}
 use Rattle.est_link.proofs.Testing.{or_left, or_right, and_both, same_bytes, found_passes}
 
 -- all that a module of the set emits is noted

@@ -19,6 +19,7 @@ use crate::emission::{Emission, is_emitted};
 use crate::head::{Declared, Head, head_named};
 use crate::name_set::NameSet;
 use crate::names::{has_signals, is_local, stands_in};
+use crate::open_names::OpenNames;
 use crate::renamings::callers_name;
 use crate::scope::{Act, Scope};
 use crate::visit::Visitor;
@@ -184,24 +185,25 @@ struct Sent<'a> {
 }
 
 impl<'a> Visitor for Sent<'a> {
-    ghost use Rattle.std.specs.Prelude.{map};
+    ghost use Rattle.std.specs.Prelude.{[], map};
     ghost use Rattle.est_link.specs.Modules.{program_of};
     ghost use Rattle.est_link.specs.Emissions.{emitted_of};
     ghost use Rattle.est_link.specs.Inner.Noted.{Noted, noted_of, noted_behind};
 
     type Seen = Notes<'a>;
 
-    type Fault = AllocError;
-
     ghost State = { Noted };
 
     ghost state = { λ seen. noted_of seen };
+
+    ghost base = { λ v m. [] };
 
     ghost after = { λ v. noted_behind (map program_of v.heads.now) (emitted_of v.table.now) };
 
     fn visit(
         &self,
         seen: &mut Notes<'a>,
+        _kept: &OpenNames,
         act: &Act<'_>,
         scope: &Scope<'_>,
     ) -> Result<(), AllocError> {
@@ -237,7 +239,7 @@ pub fn emissions_of<'a>(
         heads: &*heads,
         table: &*table,
     };
-    walk_body(&sent, &mut seen, home.body)?;
+    walk_body(&sent, &mut seen, &OpenNames::new(alloc), home.body)?;
     Ok(seen.names)
 }
 
