@@ -20,7 +20,8 @@ use Rattle.est_link.proofs.Testing.{or_left, or_right, and_both, same_bytes, fou
 abbrev IsWhole : List Program → (List ℕ → List ℕ → Bool) → Noted → Type 0
 IsWhole ps em k = (m s : List ℕ) → IsTrue (k.whole m) → IsTrue (emits_in_run em s [] (program_named ps m)) → IsTrue (k.names s)
 
-none_renamed : (rs : List RenamingTree) → IsTrue (is_plain rs) → rs ≡ []
+-- no renamings are no list
+pub none_renamed : (rs : List RenamingTree) → IsTrue (is_plain rs) → rs ≡ []
 none_renamed [] h = refl
 none_renamed (r ∷ rs) h = absurd (false≢true h)
 

@@ -5,17 +5,20 @@ ghost use Rattle.std.specs.List.{list_any};
 ghost use Rattle.std.specs.Str.{bytes_eq};
 ghost use Rattle.est_syntax.specs.Views.{renaming_view};
 ghost use Rattle.est_link.specs.Scopes.{binders_of};
-ghost use Rattle.est_link.specs.Modules.{Program, program_of};
+ghost use Rattle.est_link.specs.Modules.{Program, program_of, program_named};
 ghost use Rattle.est_link.specs.Occurrences.{occurrences, emits, runs};
 ghost use Rattle.est_link.specs.Visible.{is_local};
 ghost use Rattle.est_link.specs.Renamings.{renamed};
 ghost use Rattle.est_link.specs.Duplicates.{stands_in, first_duplicate};
 ghost use Rattle.est_link.specs.Emissions.{emitted_of, emits_here, emits_in_run, AreEmissions};
 ghost use Rattle.est_link.specs.NameSets.{has};
+ghost use Rattle.est_link.specs.OpenNames.{AreOpen, opens_of};
+ghost use Rattle.est_link.specs.Inner.Emitted.{sent_by};
 ghost use Rattle.est_link.specs.Inner.Noted.{has_signals, is_plain, has_name, noted_of, noted_behind};
 ghost use Rattle.est_link.specs.Orders.{IsOrderOf};
 
 use crate::emission::{Emission, is_emitted};
+use crate::emitted::emitted_names;
 use crate::head::{Declared, Head, head_named};
 use crate::name_set::NameSet;
 use crate::names::{has_signals, is_local, stands_in};
@@ -68,21 +71,107 @@ fn add_sent(
     Ok(())
 }
 
+/// Adds a signal.
+fn add_signal(seen: &mut Vec<Identifier>, name: &Identifier) -> Result<(), AllocError>
+    ensures { OnOk result ((s : List ℕ)
+        → stands_in seen.new.items s ≡ (stands_in seen.old.items s || bytes_eq name.now s)) }
+{
+    if stands_in(seen, name) {
+        return Ok(());
+    }
+    seen.push(*name)?;
+    Ok(())
+}
+
+/// Adds the signals of a list.
+fn add_signals(seen: &mut Vec<Identifier>, names: &[Identifier]) -> Result<(), AllocError>
+    ensures { OnOk result ((s : List ℕ)
+        → stands_in seen.new.items s ≡ (stands_in seen.old.items s || stands_in names.now s)) }
+{
+    for name in names {
+        add_signal(seen, name)?;
+    }
+    Ok(())
+}
+
+/// Adds what a run without renamings emits: only names that no `signal` round it declares are looked at, if they were
+/// kept.
+fn add_plain(
+    seen: &mut Vec<Identifier>,
+    sent: &Sent<'_>,
+    kept: &OpenNames,
+    scope: &Scope<'_>,
+    name: &Identifier,
+    run: &Head<'_>,
+) -> Result<(), AllocError>
+    requires named { program_named (map program_of sent.now.heads.now) name.now
+        ≡ Some (program_of run.now) }
+    requires outside { AreOpen (sent_by (map program_of sent.now.heads.now)
+        (emitted_of sent.now.table.now)) (binders_of scope.now) (opens_of kept.now) }
+    ensures { OnOk result ((s : List ℕ)
+        → stands_in seen.new.items s ≡ (stands_in seen.old.items s ||
+        (not (is_local (binders_of scope.now) s) && emits_in_run (emitted_of sent.now.table.now) s
+        [] (Some (program_of run.now))))) }
+{
+    match kept.named(name) {
+        Some(left) => add_signals(seen, &left.names),
+        None => add_sent(seen, sent.table, scope, &run.name, &[], &run.interface),
+    }
+}
+
+/// Adds what a run of a module that is there emits.
+fn add_found(
+    seen: &mut Vec<Identifier>,
+    sent: &Sent<'_>,
+    kept: &OpenNames,
+    scope: &Scope<'_>,
+    name: &Identifier,
+    renamings: &[Renaming],
+    run: &Head<'_>,
+) -> Result<(), AllocError>
+    requires named { program_named (map program_of sent.now.heads.now) name.now
+        ≡ Some (program_of run.now) }
+    requires outside { AreOpen (sent_by (map program_of sent.now.heads.now)
+        (emitted_of sent.now.table.now)) (binders_of scope.now) (opens_of kept.now) }
+    ensures { OnOk result ((s : List ℕ)
+        → stands_in seen.new.items s ≡ (stands_in seen.old.items s ||
+        (not (is_local (binders_of scope.now) s) && emits_in_run (emitted_of sent.now.table.now) s
+        (map renaming_view renamings.now) (Some (program_of run.now))))) }
+{
+    if is_plain(renamings) {
+        return add_plain(seen, sent, kept, scope, name, run);
+    }
+    add_sent(
+        seen,
+        sent.table,
+        scope,
+        &run.name,
+        renamings,
+        &run.interface,
+    )
+}
+
 /// Adds what a run emits: the caller's names for what the module that is run emits, if it is there.
 fn add_run(
     seen: &mut Vec<Identifier>,
-    table: &[Emission],
+    sent: &Sent<'_>,
+    kept: &OpenNames,
     scope: &Scope<'_>,
+    name: &Identifier,
     renamings: &[Renaming],
     run: Option<&Head<'_>>,
 ) -> Result<(), AllocError>
+    requires named { option_map (λ h. program_of h.now) run
+        ≡ program_named (map program_of sent.now.heads.now) name.now }
+    requires outside { AreOpen (sent_by (map program_of sent.now.heads.now)
+        (emitted_of sent.now.table.now)) (binders_of scope.now) (opens_of kept.now) }
     ensures { OnOk result ((s : List ℕ)
         → stands_in seen.new.items s ≡ (stands_in seen.old.items s ||
-        (not (is_local (binders_of scope.now) s) && emits_in_run (emitted_of table.now) s
+        (not (is_local (binders_of scope.now) s) && emits_in_run (emitted_of sent.now.table.now) s
         (map renaming_view renamings.now) (option_map (λ h. program_of h.now) run.entry)))) }
 {
     match run {
-        Some(run) => add_sent(seen, table, scope, &run.name, renamings, &run.interface),
+        Some(run) => add_found(seen, sent, kept, scope, name, renamings, run),
         None => Ok(()),
     }
 }
@@ -160,10 +249,13 @@ fn note_emission(
 fn note_run<'a>(
     seen: &mut Notes<'a>,
     sent: &Sent<'a>,
+    kept: &OpenNames,
     scope: &Scope<'_>,
     name: &Identifier,
     renamings: &[Renaming],
 ) -> Result<(), AllocError>
+    requires { AreOpen (sent_by (map program_of sent.now.heads.now) (emitted_of
+        sent.now.table.now)) (binders_of scope.now) (opens_of kept.now) }
     ensures { OnOk result (noted_of seen.new ≡ noted_behind (map program_of sent.now.heads.now)
         (emitted_of sent.now.table.now) (noted_of seen.old) (record
         { act = runs name.now (map renaming_view renamings.now); round = binders_of scope.now })) }
@@ -172,7 +264,7 @@ fn note_run<'a>(
         return Ok(());
     }
     let run = head_named(sent.heads, name);
-    add_run(&mut seen.names, sent.table, scope, renamings, run)?;
+    add_run(&mut seen.names, sent, kept, scope, name, renamings, run)?;
     add_whole(&mut seen.whole, scope, renamings, run)?;
     Ok(())
 }
@@ -185,9 +277,12 @@ struct Sent<'a> {
 }
 
 impl<'a> Visitor for Sent<'a> {
-    ghost use Rattle.std.specs.Prelude.{[], map};
+    ghost use Rattle.std.specs.Prelude.{map};
     ghost use Rattle.est_link.specs.Modules.{program_of};
     ghost use Rattle.est_link.specs.Emissions.{emitted_of};
+    ghost use Rattle.est_link.specs.Inner.Emitted.{sent_by};
+    ghost use Rattle.est_link.specs.OpenNames.{AreOpen, opens_of};
+    ghost use Rattle.est_link.specs.Inner.Emitted.{sent_by};
     ghost use Rattle.est_link.specs.Inner.Noted.{Noted, noted_of, noted_behind};
 
     type Seen = Notes<'a>;
@@ -196,14 +291,14 @@ impl<'a> Visitor for Sent<'a> {
 
     ghost state = { λ seen. noted_of seen };
 
-    ghost base = { λ v m. [] };
+    ghost base = { λ v. sent_by (map program_of v.heads.now) (emitted_of v.table.now) };
 
     ghost after = { λ v. noted_behind (map program_of v.heads.now) (emitted_of v.table.now) };
 
     fn visit(
         &self,
         seen: &mut Notes<'a>,
-        _kept: &OpenNames,
+        kept: &OpenNames,
         act: &Act<'_>,
         scope: &Scope<'_>,
     ) -> Result<(), AllocError> {
@@ -212,7 +307,7 @@ impl<'a> Visitor for Sent<'a> {
             Act::Tests(_) => Ok(()),
             Act::Exits(_) => Ok(()),
             Act::Binds(_) => Ok(()),
-            Act::Runs(name, renamings) => note_run(seen, self, scope, name, renamings),
+            Act::Runs(name, renamings) => note_run(seen, self, kept, scope, name, renamings),
         }
     }
 }
@@ -239,7 +334,8 @@ pub fn emissions_of<'a>(
         heads: &*heads,
         table: &*table,
     };
-    walk_body(&sent, &mut seen, &OpenNames::new(alloc), home.body)?;
+    let kept = emitted_names(alloc, &*heads, &*table, home)?;
+    walk_body(&sent, &mut seen, &kept, home.body)?;
     Ok(seen.names)
 }
 

@@ -13,6 +13,7 @@ pub mod count;
 pub mod duplicates;
 pub mod emission;
 pub mod emissions;
+pub mod emitted;
 pub mod fault;
 mod flatten;
 pub mod harmless;

@@ -81,12 +81,7 @@ pub(crate) fn places_run<'a>(
 {
     let mut places = Vec::new(alloc);
     let kept = OpenNames::new(alloc);
-    walk_body(
-        &RunPlaces { heads: &*heads },
-        &mut places,
-        &kept,
-        home.body,
-    )?;
+    walk_body(&RunPlaces { heads: &*heads }, &mut places, &kept, home.body)?;
     Ok(places)
 }
 
