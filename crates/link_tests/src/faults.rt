@@ -84,7 +84,7 @@ const BEFORE_ORDER: [(&str, Kind, &str); 12] = [
 ];
 
 /// Renamings, names and emissions. The main module is M, and N emits A and T.
-const BEHIND_ORDER: [(&str, Kind, &str); 25] = [
+const BEHIND_ORDER: [(&str, Kind, &str); 23] = [
     ("module M: emit X end module", Kind::Unknown, "X"),
     ("module M: emit tick end module", Kind::Emit, "tick"),
     (
@@ -170,19 +170,6 @@ const BEHIND_ORDER: [(&str, Kind, &str); 25] = [
          module N: input C, A, B; nothing end module",
         Kind::Unknown,
         "C",
-    ),
-    // an input that a module emits which was run before, inside a `signal` that hides it or with a renaming
-    (
-        "module M: input A; run P end module module P: output A; signal A in run N end; run N end module \
-         module N: output A; emit A end module",
-        Kind::Emit,
-        "A",
-    ),
-    (
-        "module M: input A; output B; run P end module module P: output A, B; run N [signal B/A]; run N end module \
-         module N: output A; emit A end module",
-        Kind::Emit,
-        "A",
     ),
     // an input that a statement emits, or a run alone
     (
