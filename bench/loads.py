@@ -87,6 +87,26 @@ def renamings():
     return filled(f"module N:input {inputs};nothing end module module M:input A64,{mine};", run, "nothing end module")
 
 
+def emitting(names):
+    """A module of outputs that it emits, and one that has the same outputs and runs it."""
+    listed = ",".join(names)
+    emissions = ";".join("emit " + name for name in names)
+    return filled(f"module M:output {listed};", "run N;", f"halt end module module N:output {listed};{emissions} end module")
+
+
+def inside_signal(names):
+    """A module that runs another inside a `signal` that declares all its outputs."""
+    listed = ",".join(names)
+    return filled(f"module M:signal {listed} in ", "run N;", f"halt end end module module N:output {listed};halt end module")
+
+
+def emitting_inside(names):
+    """A module that runs another, which emits all its outputs, inside a `signal` that declares them."""
+    listed = ",".join(names)
+    emissions = ";".join("emit " + name for name in names)
+    return filled(f"module M:signal {listed} in ", "run N;", f"halt end end module module N:output {listed};{emissions} end module")
+
+
 def relations():
     last = short_names(2000, MOST_BYTES)
     head = "module M:input " + ",".join(last) + ";relation A=>A"
@@ -125,6 +145,11 @@ def texts():
             filled(f"module M:output {some};", "run N;", f"halt end module module N:output {some};halt end module"),
             "TooLarge(Signals)",
         ),
+        ("500 names of a `signal`, and runs inside it of a module that has them as outputs", inside_signal(half[:500]), "TooLarge(Statements)"),
+        ("2,000 names of a `signal`, and runs inside it of a module that has them as outputs", inside_signal(half[:2000]), "TooLarge(Statements)"),
+        ("5,461 names of a `signal`, and runs inside it of a module that has them as outputs", inside_signal(half[:5461]), "TooLarge(Statements)"),
+        ("1,000 outputs that a module emits, run by another as often as a line holds", emitting(half[:1000]), "TooLarge(Signals)"),
+        ("1,000 names of a `signal`, and runs inside it of a module that emits them", emitting_inside(half[:1000]), "TooLarge(Statements)"),
     )
 
 

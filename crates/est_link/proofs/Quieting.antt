@@ -13,7 +13,7 @@ use Rattle.est_link.specs.Occurrences.{Binder}
 use Rattle.est_link.specs.Visible.{is_local, is_tick}
 use Rattle.est_link.specs.declared.head.Declared.{Declared}
 use Rattle.est_link.specs.declared.name_set.NameSet.{NameSet}
-use Rattle.est_link.proofs.Covering.{both, either, passed_over}
+use Rattle.est_link.proofs.Deciding.{both, either, passed_over}
 use Rattle.est_link.proofs.Testing.{same_bytes}
 
 -- an emission of a name that is no input and not `tick`, or that isn't emitted, is not refused

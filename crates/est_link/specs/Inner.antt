@@ -3,6 +3,8 @@ pub mod Tables
 pub mod Numbers
 pub mod Binds
 pub mod Needs
+pub mod Noted
+pub mod Emitted
 pub mod Sent
 pub mod Recursion
 pub mod Checked

@@ -9,6 +9,7 @@ use crate::duplicates::first_duplicate;
 use crate::emission::{Emission, first_refused};
 use crate::fault::LinkFault;
 use crate::head::{Head, head_named};
+use crate::open_names::OpenNames;
 use crate::relations::first_lawless;
 use crate::renamings::BadRename;
 use crate::runs::first_missing;
@@ -33,7 +34,7 @@ pub fn fault_before_order<'a>(
     if let Some(name) = first_duplicate(alloc, &*heads)? {
         return Ok(Some(LinkFault::DuplicateName(name)));
     }
-    match first_missing(&*heads, main)? {
+    match first_missing(alloc, &*heads, main)? {
         Some(name) => Ok(Some(LinkFault::UnknownModule(name))),
         None => Ok(None),
     }
@@ -65,7 +66,8 @@ pub fn fault_behind_order<'a>(
     ensures { IfOk result (λ fault. fault ≡ fault_behind_order (map program_of heads.now) main.now
         (emitted_of table.now)) }
 {
-    if let Some(name) = first_in_bodies(&BadRename { heads: &*heads }, &*heads)? {
+    let kept = OpenNames::new(alloc);
+    if let Some(name) = first_in_bodies(&kept, &BadRename { heads: &*heads }, &*heads)? {
         return Ok(Some(LinkFault::BadRename(name)));
     }
     if let Some(name) = first_unknown(alloc, &*heads)? {

@@ -10,6 +10,7 @@ use crate::check::{Check, first_in_body};
 use crate::head::{Declared, Head};
 use crate::name_set::NameSet;
 use crate::names::is_tick;
+use crate::open_names::OpenNames;
 use crate::scope::{Act, Scope};
 use est_syntax::tree::Names;
 use est_text::identifier::Identifier;
@@ -66,13 +67,17 @@ struct DuplicateLocal {
 }
 
 impl Check for DuplicateLocal {
+    ghost use Rattle.std.specs.Prelude.{[]};
     ghost use Rattle.est_link.specs.Duplicates.{redeclared_at};
+
+    ghost base = { λ c m. [] };
 
     ghost fault = { λ c. redeclared_at };
 
     fn fault(
         &self,
         _home: &Head<'_>,
+        _kept: &OpenNames,
         act: &Act<'_>,
         _scope: &Scope<'_>,
     ) -> Result<Option<Identifier>, AllocError> {
@@ -90,7 +95,7 @@ fn redeclared_in<'a>(alloc: Global, home: &'a Head<'a>) -> Result<Option<Identif
     if let Some(name) = redeclared_signal(alloc, &home.interface)? {
         return Ok(Some(name));
     }
-    first_in_body(&DuplicateLocal { alloc }, &*home)
+    first_in_body(&DuplicateLocal { alloc }, &OpenNames::new(alloc), &*home)
 }
 
 fn is_named(heads: &[Head<'_>], name: &Identifier) -> bool

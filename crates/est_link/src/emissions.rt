@@ -1,21 +1,28 @@
 //! What a module emits of the signals that its callers see.
 ghost use Rattle.std.specs.Prelude.{◌≡◌, ℕ, ◌<◌, List, [], length, map, slice_get, Some, None, option_map, not, ◌||◌};
-ghost use Rattle.std.specs.Prelude.{◌&&◌, OnOk, IfOk};
+ghost use Rattle.std.specs.Prelude.{◌&&◌, OnOk, IfOk, Bool};
 ghost use Rattle.std.specs.List.{list_any};
 ghost use Rattle.std.specs.Str.{bytes_eq};
 ghost use Rattle.est_syntax.specs.Views.{renaming_view};
 ghost use Rattle.est_link.specs.Scopes.{binders_of};
-ghost use Rattle.est_link.specs.Modules.{Program, program_of};
-ghost use Rattle.est_link.specs.Occurrences.{occurrences};
+ghost use Rattle.est_link.specs.Modules.{Program, program_of, program_named};
+ghost use Rattle.est_link.specs.Occurrences.{occurrences, emits, runs};
 ghost use Rattle.est_link.specs.Visible.{is_local};
 ghost use Rattle.est_link.specs.Renamings.{renamed};
 ghost use Rattle.est_link.specs.Duplicates.{stands_in, first_duplicate};
 ghost use Rattle.est_link.specs.Emissions.{emitted_of, emits_here, emits_in_run, AreEmissions};
+ghost use Rattle.est_link.specs.NameSets.{has};
+ghost use Rattle.est_link.specs.OpenNames.{AreOpen, opens_of};
+ghost use Rattle.est_link.specs.Inner.Emitted.{sent_by};
+ghost use Rattle.est_link.specs.Inner.Noted.{has_signals, is_plain, has_name, noted_of, noted_behind};
 ghost use Rattle.est_link.specs.Orders.{IsOrderOf};
 
 use crate::emission::{Emission, is_emitted};
+use crate::emitted::emitted_names;
 use crate::head::{Declared, Head, head_named};
-use crate::names::{is_local, stands_in};
+use crate::name_set::NameSet;
+use crate::names::{has_signals, is_local, stands_in};
+use crate::open_names::OpenNames;
 use crate::renamings::callers_name;
 use crate::scope::{Act, Scope};
 use crate::visit::Visitor;
@@ -64,23 +71,202 @@ fn add_sent(
     Ok(())
 }
 
+/// Adds a signal.
+fn add_signal(seen: &mut Vec<Identifier>, name: &Identifier) -> Result<(), AllocError>
+    ensures { OnOk result ((s : List ℕ)
+        → stands_in seen.new.items s ≡ (stands_in seen.old.items s || bytes_eq name.now s)) }
+{
+    if stands_in(seen, name) {
+        return Ok(());
+    }
+    seen.push(*name)?;
+    Ok(())
+}
+
+/// Adds the signals of a list.
+fn add_signals(seen: &mut Vec<Identifier>, names: &[Identifier]) -> Result<(), AllocError>
+    ensures { OnOk result ((s : List ℕ)
+        → stands_in seen.new.items s ≡ (stands_in seen.old.items s || stands_in names.now s)) }
+{
+    for name in names {
+        add_signal(seen, name)?;
+    }
+    Ok(())
+}
+
+/// Adds what a run without renamings emits: only names that no `signal` round it declares are looked at, if they were
+/// kept.
+fn add_plain(
+    seen: &mut Vec<Identifier>,
+    sent: &Sent<'_>,
+    kept: &OpenNames,
+    scope: &Scope<'_>,
+    name: &Identifier,
+    run: &Head<'_>,
+) -> Result<(), AllocError>
+    requires named { program_named (map program_of sent.now.heads.now) name.now
+        ≡ Some (program_of run.now) }
+    requires outside { AreOpen (sent_by (map program_of sent.now.heads.now)
+        (emitted_of sent.now.table.now)) (binders_of scope.now) (opens_of kept.now) }
+    ensures { OnOk result ((s : List ℕ)
+        → stands_in seen.new.items s ≡ (stands_in seen.old.items s ||
+        (not (is_local (binders_of scope.now) s) && emits_in_run (emitted_of sent.now.table.now) s
+        [] (Some (program_of run.now))))) }
+{
+    match kept.named(name) {
+        Some(left) => add_signals(seen, &left.names),
+        None => add_sent(seen, sent.table, scope, &run.name, &[], &run.interface),
+    }
+}
+
+/// Adds what a run of a module that is there emits.
+fn add_found(
+    seen: &mut Vec<Identifier>,
+    sent: &Sent<'_>,
+    kept: &OpenNames,
+    scope: &Scope<'_>,
+    name: &Identifier,
+    renamings: &[Renaming],
+    run: &Head<'_>,
+) -> Result<(), AllocError>
+    requires named { program_named (map program_of sent.now.heads.now) name.now
+        ≡ Some (program_of run.now) }
+    requires outside { AreOpen (sent_by (map program_of sent.now.heads.now)
+        (emitted_of sent.now.table.now)) (binders_of scope.now) (opens_of kept.now) }
+    ensures { OnOk result ((s : List ℕ)
+        → stands_in seen.new.items s ≡ (stands_in seen.old.items s ||
+        (not (is_local (binders_of scope.now) s) && emits_in_run (emitted_of sent.now.table.now) s
+        (map renaming_view renamings.now) (Some (program_of run.now))))) }
+{
+    if is_plain(renamings) {
+        return add_plain(seen, sent, kept, scope, name, run);
+    }
+    add_sent(
+        seen,
+        sent.table,
+        scope,
+        &run.name,
+        renamings,
+        &run.interface,
+    )
+}
+
 /// Adds what a run emits: the caller's names for what the module that is run emits, if it is there.
 fn add_run(
     seen: &mut Vec<Identifier>,
-    table: &[Emission],
+    sent: &Sent<'_>,
+    kept: &OpenNames,
     scope: &Scope<'_>,
+    name: &Identifier,
     renamings: &[Renaming],
     run: Option<&Head<'_>>,
 ) -> Result<(), AllocError>
+    requires named { option_map (λ h. program_of h.now) run
+        ≡ program_named (map program_of sent.now.heads.now) name.now }
+    requires outside { AreOpen (sent_by (map program_of sent.now.heads.now)
+        (emitted_of sent.now.table.now)) (binders_of scope.now) (opens_of kept.now) }
     ensures { OnOk result ((s : List ℕ)
         → stands_in seen.new.items s ≡ (stands_in seen.old.items s ||
-        (not (is_local (binders_of scope.now) s) && emits_in_run (emitted_of table.now) s
+        (not (is_local (binders_of scope.now) s) && emits_in_run (emitted_of sent.now.table.now) s
         (map renaming_view renamings.now) (option_map (λ h. program_of h.now) run.entry)))) }
 {
     match run {
-        Some(run) => add_sent(seen, table, scope, &run.name, renamings, &run.interface),
+        Some(run) => add_found(seen, sent, kept, scope, name, renamings, run),
         None => Ok(()),
     }
+}
+
+/// What has been noted of what a module emits: names, and modules of which all that they emit is among these names.
+#[derive(Drop)]
+struct Notes<'a> {
+    names: Vec<Identifier>,
+    whole: NameSet<'a>,
+}
+
+/// Whether no signal is renamed.
+#[tactic(auto, using(crate::proofs::Noting::plain_is))]
+fn is_plain(renamings: &[Renaming]) -> bool
+    ensures { result ≡ is_plain (map renaming_view renamings.now) }
+{
+    renamings.is_empty()
+}
+
+/// Puts the name of a module into a set, if there is one.
+fn add_name<'a>(whole: &mut NameSet<'a>, run: Option<&'a Head<'a>>) -> Result<(), AllocError>
+    ensures { OnOk result ((m : List ℕ) → has whole.new m ≡ (has whole.old m || has_name
+        (option_map (λ h. program_of h.now) run.entry) m)) }
+{
+    if let Some(run) = run {
+        whole.insert(&run.name)?;
+    }
+    Ok(())
+}
+
+/// Puts the name of a module into a set where it is run without renamings, with no `signal` round it.
+fn add_whole<'a>(
+    whole: &mut NameSet<'a>,
+    scope: &Scope<'_>,
+    renamings: &[Renaming],
+    run: Option<&'a Head<'a>>,
+) -> Result<(), AllocError>
+    ensures { OnOk result ((m : List ℕ) → has whole.new m ≡ (has whole.old m ||
+        ((is_plain (map renaming_view renamings.now) && not (has_signals (binders_of scope.now))) &&
+        has_name (option_map (λ h. program_of h.now) run.entry) m))) }
+{
+    if is_plain(renamings) && !has_signals(scope) {
+        add_name(whole, run)?;
+    }
+    Ok(())
+}
+
+/// Whether a run is of a module of which all that it emits is noted, and renames nothing.
+fn is_passed(seen: &Notes<'_>, name: &Identifier, renamings: &[Renaming]) -> bool
+    ensures { result ≡ (is_plain (map renaming_view renamings.now) && has seen.now.whole
+        name.now) }
+{
+    is_plain(renamings) && seen.whole.contains(name)
+}
+
+/// Notes what a statement emits.
+fn note_emission(
+    seen: &mut Notes<'_>,
+    scope: &Scope<'_>,
+    signal: &Identifier,
+) -> Result<(), AllocError>
+    ensures { (ps : List Program) (em : List ℕ → List ℕ → Bool) → OnOk result (noted_of seen.new
+        ≡ noted_behind ps em (noted_of seen.old) (record {
+          act = emits signal.now;
+          round = binders_of
+              scope.now;
+        })) }
+{
+    add_outer(&mut seen.names, scope, signal)?;
+    Ok(())
+}
+
+/// Notes what a run emits. One without renamings of a module that was run so before, with no `signal` round it, adds
+/// nothing, wherever it stands, and costs one look-up.
+fn note_run<'a>(
+    seen: &mut Notes<'a>,
+    sent: &Sent<'a>,
+    kept: &OpenNames,
+    scope: &Scope<'_>,
+    name: &Identifier,
+    renamings: &[Renaming],
+) -> Result<(), AllocError>
+    requires { AreOpen (sent_by (map program_of sent.now.heads.now) (emitted_of
+        sent.now.table.now)) (binders_of scope.now) (opens_of kept.now) }
+    ensures { OnOk result (noted_of seen.new ≡ noted_behind (map program_of sent.now.heads.now)
+        (emitted_of sent.now.table.now) (noted_of seen.old) (record
+        { act = runs name.now (map renaming_view renamings.now); round = binders_of scope.now })) }
+{
+    if is_passed(seen, name, renamings) {
+        return Ok(());
+    }
+    let run = head_named(sent.heads, name);
+    add_run(&mut seen.names, sent, kept, scope, name, renamings, run)?;
+    add_whole(&mut seen.whole, scope, renamings, run)?;
+    Ok(())
 }
 
 /// Notes what a module emits.
@@ -90,41 +276,38 @@ struct Sent<'a> {
     table: &'a [Emission],
 }
 
-impl Visitor for Sent<'_> {
-    ghost use Rattle.std.specs.Prelude.{ℕ, List, Bool, map, ◌||◌};
+impl<'a> Visitor for Sent<'a> {
+    ghost use Rattle.std.specs.Prelude.{map};
     ghost use Rattle.est_link.specs.Modules.{program_of};
-    ghost use Rattle.est_link.specs.Duplicates.{stands_in};
-    ghost use Rattle.est_link.specs.Emissions.{emitted_of, emits_here};
+    ghost use Rattle.est_link.specs.Emissions.{emitted_of};
+    ghost use Rattle.est_link.specs.Inner.Emitted.{sent_by};
+    ghost use Rattle.est_link.specs.OpenNames.{AreOpen, opens_of};
+    ghost use Rattle.est_link.specs.Inner.Emitted.{sent_by};
+    ghost use Rattle.est_link.specs.Inner.Noted.{Noted, noted_of, noted_behind};
 
-    type Seen = Vec<Identifier>;
+    type Seen = Notes<'a>;
 
-    type Fault = AllocError;
+    ghost State = { Noted };
 
-    ghost State = { List ℕ → Bool };
+    ghost state = { λ seen. noted_of seen };
 
-    ghost state = { λ seen. stands_in seen.items };
+    ghost base = { λ v. sent_by (map program_of v.heads.now) (emitted_of v.table.now) };
 
-    ghost after = { λ v k o s. k s || emits_here (map program_of v.heads.now)
-        (emitted_of v.table.now) s o };
+    ghost after = { λ v. noted_behind (map program_of v.heads.now) (emitted_of v.table.now) };
 
     fn visit(
         &self,
-        seen: &mut Vec<Identifier>,
+        seen: &mut Notes<'a>,
+        kept: &OpenNames,
         act: &Act<'_>,
         scope: &Scope<'_>,
     ) -> Result<(), AllocError> {
         match act {
-            Act::Emits(signal) => add_outer(seen, scope, signal),
-            Act::Tests(_) | Act::Exits(_) | Act::Binds(_) => Ok(()),
-            Act::Runs(name, renamings) => {
-                add_run(
-                    seen,
-                    self.table,
-                    scope,
-                    renamings,
-                    head_named(self.heads, name),
-                )
-            }
+            Act::Emits(signal) => note_emission(seen, scope, signal),
+            Act::Tests(_) => Ok(()),
+            Act::Exits(_) => Ok(()),
+            Act::Binds(_) => Ok(()),
+            Act::Runs(name, renamings) => note_run(seen, self, kept, scope, name, renamings),
         }
     }
 }
@@ -144,13 +327,16 @@ pub fn emissions_of<'a>(
         → stands_in v.items s ≡ list_any (emits_here (map program_of heads.now)
         (emitted_of table.now) s) (occurrences [] (program_of home.now).body)) }
 {
-    let mut seen = Vec::new(alloc);
+    let names = Vec::new(alloc);
+    let whole = NameSet::new(alloc);
+    let mut seen = Notes { names, whole };
     let sent = Sent {
         heads: &*heads,
         table: &*table,
     };
-    walk_body(&sent, &mut seen, home.body)?;
-    Ok(seen)
+    let kept = emitted_names(alloc, &*heads, &*table, home)?;
+    walk_body(&sent, &mut seen, &kept, home.body)?;
+    Ok(seen.names)
 }
 
 /// Adds what a module emits to a table.

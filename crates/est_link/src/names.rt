@@ -4,6 +4,7 @@ ghost use Rattle.est_syntax.specs.Views.{names_view};
 ghost use Rattle.est_link.specs.Scopes.{binders_of};
 ghost use Rattle.est_link.specs.Modules.{program_of};
 ghost use Rattle.est_link.specs.Duplicates.{stands_in};
+ghost use Rattle.est_link.specs.Inner.Noted.{has_signals};
 ghost use Rattle.est_link.specs.Visible.{is_tick, is_among, is_local, is_trap, is_visible};
 
 use crate::head::{Head, is_declared};
@@ -54,6 +55,19 @@ pub fn is_trap(scope: &Scope<'_>, trap: &Identifier) -> bool
         Scope::Module => false,
         Scope::Signals(_, outer) => is_trap(outer, trap),
         Scope::Trap(name, outer) => name.is(trap) || is_trap(outer, trap),
+    }
+}
+
+/// Whether a `signal` stands round the place.
+///
+/// It calls itself once for each binder round the place, of which there are at most 128.
+pub fn has_signals(scope: &Scope<'_>) -> bool
+    ensures { result ≡ has_signals (binders_of scope.now) }
+{
+    match scope {
+        Scope::Module => false,
+        Scope::Signals(_, _) => true,
+        Scope::Trap(_, outer) => has_signals(outer),
     }
 }
 

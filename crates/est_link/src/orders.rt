@@ -9,6 +9,7 @@ ghost use Rattle.est_link.specs.Modules.{program_of};
 ghost use Rattle.est_link.specs.Orders.{IsOrderOf, run_rows, places_run};
 
 use crate::head::Head;
+use crate::open_names::OpenNames;
 use crate::scope::{Act, Scope};
 use crate::visit::Visitor;
 use crate::walk::walk_body;
@@ -41,23 +42,24 @@ struct RunPlaces<'a> {
 }
 
 impl Visitor for RunPlaces<'_> {
-    ghost use Rattle.std.specs.Prelude.{ℕ, List, ◌++◌, map};
+    ghost use Rattle.std.specs.Prelude.{ℕ, List, [], ◌++◌, map};
     ghost use Rattle.est_link.specs.Modules.{program_of};
     ghost use Rattle.est_link.specs.Orders.{place_run};
 
     type Seen = Vec<usize>;
 
-    type Fault = AllocError;
-
     ghost State = { List ℕ };
 
     ghost state = { λ seen. seen.items };
+
+    ghost base = { λ v m. [] };
 
     ghost after = { λ v places o. places ++ place_run (map program_of v.heads.now) o.act };
 
     fn visit(
         &self,
         seen: &mut Vec<usize>,
+        _kept: &OpenNames,
         act: &Act<'_>,
         _scope: &Scope<'_>,
     ) -> Result<(), AllocError> {
@@ -78,7 +80,8 @@ pub(crate) fn places_run<'a>(
         (program_of home.now)) }
 {
     let mut places = Vec::new(alloc);
-    walk_body(&RunPlaces { heads: &*heads }, &mut places, home.body)?;
+    let kept = OpenNames::new(alloc);
+    walk_body(&RunPlaces { heads: &*heads }, &mut places, &kept, home.body)?;
     Ok(places)
 }
 

@@ -9,6 +9,7 @@ ghost use Rattle.est_link.specs.Renamings.{renamed, is_renamed, is_renamed_twice
 
 use crate::check::Check;
 use crate::head::{Head, head_named, is_declared};
+use crate::open_names::OpenNames;
 use crate::scope::{Act, Scope};
 use est_syntax::tree::Renaming;
 use est_text::identifier::Identifier;
@@ -100,15 +101,18 @@ pub struct BadRename<'a> {
 }
 
 impl Check for BadRename<'_> {
-    ghost use Rattle.std.specs.Prelude.{map};
+    ghost use Rattle.std.specs.Prelude.{[], map};
     ghost use Rattle.est_link.specs.Modules.{program_of};
     ghost use Rattle.est_link.specs.Renamings.{bad_renaming_at};
+
+    ghost base = { λ c m. [] };
 
     ghost fault = { λ c. bad_renaming_at (map program_of c.heads.now) };
 
     fn fault(
         &self,
         _home: &Head<'_>,
+        _kept: &OpenNames,
         act: &Act<'_>,
         _scope: &Scope<'_>,
     ) -> Result<Option<Identifier>, AllocError> {

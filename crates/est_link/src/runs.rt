@@ -5,9 +5,10 @@ ghost use Rattle.est_link.specs.Runs.{first_missing};
 
 use crate::check::{Check, first_in_bodies};
 use crate::head::{Head, head_named};
+use crate::open_names::OpenNames;
 use crate::scope::{Act, Scope};
 use est_text::identifier::Identifier;
-use std::alloc::AllocError;
+use std::alloc::{AllocError, Global};
 
 /// The check for runs of modules that aren't there.
 #[derive(Clone, Copy)]
@@ -17,15 +18,18 @@ pub struct UnknownModule<'a> {
 }
 
 impl Check for UnknownModule<'_> {
-    ghost use Rattle.std.specs.Prelude.{map};
+    ghost use Rattle.std.specs.Prelude.{[], map};
     ghost use Rattle.est_link.specs.Modules.{program_of};
     ghost use Rattle.est_link.specs.Runs.{missing_at};
+
+    ghost base = { λ c m. [] };
 
     ghost fault = { λ c. missing_at (map program_of c.heads.now) };
 
     fn fault(
         &self,
         _home: &Head<'_>,
+        _kept: &OpenNames,
         act: &Act<'_>,
         _scope: &Scope<'_>,
     ) -> Result<Option<Identifier>, AllocError> {
@@ -45,13 +49,17 @@ impl Check for UnknownModule<'_> {
 ///
 /// `AllocError`, as a check answers it.
 pub fn first_missing<'a>(
+    alloc: Global,
     heads: &'a [Head<'a>],
     main: &Identifier,
 ) -> Result<Option<Identifier>, AllocError>
     ensures { IfOk result (λ name. name ≡ first_missing (map program_of heads.now) main.now) }
 {
     match head_named(heads, main) {
-        Some(_) => first_in_bodies(&UnknownModule { heads: &*heads }, &*heads),
+        Some(_) => {
+            let kept = OpenNames::new(alloc);
+            first_in_bodies(&kept, &UnknownModule { heads: &*heads }, &*heads)
+        }
         None => Ok(Some(*main)),
     }
 }

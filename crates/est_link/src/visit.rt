@@ -1,18 +1,19 @@
 //! What is done at one place after another.
 ghost use Rattle.std.specs.Prelude.{◌≡◌, OnOk};
 
+use crate::open_names::OpenNames;
 use crate::scope::{Act, Scope};
+use std::alloc::AllocError;
 
 /// What is to be learned from the places in the body of a module.
 pub trait Visitor {
+    ghost use Rattle.std.specs.Prelude.{ℕ, List};
     ghost use Rattle.est_link.specs.Occurrences.{Occurrence};
+    ghost use Rattle.est_link.specs.OpenNames.{AreOpen, opens_of};
     ghost use Rattle.est_link.specs.Scopes.{act_of, binders_of};
 
     /// What has been learned so far.
     type Seen;
-
-    /// Why a visit can fail.
-    type Fault;
 
     /// What contracts know of it.
     ghost State: { Type 0 };
@@ -23,17 +24,22 @@ pub trait Visitor {
     /// What is known behind an occurrence, from what was known before it.
     ghost after: { Self → State → Occurrence → State };
 
+    /// The names of a module that is run which the walk keeps, as far as no `signal` round a place declares them.
+    ghost base: { Self → List ℕ → List (List ℕ) };
+
     /// Learns from an occurrence.
     ///
     /// # Errors
     ///
-    /// What the visitor says, as want of memory for what is learned.
+    /// `AllocError` where memory is refused for what is learned.
     fn visit(
         &self,
         seen: &mut Self::Seen,
+        kept: &OpenNames,
         act: &Act<'_>,
         scope: &Scope<'_>,
-    ) -> Result<(), Self::Fault>
+    ) -> Result<(), AllocError>
+        requires { AreOpen (base self.now) (binders_of scope.now) (opens_of kept.now) }
         ensures { OnOk result (state seen.new ≡ after self.now (state seen.old) (record
             { act = act_of act.now; round = binders_of scope.now })) };
 }

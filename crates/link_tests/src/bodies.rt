@@ -66,7 +66,9 @@ fn last_act(body: &Body) -> Act {
 
 /// The flat body of the main module.
 fn body_of<'a>(alloc: Global, heads: &'a [Head<'a>], main: &Identifier) -> Result<Body, Fail> {
-    if first_duplicate(alloc, &*heads)?.is_some() || first_missing(&*heads, main)?.is_some() {
+    if first_duplicate(alloc, &*heads)?.is_some()
+        || first_missing(alloc, &*heads, main)?.is_some()
+    {
         return Err(Fail::from("a name or a module is at fault"));
     }
     let Ok(order) = order_heads(alloc, &*heads) else {

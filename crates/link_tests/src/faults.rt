@@ -84,7 +84,7 @@ const BEFORE_ORDER: [(&str, Kind, &str); 12] = [
 ];
 
 /// Renamings, names and emissions. The main module is M, and N emits A and T.
-const BEHIND_ORDER: [(&str, Kind, &str); 22] = [
+const BEHIND_ORDER: [(&str, Kind, &str); 23] = [
     ("module M: emit X end module", Kind::Unknown, "X"),
     ("module M: emit tick end module", Kind::Emit, "tick"),
     (
@@ -165,6 +165,12 @@ const BEHIND_ORDER: [(&str, Kind, &str); 22] = [
         Kind::Unknown,
         "B",
     ),
+    (
+        "module M: output A; signal B in trap T in signal C in run N end; run N end end end module \
+         module N: input C, A, B; nothing end module",
+        Kind::Unknown,
+        "C",
+    ),
     // an input that a statement emits, or a run alone
     (
         "module M: input I; output O; emit O; sustain I; emit tick end module",
@@ -195,11 +201,13 @@ const BEHIND_ORDER: [(&str, Kind, &str); 22] = [
 ];
 
 /// Libraries of which M passes: a local signal hides an input, and an input of a run that isn't emitted may be one.
-const PASSED: [&str; 5] = [
+const PASSED: [&str; 6] = [
     "module M: input I; signal I in emit I end end module",
     "module M: input I; output A; run N [signal I/B] end module module N: output B, A; emit A end module",
     "module M: input I; signal A in run N end end module module N: output A; emit A end module",
     "module M: input A; trap A in exit A end; await immediate tick end module",
+    "module M: output A; signal B in trap T in signal C in run N end; run P end end; signal C, B, A in run N end end module \
+     module N: input C, A, B; nothing end module module P: output B; nothing end module",
     "module M: input A, B; relation A # A, A => B; run N end module module N: relation X => Y; nothing end module",
 ];
 

@@ -20,7 +20,7 @@ pub enum Kind {
 }
 
 /// Libraries, their first fault and its name. The main module is M.
-const FIRST_FAULTS: [(&str, Kind, &str); 18] = [
+const FIRST_FAULTS: [(&str, Kind, &str); 20] = [
     // rings of runs, and the module that is named
     (
         "module N: run M end module module M: run P; run N end module module P: nothing end module",
@@ -68,6 +68,19 @@ const FIRST_FAULTS: [(&str, Kind, &str); 18] = [
     ),
     (
         "module M: nothing end module module N: input A; run P [signal A/B] end module module P: output B; sustain B end module",
+        Kind::Emit,
+        "A",
+    ),
+    // an input that a module emits which was run before, inside a `signal` that hides it or with a renaming
+    (
+        "module M: input A; run P end module module P: output A; signal A in run N end; run N end module \
+         module N: output A; emit A end module",
+        Kind::Emit,
+        "A",
+    ),
+    (
+        "module M: input A; output B; run P end module module P: output A, B; run N [signal B/A]; run N end module \
+         module N: output A; emit A end module",
         Kind::Emit,
         "A",
     ),

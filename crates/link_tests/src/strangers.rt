@@ -78,6 +78,15 @@ fn missing(alloc: Global, runs: usize) -> Result<String, Fail> {
     Ok(format!(in alloc; "module M:{runs}run Z end module module N:halt end module")?)
 }
 
+/// So many names of a `signal`, and so many runs inside it of a module that has them as outputs.
+fn runs_inside(alloc: Global, names: u32, runs: usize) -> Result<String, Fail> {
+    let names = listed(alloc, "A", names)?;
+    let runs = "run N;".repeat(alloc, runs)?;
+    Ok(format!(in alloc;
+        "module M:signal {names} in {runs}halt end end module module N:output {names};halt end module"
+    )?)
+}
+
 const LETTERS: [char; 26] = [
     'A', 'B', 'C', 'D', 'E', 'F', 'G', 'H', 'I', 'J', 'K', 'L', 'M', 'N', 'O', 'P', 'Q', 'R', 'S',
     'T', 'U', 'V', 'W', 'X', 'Y', 'Z',
@@ -161,5 +170,8 @@ fn many_names(rt: HostRuntime) -> Result<(), Fail> {
     let absent = Answer::Named(Kind::Missing, "Z");
     expect_answer(alloc, "runs", missing(alloc, 10_900)?, absent)?;
     let large = Answer::Large(Limit::Signals);
-    expect_answer(alloc, "16,370 names", declared(alloc, 16_370)?, large)
+    expect_answer(alloc, "16,370 names", declared(alloc, 16_370)?, large)?;
+    let inside = runs_inside(alloc, 500, 9_900)?;
+    let large = Answer::Large(Limit::Statements);
+    expect_answer(alloc, "runs inside a signal", inside, large)
 }

@@ -1,12 +1,21 @@
-use Rattle.std.proofs.Common.{sym, ◌∙◌, map}
+use Rattle.std.proofs.Common.{not, sym, ap, ◌∙◌, map}
+use Rattle.std.specs.List.{find}
 use Rattle.est_syntax.specs.Views.{renaming_view}
-use Rattle.est_link.specs.Modules.{program_of}
+use Rattle.est_link.specs.Modules.{program_of, is_declared}
+use Rattle.est_link.specs.OpenNames.{open_at}
+use Rattle.est_link.specs.Renamings.{is_renamed}
 use Rattle.est_link.specs.Scopes.{binders_of}
-use Rattle.est_link.proofs.Covering.{none_unbound}
+use Rattle.est_link.specs.Unseen.{unseen_in, unseen_by}
+use Rattle.est_link.proofs.Opening.{first_unbound}
 use Rattle.est_link.proofs.unknown.unbound_in.Goals as goal
 
-pub returns-then-covers : goal.returns-then-covers
-returns-then-covers c =
-    let run = program_of c.args.run.now in
-    let covered = c.args.cover.now.sound c.args.name.now run (sym c.covers.ensures ∙ c.if-covers.true) c.requires in
-    sym (none_unbound (program_of c.args.cover.now.home.now) (binders_of c.args.scope.now) (map renaming_view c.args.renamings.now) run covered)
+pub returns-in-Some : goal.returns-in-Some
+returns-in-Some c =
+    let p = program_of c.args.home.now in
+    let known = is_declared p.interface in
+    let bs = binders_of c.args.scope.now in
+    let rs = map renaming_view c.args.renamings.now in
+    let base = unseen_by (map program_of c.args.heads.now) known in
+    c.first_unrenamed.ensures
+    ∙ ap (find (λ n. not (is_renamed rs n))) (c.deref.ensures.value ∙ (c.in-Some.ensures base bs c.requires.outside ∙ ap (λ o. open_at bs (unseen_in known o)) c.requires.named))
+    ∙ sym (first_unbound p bs rs (program_of c.args.run.now).interface)
