@@ -93,7 +93,13 @@ pub(crate) fn begin<J: Naming, R: Wait + Abort>(
 ) {
     let slot = SlotNumber::new(number).expect(rt, "a slot");
     for operation in [Operation::Load, Operation::Step] {
-        give(rt, board, seat, Some(root()), grant(Name::root(), operation, slot));
+        give(
+            rt,
+            board,
+            seat,
+            Some(root()),
+            grant(Name::root(), operation, slot),
+        );
     }
     let load = SlotCommand::Load {
         main: Identifier::from_text("M").expect(rt, "a name"),

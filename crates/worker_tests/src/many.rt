@@ -122,11 +122,7 @@ impl<'a, J: Naming + Send, T: Lends<SlotTable<J>>> Work for Service<'a, J, T> {
 }
 
 /// The workers take their turns, each in a thread of its own.
-fn run_over<
-    J: Naming + Send + Sync,
-    T: Lends<SlotTable<J>> + Sync,
-    R: Threads + Wait + Sync,
->(
+fn run_over<J: Naming + Send + Sync, T: Lends<SlotTable<J>> + Sync, R: Threads + Wait + Sync>(
     rt: &R,
     alloc: Global,
     board: &Board<J>,

@@ -51,11 +51,36 @@ fn prepare<J: Naming, R: Wait + Abort>(
     seats: &mut Seats<J>,
 ) {
     let (user, role) = (name(rt, "ann"), name(rt, "driver"));
-    enter(rt, alloc, board, &mut seats.giver, Name::root(), Name::root());
+    enter(
+        rt,
+        alloc,
+        board,
+        &mut seats.giver,
+        Name::root(),
+        Name::root(),
+    );
     begin(rt, alloc, board, table, &mut seats.giver, 0);
-    give(rt, board, &mut seats.giver, Some(root()), AdminCommand::AddUser { user });
-    give(rt, board, &mut seats.giver, Some(root()), AdminCommand::AddRole { role });
-    give(rt, board, &mut seats.giver, Some(root()), AdminCommand::AssignUser { user, role });
+    give(
+        rt,
+        board,
+        &mut seats.giver,
+        Some(root()),
+        AdminCommand::AddUser { user },
+    );
+    give(
+        rt,
+        board,
+        &mut seats.giver,
+        Some(root()),
+        AdminCommand::AddRole { role },
+    );
+    give(
+        rt,
+        board,
+        &mut seats.giver,
+        Some(root()),
+        AdminCommand::AssignUser { user, role },
+    );
     let session = enter(rt, alloc, board, &mut seats.asker, user, role);
     assert_eq!(rt; session, ann());
 }
@@ -103,13 +128,7 @@ fn change_at_once<
     J: Naming + Send + Sync,
     T: Lends<SlotTable<J>> + Sync,
     R: Threads + Wait + Abort + Sync,
->(
-    rt: &R,
-    board: &Board<J>,
-    table: &T,
-    seats: Seats<J>,
-    command: AdminCommand,
-) -> (Seats<J>, u64) {
+>(rt: &R, board: &Board<J>, table: &T, seats: Seats<J>, command: AdminCommand) -> (Seats<J>, u64) {
     let Seats {
         giver,
         asker,
@@ -157,16 +176,20 @@ fn play_round<
 }
 
 /// So many rounds; then root removes ann, and she has no session any more.
-fn play<
-    J: Naming + Send + Sync,
-    T: Lends<SlotTable<J>> + Sync,
-    R: Threads + Wait + Abort + Sync,
->(rt: &R, board: &Board<J>, table: &T, seats: Seats<J>, rounds: u32) -> Seats<J> {
+fn play<J: Naming + Send + Sync, T: Lends<SlotTable<J>> + Sync, R: Threads + Wait + Abort + Sync>(
+    rt: &R,
+    board: &Board<J>,
+    table: &T,
+    seats: Seats<J>,
+    rounds: u32,
+) -> Seats<J> {
     let mut seats = seats;
     for _ in 0..rounds {
         seats = play_round(rt, board, table, seats);
     }
-    let removed = AdminCommand::DeleteUser { user: name(rt, "ann") };
+    let removed = AdminCommand::DeleteUser {
+        user: name(rt, "ann"),
+    };
     let (mut seats, told) = change_at_once(rt, board, table, seats, removed);
     let reply = step(rt, board, table.lent(), &mut seats.asker, ann());
     assert!(rt; matches!(reply, Reply::Refused(Refusal::NoSession)));

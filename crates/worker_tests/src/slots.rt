@@ -44,7 +44,14 @@ fn step_often<J: Naming, R: Wait + Abort>(
     let mut places = 0;
     let mut newest = 0;
     for _ in 0..STEPS {
-        match table.command(rt, board, &mut seat, root(), u64::from(slot), SlotCommand::Step) {
+        match table.command(
+            rt,
+            board,
+            &mut seat,
+            root(),
+            u64::from(slot),
+            SlotCommand::Step,
+        ) {
             Reply::Step { place, version, .. } => {
                 assert!(rt; newest <= version);
                 newest = version;

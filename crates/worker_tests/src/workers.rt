@@ -93,9 +93,18 @@ fn serve_two<J: Naming + Send + Sync, R: Threads + Wait + Abort + Clock + Sync>(
 fn session_of<R: Abort>(rt: &R, journal: &Journal) -> u16 {
     match journal.entries() {
         [
-            SlotEntry { stamp: loaded, action: Action::Load(_) },
-            SlotEntry { stamp: first, action: Action::Step(_) },
-            SlotEntry { stamp: second, action: Action::Step(_) },
+            SlotEntry {
+                stamp: loaded,
+                action: Action::Load(_),
+            },
+            SlotEntry {
+                stamp: first,
+                action: Action::Step(_),
+            },
+            SlotEntry {
+                stamp: second,
+                action: Action::Step(_),
+            },
         ] => {
             assert_eq!(rt; loaded.session, first.session);
             assert_eq!(rt; first.session, second.session);
