@@ -105,6 +105,26 @@ struct Finished {
     errors: Vec<u8>,
 }
 
+/// Runs the program on these texts as its words.
+fn ran_on<R: Threads + Wait + Net + Files + Sync>(
+    rt: &R,
+    alloc: Global,
+    texts: &[String],
+    feed: Feed<'_>,
+    sink: Sink,
+) -> Finished {
+    let mut memory = MeteredMemory::new(alloc);
+    let mut input = MeteredReader::new(feed);
+    let mut output = MeteredWriter::new(sink);
+    let mut errors = Sink::new(alloc, AMPLE);
+    let status = run(rt, &mut memory, texts, &mut input, &mut output, &mut errors);
+    Finished {
+        status,
+        output: output.into_device().written,
+        errors: errors.written,
+    }
+}
+
 /// Runs the program on these words.
 fn ran<R: Threads + Wait + Net + Files + Sync>(
     rt: &R,
@@ -117,23 +137,7 @@ fn ran<R: Threads + Wait + Net + Files + Sync>(
     for word in words {
         texts.push(String::from_str(alloc, word)?)?;
     }
-    let mut memory = MeteredMemory::new(alloc);
-    let mut input = MeteredReader::new(feed);
-    let mut output = MeteredWriter::new(sink);
-    let mut errors = Sink::new(alloc, AMPLE);
-    let status = run(
-        rt,
-        &mut memory,
-        texts.as_slice(),
-        &mut input,
-        &mut output,
-        &mut errors,
-    );
-    Ok(Finished {
-        status,
-        output: output.into_device().written,
-        errors: errors.written,
-    })
+    Ok(ran_on(rt, alloc, texts.as_slice(), feed, sink))
 }
 
 /// The lines one after the other, and the answers.

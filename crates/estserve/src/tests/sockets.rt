@@ -1,6 +1,6 @@
 //! A run of the program that serves a socket, to which a thread of the same process is a client.
-use super::{AMPLE, Feed, OPENING, OPENING_REPORT, Sink, joined, ran};
-use std::alloc::Global;
+use super::{AMPLE, Feed, OPENING, OPENING_REPORT, Sink, joined, ran_on};
+use std::alloc::{AllocError, Global};
 use std::io::{ErrorKind, Read, Write};
 use std::net::{Net, Shutdown};
 use std::os::unix::net::UnixStream;
@@ -46,28 +46,43 @@ fn own_path<R: Clock>(rt: &R, alloc: Global) -> io::Result<String> {
     Ok(format!(in alloc; "/tmp/estserve-{}", now.as_nanos())?)
 }
 
+/// The words that ask for one connection at this path.
+fn words_for(alloc: Global, path: &str) -> Result<Vec<String>, AllocError> {
+    let mut words = Vec::new(alloc);
+    for word in [
+        "estserve",
+        "serve",
+        "--workers",
+        "1",
+        "--connections",
+        "1",
+        "--socket",
+    ] {
+        words.push(String::from_str(alloc, word)?)?;
+    }
+    words.push(String::from_str(alloc, path)?)?;
+    Ok(words)
+}
+
 #[test]
 fn a_socket_is_served_and_its_journals_reported(rt: HostRuntime) -> Result<(), Fail> {
     let alloc = rt.alloc();
     let (lines, answers) = joined(alloc, OPENING)?;
     let path = own_path(&rt, alloc).ok().expect(&rt, "a path");
-    let path = path.as_str();
-    let words = &[
-        "estserve",
-        "serve",
-        "--socket",
-        path,
-        "--workers",
-        "1",
-        "--connections",
-        "1",
-    ];
+    let words = words_for(alloc, path.as_str())?;
     let (end, told) = join(
         &rt,
-        || ran(&rt, alloc, words, Feed::whole(b""), Sink::new(alloc, AMPLE)),
-        || answers_to(&rt, alloc, path, lines.as_slice()),
+        || {
+            ran_on(
+                &rt,
+                alloc,
+                words.as_slice(),
+                Feed::whole(b""),
+                Sink::new(alloc, AMPLE),
+            )
+        },
+        || answers_to(&rt, alloc, path.as_str(), lines.as_slice()),
     );
-    let end = end?;
     let told = told.ok().expect(&rt, "answers");
     assert_eq!(&rt; end.status, 0);
     assert!(&rt; told.as_slice() == answers.as_slice());

@@ -12,7 +12,7 @@ pub close-requires : goal.close-requires
 close-requires g c =
     let back : AreBack ServesNext (replicate c.args.workers.count new_seat) c.in-Ok-run_workers.seats.items = search rules in
     let few : length c.in-Ok-run_workers.seats.items ≤ SEATS
-        = rw (as_many ServesNext c.args.workers.count new_seat c.in-Ok-run_workers.seats.items back) c.args.workers.few in
+    = rw (as_many ServesNext c.args.workers.count new_seat c.in-Ok-run_workers.seats.items back) c.args.workers.few in
     search (rules, few)
 
 pub returns-clause-serves : goal.returns-clause-serves
