@@ -54,7 +54,7 @@ pub(crate) fn revoke(role: Name, operation: Operation, slot: SlotNumber) -> Admi
 }
 
 /// A policy command, which is accepted.
-pub(crate) fn give<J: Naming, R: Wait + Abort>(
+fn give<J: Naming, R: Wait + Abort>(
     rt: &R,
     board: &Board<J>,
     seat: &mut Seat<J>,
@@ -65,6 +65,16 @@ pub(crate) fn give<J: Naming, R: Wait + Abort>(
         .admin(rt, seat, session, command)
         .ok()
         .expect(rt, "a receipt")
+}
+
+/// A policy command of root, which is accepted.
+pub(crate) fn order<J: Naming, R: Wait + Abort>(
+    rt: &R,
+    board: &Board<J>,
+    seat: &mut Seat<J>,
+    command: AdminCommand,
+) -> Receipt<J> {
+    give(rt, board, seat, Some(root()), command)
 }
 
 /// Logs the user in, in this role, and answers the session.
@@ -93,13 +103,7 @@ pub(crate) fn begin<J: Naming, R: Wait + Abort>(
 ) {
     let slot = SlotNumber::new(number).expect(rt, "a slot");
     for operation in [Operation::Load, Operation::Step] {
-        give(
-            rt,
-            board,
-            seat,
-            Some(root()),
-            grant(Name::root(), operation, slot),
-        );
+        order(rt, board, seat, grant(Name::root(), operation, slot));
     }
     let load = SlotCommand::Load {
         main: Identifier::from_text("M").expect(rt, "a name"),

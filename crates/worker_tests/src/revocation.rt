@@ -1,7 +1,7 @@
 //! A revocation that is answered in one thread, and obeyed in another that was told of it.
 ghost use Rattle.std.specs.Prelude.{◌≡◌};
 
-use crate::asking::{begin, enter, give, grant, name, revoke, root};
+use crate::asking::{begin, enter, grant, name, order, revoke, root};
 use crate::lending::{Lends, may_cross};
 use crate::server::{Server, open};
 use access_core::command::SlotCommand;
@@ -27,7 +27,8 @@ use std::thread::{Threads, join};
 /// How many steps are given while the policy is changed.
 const STEPS: u32 = 3;
 
-/// What a policy opens with, and what is given before the rounds: root's login and two grants, a user, a role, its assignment, and a login.
+/// What a policy opens with, and what is given before the rounds: root's login and two grants, a user, a role, its assignment, and
+/// a login.
 const BEFORE: usize = 4 + 3 + 3 + 1;
 
 /// Who is served: root, who changes the policy; ann, whose permission is given and taken; and one more client of root's session.
@@ -50,37 +51,13 @@ fn prepare<J: Naming, R: Wait + Abort>(
     table: &SlotTable<J>,
     seats: &mut Seats<J>,
 ) {
-    let (user, role) = (name(rt, "ann"), name(rt, "driver"));
-    enter(
-        rt,
-        alloc,
-        board,
-        &mut seats.giver,
-        Name::root(),
-        Name::root(),
-    );
-    begin(rt, alloc, board, table, &mut seats.giver, 0);
-    give(
-        rt,
-        board,
-        &mut seats.giver,
-        Some(root()),
-        AdminCommand::AddUser { user },
-    );
-    give(
-        rt,
-        board,
-        &mut seats.giver,
-        Some(root()),
-        AdminCommand::AddRole { role },
-    );
-    give(
-        rt,
-        board,
-        &mut seats.giver,
-        Some(root()),
-        AdminCommand::AssignUser { user, role },
-    );
+    let (user, role, first) = (name(rt, "ann"), name(rt, "driver"), Name::root());
+    let giver = &mut seats.giver;
+    enter(rt, alloc, board, giver, first, first);
+    begin(rt, alloc, board, table, giver, 0);
+    order(rt, board, giver, AdminCommand::AddUser { user });
+    order(rt, board, giver, AdminCommand::AddRole { role });
+    order(rt, board, giver, AdminCommand::AssignUser { user, role });
     let session = enter(rt, alloc, board, &mut seats.asker, user, role);
     assert_eq!(rt; session, ann());
 }
@@ -119,11 +96,12 @@ fn change<J: Naming, R: Wait + Abort>(
     mut seat: Seat<J>,
     command: AdminCommand,
 ) -> (Seat<J>, Receipt<J>) {
-    let receipt = give(rt, board, &mut seat, Some(root()), command);
+    let receipt = order(rt, board, &mut seat, command);
     (seat, receipt)
 }
 
-/// Root gives the command in a thread of its own, while two more threads step. Where they join, ann is told. Answers the version, too.
+/// Root gives the command in a thread of its own, while two more threads step. Where they join, ann is told. Answers the version,
+/// too.
 fn change_at_once<
     J: Naming + Send + Sync,
     T: Lends<SlotTable<J>> + Sync,

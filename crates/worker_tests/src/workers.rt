@@ -54,8 +54,8 @@ const RECEIPTS: usize = 7;
 /// The least that a seat has seen which served a client: the opening entries and that client's.
 const LEAST_SEEN: u64 = 8;
 
-/// Two workers serve two clients, each on a slot of its own. The first answer of all waits for one of the other worker. Then the server is
-/// closed, each entry of which is one that a seat has the receipt of.
+/// Two workers serve two clients, each on a slot of its own. The first answer of all waits for one of the other worker. Then the
+/// server is closed, each entry of which is one that a seat has the receipt of.
 fn serve_two<J: Naming + Send + Sync, R: Threads + Wait + Abort + Clock + Sync>(
     rt: &R,
     alloc: Global,
