@@ -1,4 +1,4 @@
-use Rattle.std.proofs.Common.{rules, ◌≡◌, ◌≤◌, inl, inr, length, refl, replicate}
+use Rattle.std.proofs.Common.{rules, ◌≡◌, ◌≤◌, inl, inr, length, refl, replicate, subst}
 use Rattle.std.proofs.KnownBytes.{Keeps-refl}
 use Rattle.seat_receipts.specs.declared.receipts.TheConstants.{SEATS}
 use Rattle.policy_board.specs.SeatState.{new_seat}
@@ -10,9 +10,9 @@ use Rattle.estserve.proofs.server.serve_source.Goals as goal
 
 pub close-requires : goal.close-requires
 close-requires g c =
-    let back : AreBack ServesNext (replicate c.args.workers.count new_seat) c.in-Ok-run_workers.seats.items = search rules in
+    let back : AreBack ServesNext (replicate c.args.workers new_seat) c.in-Ok-run_workers.seats.items = search rules in
     let few : length c.in-Ok-run_workers.seats.items ≤ SEATS
-    = rw (as_many ServesNext c.args.workers.count new_seat c.in-Ok-run_workers.seats.items back) c.args.workers.few in
+    = rw (as_many ServesNext c.args.workers new_seat c.in-Ok-run_workers.seats.items back) (subst (λ n. n ≤ SEATS) c.count.ensures.count c.count.ensures.few) in
     search (rules, few)
 
 pub returns-clause-serves : goal.returns-clause-serves
