@@ -73,6 +73,7 @@ bench: build
 	python3 bench/policies.py $(POLICIES)
 	@python3 scripts/run.py echo_bench < crates/echo_bench/stdin > /dev/null
 	python3 bench/socket.py $(PROGRAM) $(ECHO)
+	python3 bench/closing.py $(PROGRAM)
 
 faults:
 	python3 tests/faults/run
