@@ -13,5 +13,5 @@ returns-clause-slots c =
     (λ i below.
     let under : i < SLOTS = rw (← c.map.ensures.items.long) below in
     let told : slice_index_or c.map.result i [] ≡ (slice_index_or c.args.self.slots i (empty_slot 0)).journal
-        = search (rules, c.map.ensures.items.at i (empty_slot 0) [] under) in
+    = search (rules, c.map.ensures.items.at i (empty_slot 0) [] under) in
     told ∙ sym (get_or-map (λ (s : SlotState). s.journal) c.args.self.slots i (empty_slot 0) [] (rw sixteen under)))
