@@ -93,7 +93,8 @@ fn command<J: Naming, R: Wait + Abort>(rt: &R, alloc: Global, fresh: Fresh) -> P
     close(rt, board, readers)
 }
 
-/// Whatever is refused, a seat keeps a receipt for each entry and no other. It gives a login, grants and revokes, and passes over refusals.
+/// Whatever is refused, a seat keeps a receipt for each entry and no other. It gives a login, grants and revokes, and
+/// passes over refusals.
 fn give_all<J: Naming, R: Wait + Abort>(rt: &R, alloc: Global, fresh: Fresh) -> PolicyJournal
     requires { fresh.seen.book ≡ J.book }
 {

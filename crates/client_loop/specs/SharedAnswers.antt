@@ -23,8 +23,8 @@ use Rattle.client_loop.specs.Asking.{Ask, to_policy, to_slot, to_check}
 abbrev pub desk_with : List Entry → List SlotState → DeskState
 desk_with entries slots = record { entries = entries; slots = slots }
 
--- the list stays, and so do the receipts of the seat; or the list has one entry more, whose receipt stands at the end of the seat's, with
--- the version of the policy with it
+-- the list stays, and so do the receipts of the seat; or the list has one entry more, whose receipt stands at the end
+-- of the seat's, with the version of the policy with it
 abbrev pub KeepsAdded : (old new : List Entry) → (seat after : SeatState) → Type 0
 KeepsAdded old new seat after =
     ((new ≡ old) × (after.kept ≡ seat.kept))

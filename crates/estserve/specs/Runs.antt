@@ -29,7 +29,8 @@ pub record NeverOpens (answer : Result ⊤ Fault) (written after : Option (List 
   pub no_memory : answer ≡ Err fault.Memory
   pub silent : Keeps written after
 
--- the end of a run without a fault: the report on the desk's list and journals, where it is asked for, and else no more is written
+-- the end of a run without a fault: the report on the desk's list and journals, where it is asked for, and else no
+-- more is written
 abbrev pub Finishes : (report : Bool) → DeskState → Result ⊤ Fault → (written after : Option (List ℕ)) → Type 0
 Finishes true desk answer written after = Reports desk.entries (map (λ (s : SlotState). s.journal) desk.slots) written answer after
 Finishes false desk answer written after = (answer ≡ Ok tt) × (after ≡ written)
@@ -60,8 +61,8 @@ pub record IsNoOrder (words : List Text) (answer : Result ⊤ Fault) (written af
   pub of_words : IsOfWords why given
   pub silent : Keeps written after
 
--- what the order asks for is done: of a script with the report or without; of a service by so many workers, and standard output gets the report
--- of its end alone
+-- what the order asks for is done: of a script with the report or without; of a service by so many workers, and
+-- standard output gets the report of its end alone
 abbrev pub Does : Order → (refused : Bool) → (ahead : Option (List ℕ)) → Result ⊤ Fault → (written after : Option (List ℕ)) → Type 0
 Does (Script log report) refused ahead answer written after = RunsScript refused report ahead answer written after
 Does (Serve service) refused ahead answer written after = ServesSocket service.workers answer written after

@@ -18,8 +18,8 @@ use Rattle.estserve.specs.Reports.{Reports}
 abbrev pub ServesAll : (workers : ℕ) → (seats : List SeatState) → Type 0
 ServesAll workers seats = AreBack ServesNext (replicate workers new_seat) seats
 
--- the journals of a server that left its seats so: one list of events has them and what the seats keep as its parts, along what each seat
--- keeps the order is right, and an audit finds nothing
+-- the journals of a server that left its seats so: one list of events has them and what the seats keep as its parts,
+-- along what each seat keeps the order is right, and an audit finds nothing
 pub record AreHistories (seats : List SeatState) (policy : List Entry) (slots : List (List SlotEntry)) : Type 0 where
   pub one : AreOfOneList policy slots (kept_of seats)
   pub rises : AllRise (kept_of seats)

@@ -54,8 +54,8 @@ fn finish<O: Write>(
     }
 }
 
-/// Serves the input and the output as one connection over a desk as it opens, and writes the report on the desk behind it where that is
-/// asked for.
+/// Serves the input and the output as one connection over a desk as it opens, and writes the report on the desk
+/// behind it where that is asked for.
 fn script<R: Wait, I: Read, O: Write, E: Write>(
     rt: &R,
     memory: &mut MeteredMemory,

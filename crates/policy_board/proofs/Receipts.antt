@@ -45,7 +45,8 @@ module _ {J : Type 0} where
       let step' : AdminStep before session command (Ok receipt) after = subst (λ a. AdminStep before session command a after) is step in
       replied_tells before receipt after step'.decided step'.replied
 
--- a seat that knows a list, keeps an answer's receipt, and then knows the longer list that the answer leaves, is as the command leaves it
+-- a seat that knows a list, keeps an answer's receipt, and then knows the longer list that the answer leaves, is as
+-- the command leaves it
 pub seat_answered : {J : Type 0} (seat known kept new : SeatState) (l m : List Entry) (answer : Result (Receipt J) Refusal) → Begins l m → known ≡ seat_after seat l
     → KeepsAnswer known answer m kept → new ≡ seat_after kept m → SeatAfter seat answer m new
 seat_answered seat known kept new l m answer b first keeps last =

@@ -57,14 +57,14 @@ abbrev pub seat_after : SeatState → List Entry → SeatState
 seat_after old list = record old { known = list; seen = max old.seen (length list) }
 
 module _ {J : Type 0} where
-  -- the receipt that is kept of a policy command with this answer, which leaves this list: of an accepted one its entry, and the version of
-  -- the policy with it
+  -- the receipt that is kept of a policy command with this answer, which leaves this list: of an accepted one its
+  -- entry, and the version of the policy with it
   abbrev pub admin_receipt : (answer : Result (Receipt J) Refusal) → (after : List Entry) → List Kept
   admin_receipt (Ok receipt) after = Admin (length after) receipt.entry ∷ []
   admin_receipt (Err refusal) after = []
 
-  -- the seat knows the whole list as the policy command leaves it, whatever the answer. The receipt of an accepted one stands at the end of its
-  -- receipts; a refused one leaves them
+  -- the seat knows the whole list as the policy command leaves it, whatever the answer. The receipt of an accepted
+  -- one stands at the end of its receipts; a refused one leaves them
   pub record SeatAfter (old : SeatState) (answer : Result (Receipt J) Refusal) (after : List Entry) (new : SeatState) : Type 0 where
     pub known : new.known ≡ after
     pub seen : new.seen ≡ max old.seen (length after)

@@ -6,8 +6,8 @@ use Rattle.policy_board.specs.SeatState.{SeatState, KeepsReceipts}
 use Rattle.policy_board.specs.declared.refusal.Refusal.{Refusal}
 use Rattle.policy_board.specs.declared.refusal.Refusal.TheVariants.{Behind, Memory}
 
--- the seat has read a policy list. It begins with all that the seat knew, and is no shorter than its seen number; the seat then knows it, and
--- keeps its receipts
+-- the seat has read a policy list. It begins with all that the seat knew, and is no shorter than its seen number; the
+-- seat then knows it, and keeps its receipts
 pub record HasRead (old : SeatState) (list : List Entry) (new : SeatState) : Type 0 where
   pub is_list : IsPolicyList list
   pub later : Begins old.known list

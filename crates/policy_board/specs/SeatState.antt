@@ -4,8 +4,9 @@ use Rattle.rbac_policy.specs.declared.commands.Entry.{Entry}
 use Rattle.rbac_policy.specs.Opening.{opening_entries}
 use Rattle.seat_receipts.specs.declared.receipt.Kept.{Kept}
 
--- known: the longest policy list that the seat has read or was told of. seen: its seen number, the greatest version that it has seen.
--- kept: the receipts of its calls, the oldest first. room: how many receipts its list has memory for
+-- known: the longest policy list that the seat has read or was told of. seen: its seen number, the greatest version
+-- that it has seen. kept: the receipts of its calls, the oldest first. room: how many receipts its list has memory
+-- for
 pub record SeatState : Type 0 where
   pub known : List Entry
   pub seen : ℕ

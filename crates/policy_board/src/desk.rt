@@ -100,7 +100,8 @@ impl<J: Naming> Desk<J> {
         }
     }
 
-    // Publishes the entry, and has the seat keep its receipt. All that may be refused has been asked, but for memory, which is taken first.
+    // Publishes the entry, and has the seat keep its receipt. All that may be refused has been asked, but for memory,
+    // which is taken first.
     fn append<R: Wait>(
         &mut self,
         rt: &R,
@@ -155,8 +156,8 @@ impl<J: Naming> Desk<J> {
         self.append(rt, seat, entry)
     }
 
-    /// Answers a policy command. An accepted one adds its entry at the end, and publishes it. The seat then knows the list, and keeps the
-    /// receipt of an accepted one.
+    /// Answers a policy command. An accepted one adds its entry at the end, and publishes it. The seat then knows the
+    /// list, and keeps the receipt of an accepted one.
     pub fn admin<R: Wait>(
         &mut self,
         rt: &R,

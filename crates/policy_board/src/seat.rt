@@ -58,8 +58,8 @@ impl<J: Naming> Receipt<J> {
     }
 }
 
-/// A caller's place. What it asks is answered for a policy that is no older than any that it has seen or was told of. It keeps the receipts
-/// of its calls that added an entry, in their order.
+/// A caller's place. What it asks is answered for a policy that is no older than any that it has seen or was told of.
+/// It keeps the receipts of its calls that added an entry, in their order.
 #[derive(Drop)]
 pub struct Seat<J: Naming> {
     reader: SlotReader<J>,

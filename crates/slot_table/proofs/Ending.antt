@@ -33,7 +33,8 @@ legal_next policy slot journal journals here later zero low =
 legal_next policy slot journal journals here later (suc at) low =
     subst (λ n. IsLegal policy n (part_at journals at)) (let e : slot + 1 + at ≡ slot + suc at = omega arith in e) (later at (omega arith))
 
--- what the slots that ended one after the other leave: the policy list, and where there is still no fault, none before and legal journals
+-- what the slots that ended one after the other leave: the policy list, and where there is still no fault, none
+-- before and legal journals
 record Left (slot : ℕ) (old : ClosingState) (journals : List (List SlotEntry)) (new : ClosingState) : Type 0 where
   policy : new.policy ≡ old.policy
   legal : IsNone new.fault → IsNone old.fault × LegalFrom old.policy slot journals

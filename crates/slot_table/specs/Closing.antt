@@ -46,7 +46,8 @@ pub record IsHistoriesFault (policy : List Entry) (seats : List (List Kept)) (mi
   pub legal : AreLegal policy slots
   pub differs : IsMismatch policy slots seats mismatch
 
--- there is a policy list, and the mismatch is one of it with the slots' journals and the seats' receipts, or some slot's reader has seen more of it
+-- there is a policy list, and the mismatch is one of it with the slots' journals and the seats' receipts, or some
+-- slot's reader has seen more of it
 pub record IsJustified (seats : List (List Kept)) (mismatch : Mismatch) : Type 0 where
   pub policy : List Entry
   pub is_list : IsPolicyList policy

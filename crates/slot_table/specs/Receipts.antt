@@ -21,15 +21,16 @@ place_told (Shown instant signals version) = None
 place_told (Audited entries instants version) = None
 place_told (Check allowed) = None
 
--- one receipt is added at the end of the seat's list: of this slot and this session, with the place and the version that were told, what was
--- asked for, and a number
+-- one receipt is added at the end of the seat's list: of this slot and this session, with the place and the version
+-- that were told, what was asked for, and a number
 pub record AddsReceipt (slot session : ℕ) (wanted : Option Asked) (told : ℕ × ℕ) (before after : List Kept) : Type 0 where
   pub asked : Asked
   pub is : wanted ≡ Some asked
   pub number : ℕ
   pub added : after ≡ before ++ Slot (record { slot = slot; place = told.0; version = told.1; session = session; number = number; asked = asked }) ∷ []
 
--- what the seat keeps after a reply to a command that asked for this: where the reply tells a place, its receipt at the end, and else what it kept
+-- what the seat keeps after a reply to a command that asked for this: where the reply tells a place, its receipt at
+-- the end, and else what it kept
 abbrev pub Keeps : (slot session : ℕ) → Option Asked → Reply → (before after : List Kept) → Type 0
 Keeps slot session wanted reply before after =
     MatchOption (place_told reply) (after ≡ before) (λ told. AddsReceipt slot session wanted told before after)

@@ -27,8 +27,8 @@ pub fn versions_never_fall()
         × IsLegal new.list slot new.journal }
 {}
 
-/// Where `close` gives histories, each entry of a slot, and each policy entry after the opening ones, belongs by place and content to exactly
-/// one receipt of one seat, and each receipt to one entry.
+/// Where `close` gives histories, each entry of a slot, and each policy entry after the opening ones, belongs by
+/// place and content to exactly one receipt of one seat, and each receipt to one entry.
 pub fn each_entry_belongs_to_one_receipt()
     ensures { (policy : List Entry) (slots : List (List SlotEntry)) (seats : List (List Kept))
         → IsPolicyList policy → length slots ≡ SLOTS → AreOfOneList policy slots seats

@@ -94,7 +94,8 @@ impl<J: Naming, const NUMBER: u8> LockedSlot<J, NUMBER> {
         reply
     }
 
-    /// Hands the reader back to the board, and gives the journal. It is legal over the policy list, or the reader has seen more of that.
+    /// Hands the reader back to the board, and gives the journal. It is legal over the policy list, or the reader has
+    /// seen more of that.
     pub fn end(self, board: &mut Closed<J>) -> (Journal, Result<(), Mismatch>)
         ensures journal { result.0 ≡ self.journal }
         ensures seen { IsLegal self.list NUMBER self.journal }

@@ -119,8 +119,9 @@ impl<J: Naming> SlotTable<J> {
         }
     }
 
-    /// Answers a command of this session on the slot of this number, under the slot's lock, for which it waits. A number that no slot has
-    /// takes no lock: the seat's own reader tells whether the session lives. A reply that tells a place leaves a receipt with the seat.
+    /// Answers a command of this session on the slot of this number, under the slot's lock, for which it waits. A
+    /// number that no slot has takes no lock: the seat's own reader tells whether the session lives. A reply that
+    /// tells a place leaves a receipt with the seat.
     pub fn command<R: Wait>(
         &self,
         rt: &R,
@@ -195,14 +196,14 @@ impl<J: Naming> SlotTable<J> {
         ]
     }
 
-    /// Ends a server: its journals, where each of their entries was asked for by one call of one of these seats, which keeps its
-    /// receipt: they are the journals of clients that took turns. Board and seats are those of its readers. It waits for reads of the
-    /// policy, and takes no memory.
+    /// Ends a server: its journals, where each of their entries was asked for by one call of one of these seats,
+    /// which keeps its receipt: they are the journals of clients that took turns. Board and seats are those of its
+    /// readers. It waits for reads of the policy, and takes no memory.
     ///
     /// # Errors
     ///
-    /// - Count, where the reader of a slot has seen more policy entries than there are, or the receipts of a list are not as many as its
-    ///   entries;
+    /// - Count, where the reader of a slot has seen more policy entries than there are, or the receipts of a list are
+    ///   not as many as its entries;
     /// - Receipt, where what it names is not there, has the place of another, or breaks the order.
     pub fn close<R: Wait>(
         self,

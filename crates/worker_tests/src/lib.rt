@@ -1,5 +1,6 @@
-//! The worked examples of threads that serve side by side: of workers that have connections, of the desk that each of them asks, of
-//! slots that threads share, and of what is left when their server is closed; through public calls alone.
+//! The worked examples of threads that serve side by side: of workers that have connections, of the desk that each of
+//! them asks, of slots that threads share, and of what is left when their server is closed; through public calls
+//! alone.
 //!
 //! This crate has no function but tests, and stands above the crates that it calls, so that each of those is proved once.
 #![tactic(auto)]

@@ -27,8 +27,8 @@ use std::thread::{Threads, join};
 /// How many steps are given while the policy is changed.
 const STEPS: u32 = 3;
 
-/// What a policy opens with, and what is given before the rounds: root's login and two grants, a user, a role, its assignment, and
-/// a login.
+/// What a policy opens with, and what is given before the rounds: root's login and two grants, a user, a role, its
+/// assignment, and a login.
 const BEFORE: usize = 4 + 3 + 3 + 1;
 
 /// Who is served: root, who changes the policy; ann, whose permission is given and taken; and one more client of root's session.

@@ -100,8 +100,8 @@ fn answers_of<R: Wait + Abort, D: Desk>(rt: &R, alloc: Global, desk: &mut D) -> 
     writer.into_device().written
 }
 
-/// What a seat at this board and table is answered, which then has seen the whole list, and keeps a receipt of each of the six policy entries
-/// and four slot entries that it added.
+/// What a seat at this board and table is answered, which then has seen the whole list, and keeps a receipt of each
+/// of the six policy entries and four slot entries that it added.
 fn answers_at<J: Naming, R: Wait + Abort>(
     rt: &R,
     alloc: Global,

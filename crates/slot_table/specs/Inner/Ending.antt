@@ -4,7 +4,8 @@ use Rattle.reactor_core.specs.declared.entry.SlotEntry.{SlotEntry}
 use Rattle.access_core.specs.Journals.{IsLegal}
 use Rattle.slot_table.specs.Closing.{ClosingState}
 
--- the slot ended with this journal. The policy list stays; and where there is still no fault there was none, and the journal is legal over the list
+-- the slot ended with this journal. The policy list stays; and where there is still no fault there was none, and the
+-- journal is legal over the list
 pub record Ends (slot : ℕ) (old : ClosingState) (journal : List SlotEntry) (new : ClosingState) : Type 0 where
   pub policy : new.policy ≡ old.policy
   pub legal : IsNone new.fault → IsNone old.fault × IsLegal old.policy slot journal
