@@ -16,7 +16,7 @@ use rbac_policy::commands::{AdminCommand, SessionId};
 use rbac_policy::names::{Name, RoleNames};
 use rbac_policy::objects::{Object, Operation};
 use std::alloc::Global;
-use wire_lines::reading::request;
+use wire_lines::reading::RequestReader;
 use wire_lines::request::Request;
 
 /// What a line is answered, and the login that the connection holds afterwards.
@@ -195,6 +195,7 @@ fn ask<D: Desk>(desk: &mut D, login: Option<Login>, request: Request) -> Turn
 /// What a line does on a connection with this login.
 pub(crate) fn respond<D: Desk>(
     alloc: Global,
+    requests: &mut RequestReader,
     desk: &mut D,
     login: Option<Login>,
     line: &[u8],
@@ -206,7 +207,7 @@ pub(crate) fn respond<D: Desk>(
         let reply = Reply::Refused(Refusal::TooLong);
         return Turn { reply, login };
     }
-    match request(alloc, line) {
+    match requests.read(alloc, line) {
         Ok(request) => ask(desk, login, request),
         Err(refusal) => {
             let reply = Reply::Refused(refusal);

@@ -8,11 +8,14 @@ use crate::gate::Gate;
 use crate::login::{Login, hold};
 use line_reader::serving::Answerer;
 use std::alloc::{AllocError, Global};
+use wire_lines::reading::RequestReader;
 use wire_lines::reply::reply_line;
 
-/// The login that a connection holds, if it holds one, and the worker that answers it through a gate.
+/// The login that a connection holds, if it holds one, what reads its lines, and the worker that answers it through a
+/// gate.
 pub(crate) struct Client<'g, G> {
     pub(crate) login: Option<Login>,
+    pub(crate) requests: RequestReader,
     pub(crate) gate: &'g G,
     pub(crate) worker: usize,
 }
@@ -27,7 +30,7 @@ impl<'g, D: Desk, G: Gate> Answerer<D> for Client<'g, G> {
     fn answer(&mut self, alloc: Global, desk: &mut D, line: &[u8]) -> Result<Vec<u8>, AllocError> {
         self.gate.before(self.worker);
         let held = self.login.take();
-        let Turn { reply, login } = respond(alloc, desk, held, line);
+        let Turn { reply, login } = respond(alloc, &mut self.requests, desk, held, line);
         hold(&mut self.login, login);
         self.gate.after(self.worker);
         reply_line(alloc, &reply)

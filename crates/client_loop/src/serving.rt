@@ -14,6 +14,7 @@ use line_reader::meter::{MeteredMemory, MeteredReader, MeteredWriter};
 use line_reader::serving;
 use line_reader::serving::Why;
 use std::io::{Read, Write};
+use wire_lines::reading::RequestReader;
 
 /// The answer to an over-long line.
 const TOO_LONG: &str = "{\"code\":1,\"fault\":\"TooLong\"}\n";
@@ -50,12 +51,14 @@ fn answer_lines<R: Read, W: Write, D: Desk, G: Gate>(
 {
     let mut client = Client {
         login: None,
+        requests: RequestReader::new(memory.allocator()),
         gate,
         worker,
     };
     let why = serving::serve(memory, reader, writer, &mut client, desk, too_long_line());
     let Client {
         login,
+        requests: _,
         gate: _,
         worker: _,
     } = client;

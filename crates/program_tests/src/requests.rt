@@ -1,7 +1,10 @@
-//! Lines, and whether they are requests.
+//! Lines, and whether they are requests: by themselves, and to a reader that has read others.
+use access_core::refusal::Refusal;
+use est_text::identifier::Identifier;
 use std::alloc::{AllocError, Global};
 use std::test::Fail;
-use wire_lines::reading::request;
+use wire_lines::reading::{RequestReader, request};
+use wire_lines::request::Request;
 
 /// Lines, and the numbers of their refusals; 0 is that of a request.
 const LINES: &[(&str, u8)] = &[
@@ -59,6 +62,19 @@ const LINES: &[(&str, u8)] = &[
     ("{\"cmd\":\"logout\",\"user\":\"root\"}", 3),
     ("{\"slot\":0}", 3),
     ("{\"cmd\":[\"step\"],\"slot\":0}", 3),
+    ("{\"cmd\":\"step\",\"slot\":0}}", 2),
+    (
+        "{\"cmd\":\"step\",\"slot\":0} {\"cmd\":\"step\",\"slot\":0}",
+        2,
+    ),
+    ("{\"cmd\":\"step\",\"slot\":00}", 2),
+    ("{\"cmd\":\"step\",\"slot\":-1}", 3),
+    ("{\"slot\":0,\"cmd\":\"step\"}", 0),
+    ("{\"cmd\":\"st\\u0065p\",\"slot\":0}", 0),
+    ("{\"cmd\":\"offer\",\"signal\":\"1A\",\"slot\":0}", 3),
+    ("{\"cmd\":\"look\",\"instant\":1.5,\"slot\":0}", 3),
+    ("{\"cmd\":\"audit\",\"slot\":\"0\"}", 3),
+    ("{\"cmd\":\"unload\",\"slot\":0", 2),
 ];
 
 /// A key of commands, with a value that it takes and one that it doesn't.
@@ -147,17 +163,34 @@ fn spelt(alloc: Global, command: &str, keys: &[Key], slip: Slip) -> Result<Strin
     Ok(line)
 }
 
-fn answer_to(alloc: Global, line: &str) -> u8 {
-    match request(alloc, line.as_bytes()) {
+/// The number of the refusal that a line is read as, or 0 where it is a request.
+fn number_of(answer: Result<Request, Refusal>) -> u8 {
+    match answer {
         Ok(_) => 0,
         Err(refusal) => refusal.code(),
     }
 }
 
+/// What the line is to a reader that has read others, where it is the same by itself.
+fn answer_to(alloc: Global, requests: &mut RequestReader, line: &str) -> Result<u8, Fail> {
+    let alone = number_of(request(alloc, line.as_bytes()));
+    let next = number_of(requests.read(alloc, line.as_bytes()));
+    if alone == next {
+        Ok(next)
+    } else {
+        Err(Fail::new("a reader reads the line otherwise"))
+    }
+}
+
 #[test]
 fn lines_and_their_answers(rt: HostRuntime) -> Result<(), Fail> {
+    let mut requests = RequestReader::new(rt.alloc());
     for (line, code) in LINES {
-        assert_eq!(rt; answer_to(rt.alloc(), line), *code, "{line}");
+        assert_eq!(rt;
+            answer_to(rt.alloc(), &mut requests, line)?,
+            *code,
+            "{line}"
+        );
     }
     Ok(())
 }
@@ -165,17 +198,71 @@ fn lines_and_their_answers(rt: HostRuntime) -> Result<(), Fail> {
 #[test]
 fn keys_of_every_command(rt: HostRuntime) -> Result<(), Fail> {
     let alloc = rt.alloc();
+    let mut requests = RequestReader::new(alloc);
     for (command, keys) in &COMMANDS {
         let line = spelt(alloc, command, keys, Slip::Nothing)?;
-        assert_eq!(rt; answer_to(alloc, line.as_str()), 0, "{line}");
+        assert_eq!(rt;
+            answer_to(alloc, &mut requests, line.as_str())?,
+            0,
+            "{line}"
+        );
         let line = spelt(alloc, command, keys, Slip::Extra)?;
-        assert_eq!(rt; answer_to(alloc, line.as_str()), 3, "{line}");
+        assert_eq!(rt;
+            answer_to(alloc, &mut requests, line.as_str())?,
+            3,
+            "{line}"
+        );
         for (name, ..) in *keys {
             for slip in [Slip::Missing(name), Slip::Mistyped(name)] {
                 let line = spelt(alloc, command, keys, slip)?;
-                assert_eq!(rt; answer_to(alloc, line.as_str()), 3, "{line}");
+                assert_eq!(rt;
+                    answer_to(alloc, &mut requests, line.as_str())?,
+                    3,
+                    "{line}"
+                );
             }
         }
     }
+    Ok(())
+}
+
+/// Whether a request is this command on a slot.
+fn is_on_slot(request: &Request, word: &str, number: u64) -> bool {
+    match request {
+        Request::Discard { slot } => word == "discard" && *slot == number,
+        Request::Step { slot } => word == "step" && *slot == number,
+        Request::Unload { slot } => word == "unload" && *slot == number,
+        Request::Audit { slot } => word == "audit" && *slot == number,
+        _ => false,
+    }
+}
+
+/// The request that a line asks a reader for.
+fn asked(alloc: Global, requests: &mut RequestReader, line: &str) -> Result<Request, Fail> {
+    match requests.read(alloc, line.as_bytes()) {
+        Ok(request) => Ok(request),
+        Err(_) => Err(Fail::new("no request")),
+    }
+}
+
+#[test]
+fn what_a_line_asks_of_a_slot(rt: HostRuntime) -> Result<(), Fail> {
+    let alloc = rt.alloc();
+    let mut requests = RequestReader::new(alloc);
+    for word in ["discard", "step", "unload", "audit"] {
+        let line = format!(in alloc; "{{\"cmd\":\"{word}\",\"slot\":7}}")?;
+        let request = asked(alloc, &mut requests, line.as_str())?;
+        assert!(rt; is_on_slot(&request, word, 7), "{line}");
+    }
+    let line = "{\"cmd\":\"look\",\"instant\":12,\"slot\":7}";
+    let Request::Look { instant, slot } = asked(alloc, &mut requests, line)? else {
+        return Err(Fail::new("no look"));
+    };
+    assert_eq!(rt; (instant, slot), (12, 7));
+    let line = "{\"cmd\":\"offer\",\"signal\":\"A1\",\"slot\":7}";
+    let Request::Offer { signal, slot } = asked(alloc, &mut requests, line)? else {
+        return Err(Fail::new("no offer"));
+    };
+    assert_eq!(rt; (Some(signal), slot), (Identifier::from_text("A1"), 7));
     Ok(())
 }

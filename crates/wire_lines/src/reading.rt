@@ -13,8 +13,10 @@ ghost use Rattle.wire_lines.specs.Inner.Reading.{names_from, roles_from, roles_a
 ghost use Rattle.wire_lines.specs.declared.request.Request.{Request};
 
 use crate::request::{Command, Request};
+use crate::slot_lines::slot_request;
 use access_core::refusal::Refusal;
 use est_text::identifier::Identifier;
+use json::Scratch;
 use rbac_policy::names::{LISTED_ROLES, Name, RoleNames};
 use rbac_policy::objects::{Object, Operation};
 use reactor_core::text::Text;
@@ -524,6 +526,31 @@ pub fn request(alloc: Global, line: &[u8]) -> Result<Request, Refusal>
         Ok(Some(request)) => Ok(request),
         Ok(None) => Err(Refusal::NotARequest),
         Err(_) => Err(Refusal::Memory),
+    }
+}
+
+/// What reads the lines of a connection: it keeps its room from line to line.
+#[derive(Drop)]
+pub struct RequestReader {
+    scratch: Scratch,
+}
+
+impl RequestReader {
+    /// A reader that has read nothing. It takes no memory.
+    pub fn new(alloc: Global) -> RequestReader {
+        RequestReader {
+            scratch: Scratch::new(alloc),
+        }
+    }
+
+    /// The request of a line, or NotJson, NotARequest or Memory.
+    pub fn read(&mut self, alloc: Global, line: &[u8]) -> Result<Request, Refusal>
+        ensures { IsReadAs line.now result }
+    {
+        match slot_request(&mut self.scratch, line) {
+            Some(request) => Ok(request),
+            None => request(alloc, line),
+        }
     }
 }
 

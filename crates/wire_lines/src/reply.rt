@@ -17,6 +17,7 @@ ghost use Rattle.access_core.specs.declared.refusal.Refusal.TheVariants as refus
 ghost use Rattle.est_text.specs.declared.place.Place.{Place};
 
 use crate::accepted::{discard_line, load_line, offer_line, step_line, unload_line};
+use crate::look_line::look_line;
 use access_core::refusal::{Refusal, limit_text, table_text};
 use access_core::reply::{Reply, ShownSignal};
 use est_text::identifier::Identifier;
@@ -333,8 +334,8 @@ fn value_line(alloc: Global, reply: &Reply) -> Result<Vec<u8>, AllocError>
     Ok(line)
 }
 
-/// The line of a reply, with its LF. The line for want of memory is a constant, and those of the commands that come most often are written as
-/// they stand.
+/// The line of a reply, with its LF. The line for want of memory is a constant, and those of the commands that come
+/// most often are written with no tree of values.
 pub fn reply_line(alloc: Global, reply: &Reply) -> Result<Vec<u8>, AllocError>
     ensures { IfOk result (λ line. line.items ≡ line_of reply.now) }
 {
@@ -349,6 +350,11 @@ pub fn reply_line(alloc: Global, reply: &Reply) -> Result<Vec<u8>, AllocError>
             place,
             version,
         } => step_line(alloc, *instant, *place, *version),
+        Reply::Look {
+            instant,
+            signals,
+            version,
+        } => look_line(alloc, *instant, signals.as_slice(), *version),
         _ => value_line(alloc, reply),
     }
 }

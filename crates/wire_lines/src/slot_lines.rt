@@ -1,0 +1,165 @@
+//! The lines that come most often, those of commands on a slot, read token by token: no tree of values is made for
+//! them.
+//!
+//! They are read here where their keys stand in order and no module text is among them. Of any other line nothing is
+//! said: it may still be a request.
+ghost use Rattle.std.specs.Prelude.{◌≡◌, ◌==◌, ◌∷◌, [], Some, IfSome, slice_index, codes};
+ghost use Rattle.json.specs.Token.{begin_object, end_object, key, string};
+ghost use Rattle.serde_json.specs.Data.{unsigned};
+ghost use Rattle.serde_json.specs.Read.{number_of};
+ghost use Rattle.wire_lines.specs.Requests.{IsRequest};
+ghost use Rattle.wire_lines.specs.Inner.SlotTokens.{IsNumberAt, IsSlot, IsOffer, IsLook, IsCommand};
+
+use crate::request::Request;
+use est_text::identifier::Identifier;
+use fast_float::Numeral;
+use json::{Reader, Scratch, Token};
+
+/// How long a line may be that is read here: a command on a slot is shorter, but for blanks.
+const SHORT_BYTES: usize = 256;
+
+/// Whether a minus sign comes first.
+fn has_sign(digits: &[u8]) -> bool
+    ensures { result ≡ (slice_index digits.now 0 == 45) }
+{
+    !digits.is_empty() && digits[0] == b'-'
+}
+
+/// The whole number that a token writes, where it has no sign, point or exponent, and fits.
+fn whole_number(text: &str) -> Option<u64>
+    ensures { IfSome result (λ n. number_of text.now ≡ Some (unsigned n)) }
+{
+    let digits = text.as_bytes();
+    if has_sign(digits) {
+        return None;
+    }
+    Numeral::scan(digits).to_u64()
+}
+
+/// Takes the text that comes next, under this key.
+fn take_text<'a>(reader: &mut Reader<'a>, name: &str) -> Option<&'a str>
+    ensures { IfSome result (λ text. reader.old ≡ key name.now ∷ string text.now ∷ reader.new) }
+{
+    let Some(Token::Key(found)) = reader.next() else {
+        return None;
+    };
+    if found != name {
+        return None;
+    }
+    let Some(Token::String(text)) = reader.next() else {
+        return None;
+    };
+    Some(text)
+}
+
+/// Takes the whole number that comes next, under this key.
+fn take_number(reader: &mut Reader<'_>, name: &str) -> Option<u64>
+    ensures { IfSome result (λ n. IsNumberAt name.now reader.old n reader.new) }
+{
+    let Some(Token::Key(found)) = reader.next() else {
+        return None;
+    };
+    if found != name {
+        return None;
+    }
+    let Some(Token::Number(text)) = reader.next() else {
+        return None;
+    };
+    whole_number(text)
+}
+
+/// Takes the brace that ends the object, and the text with it.
+fn take_end(reader: &mut Reader<'_>) -> Option<()>
+    ensures { IfSome result (λ _. reader.old ≡ end_object ∷ []) }
+{
+    let Some(Token::EndObject) = reader.next() else {
+        return None;
+    };
+    match reader.next() {
+        None => Some(()),
+        Some(_) => None,
+    }
+}
+
+/// The slot, where it is the last member.
+fn read_slot(reader: &mut Reader<'_>) -> Option<u64>
+    ensures { IfSome result (IsSlot reader.old) }
+{
+    let slot = take_number(reader, "slot")?;
+    take_end(reader)?;
+    Some(slot)
+}
+
+/// The input and the slot, where they are the last members.
+fn read_offer(reader: &mut Reader<'_>) -> Option<(Identifier, u64)>
+    ensures { IfSome result (λ found. IsOffer reader.old found.0 found.1) }
+{
+    let signal = Identifier::from_text(take_text(reader, "signal")?)?;
+    let slot = read_slot(reader)?;
+    Some((signal, slot))
+}
+
+/// The instant and the slot, where they are the last members.
+fn read_look(reader: &mut Reader<'_>) -> Option<(u64, u64)>
+    ensures { IfSome result (λ found. IsLook reader.old found.0 found.1) }
+{
+    let instant = take_number(reader, "instant")?;
+    let slot = read_slot(reader)?;
+    Some((instant, slot))
+}
+
+/// Takes the brace that begins an object, and the command's word, which is its first member.
+fn take_word<'a>(reader: &mut Reader<'a>) -> Option<&'a str>
+    ensures { IfSome result (λ word. reader.old ≡ begin_object ∷ key (codes "cmd") ∷ string word.now ∷ reader.new) }
+{
+    let Some(Token::BeginObject) = reader.next() else {
+        return None;
+    };
+    take_text(reader, "cmd")
+}
+
+/// The request of a command of this word, by the members behind it.
+fn read_command(reader: &mut Reader<'_>, word: &str) -> Option<Request>
+    ensures { IfSome result (IsCommand word.now reader.old) }
+{
+    match word {
+        "offer" => {
+            let (signal, slot) = read_offer(reader)?;
+            Some(Request::Offer { signal, slot })
+        }
+        "look" => {
+            let (instant, slot) = read_look(reader)?;
+            Some(Request::Look { instant, slot })
+        }
+        "step" => Some(Request::Step {
+            slot: read_slot(reader)?,
+        }),
+        "discard" => Some(Request::Discard {
+            slot: read_slot(reader)?,
+        }),
+        "unload" => Some(Request::Unload {
+            slot: read_slot(reader)?,
+        }),
+        "audit" => Some(Request::Audit {
+            slot: read_slot(reader)?,
+        }),
+        _ => None,
+    }
+}
+
+/// The request of a short line that is spelt so.
+pub(crate) fn slot_request(scratch: &mut Scratch, line: &[u8]) -> Option<Request>
+    ensures { IfSome result (IsRequest line.now) }
+{
+    if line.len() > SHORT_BYTES {
+        return None;
+    }
+    let Ok(text) = std::str::from_utf8(line) else {
+        return None;
+    };
+    let Ok(mut reader) = Reader::new(text, scratch) else {
+        return None;
+    };
+    let word = take_word(&mut reader)?;
+    read_command(&mut reader, word)
+}
