@@ -36,16 +36,21 @@ fn whole_number(text: &str) -> Option<u64>
     Numeral::scan(digits).to_u64()
 }
 
+/// Takes the key that comes next, where it is this one.
+fn take_key(reader: &mut Reader<'_>, name: &str) -> Option<()>
+    ensures { IfSome result (λ _. reader.old ≡ key name.now ∷ reader.new) }
+{
+    match reader.next() {
+        Some(Token::Key(found)) if found == name => Some(()),
+        _ => None,
+    }
+}
+
 /// Takes the text that comes next, under this key.
 fn take_text<'a>(reader: &mut Reader<'a>, name: &str) -> Option<&'a str>
     ensures { IfSome result (λ text. reader.old ≡ key name.now ∷ string text.now ∷ reader.new) }
 {
-    let Some(Token::Key(found)) = reader.next() else {
-        return None;
-    };
-    if found != name {
-        return None;
-    }
+    take_key(reader, name)?;
     let Some(Token::String(text)) = reader.next() else {
         return None;
     };
@@ -56,12 +61,7 @@ fn take_text<'a>(reader: &mut Reader<'a>, name: &str) -> Option<&'a str>
 fn take_number(reader: &mut Reader<'_>, name: &str) -> Option<u64>
     ensures { IfSome result (λ n. IsNumberAt name.now reader.old n reader.new) }
 {
-    let Some(Token::Key(found)) = reader.next() else {
-        return None;
-    };
-    if found != name {
-        return None;
-    }
+    take_key(reader, name)?;
     let Some(Token::Number(text)) = reader.next() else {
         return None;
     };
