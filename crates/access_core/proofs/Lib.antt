@@ -10,3 +10,4 @@ pub mod Settling
 pub mod OneNaming
 pub mod OneSlotStep
 pub mod Legality
+mod EndedSessions

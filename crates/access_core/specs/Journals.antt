@@ -2,6 +2,8 @@
 -- it, and versions never fall (this project's own form).
 use Rattle.std.specs.Prelude.{◌≡◌, ℕ, ◌<◌, ◌≤◌, List, [], ◌∷◌, ◌++◌, Some, length, take, fold, slice_get}
 use Rattle.rbac_policy.specs.declared.commands.Entry.{Entry}
+use Rattle.rbac_policy.specs.Entries.{logins}
+use Rattle.rbac_policy.specs.Facts.{IsLive}
 use Rattle.reactor_core.specs.declared.entry.Action.{Action}
 use Rattle.reactor_core.specs.declared.entry.Action.TheVariants as action
 use Rattle.reactor_core.specs.declared.entry.SlotEntry.{SlotEntry}
@@ -53,3 +55,8 @@ AreLegal list slot journal count =
 -- the journal of this slot is legal over the policy list: each of its entries is
 abbrev pub IsLegal : List Entry → (slot : ℕ) → List SlotEntry → Type 0
 IsLegal list slot journal = AreLegal list slot journal (length journal)
+
+-- the session's number was given within the first so many entries of the policy list, and after these entries it doesn't live: it has ended
+pub record HasEnded (list : List Entry) (session version : ℕ) : Type 0 where
+  pub given : session ≤ logins (take version list)
+  pub ended : ¬ (IsLive (take version list) session)

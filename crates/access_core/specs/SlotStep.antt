@@ -1,11 +1,13 @@
 -- The slot step: what a command on a slot is answered, on a policy list and the slot's journal, and the journal afterwards
 -- (this project's own form).
 use Rattle.std.specs.Prelude.{◌≡◌, ℕ, Bool, true, List, [], ◌∷◌, ◌++◌, Option, Some, None, Result, MatchResult, length, if◌then◌else◌}
-use Rattle.refusal_rules.specs.Rules.{Rule, Rules, Says, Unless, accept, ◌▸◌, ◌▸▸◌}
+use Rattle.refusal_rules.specs.Rules.{Rule, Rules, Says, Unless, AllPass, FirstRefuses, accept, ◌▸◌, ◌▸▸◌}
 use Rattle.est_kernel.specs.Term.{Term}
 use Rattle.rbac_policy.specs.declared.commands.Entry.{Entry}
 use Rattle.rbac_policy.specs.declared.objects.Operation.{Operation}
 use Rattle.rbac_policy.specs.declared.objects.Object.{Object}
+use Rattle.rbac_policy.specs.declared.objects.Operation.TheVariants.{Load as ToLoad}
+use Rattle.rbac_policy.specs.declared.objects.Object.TheVariants.{Slot}
 use Rattle.rbac_policy.specs.Facts.{IsLive, May}
 use Rattle.reactor_core.specs.declared.entry.Stamp.{Stamp}
 use Rattle.reactor_core.specs.declared.entry.PastInstant.{PastInstant}
@@ -127,6 +129,17 @@ abbrev pub access_rules : List Entry → (session : ℕ) → (needed : Option (O
 access_rules entries session None = no_session entries session ▸ accept
 access_rules entries session (Some permission) =
     no_session entries session ▸ no_permission entries session permission.0 permission.1 ▸ accept
+
+-- the rules of who may load the slot
+abbrev pub load_rules : List Entry → (slot session : ℕ) → Rules Refusal
+load_rules entries slot session = access_rules entries session (Some (ToLoad, Slot slot))
+
+-- what a session is answered that asks whether it may load the slot: what the load's entry is to bear, where the rules let pass;
+-- else the refusal of the first that doesn't
+abbrev pub IsAdmitted : List Entry → (slot session : ℕ) → Result Stamp Refusal → Type 0
+IsAdmitted entries slot session answer =
+    MatchResult answer (λ stamp. (stamp ≡ stamp_of entries session) × AllPass (load_rules entries slot session))
+    (FirstRefuses (load_rules entries slot session))
 
 -- the rules of an entry where a module runs: the journal has room, and memory may be refused
 abbrev pub entry_rules : List SlotEntry → Rules Refusal

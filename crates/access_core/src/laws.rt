@@ -11,10 +11,11 @@ ghost use Rattle.access_core.specs.Desk.{DeskState, AdminStep, DeskStep};
 ghost use Rattle.access_core.specs.declared.command.SlotCommand.{SlotCommand};
 ghost use Rattle.access_core.specs.declared.refusal.Refusal.{Refusal};
 ghost use Rattle.access_core.specs.declared.refusal.Refusal.TheVariants.{Memory};
-ghost use Rattle.access_core.specs.Journals.{command_of, IsLegal};
+ghost use Rattle.access_core.specs.Journals.{command_of, IsLegal, HasEnded};
 ghost use Rattle.rbac_admin.specs.PolicyLists.{Begins};
 ghost use Rattle.access_core.specs.declared.reply.Reply.TheVariants.{Refused};
 
+use rbac_policy::laws::ended_sessions_stay_ended;
 use reactor_core::laws::{one_load, one_module};
 
 /// A refused command changes nothing on the desk.
@@ -77,3 +78,14 @@ pub fn journals_are_legal()
         → IsLegal list slot journal → slice_get journal at ≡ Some x
         → Needs (take x.stamp.version list) slot x.stamp.session (command_of x.action) }
 {}
+
+/// Once the versions of a slot have reached the end of a session, no later entry of that slot is that session's.
+pub fn ended_sessions_add_nothing()
+    ensures { (list : List Entry) (slot session version early late : ℕ) (journal : List SlotEntry)
+        (x y : SlotEntry)
+        → IsLegal list slot journal → HasEnded list session version
+        → early ≤ late → slice_get journal early ≡ Some x → slice_get journal late ≡ Some y
+        → version ≤ x.stamp.version → ¬ (y.stamp.session ≡ session) }
+{
+    ended_sessions_stay_ended();
+}

@@ -1,18 +1,20 @@
 //! One slot, and the answer to a command on it.
-ghost use Rattle.std.specs.Prelude.{◌≡◌, ◌⊎◌, [], List, IsTrue, true};
+ghost use Rattle.std.specs.Prelude.{◌≡◌, ◌⊎◌, ℕ, [], List, IsTrue, true};
 ghost use Rattle.est_text.specs.Identifiers.{is_identifier};
 ghost use Rattle.est_kernel.specs.Term.{Term};
 ghost use Rattle.rbac_policy.specs.declared.commands.Entry.{Entry};
 ghost use Rattle.rbac_policy.specs.StandsFor.{StandsFor};
 ghost use Rattle.refusal_rules.specs.Rules.{accept, ◌▸◌, TestsAll};
 ghost use Rattle.access_core.specs.Answering.{ByRules, no_memory};
-ghost use Rattle.access_core.specs.SlotStep.{SlotStep, access_rules, no_instant, NamesUndecided, settle_rules};
+ghost use Rattle.access_core.specs.SlotStep.{SlotStep, access_rules, IsAdmitted, no_instant};
+ghost use Rattle.access_core.specs.SlotStep.{NamesUndecided, settle_rules};
 ghost use Rattle.access_core.specs.SlotStep.{step_rules, entry_rules, journal_full, stamp_of, Offers, AddsEntry};
 ghost use Rattle.access_core.specs.SlotStep.{Steps, Looks, Audits};
 ghost use Rattle.reactor_core.specs.Meaning.{is_loaded};
 ghost use Rattle.reactor_core.specs.declared.entry.Action.TheVariants as action;
 ghost use Rattle.reactor_core.specs.Instants.{IsOutcome, HasNoOutcome};
 ghost use Rattle.access_core.specs.Needs.{permission_of};
+ghost use Rattle.access_core.specs.declared.command.SlotCommand.TheVariants.{Load};
 ghost use Rattle.access_core.specs.Holding.{journal_of, IsHeldRight};
 ghost use Rattle.access_core.specs.declared.reply.Reply.TheVariants.{Discard as Discarded, Unload as Unloaded};
 
@@ -30,6 +32,7 @@ use reactor_core::entry::Stamp;
 use reactor_core::journal::Journal;
 use reactor_core::reactor::Reactor;
 use reactor_core::reactor::instant::{Instant, Settled};
+use reactor_core::text::Text;
 use std::alloc::Global;
 use std::marker::Model;
 use std::mem;
@@ -432,26 +435,59 @@ fn permission_of(slot: SlotNumber, command: &SlotCommand) -> Option<(Operation, 
     }
 }
 
-/// Whether the session lives and may give the command to the slot, and else why not.
+/// Whether the session lives and has the permission that is needed, if any, and else why not.
 fn check_access(
     policy: &Policy,
     session: SessionId,
-    slot: SlotNumber,
-    command: &SlotCommand,
+    needed: Option<(Operation, Object)>,
 ) -> Result<(), Refusal>
     ensures { (entries : List Entry) → StandsFor policy.now entries
-        → TestsAll (access_rules entries session (permission_of slot command.now)) result }
+        → TestsAll (access_rules entries session needed) result }
 {
     if !policy.lives(session) {
         return Err(Refusal::NoSession);
     }
-    let Some((operation, object)) = permission_of(slot, command) else {
+    let Some((operation, object)) = needed else {
         return Ok(());
     };
     if policy.may(session, &operation, &object) {
         return Ok(());
     }
     Err(Refusal::Permission { operation, object })
+}
+
+/// Asks whether this session may load the slot, at the policy as it is. Answers what the load's entry is to bear.
+///
+/// What a load does after this needs no policy: `load_admitted` does it, however long its text takes.
+///
+/// # Errors
+///
+/// NoSession where the session does not live, Permission where it lacks `load` on the slot.
+pub fn admit_load(policy: &Policy, slot: SlotNumber, session: SessionId) -> Result<Stamp, Refusal>
+    ensures { (entries : List Entry) → StandsFor policy.now entries
+        → IsAdmitted entries slot session result }
+{
+    check_access(policy, session, Some((Operation::Load, Object::Slot(slot))))?;
+    Ok(stamp(policy, session))
+}
+
+/// Answers a load of the slot by what `admit_load` answered: as `decide_slot` answers it at that policy.
+pub fn load_admitted(
+    admitted: Result<Stamp, Refusal>,
+    slot: &mut Slot,
+    main: &Identifier,
+    text: &Text,
+) -> Reply
+    ensures number { slot.new.number ≡ slot.old.number }
+    ensures step { (entries : List Entry) → (session : ℕ)
+        → IsAdmitted entries slot.old.number session admitted
+        → SlotStep entries slot.old.number session (Load main.now text.now) slot.old.journal result
+        slot.new.journal }
+{
+    match admitted {
+        Ok(stamp) => slot.load(stamp, main.as_str(), text.as_str()),
+        Err(refusal) => Reply::Refused(refusal),
+    }
 }
 
 /// Answers a command, which this session gives to the slot, at the policy as it is.
@@ -470,7 +506,8 @@ pub fn decide_slot(
         → SlotStep entries slot.old.number session command slot.old.journal result
         slot.new.journal }
 {
-    if let Err(refusal) = check_access(policy, session, slot.number(), &command) {
+    let needed = permission_of(slot.number(), &command);
+    if let Err(refusal) = check_access(policy, session, needed) {
         return Reply::Refused(refusal);
     }
     match command {

@@ -41,3 +41,4 @@ pub mod LoggingIn
 pub mod ReadingSets
 pub mod Prospects
 pub mod TakingUp
+pub mod StayingEnded

@@ -7,6 +7,7 @@ ghost use Rattle.rbac_policy.specs.declared.objects.Operation.{Operation};
 ghost use Rattle.rbac_policy.specs.declared.policy.Policy.{Policy};
 ghost use Rattle.rbac_policy.specs.Change.{policy_of};
 ghost use Rattle.rbac_policy.specs.Decided.{Decided};
+ghost use Rattle.rbac_policy.specs.Entries.{logins};
 ghost use Rattle.rbac_policy.specs.Facts.{IsLive, May};
 ghost use Rattle.rbac_policy.specs.declared.sizes.TheConstants.{SESSIONS};
 ghost use Rattle.rbac_policy.specs.Fits.{AllFit};
@@ -51,4 +52,10 @@ pub fn logouts_have_room()
     ensures taken { (entries : List Entry) (session most : ℕ) → LeavesRoom most entries
         → IsLive entries session
         → length entries < most }
+{}
+
+/// A session that has ended does not live again, whatever comes after: no number is given twice.
+pub fn ended_sessions_stay_ended()
+    ensures { (entries more : List Entry) (session : ℕ) → session ≤ logins entries
+        → ¬ (IsLive entries session) → ¬ (IsLive (entries ++ more) session) }
 {}

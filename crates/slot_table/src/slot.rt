@@ -2,6 +2,7 @@
 ghost use Rattle.std.specs.Prelude.{◌≡◌, ◌<◌, [], length, MatchResult};
 ghost use Rattle.rbac_policy.specs.declared.objects.TheConstants.{SLOTS};
 ghost use Rattle.access_core.specs.Journals.{IsLegal};
+ghost use Rattle.access_core.specs.SlotStep.{SlotStep};
 ghost use Rattle.seat_receipts.specs.declared.mismatch.TheConstants.{POLICY_LIST};
 ghost use Rattle.seat_receipts.specs.declared.mismatch.Mismatch.TheVariants.{Count};
 ghost use Rattle.slot_table.specs.SlotCommands.{LockedCommand};
@@ -10,10 +11,10 @@ use crate::receipts::{asked_by, keep};
 use access_core::command::SlotCommand;
 use access_core::refusal::Refusal;
 use access_core::reply::Reply;
-use access_core::slot::{Slot, decide_slot};
+use access_core::slot::{Slot, admit_load, decide_slot, load_admitted};
 use policy_board::board::{Board, Closed};
 use policy_board::history::Naming;
-use policy_board::reader::SlotReader;
+use policy_board::reader::{Reading, SlotReader};
 use policy_board::seat::Seat;
 use rbac_policy::commands::SessionId;
 use rbac_policy::objects::SlotNumber;
@@ -42,6 +43,28 @@ impl<J: Naming, const NUMBER: u8> Model for LockedSlot<J, NUMBER> {
     ghost view = { λ s. record { list = s.reader; journal = s.core.journal } };
 
     ghost invariant = { λ s. (s.core.number ≡ NUMBER) × IsLegal s.reader NUMBER s.core.journal };
+}
+
+/// Answers a command on the slot at the policy that is read, and ends the read. A load ends it before its text is read, since
+/// every change of the policy waits for a read to end.
+fn decide_and_leave<J: Naming>(
+    reading: Reading<J>,
+    slot: &mut Slot,
+    session: SessionId,
+    command: SlotCommand,
+) -> (Reply, SlotReader<J>)
+    ensures number { slot.new.number ≡ slot.old.number }
+    ensures step { SlotStep reading slot.old.number session command slot.old.journal result.0
+        slot.new.journal }
+    ensures reader { result.1 ≡ reading }
+{
+    if let SlotCommand::Load { main, text } = &command {
+        let admitted = admit_load(reading.policy(), slot.number(), session);
+        let reader = reading.leave();
+        return (load_admitted(admitted, slot, main, text), reader);
+    }
+    let reply = decide_slot(reading.policy(), slot, session, command);
+    (reply, reading.leave())
 }
 
 impl<J: Naming, const NUMBER: u8> LockedSlot<J, NUMBER> {
@@ -88,8 +111,8 @@ impl<J: Naming, const NUMBER: u8> LockedSlot<J, NUMBER> {
         }
         seat.saw_list(reading.front());
         let asked = asked_by(&command);
-        let reply = decide_slot(reading.policy(), &mut self.core, session, command);
-        self.reader = reading.leave();
+        let (reply, reader) = decide_and_leave(reading, &mut self.core, session, command);
+        self.reader = reader;
         keep(rt, board, seat, NUMBER, session, asked, &reply);
         reply
     }

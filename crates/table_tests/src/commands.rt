@@ -1,7 +1,7 @@
 //! What a table of slots answers.
 ghost use Rattle.std.specs.Prelude.{◌≡◌};
 
-use crate::server::{Server, ask, begin, enter, give, open, revoke, root};
+use crate::server::{Server, ask, begin, enter, give, load, open, revoke, root};
 use access_core::command::SlotCommand;
 use access_core::refusal::Refusal;
 use access_core::reply::Reply;
@@ -31,7 +31,7 @@ fn refuse<J: Naming, R: Wait + Abort>(rt: &R, alloc: Global, fresh: Fresh) -> us
     begin(rt, alloc, &board, &table, &mut seat, 0);
     let none = ask(rt, &board, &table, &mut seat, 16, SlotCommand::Step);
     assert!(rt; matches!(none, Reply::Refused(Refusal::NoSlot)));
-    let denied = ask(rt, &board, &table, &mut seat, 15, SlotCommand::Step);
+    let denied = ask(rt, &board, &table, &mut seat, 15, load(rt, alloc));
     assert!(rt; matches!(denied, Reply::Refused(Refusal::Permission { .. })));
     other.saw(9);
     let behind = ask(rt, &board, &table, &mut other, 0, SlotCommand::Step);

@@ -71,7 +71,7 @@ pub(crate) fn revoke(operation: Operation, slot: SlotNumber) -> AdminCommand {
 }
 
 /// The module of the text `ONCE`.
-fn load<R: Abort>(rt: &R, alloc: Global) -> SlotCommand {
+pub(crate) fn load<R: Abort>(rt: &R, alloc: Global) -> SlotCommand {
     SlotCommand::Load {
         main: Identifier::from_text("M").expect(rt, "a name"),
         text: Text::copied(alloc, ONCE).ok().expect(rt, "room"),

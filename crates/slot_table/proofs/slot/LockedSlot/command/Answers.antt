@@ -15,15 +15,15 @@ returns-then-found-seen-clause-after g c = read_legal _ _ _ _ _ _ c.replace.ensu
 
 pub invariant_of-self-2 : goal.invariant_of-self-2
 invariant_of-self-2 g c = (
-  c.decide_slot-reply.ensures.number ∙ c.self.invariant.0,
-  judged_legal _ _ _ _ _ _ _ _ _ _ _ c.replace.ensures.value c.leave-2.ensures c.in-Ok-enter.ensures c.self.invariant.1 c.self.invariant.0
-      (c.decide_slot-reply.ensures.step c.in-Ok-enter.reading c.policy.ensures),
+  c.decide_and_leave-reply.ensures.number ∙ c.self.invariant.0,
+  judged_legal _ _ _ _ _ _ _ _ _ _ _ c.replace.ensures.value c.decide_and_leave-reply.ensures.reader c.in-Ok-enter.ensures c.self.invariant.1 c.self.invariant.0
+      c.decide_and_leave-reply.ensures.step,
 )
 
 pub returns-clause-after : goal.returns-clause-after
 returns-clause-after g c =
-    judged_legal _ _ _ _ _ _ _ _ _ _ _ c.replace.ensures.value c.leave-2.ensures c.in-Ok-enter.ensures c.self.invariant.1 c.self.invariant.0
-    (c.decide_slot-reply.ensures.step c.in-Ok-enter.reading c.policy.ensures)
+    judged_legal _ _ _ _ _ _ _ _ _ _ _ c.replace.ensures.value c.decide_and_leave-reply.ensures.reader c.in-Ok-enter.ensures c.self.invariant.1 c.self.invariant.0
+    c.decide_and_leave-reply.ensures.step
 
 pub invariant_of-self : goal.invariant_of-self
 invariant_of-self g c = (
@@ -56,4 +56,4 @@ returns-in_default-clause-after g c = subst (λ (s : LockedState). IsLegal s.lis
 pub keep-requires-clause-asked : goal.keep-requires-clause-asked
 keep-requires-clause-asked g c = λ told.
     subst IsSome (sym c.asked_by-asked.ensures)
-    (tells_asked _ _ _ _ _ _ c.args.command (c.decide_slot-reply.ensures.step c.in-Ok-enter.reading c.policy.ensures) told)
+    (tells_asked _ _ _ _ _ _ c.args.command c.decide_and_leave-reply.ensures.step told)
