@@ -2,9 +2,9 @@
 """Checks that the documents keep up with the repository.
 
 The lists of docs/generated are those that scripts/reading_list.py and scripts/wrong_bodies.py write, and each wrong
-body says why it is wrong; README.md has at most 100 lines; each crate stands in docs/ARCHITECTURE.md; each function of the walk there stands in its file; each script of examples/scripts has its
-answers and its row in examples/README.md, and the opening one is the stored run; each link to a file leads to one, and each quoted
-block stands in its file.
+body says why it is wrong; README.md has at most 100 lines; each crate stands in docs/ARCHITECTURE.md; each function of
+the walk there stands in its file; each script of examples/scripts has its answers and its row in examples/README.md, and
+the opening one is the stored run; each link to a file leads to one, and each quoted block stands in its file.
 Ends with status 1 after naming what differs.
 """
 
