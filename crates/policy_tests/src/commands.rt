@@ -1,16 +1,22 @@
-//! Policy commands and refusals as text, so that a story of a policy is a table.
+//! Policy commands, refusals and questions as text, so that a story of a policy is a table.
 use rbac_admin::decisions::decide;
 use rbac_admin::refusals::Refusal;
-use rbac_policy::commands::{AdminCommand, SessionId, Table};
+use rbac_policy::commands::{AdminCommand, Entry, SessionId, Table};
 use rbac_policy::names::{LISTED_ROLES, Name, RoleNames};
 use rbac_policy::objects::{Object, Operation};
 use rbac_policy::policy::Policy;
 use std::alloc::Global;
 use std::process::Abort;
 
-/// A command of a story: the number of the session that gives it, or 0 for none; the command; and its refusal, or no text where it is
-/// accepted.
+/// A command of a story: the number of the session that gives it, or 0 for none; the command; and
+/// its refusal, or no text where it is accepted.
 pub type Line = (u16, &'static str, &'static str);
+
+/// An entry: the number of its session, or 0 for none, and the command.
+pub type Given = (u16, &'static str);
+
+/// A question: the number of a session, an operation and an object, and whether it may do that.
+pub type Question = (u16, &'static str, &'static str, bool);
 
 pub fn name(rt: &impl Abort, text: &str) -> Name {
     Name::from_text(text).expect(rt, "a name")
@@ -37,7 +43,7 @@ fn object(rt: &impl Abort, text: &str) -> Object {
     Object::from_text(text).expect(rt, "an object")
 }
 
-fn words_of(rt: &impl Abort, alloc: Global, text: &'static str) -> Vec<&'static str> {
+fn words_of<'a>(rt: &impl Abort, alloc: Global, text: &'a str) -> Vec<&'a str> {
     let mut words = Vec::new(alloc);
     for word in text.split(' ') {
         words.push(word).expect(rt, "room");
@@ -45,179 +51,185 @@ fn words_of(rt: &impl Abort, alloc: Global, text: &'static str) -> Vec<&'static 
     words
 }
 
-/// The command of these words, where it names users and roles alone.
-fn command_on_roles(rt: &impl Abort, words: &[&str]) -> Option<AdminCommand> {
-    let command = match words {
-        ["adduser", user] => AdminCommand::AddUser {
-            user: name(rt, user),
-        },
-        ["deluser", user] => AdminCommand::DeleteUser {
-            user: name(rt, user),
-        },
-        ["addrole", role] => AdminCommand::AddRole {
-            role: name(rt, role),
-        },
-        ["delrole", role] => AdminCommand::DeleteRole {
-            role: name(rt, role),
-        },
-        ["activate", role] => AdminCommand::AddActiveRole {
-            role: name(rt, role),
-        },
-        ["drop", role] => AdminCommand::DropActiveRole {
-            role: name(rt, role),
-        },
-        ["undsd", set] => AdminCommand::DeleteDsdSet { set: name(rt, set) },
-        ["logout"] => AdminCommand::DeleteSession,
-        _ => return None,
-    };
-    Some(command)
+/// The command of this word on a user, a role or a set.
+fn command_on_one(word: &str, named: Name) -> Option<AdminCommand> {
+    let (user, role, set) = (named, named, named);
+    match word {
+        "adduser" => Some(AdminCommand::AddUser { user }),
+        "deluser" => Some(AdminCommand::DeleteUser { user }),
+        "addrole" => Some(AdminCommand::AddRole { role }),
+        "delrole" => Some(AdminCommand::DeleteRole { role }),
+        "activate" => Some(AdminCommand::AddActiveRole { role }),
+        "drop" => Some(AdminCommand::DropActiveRole { role }),
+        "undsd" => Some(AdminCommand::DeleteDsdSet { set }),
+        _ => None,
+    }
 }
 
-/// The command of these words, where it names pairs.
-fn command_on_pairs(rt: &impl Abort, words: &[&str]) -> Option<AdminCommand> {
-    let command = match words {
-        ["assign", user, role] => AdminCommand::AssignUser {
-            user: name(rt, user),
-            role: name(rt, role),
-        },
-        ["deassign", user, role] => AdminCommand::DeassignUser {
-            user: name(rt, user),
-            role: name(rt, role),
-        },
-        ["inherit", senior, junior] => AdminCommand::AddInheritance {
-            senior: name(rt, senior),
-            junior: name(rt, junior),
-        },
-        ["disinherit", senior, junior] => AdminCommand::DeleteInheritance {
-            senior: name(rt, senior),
-            junior: name(rt, junior),
-        },
-        ["grant", role, op, on] => AdminCommand::GrantPermission {
-            role: name(rt, role),
-            operation: operation(rt, op),
-            object: object(rt, on),
-        },
-        ["revoke", role, op, on] => AdminCommand::RevokePermission {
-            role: name(rt, role),
-            operation: operation(rt, op),
-            object: object(rt, on),
-        },
-        _ => return None,
-    };
-    Some(command)
+/// The command of this word on a user and a role, or on a senior and a junior.
+fn command_on_two(word: &str, first: Name, role: Name) -> Option<AdminCommand> {
+    let (user, senior, junior) = (first, first, role);
+    match word {
+        "assign" => Some(AdminCommand::AssignUser { user, role }),
+        "deassign" => Some(AdminCommand::DeassignUser { user, role }),
+        "inherit" => Some(AdminCommand::AddInheritance { senior, junior }),
+        "disinherit" => Some(AdminCommand::DeleteInheritance { senior, junior }),
+        _ => None,
+    }
 }
 
-/// The command of these words, where it lists roles.
-fn command_with_list(rt: &impl Abort, alloc: Global, words: &[&str]) -> Option<AdminCommand> {
+/// The command of this word on a permission.
+fn command_on_permission(
+    word: &str,
+    role: Name,
+    operation: Operation,
+    object: Object,
+) -> Option<AdminCommand> {
+    match word {
+        "grant" => Some(AdminCommand::GrantPermission {
+            role,
+            operation,
+            object,
+        }),
+        "revoke" => Some(AdminCommand::RevokePermission {
+            role,
+            operation,
+            object,
+        }),
+        _ => None,
+    }
+}
+
+/// The command of these words, where it lists no roles.
+fn plain_command(rt: &impl Abort, words: &[&str]) -> Option<AdminCommand> {
     match words {
-        ["login", user, roles @ ..] => Some(AdminCommand::CreateSession {
-            user: name(rt, user),
-            roles: names(rt, alloc, roles),
-        }),
-        ["dsd", set, count, roles @ ..] => Some(AdminCommand::CreateDsdSet {
-            set: name(rt, set),
-            count: count.parse::<u64>().ok().expect(rt, "a number"),
-            roles: names(rt, alloc, roles),
-        }),
+        ["logout"] => Some(AdminCommand::DeleteSession),
+        [word, one] => command_on_one(word, name(rt, one)),
+        [word, one, other] => command_on_two(word, name(rt, one), name(rt, other)),
+        [word, role, op, on] => {
+            command_on_permission(word, name(rt, role), operation(rt, op), object(rt, on))
+        }
         _ => None,
     }
 }
 
 /// The command of this text.
-pub fn command(rt: &impl Abort, alloc: Global, text: &'static str) -> AdminCommand {
+pub fn command(rt: &impl Abort, alloc: Global, text: &str) -> AdminCommand {
     let words = words_of(rt, alloc, text);
-    if let Some(command) = command_on_roles(rt, words.as_slice()) {
-        return command;
-    }
-    if let Some(command) = command_on_pairs(rt, words.as_slice()) {
-        return command;
-    }
-    command_with_list(rt, alloc, words.as_slice()).expect(rt, "a command")
-}
-
-fn table(rt: &impl Abort, text: &str) -> Table {
-    let found = match text {
-        "users" => Some(Table::Users),
-        "roles" => Some(Table::Roles),
-        "permissions" => Some(Table::Permissions),
-        "sessions" => Some(Table::Sessions),
-        "sets" => Some(Table::Sets),
-        _ => None,
-    };
-    found.expect(rt, "a table")
-}
-
-/// The refusal of this name, where it has no field.
-fn bare_refusal(words: &[&str]) -> Option<Refusal> {
-    match words {
-        ["NoSession"] => Some(Refusal::NoSession),
-        ["SessionsExhausted"] => Some(Refusal::SessionsExhausted),
-        ["Cycle"] => Some(Refusal::Cycle),
-        ["AlreadyAssigned"] => Some(Refusal::AlreadyAssigned),
-        ["NotAssigned"] => Some(Refusal::NotAssigned),
-        ["AlreadyGranted"] => Some(Refusal::AlreadyGranted),
-        ["NotGranted"] => Some(Refusal::NotGranted),
-        ["EdgeExists"] => Some(Refusal::EdgeExists),
-        ["NoEdge"] => Some(Refusal::NoEdge),
-        ["DsdShape"] => Some(Refusal::DsdShape),
-        _ => None,
-    }
-}
-
-/// The refusal of these words, where it has fields.
-fn refusal_with_fields(rt: &impl Abort, words: &[&str]) -> Option<Refusal> {
-    let refusal = match words {
-        ["NotAuthorized", role] => Refusal::NotAuthorized {
-            role: name(rt, role),
-        },
-        ["AlreadyActive", role] => Refusal::AlreadyActive {
-            role: name(rt, role),
-        },
-        ["NotActive", role] => Refusal::NotActive {
-            role: name(rt, role),
-        },
-        ["UnknownUser", user] => Refusal::UnknownUser {
+    match words.as_slice() {
+        ["login", user, roles @ ..] => AdminCommand::CreateSession {
             user: name(rt, user),
+            roles: names(rt, alloc, roles),
         },
-        ["UnknownRole", role] => Refusal::UnknownRole {
-            role: name(rt, role),
-        },
-        ["UserExists", user] => Refusal::UserExists {
-            user: name(rt, user),
-        },
-        ["RoleExists", role] => Refusal::RoleExists {
-            role: name(rt, role),
-        },
-        ["DsdExists", set] => Refusal::DsdExists { set: name(rt, set) },
-        ["NoDsd", set] => Refusal::NoDsd { set: name(rt, set) },
-        ["RoleInDsd", set] => Refusal::RoleInDsd { set: name(rt, set) },
-        ["Full", text] => Refusal::Full {
-            table: table(rt, text),
-        },
-        ["DsdViolated", set, number] => Refusal::DsdViolated {
+        ["dsd", set, count, roles @ ..] => AdminCommand::CreateDsdSet {
             set: name(rt, set),
-            session: session(rt, number),
+            count: count.parse::<u64>().ok().expect(rt, "a number"),
+            roles: names(rt, alloc, roles),
         },
-        ["Permission", op, on] => Refusal::Permission {
-            operation: operation(rt, op),
-            object: object(rt, on),
-        },
-        _ => return None,
-    };
-    Some(refusal)
-}
-
-/// The refusal of this text.
-fn refusal(rt: &impl Abort, alloc: Global, text: &'static str) -> Refusal {
-    let words = words_of(rt, alloc, text);
-    if let Some(refusal) = bare_refusal(words.as_slice()) {
-        return refusal;
+        words => plain_command(rt, words).expect(rt, "a command"),
     }
-    refusal_with_fields(rt, words.as_slice()).expect(rt, "a refusal")
 }
 
-/// The refusal of the command, if it is refused; else the policy takes in the entry, which is the command with its session, or with
-/// none for a login, and its version is one greater.
+fn name_of(refusal: &Refusal) -> &'static str {
+    match refusal {
+        Refusal::NoSession => "NoSession",
+        Refusal::SessionsExhausted => "SessionsExhausted",
+        Refusal::Permission { .. } => "Permission",
+        Refusal::DsdViolated { .. } => "DsdViolated",
+        Refusal::NotAuthorized { .. } => "NotAuthorized",
+        Refusal::AlreadyActive { .. } => "AlreadyActive",
+        Refusal::NotActive { .. } => "NotActive",
+        Refusal::Cycle => "Cycle",
+        Refusal::UnknownUser { .. } => "UnknownUser",
+        Refusal::UnknownRole { .. } => "UnknownRole",
+        Refusal::UserExists { .. } => "UserExists",
+        Refusal::RoleExists { .. } => "RoleExists",
+        Refusal::AlreadyAssigned => "AlreadyAssigned",
+        Refusal::NotAssigned => "NotAssigned",
+        Refusal::AlreadyGranted => "AlreadyGranted",
+        Refusal::NotGranted => "NotGranted",
+        Refusal::EdgeExists => "EdgeExists",
+        Refusal::NoEdge => "NoEdge",
+        Refusal::DsdExists { .. } => "DsdExists",
+        Refusal::NoDsd { .. } => "NoDsd",
+        Refusal::DsdShape => "DsdShape",
+        Refusal::RoleInDsd { .. } => "RoleInDsd",
+        Refusal::Full { .. } => "Full",
+    }
+}
+
+fn name_of_table(table: Table) -> &'static str {
+    match table {
+        Table::Users => "users",
+        Table::Roles => "roles",
+        Table::Permissions => "permissions",
+        Table::Sessions => "sessions",
+        Table::Sets => "sets",
+    }
+}
+
+/// Whether what the refusal names is what these words say.
+fn has_fields(rt: &impl Abort, refusal: &Refusal, words: &[&str]) -> bool {
+    match (refusal, words) {
+        (
+            Refusal::NotAuthorized { role: named }
+            | Refusal::AlreadyActive { role: named }
+            | Refusal::NotActive { role: named }
+            | Refusal::UnknownUser { user: named }
+            | Refusal::UnknownRole { role: named }
+            | Refusal::UserExists { user: named }
+            | Refusal::RoleExists { role: named }
+            | Refusal::DsdExists { set: named }
+            | Refusal::NoDsd { set: named }
+            | Refusal::RoleInDsd { set: named },
+            [wanted],
+        ) => { named.as_str() == *wanted }
+        (
+            Refusal::DsdViolated {
+                set,
+                session: violator,
+            },
+            [wanted, number],
+        ) => { set.as_str() == *wanted && *violator == session(rt, number) }
+        (
+            Refusal::Permission {
+                operation: op,
+                object: on,
+            },
+            [wanted, wanted_on],
+        ) => { *op == operation(rt, wanted) && *on == object(rt, wanted_on) }
+        (Refusal::Full { table }, [wanted]) => name_of_table(*table) == *wanted,
+        (
+            Refusal::NoSession
+            | Refusal::SessionsExhausted
+            | Refusal::Cycle
+            | Refusal::AlreadyAssigned
+            | Refusal::NotAssigned
+            | Refusal::AlreadyGranted
+            | Refusal::NotGranted
+            | Refusal::EdgeExists
+            | Refusal::NoEdge
+            | Refusal::DsdShape,
+            [],
+        ) => true,
+        _ => false,
+    }
+}
+
+/// Whether the answer is the refusal of this text, or none where there is no text.
+fn is_answer(rt: &impl Abort, alloc: Global, answer: Option<Refusal>, text: &str) -> bool {
+    let Some(refusal) = answer else {
+        return text.is_empty();
+    };
+    let words = words_of(rt, alloc, text);
+    match words.as_slice() {
+        [word, rest @ ..] => *word == name_of(&refusal) && has_fields(rt, &refusal, rest),
+        [] => false,
+    }
+}
+
+/// The refusal of the command, if it is refused; else the policy takes in the entry, which is the
+/// command with its session, or with none for a login, and its version is one greater.
 pub fn give(
     rt: &impl Abort,
     policy: &mut Policy,
@@ -247,31 +259,49 @@ pub fn giver(number: u16) -> Option<SessionId> {
     Some(SessionId::new(number))
 }
 
+/// The session of this number, or none where it is 0, gives the command, and it is accepted.
+pub fn accept(rt: &impl Abort, policy: &mut Policy, number: u16, command: &AdminCommand) {
+    assert!(rt; give(rt, policy, giver(number), command).is_none());
+}
+
 /// Gives the commands in turn, each of which is answered as the story says.
 pub fn follow(rt: &impl Abort, alloc: Global, policy: &mut Policy, story: &[Line]) {
-    for (number, text, want) in story {
-        let wanted = if want.is_empty() {
-            None
-        } else {
-            Some(refusal(rt, alloc, want))
-        };
+    for (number, text, wanted) in story {
         let answer = give(rt, policy, giver(*number), &command(rt, alloc, text));
-        assert_eq!(rt; answer, wanted, "{text}");
+        assert!(rt;
+            is_answer(rt, alloc, answer, wanted),
+            "{text}: not {wanted}"
+        );
     }
 }
 
-/// Whether the session may do what the text says: an operation and an object.
-pub fn may(rt: &impl Abort, policy: &Policy, number: u16, op: &str, on: &str) -> bool {
-    policy.may(SessionId::new(number), &operation(rt, op), &object(rt, on))
+/// The policy that the story comes to, from the opening one.
+pub fn story(rt: &impl Abort, alloc: Global, story: &[Line]) -> Policy {
+    let mut policy = Policy::opening();
+    follow(rt, alloc, &mut policy, story);
+    policy
 }
 
-/// The numbers from 1 to the last whose sessions live.
-pub fn living(rt: &impl Abort, alloc: Global, policy: &Policy, last: u16) -> Vec<u16> {
-    let mut found = Vec::new(alloc);
-    for number in 1..=last {
-        if policy.lives(SessionId::new(number)) {
-            found.push(number).expect(rt, "room");
-        }
+/// The policy takes in the entries in turn, whether they would be accepted or not.
+pub fn take(rt: &impl Abort, alloc: Global, policy: &mut Policy, entries: &[Given]) {
+    for (number, text) in entries {
+        policy.absorb(&Entry {
+            session: giver(*number),
+            command: command(rt, alloc, text),
+        });
     }
-    found
+}
+
+/// Each session may do what the questions say, and nothing that they deny.
+pub fn ask(rt: &impl Abort, policy: &Policy, questions: &[Question]) {
+    for (number, op, on, wanted) in questions {
+        let session = SessionId::new(*number);
+        let may = policy.may(session, &operation(rt, op), &object(rt, on));
+        assert!(rt; may == *wanted, "{number} {op} {on}");
+    }
+}
+
+/// Of the sessions of the numbers from 1 to the last, these live, and no others.
+pub fn live(policy: &Policy, last: u16, wanted: &[u16]) -> bool {
+    (1..=last).all(|number| policy.lives(SessionId::new(number)) == wanted.contains(&number))
 }

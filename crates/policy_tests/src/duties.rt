@@ -1,6 +1,5 @@
 //! The order of roles, and duties kept apart.
-use crate::commands::{Line, follow};
-use rbac_policy::policy::Policy;
+use crate::commands::{Line, story};
 
 /// A set counts what lies below a role: who has the senior of both may act in one of the two at a time.
 const ROLES_BELOW: [Line; 14] = [
@@ -177,8 +176,7 @@ fn duties_are_kept_apart(rt: HostRuntime) {
         &SET_BEFORE_SESSION,
         &SHAPES,
     ];
-    for story in stories {
-        let mut policy = Policy::opening();
-        follow(&rt, rt.alloc(), &mut policy, story);
+    for lines in stories {
+        let _policy = story(&rt, rt.alloc(), lines);
     }
 }

@@ -1,6 +1,5 @@
 //! What ends a session, what a deletion takes along, and places that are used again.
-use crate::commands::{Line, follow, living, may, name};
-use rbac_policy::policy::Policy;
+use crate::commands::{Line, ask, follow, live, name, story};
 
 /// A session ends where its user loses a role that is active in it; its number is not used again.
 const AUTHORIZATION_TAKEN: [Line; 10] = [
@@ -35,41 +34,23 @@ const A_CHAIN: [Line; 15] = [
     (0, "login bob lower", ""),
 ];
 
+/// Who goes on after a role is taken: ann has the lower role by itself too, and bob has all that he
+/// had. An edge that goes ends the session of another user; and the session that gives the command
+/// may be one of those that end.
 #[test]
 fn authorization_is_taken(rt: HostRuntime) {
-    let mut policy = Policy::opening();
-    follow(&rt, rt.alloc(), &mut policy, &AUTHORIZATION_TAKEN);
-
-    let mut policy = Policy::opening();
-    follow(&rt, rt.alloc(), &mut policy, &A_CHAIN);
-    assert_eq!(rt;
-        living(&rt, rt.alloc(), &policy, 6).as_slice(),
-        [1, 2, 3, 4, 5].as_slice()
-    );
-
-    // ann has the lower role by itself too; bob has all that he had
+    let _policy = story(&rt, rt.alloc(), &AUTHORIZATION_TAKEN);
+    let mut policy = story(&rt, rt.alloc(), &A_CHAIN);
+    assert!(rt; live(&policy, 6, &[1, 2, 3, 4, 5]));
     let deassign = [(1, "deassign ann upper", "")];
     follow(&rt, rt.alloc(), &mut policy, &deassign);
-    assert_eq!(rt;
-        living(&rt, rt.alloc(), &policy, 6).as_slice(),
-        [1, 3, 5].as_slice()
-    );
-
-    // an edge that goes ends the session of another user
+    assert!(rt; live(&policy, 6, &[1, 3, 5]));
     let disinherit = [(1, "disinherit middle lower", "")];
     follow(&rt, rt.alloc(), &mut policy, &disinherit);
-    assert_eq!(rt;
-        living(&rt, rt.alloc(), &policy, 6).as_slice(),
-        [1, 3].as_slice()
-    );
-
-    // and the session that gives the command may be one of those
+    assert!(rt; live(&policy, 6, &[1, 3]));
     let own = [(1, "deassign root root", ""), (1, "addrole a", "NoSession")];
     follow(&rt, rt.alloc(), &mut policy, &own);
-    assert_eq!(rt;
-        living(&rt, rt.alloc(), &policy, 6).as_slice(),
-        [3].as_slice()
-    );
+    assert!(rt; live(&policy, 6, &[3]));
 }
 
 /// Root may delete itself, and is then no more.
@@ -142,19 +123,18 @@ const PLACES_AGAIN: [Line; 19] = [
 
 #[test]
 fn what_goes_leaves_nothing(rt: HostRuntime) {
-    for (story, last) in [(&ROOT_GOES[..], 0), (&WITHOUT_ROLES[..], 2)] {
-        let mut policy = Policy::opening();
-        follow(&rt, rt.alloc(), &mut policy, story);
-        let lives = living(&rt, rt.alloc(), &policy, 3);
-        assert_eq!(rt; lives.as_slice().last().copied().unwrap_or(0), last);
-    }
-    for story in [&ROLE_AGAIN[..], &PLACES_AGAIN[..]] {
-        let mut policy = Policy::opening();
-        follow(&rt, rt.alloc(), &mut policy, story);
-        let lives = living(&rt, rt.alloc(), &policy, 4);
-        assert_eq!(rt; lives.as_slice(), [1, 3].as_slice());
-        assert!(rt; !may(&rt, &policy, 3, "load", "0"));
-        assert!(rt; may(&rt, &policy, 1, "administer", "policy"));
+    let policy = story(&rt, rt.alloc(), &ROOT_GOES);
+    assert!(rt; live(&policy, 3, &[]));
+    let policy = story(&rt, rt.alloc(), &WITHOUT_ROLES);
+    assert!(rt; live(&policy, 3, &[1, 2]));
+    for lines in [&ROLE_AGAIN[..], &PLACES_AGAIN[..]] {
+        let policy = story(&rt, rt.alloc(), lines);
+        assert!(rt; live(&policy, 4, &[1, 3]));
+        ask(
+            &rt,
+            &policy,
+            &[(3, "load", "0", false), (1, "administer", "policy", true)],
+        );
     }
 }
 
@@ -178,8 +158,7 @@ const EDGES_GO: [(Line, [bool; 3]); 4] = [
 
 #[test]
 fn the_order_is_that_of_the_edges_left(rt: HostRuntime) {
-    let mut policy = Policy::opening();
-    follow(&rt, rt.alloc(), &mut policy, &AN_ORDER);
+    let mut policy = story(&rt, rt.alloc(), &AN_ORDER);
     let (a, b, c) = (name(&rt, "a"), name(&rt, "b"), name(&rt, "c"));
     for (line, lies) in EDGES_GO {
         follow(&rt, rt.alloc(), &mut policy, &[line]);
@@ -225,7 +204,6 @@ const REFUSALS: [Line; 26] = [
 
 #[test]
 fn each_refusal_has_its_name(rt: HostRuntime) {
-    let mut policy = Policy::opening();
-    follow(&rt, rt.alloc(), &mut policy, &REFUSALS);
+    let policy = story(&rt, rt.alloc(), &REFUSALS);
     assert_eq!(rt; policy.version(), 6);
 }

@@ -15,12 +15,6 @@ mod endings;
 #[cfg(test)]
 mod limits;
 #[cfg(test)]
-mod model;
-#[cfg(test)]
-mod model_rules;
-#[cfg(test)]
 mod object_texts;
 #[cfg(test)]
 mod policies;
-#[cfg(test)]
-mod walk;

@@ -1,32 +1,32 @@
 //! Full tables, and what is asked before their fullness.
-use crate::commands::{Line, command, follow, give, name, names};
-use rbac_policy::commands::{AdminCommand, SessionId};
+use crate::commands::{Line, accept, command, follow, story};
 use rbac_policy::policy::Policy;
 use rbac_policy::sizes::{ROLES, SESSIONS, SETS, USERS};
+use std::alloc::Global;
 use std::process::Abort;
 
 const LOGIN: [Line; 1] = [(0, "login root root", "")];
 
-/// The first session gives the command, or none a login, and it is accepted.
-fn accept(rt: &impl Abort, policy: &mut Policy, command: AdminCommand) {
-    let answer = give(rt, policy, Some(SessionId::new(1)), &command);
-    assert!(rt; answer.is_none());
+/// The first session gives the commands of these texts, each with a number in the middle, from the
+/// first one on, and each is accepted.
+fn fill(
+    rt: &impl Abort,
+    alloc: Global,
+    policy: &mut Policy,
+    (from, to): (usize, usize),
+    (before, after): (&str, &str),
+) {
+    for number in from..to {
+        let text = format!(in alloc; "{before}{number}{after}").expect(rt, "room");
+        accept(rt, policy, 1, &command(rt, alloc, text.as_str()));
+    }
 }
 
 #[test]
 fn users_and_roles(rt: HostRuntime) {
-    let mut policy = Policy::opening();
-    follow(&rt, rt.alloc(), &mut policy, &LOGIN);
-    for count in 1..USERS {
-        let text = format!(in rt.alloc(); "u{count}").expect(&rt, "room");
-        let user = name(&rt, text.as_str());
-        accept(&rt, &mut policy, AdminCommand::AddUser { user });
-    }
-    for count in 1..ROLES {
-        let text = format!(in rt.alloc(); "r{count}").expect(&rt, "room");
-        let role = name(&rt, text.as_str());
-        accept(&rt, &mut policy, AdminCommand::AddRole { role });
-    }
+    let mut policy = story(&rt, rt.alloc(), &LOGIN);
+    fill(&rt, rt.alloc(), &mut policy, (1, USERS), ("adduser u", ""));
+    fill(&rt, rt.alloc(), &mut policy, (1, ROLES), ("addrole r", ""));
     let full: [Line; 8] = [
         (1, "adduser ann", "Full users"),
         (1, "addrole a", "Full roles"),
@@ -50,16 +50,21 @@ const TWO_DUTIES: [Line; 7] = [
     (1, "assign root c", ""),
 ];
 
+/// So many times the command is accepted from no session.
+fn repeat(rt: &impl Abort, alloc: Global, policy: &mut Policy, times: usize, text: &str) {
+    let command = command(rt, alloc, text);
+    for _ in 0..times {
+        accept(rt, policy, 0, &command);
+    }
+}
+
 /// A login that would violate a set is told so where there is no room for it either.
 #[test]
 fn violated_before_full_of_sessions(rt: HostRuntime) {
-    let mut policy = Policy::opening();
-    follow(&rt, rt.alloc(), &mut policy, &TWO_DUTIES);
+    let mut policy = story(&rt, rt.alloc(), &TWO_DUTIES);
     let set: [Line; 1] = [(1, "dsd d 2 a b", "")];
     follow(&rt, rt.alloc(), &mut policy, &set);
-    for _ in 1..SESSIONS {
-        accept(&rt, &mut policy, command(&rt, rt.alloc(), "login root a"));
-    }
+    repeat(&rt, rt.alloc(), &mut policy, SESSIONS - 1, "login root a");
     let full: [Line; 5] = [
         (0, "login root a b", "DsdViolated d 65"),
         (0, "login root a", "Full sessions"),
@@ -73,19 +78,10 @@ fn violated_before_full_of_sessions(rt: HostRuntime) {
 /// And so a set that a living session would violate.
 #[test]
 fn violated_before_full_of_sets(rt: HostRuntime) {
-    let mut policy = Policy::opening();
-    follow(&rt, rt.alloc(), &mut policy, &TWO_DUTIES);
+    let mut policy = story(&rt, rt.alloc(), &TWO_DUTIES);
     let other: [Line; 1] = [(0, "login root a c", "")];
     follow(&rt, rt.alloc(), &mut policy, &other);
-    for count in 0..SETS {
-        let text = format!(in rt.alloc(); "s{count}").expect(&rt, "room");
-        let command = AdminCommand::CreateDsdSet {
-            set: name(&rt, text.as_str()),
-            count: 2,
-            roles: names(&rt, rt.alloc(), &["a", "b"]),
-        };
-        accept(&rt, &mut policy, command);
-    }
+    fill(&rt, rt.alloc(), &mut policy, (0, SETS), ("dsd s", " 2 a b"));
     let full: [Line; 6] = [
         (1, "dsd more 2 a c", "DsdViolated more 2"),
         (1, "dsd more 2 b c", "Full sets"),
@@ -95,4 +91,83 @@ fn violated_before_full_of_sets(rt: HostRuntime) {
         (2, "activate b", "DsdViolated s0 2"),
     ];
     follow(&rt, rt.alloc(), &mut policy, &full);
+}
+
+/// The logins from one number to another, each with its logout.
+fn come_and_go(rt: &impl Abort, alloc: Global, policy: &mut Policy, (from, to): (u16, u16)) {
+    let (login, logout) = (
+        command(rt, alloc, "login root root"),
+        command(rt, alloc, "logout"),
+    );
+    for number in from..=to {
+        accept(rt, policy, 0, &login);
+        accept(rt, policy, number, &logout);
+    }
+}
+
+/// The logouts of the sessions from one number to another.
+fn go(rt: &impl Abort, alloc: Global, policy: &mut Policy, (from, to): (u16, u16)) {
+    let logout = command(rt, alloc, "logout");
+    for number in from..=to {
+        accept(rt, policy, number, &logout);
+    }
+}
+
+/// 64 sessions live at a time, and each number is given once.
+#[test]
+fn limits(rt: HostRuntime) {
+    let mut policy = Policy::opening();
+    repeat(&rt, rt.alloc(), &mut policy, SESSIONS, "login root root");
+    let full: [Line; 1] = [(0, "login root root", "Full sessions")];
+    follow(&rt, rt.alloc(), &mut policy, &full);
+    go(&rt, rt.alloc(), &mut policy, (1, 64));
+    come_and_go(&rt, rt.alloc(), &mut policy, (65, 65_535));
+    let exhausted: [Line; 1] = [(0, "login root root", "SessionsExhausted")];
+    follow(&rt, rt.alloc(), &mut policy, &exhausted);
+}
+
+/// The operations that a role may be granted.
+const OPERATIONS: [&str; 6] = ["offer", "observe", "step", "load", "administer", "audit"];
+
+/// Role root is granted the operation on 48 objects: the sixteen slots, and two signals in each.
+fn grant_all(rt: &impl Abort, alloc: Global, policy: &mut Policy, operation: &str) {
+    let before = format!(in alloc; "grant root {operation} ").expect(rt, "room");
+    for signal in ["", ".O", ".P"] {
+        fill(rt, alloc, policy, (0, 16), (before.as_str(), signal));
+    }
+}
+
+/// With 256 pairs granted, a pair that a role has may be granted to another one; a pair whose last
+/// role goes, by a revocation or with the role itself, frees its place, and one that another role
+/// has doesn't. The opening policy grants one pair.
+const PAIRS_GO: [Line; 12] = [
+    (1, "grant root audit 15", "Full permissions"),
+    (1, "grant driver audit 0.O", "Full permissions"),
+    (1, "grant driver offer 0", ""),
+    (1, "revoke root offer 0", ""),
+    (1, "grant driver audit 0.O", "Full permissions"),
+    (1, "delrole driver", ""),
+    (1, "grant root audit 0.O", ""),
+    (1, "grant root audit 1.O", "Full permissions"),
+    (1, "revoke root audit 0.O", ""),
+    (1, "grant root audit 1.O", ""),
+    (1, "grant root audit 0.O", "Full permissions"),
+    (1, "revoke root audit 0.O", "NotGranted"),
+];
+
+#[test]
+fn full_of_permissions(rt: HostRuntime) {
+    let opening: [Line; 2] = [(0, "login root root", ""), (1, "addrole driver", "")];
+    let mut policy = story(&rt, rt.alloc(), &opening);
+    for operation in OPERATIONS.iter().take(5) {
+        grant_all(&rt, rt.alloc(), &mut policy, operation);
+    }
+    fill(
+        &rt,
+        rt.alloc(),
+        &mut policy,
+        (0, 15),
+        ("grant root audit ", ""),
+    );
+    follow(&rt, rt.alloc(), &mut policy, &PAIRS_GO);
 }

@@ -1,209 +1,155 @@
 //! What a policy says after entries that it takes in, whether they were accepted or not.
-use crate::commands::name;
-use rbac_policy::commands::{AdminCommand, Entry, SessionId};
-use rbac_policy::names::{Name, RoleNames};
-use rbac_policy::objects::{Object, Operation};
+use crate::commands::{Given, ask, live, name, names, take};
+use rbac_policy::commands::SessionId;
+use rbac_policy::names::Name;
+use rbac_policy::opening::opening_entries;
 use rbac_policy::policy::Policy;
-use std::alloc::{AllocError, Global};
+use rbac_policy::separation::Violation;
+use std::alloc::Global;
 use std::process::Abort;
-use std::test::Fail;
 
-fn entry(session: Option<SessionId>, command: AdminCommand) -> Entry {
-    Entry { session, command }
-}
-
-/// A login of root in the role of this name.
-fn login(alloc: Global, role: Name) -> Result<Entry, AllocError> {
-    let roles = RoleNames::from_vec(vec![in alloc; role]?)?;
-    let user = Name::root();
-    Ok(entry(None, AdminCommand::CreateSession { user, roles }))
-}
-
-fn object(rt: &impl Abort, text: &str) -> Object {
-    Object::from_text(text).expect(rt, "an object")
+/// A policy that takes in the opening entries has the tables of the opening policy.
+#[test]
+fn the_opening_policy_is_that_of_its_entries(rt: HostRuntime) {
+    let mut policy = Policy::empty();
+    for entry in opening_entries() {
+        policy.absorb(&entry);
+    }
+    assert!(rt; policy == Policy::opening());
 }
 
 #[test]
-fn opening_story(rt: HostRuntime) -> Result<(), Fail> {
-    let root = Name::root();
-    let session = SessionId::new(1);
+fn opening_story(rt: HostRuntime) {
     let mut policy = Policy::opening();
     assert_eq!(rt; policy.version(), 4);
-    assert!(rt; !policy.may(session, &Operation::Administer, &Object::Policy));
-
-    policy.absorb(&login(rt.alloc(), root)?);
-    assert!(rt; policy.may(session, &Operation::Administer, &Object::Policy));
-    assert!(rt; !policy.may(session, &Operation::Audit, &Object::Policy));
-    assert!(rt; !policy.may(SessionId::new(2), &Operation::Administer, &Object::Policy));
-
-    let slot = object(&rt, "0");
-    let grant = AdminCommand::GrantPermission {
-        role: root,
-        operation: Operation::Load,
-        object: slot,
-    };
-    assert!(rt; !policy.may(session, &Operation::Load, &slot));
-    policy.absorb(&entry(Some(session), grant));
-    assert!(rt; policy.may(session, &Operation::Load, &slot));
-    assert!(rt; !policy.may(session, &Operation::Load, &object(&rt, "1")));
-    assert!(rt; !policy.may(session, &Operation::Step, &slot));
-
-    policy.absorb(&entry(Some(session), AdminCommand::DeleteSession));
-    assert!(rt; !policy.may(session, &Operation::Administer, &Object::Policy));
+    ask(&rt, &policy, &[(1, "administer", "policy", false)]);
+    take(&rt, rt.alloc(), &mut policy, &[(0, "login root root")]);
+    ask(
+        &rt,
+        &policy,
+        &[
+            (1, "administer", "policy", true),
+            (1, "audit", "policy", false),
+            (2, "administer", "policy", false),
+            (1, "load", "0", false),
+        ],
+    );
+    take(&rt, rt.alloc(), &mut policy, &[(1, "grant root load 0")]);
+    ask(
+        &rt,
+        &policy,
+        &[
+            (1, "load", "0", true),
+            (1, "load", "1", false),
+            (1, "step", "0", false),
+        ],
+    );
+    take(&rt, rt.alloc(), &mut policy, &[(1, "logout")]);
+    ask(&rt, &policy, &[(1, "administer", "policy", false)]);
     assert_eq!(rt; policy.version(), 7);
     assert_eq!(rt; policy.logins(), 1);
-    Ok(())
 }
 
+/// Root is not authorized for the role, so the session ends with its entry. What the user of a
+/// session might make active counts for nothing.
 #[test]
-fn roles_of_sessions(rt: HostRuntime) -> Result<(), Fail> {
-    let driver = Name::from_text("driver").expect(&rt, "a name");
+fn roles_of_sessions(rt: HostRuntime) {
     let mut policy = Policy::opening();
-    policy.absorb(&entry(None, AdminCommand::AddRole { role: driver }));
-
-    // Root is not authorized for the role, so the session ends with its entry.
-    policy.absorb(&login(rt.alloc(), driver)?);
-    assert!(rt; !policy.lives(SessionId::new(1)));
-
-    // What the user might make active counts for nothing.
-    let user = Name::root();
-    let roles = RoleNames::from_vec(Vec::new(rt.alloc()))?;
-    policy.absorb(&entry(None, AdminCommand::CreateSession { user, roles }));
-    assert!(rt; policy.lives(SessionId::new(2)));
-    assert!(rt; !policy.may(SessionId::new(2), &Operation::Administer, &Object::Policy));
-    Ok(())
+    let entries = [(0, "addrole driver"), (0, "login root driver")];
+    take(&rt, rt.alloc(), &mut policy, &entries);
+    assert!(rt; live(&policy, 1, &[]));
+    take(&rt, rt.alloc(), &mut policy, &[(0, "login root")]);
+    assert!(rt; live(&policy, 2, &[2]));
+    ask(&rt, &policy, &[(2, "administer", "policy", false)]);
 }
 
-// Root takes all that ann has, in one way after another, and each time gives it back; ann's session is the one that was made last.
+/// What root gives ann, and ann's login.
+const GIVEN: [Given; 7] = [
+    (0, "adduser ann"),
+    (0, "addrole driver"),
+    (0, "addrole chief"),
+    (0, "grant driver load 0"),
+    (0, "inherit chief driver"),
+    (0, "assign ann chief"),
+    (0, "login ann chief"),
+];
+
+/// What takes from ann's session what it may do, and whether the session lives on.
+const TAKEN: [(Given, bool); 6] = [
+    ((0, "delrole driver"), true),
+    ((0, "delrole chief"), false),
+    ((0, "deluser ann"), false),
+    ((0, "deassign ann chief"), false),
+    ((0, "disinherit chief driver"), true),
+    ((0, "revoke driver load 0"), true),
+];
+
 #[test]
-fn taken_and_given_again(rt: HostRuntime) -> Result<(), Fail> {
-    let (ann, chief, driver) = (name(&rt, "ann"), name(&rt, "chief"), name(&rt, "driver"));
-    let slot = object(&rt, "0");
-    let (senior, junior) = (chief, driver);
-    let grant = AdminCommand::GrantPermission {
-        role: driver,
-        operation: Operation::Load,
-        object: slot,
-    };
-    let given = [
-        AdminCommand::AddUser { user: ann },
-        AdminCommand::AddRole { role: driver },
-        AdminCommand::AddRole { role: chief },
-        grant,
-        AdminCommand::AddInheritance { senior, junior },
-        AdminCommand::AssignUser {
-            user: ann,
-            role: chief,
-        },
-    ];
-    let taken = [
-        (AdminCommand::DeleteRole { role: driver }, true),
-        (AdminCommand::DeleteRole { role: chief }, false),
-        (AdminCommand::DeleteUser { user: ann }, false),
-        (
-            AdminCommand::DeassignUser {
-                user: ann,
-                role: chief,
-            },
-            false,
-        ),
-        (AdminCommand::DeleteInheritance { senior, junior }, true),
-        (
-            AdminCommand::RevokePermission {
-                role: driver,
-                operation: Operation::Load,
-                object: slot,
-            },
-            true,
-        ),
-    ];
-    for (command, goes_on) in taken {
+fn taken_and_given_again(rt: HostRuntime) {
+    for (entry, goes_on) in TAKEN {
         let mut policy = Policy::opening();
-        for command in given.clone()? {
-            policy.absorb(&entry(None, command));
-        }
-        let session = SessionId::new(1);
-        let roles = RoleNames::from_vec(vec![in rt.alloc(); chief]?)?;
-        policy.absorb(&entry(None, AdminCommand::CreateSession { user: ann, roles }));
-        assert!(rt; policy.may(session, &Operation::Load, &slot));
-        policy.absorb(&entry(None, command));
-        assert!(rt; !policy.may(session, &Operation::Load, &slot));
-        assert_eq!(rt; policy.lives(session), goes_on);
+        take(&rt, rt.alloc(), &mut policy, &GIVEN);
+        ask(&rt, &policy, &[(1, "load", "0", true)]);
+        take(&rt, rt.alloc(), &mut policy, &[entry]);
+        ask(&rt, &policy, &[(1, "load", "0", false)]);
+        assert_eq!(rt; policy.lives(SessionId::new(1)), goes_on);
     }
-    Ok(())
 }
 
-// A role that is added again has nothing of the one before it.
+/// A role that is added again has nothing of the one before it.
 #[test]
-fn place_is_used_again(rt: HostRuntime) -> Result<(), Fail> {
-    let (root, driver, slot) = (Name::root(), name(&rt, "driver"), object(&rt, "0"));
-    let grant = AdminCommand::GrantPermission {
-        role: driver,
-        operation: Operation::Load,
-        object: slot,
-    };
-    let commands = [
-        AdminCommand::AddRole { role: driver },
-        grant,
-        AdminCommand::DeleteRole { role: driver },
-        AdminCommand::AddRole { role: driver },
-        AdminCommand::AssignUser {
-            user: root,
-            role: driver,
-        },
-    ];
+fn place_is_used_again(rt: HostRuntime) {
     let mut policy = Policy::opening();
-    for command in commands {
-        policy.absorb(&entry(None, command));
-    }
-    policy.absorb(&login(rt.alloc(), driver)?);
-    assert!(rt; policy.lives(SessionId::new(1)));
-    assert!(rt; !policy.may(SessionId::new(1), &Operation::Load, &slot));
-    Ok(())
+    take(
+        &rt,
+        rt.alloc(),
+        &mut policy,
+        &[
+            (0, "addrole driver"),
+            (0, "grant driver load 0"),
+            (0, "delrole driver"),
+            (0, "addrole driver"),
+            (0, "assign root driver"),
+            (0, "login root driver"),
+        ],
+    );
+    assert!(rt; live(&policy, 1, &[1]));
+    ask(&rt, &policy, &[(1, "load", "0", false)]);
 }
 
-// One of the set's two roles may be active, and not the role that stands above both.
+/// Whether what is violated is the set d1, by the session of this number.
+fn is_violation(rt: &impl Abort, found: Option<Violation>, number: u16) -> bool {
+    found.is_some_and(|found| found.set == name(rt, "d1")
+        && found.session == SessionId::new(number))
+}
+
+/// Whether a login of root in the role chief would violate the set d1 as session 2.
+fn violates_as_chief(rt: &impl Abort, alloc: Global, policy: &Policy) -> bool {
+    let above = names(rt, alloc, &["chief"]);
+    is_violation(rt, policy.first_violated_by_login(&Name::root(), &above), 2)
+}
+
+/// One of the set's two roles may be active, and not the role that stands above both.
 #[test]
-fn first_violation(rt: HostRuntime) -> Result<(), Fail> {
-    let (root, chief) = (Name::root(), name(&rt, "chief"));
-    let (driver, judge, set) = (name(&rt, "driver"), name(&rt, "judge"), name(&rt, "d1"));
-    let roles = RoleNames::from_vec(vec![in rt.alloc(); driver, judge]?)?;
-    let commands = [
-        AdminCommand::AddRole { role: driver },
-        AdminCommand::AddRole { role: judge },
-        AdminCommand::AddRole { role: chief },
-        AdminCommand::AssignUser {
-            user: root,
-            role: chief,
-        },
-        AdminCommand::AddInheritance {
-            senior: chief,
-            junior: driver,
-        },
-        AdminCommand::AddInheritance {
-            senior: chief,
-            junior: judge,
-        },
-        AdminCommand::CreateDsdSet {
-            set,
-            count: 2,
-            roles,
-        },
-    ];
+fn first_violation(rt: HostRuntime) {
     let mut policy = Policy::opening();
-    for command in commands {
-        policy.absorb(&entry(None, command));
-    }
-    policy.absorb(&login(rt.alloc(), driver)?);
+    take(
+        &rt,
+        rt.alloc(),
+        &mut policy,
+        &[
+            (0, "addrole driver"),
+            (0, "addrole judge"),
+            (0, "addrole chief"),
+            (0, "assign root chief"),
+            (0, "inherit chief driver"),
+            (0, "inherit chief judge"),
+            (0, "dsd d1 2 driver judge"),
+            (0, "login root driver"),
+        ],
+    );
     assert!(rt; policy.first_violated().is_none());
-    let above = RoleNames::from_vec(vec![in rt.alloc(); chief]?)?;
-    let found = policy
-        .first_violated_by_login(&root, &above)
-        .map(|v| (v.set, v.session));
-    assert!(rt; found == Some((set, SessionId::new(2))));
-    let command = AdminCommand::AddActiveRole { role: judge };
-    policy.absorb(&entry(Some(SessionId::new(1)), command));
-    let found = policy.first_violated().map(|v| (v.set, v.session));
-    assert!(rt; found == Some((set, SessionId::new(1))));
-    Ok(())
+    assert!(rt; violates_as_chief(&rt, rt.alloc(), &policy));
+    take(&rt, rt.alloc(), &mut policy, &[(1, "activate judge")]);
+    assert!(rt; is_violation(&rt, policy.first_violated(), 1));
 }
