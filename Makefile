@@ -56,7 +56,7 @@ documents:
 test:
 	python3 tests/documents.py
 	$(MAKE) --no-print-directory examples
-	python3 scripts/trial.py sh -c 'clients/tests/run && tests/socket/run'
+	python3 scripts/trial.py sh -c 'clients/tests/run && tests/socket/run && tests/journals/walk'
 	python3 tests/journals/run
 	python3 tests/must-not-compile/run
 	RT_JOBS=$(CORES) rt ci

@@ -2,8 +2,9 @@
 """Checks that the documents keep up with the repository.
 
 The lists of docs/generated are those that scripts/reading_list.py and scripts/wrong_bodies.py write, and each wrong
-body says why it is wrong; README.md has at most 100 lines; each crate stands in docs/ARCHITECTURE.md; each function of the walk there stands in its file; each script of examples/scripts has its
-answers and its row in examples/README.md, and the opening one is the stored run; each link to a file leads to one.
+body says why it is wrong; README.md has at most 100 lines; each crate stands in docs/ARCHITECTURE.md; each function of
+the walk there stands in its file; each script of examples/scripts has its answers and its row in examples/README.md, and
+the opening one is the stored run; each link to a file leads to one, and each quoted block stands in its file.
 Ends with status 1 after naming what differs.
 """
 
@@ -77,6 +78,16 @@ def faulty_examples():
     return faults
 
 
+def stale_quotes(document):
+    """A line for each block that the document quotes from a file in which it doesn't stand."""
+    faults = []
+    for name, block in re.findall(r"<!-- quoted: (\S+) -->\n```\n(.*?)```", document.read_text(), re.DOTALL):
+        file = ROOT / name
+        if not file.exists() or block not in file.read_text():
+            faults.append(f"{document.relative_to(ROOT)}: {name} has no lines {block.splitlines()[0].strip()} ..")
+    return faults
+
+
 def broken_links(document):
     """A line for each link of the document that leads to no file."""
     targets = re.findall(r"\]\(([^)#:]+)\)", document.read_text())
@@ -91,7 +102,7 @@ def main():
     faults = differing_tables() + missing_sentences() + missing_functions() + faulty_examples()
     faults += long_readme() + missing_crates("docs/ARCHITECTURE.md")
     for document in [*ROOT.glob("*.md"), *ROOT.glob("docs/**/*.md"), *ROOT.glob("examples/*.md")]:
-        faults += broken_links(document)
+        faults += broken_links(document) + stale_quotes(document)
     print("\n".join(faults) if faults else "documents: in step with the repository")
     return 1 if faults else 0
 

@@ -8,6 +8,4 @@
 pub mod fault;
 pub mod laws;
 pub mod order;
-#[cfg(test)]
-mod tests;
 pub mod words;

@@ -12,5 +12,3 @@ pub mod lines;
 pub mod meter;
 pub mod replies;
 pub mod serving;
-#[cfg(test)]
-mod tests;

@@ -10,5 +10,3 @@ pub mod fault;
 pub mod laws;
 pub mod order;
 mod reach;
-#[cfg(test)]
-mod tests;

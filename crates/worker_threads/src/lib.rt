@@ -1,6 +1,4 @@
 //! Threads that work side by side, each for a seat of its own, until there is no more to do.
 #![tactic(auto)]
 
-#[cfg(test)]
-mod tests;
 pub mod workers;

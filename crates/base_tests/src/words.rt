@@ -1,6 +1,6 @@
 //! Orders and faults, word by word.
-use crate::fault::WordFault;
-use crate::order::{Order, WorkerCount};
+use command_line::fault::WordFault;
+use command_line::order::{Order, WorkerCount};
 use std::alloc::{AllocError, Global};
 use std::process::Abort;
 use std::test::Fail;

@@ -1,41 +1,16 @@
-//! Readers that cut anywhere or fail, and writers that take little or nothing.
+//! Lines of readers that cut anywhere or fail, and replies to writers that take little or nothing.
 ghost use Rattle.std.specs.Prelude.{⊤};
 
-use crate::exchange::next_line;
-use crate::lines::{LINE_BYTES, Line, LineFault, LineReader};
-use crate::meter::{MeteredMemory, MeteredReader, MeteredWriter, READS};
-use crate::replies::{Replies, WriteFault};
-use crate::serving::{Answerer, Why, serve};
+use crate::devices::{AMPLE, Sink, TwoParts};
+use line_reader::exchange::next_line;
+use line_reader::lines::{LINE_BYTES, Line, LineFault, LineReader};
+use line_reader::meter::{MeteredMemory, MeteredReader, MeteredWriter, READS};
+use line_reader::replies::{Replies, WriteFault};
+use line_reader::serving::{Answerer, Why, serve};
 use std::alloc::{AllocError, Global};
 use std::io;
-use std::io::{ErrorKind, Read, Write};
+use std::io::Read;
 use std::test::Fail;
-
-/// Gives one part of its bytes and then the other, and fails at a call where one is named.
-#[derive(Drop)]
-struct TwoParts<'a> {
-    first: &'a [u8],
-    second: &'a [u8],
-    calls_that_work: usize,
-}
-
-impl Read for TwoParts<'_> {
-    fn read(&mut self, buf: &mut [u8]) -> io::Result<usize> {
-        if self.calls_that_work == 0 {
-            return Err(io::Error::from(ErrorKind::Other));
-        }
-        self.calls_that_work -= 1;
-        if self.first.is_empty() {
-            self.first = self.second;
-            self.second = &[];
-        }
-        let count = self.first.len().min(buf.len());
-        let (front, rest) = self.first.split_at(count);
-        buf[..count].copy_from_slice(front);
-        self.first = rest;
-        Ok(count)
-    }
-}
 
 /// Gives `x` and LF by turns, a byte at once, without end.
 #[derive(Drop)]
@@ -54,35 +29,7 @@ impl Read for ByBytes {
     }
 }
 
-/// Takes at most `step` bytes at once, and `room` in all.
-#[derive(Drop)]
-struct Sink {
-    written: Vec<u8>,
-    step: usize,
-    room: usize,
-}
-
-impl Write for Sink {
-    fn write(&mut self, buf: &[u8]) -> io::Result<usize> {
-        let count = buf.len().min(self.step).min(self.room);
-        match self.written.extend_from_slice(&buf[..count]) {
-            Ok(()) => {
-                self.room -= count;
-                Ok(count)
-            }
-            Err(_) => Err(io::Error::from(ErrorKind::OutOfMemory)),
-        }
-    }
-
-    fn flush(&mut self) -> io::Result<()> {
-        Ok(())
-    }
-}
-
-/// More calls or bytes than any test needs.
-const AMPLE: usize = 1_000_000;
-
-/// The lines of two parts, each with a `|` behind it, and how they ended.
+/// The lines of two parts, each with a `|` after it, and how they ended.
 fn told(
     alloc: Global,
     first: &[u8],
