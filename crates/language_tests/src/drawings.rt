@@ -1,4 +1,5 @@
 //! Texts with a place of each, and how it is drawn.
+use crate::told::expect_told;
 use est_syntax::draw::draw;
 use est_syntax::parse::{ParseFault, parse};
 use est_text::lex::{LexFault, lex};
@@ -40,7 +41,7 @@ const PLACES: [(&str, u64, u64, &str); 15] = [
 /// Fails where a place of a text is drawn otherwise.
 fn expect_drawing(rt: &impl Abort, alloc: Global, text: &str, place: Place, drawing: &str) {
     let drawn = draw(alloc, text, place).expect(rt, "room");
-    assert_eq!(rt; drawn.as_str(), drawing);
+    expect_told(rt, drawn.as_str(), drawing, text);
 }
 
 /// Fails where a place of a table is drawn otherwise.

@@ -1,4 +1,5 @@
 //! Texts, their tokens and their faults.
+use crate::told::{expect_holds, expect_told};
 use est_text::identifier::Identifier;
 use est_text::lex::{LexFault, lex};
 use est_text::place::Place;
@@ -132,14 +133,13 @@ const OTHERS: &str = "! \" $ & \' * + - . 0 1 2 3 4 5 6 7 8 9 < = > ? @ \\ ^ _ `
 /// Fails where one of these texts is an identifier and shouldn't be, or the other way round.
 fn expect_names(rt: &impl Abort, rows: &[(&str, bool)]) {
     for (text, is_name) in rows {
-        match Identifier::from_text(text) {
+        let holds = match Identifier::from_text(text) {
             Some(name) => {
-                assert!(rt; *is_name, "{text}");
-                assert_eq!(rt; name.as_str(), *text);
-                assert_eq!(rt; name.as_bytes().len(), text.len());
+                *is_name && name.as_str() == *text && name.as_bytes().len() == text.len()
             }
-            None => assert!(rt; !*is_name, "{text}"),
-        }
+            None => !*is_name,
+        };
+        expect_holds(rt, holds, text);
     }
 }
 
@@ -177,7 +177,7 @@ fn values_of(rt: &impl Abort, alloc: Global, text: &str) -> String {
 fn expect_values(rt: &impl Abort, alloc: Global, rows: &[(&str, &str)]) {
     for (text, values) in rows {
         let found = values_of(rt, alloc, text);
-        assert_eq!(rt; found.as_str(), *values, "{text}");
+        expect_told(rt, found.as_str(), values, text);
     }
 }
 
@@ -194,9 +194,10 @@ fn expect_counts(rt: &impl Abort, alloc: Global, rows: &[(&str, usize, u64, u64)
             line: *line,
             column: *column,
         };
-        assert_eq!(rt; tokens.as_slice().len(), *count, "{text}");
-        assert_eq!(rt; tokens.end(), end, "{text}");
-        assert_eq!(rt; tokens.place(*count), end, "{text}");
+        let holds = tokens.as_slice().len() == *count
+            && tokens.end() == end
+            && tokens.place(*count) == end;
+        expect_holds(rt, holds, text);
     }
 }
 
@@ -231,8 +232,8 @@ fn slices_of(rt: &impl Abort, alloc: Global, text: &str) -> String {
     for index in 0..count {
         add_slice(rt, alloc, &mut slices, &tokens, index);
     }
-    assert!(rt; tokens.get(count).is_none() && tokens.text(count).is_none());
-    assert_eq!(rt; tokens.source(), text);
+    let ends = tokens.get(count).is_none() && tokens.text(count).is_none();
+    expect_holds(rt, ends && tokens.source() == text, text);
     slices
 }
 
@@ -240,7 +241,7 @@ fn slices_of(rt: &impl Abort, alloc: Global, text: &str) -> String {
 fn expect_slices(rt: &impl Abort, alloc: Global, rows: &[(&str, &str)]) {
     for (text, slices) in rows {
         let found = slices_of(rt, alloc, text);
-        assert_eq!(rt; found.as_str(), *slices, "{text}");
+        expect_told(rt, found.as_str(), slices, text);
     }
 }
 
@@ -252,7 +253,7 @@ fn texts_are_slices(rt: HostRuntime) {
 /// Fails where the first fault of a text is not at this place.
 fn expect_fault(rt: &impl Abort, alloc: Global, text: &str, line: u64, column: u64) {
     let fault = Some(LexFault::Lexical(Place { line, column }));
-    assert_eq!(rt; lex(alloc, text).err(), fault, "{text}");
+    expect_holds(rt, lex(alloc, text).err() == fault, text);
 }
 
 /// Fails where the first fault of a text of a table is at another place.

@@ -1,6 +1,7 @@
 //! Texts and their trees.
 use super::Answer::Accepted;
 use super::{expect_answer, module_of};
+use crate::told::{expect_holds, expect_told};
 use est_syntax::parse::parse;
 use est_syntax::tree::{Branches, Library, Module, Renaming, Sequence, Unit, WeakEnd};
 use est_text::identifier::Identifier;
@@ -124,8 +125,12 @@ fn is_body_closed(rt: &impl Abort, alloc: Global, body: &str) -> bool {
 fn expect_last_words(rt: &impl Abort, alloc: Global, rows: &[(&str, &str)]) {
     for (unit, last) in rows {
         let whole = format!(in alloc; "{unit}{last}").expect(rt, "room");
-        assert!(rt; !is_body_closed(rt, alloc, unit), "{unit}");
-        assert!(rt; is_body_closed(rt, alloc, whole.as_str()), "{whole}");
+        expect_holds(rt, !is_body_closed(rt, alloc, unit), unit);
+        expect_holds(
+            rt,
+            is_body_closed(rt, alloc, whole.as_str()),
+            whole.as_str(),
+        );
     }
 }
 
@@ -220,7 +225,7 @@ fn sketch_of(rt: &impl Abort, alloc: Global, text: &str) -> String {
 fn expect_sketches(rt: &impl Abort, alloc: Global, rows: &[(&str, &str)]) {
     for (text, sketch) in rows {
         let found = sketch_of(rt, alloc, text);
-        assert_eq!(rt; found.as_str(), *sketch, "{text}");
+        expect_told(rt, found.as_str(), sketch, text);
     }
 }
 
