@@ -1,10 +1,11 @@
 //! Texts with a place of each, and how it is drawn.
+use crate::told::expect_told;
 use est_syntax::draw::draw;
 use est_syntax::parse::{ParseFault, parse};
 use est_text::lex::{LexFault, lex};
 use est_text::place::Place;
 use std::alloc::Global;
-use std::test::Fail;
+use std::process::Abort;
 
 /// A text, a line and a column, and what is drawn.
 const PLACES: [(&str, u64, u64, &str); 15] = [
@@ -37,26 +38,39 @@ const PLACES: [(&str, u64, u64, &str); 15] = [
     ("emit\nO", 0, 0, "emit\n^\n"),
 ];
 
-#[test]
-fn places_are_drawn(rt: HostRuntime) -> Result<(), Fail> {
-    for (text, line, column, drawing) in PLACES {
-        let drawn = draw(rt.alloc(), text, Place { line, column })?;
-        assert_eq!(rt; drawn.as_str(), drawing);
+/// Fails where a place of a text is drawn otherwise.
+fn expect_drawing(rt: &impl Abort, alloc: Global, text: &str, place: Place, drawing: &str) {
+    let drawn = draw(alloc, text, place).expect(rt, "room");
+    expect_told(rt, drawn.as_str(), drawing, text);
+}
+
+/// Fails where a place of a table is drawn otherwise.
+fn expect_places(rt: &impl Abort, alloc: Global, rows: &[(&str, u64, u64, &str)]) {
+    for (text, line, column, drawing) in rows {
+        let place = Place {
+            line: *line,
+            column: *column,
+        };
+        expect_drawing(rt, alloc, text, place, drawing);
     }
-    Ok(())
+}
+
+#[test]
+fn places_are_drawn(rt: HostRuntime) {
+    expect_places(&rt, rt.alloc(), &PLACES);
 }
 
 /// The place where a text is at fault, if it is.
-fn fault_of(alloc: Global, text: &str) -> Result<Option<Place>, Fail> {
+fn fault_of(rt: &impl Abort, alloc: Global, text: &str) -> Option<Place> {
     let tokens = match lex(alloc, text) {
         Ok(tokens) => tokens,
-        Err(LexFault::Lexical(place)) => return Ok(Some(place)),
-        Err(fault) => return Err(fault.into()),
+        Err(LexFault::Lexical(place)) => return Some(place),
+        Err(LexFault::Memory) => return None.expect(rt, "room"),
     };
     match parse(alloc, &tokens) {
-        Ok(_) => Ok(None),
-        Err(ParseFault::Syntax(place) | ParseFault::TooLarge(place)) => Ok(Some(place)),
-        Err(fault) => Err(fault.into()),
+        Ok(_) => None,
+        Err(ParseFault::Syntax(place) | ParseFault::TooLarge(place)) => Some(place),
+        Err(ParseFault::Memory) => None.expect(rt, "room"),
     }
 }
 
@@ -81,14 +95,15 @@ const FAULTS: [(&str, &str); 5] = [
     ("module M: pause\n", "\n^\n"),
 ];
 
-#[test]
-fn faults_are_drawn(rt: HostRuntime) -> Result<(), Fail> {
-    for (text, drawing) in FAULTS {
-        let Some(place) = fault_of(rt.alloc(), text)? else {
-            return Err(Fail::new("no fault"));
-        };
-        let drawn = draw(rt.alloc(), text, place)?;
-        assert_eq!(rt; drawn.as_str(), drawing);
+/// Fails where the first fault of a text is drawn otherwise.
+fn expect_faults(rt: &impl Abort, alloc: Global, rows: &[(&str, &str)]) {
+    for (text, drawing) in rows {
+        let place = fault_of(rt, alloc, text).expect(rt, "a fault");
+        expect_drawing(rt, alloc, text, place, drawing);
     }
-    Ok(())
+}
+
+#[test]
+fn faults_are_drawn(rt: HostRuntime) {
+    expect_faults(&rt, rt.alloc(), &FAULTS);
 }

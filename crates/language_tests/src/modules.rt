@@ -1,14 +1,13 @@
 //! Modules that run each other: their order, and the number of statements of the linked module.
+use crate::told::expect_told;
 use est_link::count::count_statements;
 use est_link::head::Head;
 use est_link::orders::order_heads;
 use est_syntax::parse::parse;
 use est_syntax::tree::{Library, Module};
 use est_text::lex::lex;
-use module_order::fault::OrderFault;
-use std::alloc::{AllocError, Global};
+use std::alloc::Global;
 use std::process::Abort;
-use std::test::Fail;
 
 /// Each module runs the next one twice, and the first runs the second 32 times.
 const DOUBLING: &str = "module M: [run A; run A; run A; run A; run A; run A; run A; run A]; \
@@ -32,71 +31,75 @@ fn head_of<'a>(alloc: Global, module: &'a Module) -> Head<'a> {
 }
 
 /// The modules of a library, whose interfaces are not asked for here.
-fn heads_of<'a>(alloc: Global, library: &'a Library) -> Result<Vec<Head<'a>>, AllocError> {
+fn heads_of<'a>(rt: &impl Abort, alloc: Global, library: &'a Library) -> Vec<Head<'a>> {
     let mut heads = Vec::new(alloc);
-    heads.push(head_of(alloc, &library.first))?;
+    heads
+        .push(head_of(alloc, &library.first))
+        .expect(rt, "room");
     for module in &library.later {
-        heads.push(head_of(alloc, module))?;
+        heads.push(head_of(alloc, module)).expect(rt, "room");
     }
-    Ok(heads)
+    heads
 }
 
-/// The number of statements of the linked module at a place, which the limit may refuse.
-fn statements_at(alloc: Global, text: &str, place: usize) -> Result<Option<u16>, Fail> {
-    let tokens = lex(alloc, text)?;
-    let library = parse(alloc, &tokens)?;
-    let heads = heads_of(alloc, &library)?;
-    let order = match order_heads(alloc, &heads) {
-        Ok(order) => order,
-        Err(_) => return Err(Fail::from("no order")),
+/// The number of statements of the linked module at a place, which the limit may refuse, or why the modules of the text
+/// have no order.
+fn counted(rt: &impl Abort, alloc: Global, text: &str, place: usize) -> String {
+    let tokens = lex(alloc, text).expect(rt, "tokens");
+    let library = parse(alloc, &tokens).expect(rt, "a library");
+    let heads = heads_of(rt, alloc, &library);
+    let words = match order_heads(alloc, &heads) {
+        Ok(order) => {
+            let main = heads.get(place).expect(rt, "a module");
+            let count = count_statements(alloc, &heads, &order, &main.name).expect(rt, "room");
+            format!(in alloc; "{count:?}")
+        }
+        Err(fault) => format!(in alloc; "{fault:?}"),
     };
-    match heads.get(place) {
-        Some(main) => Ok(count_statements(alloc, &heads, &order, &main.name)?),
-        None => Err(Fail::from("no such module")),
-    }
+    words.expect(rt, "room")
 }
 
-/// Why the modules of a text have no order.
-fn order_fault(alloc: Global, text: &str) -> Result<Option<OrderFault>, Fail> {
-    let tokens = lex(alloc, text)?;
-    let library = parse(alloc, &tokens)?;
-    let heads = heads_of(alloc, &library)?;
-    Ok(order_heads(alloc, &heads).err())
+/// Texts, the place of a module in each, and the number of statements of that module before reduction.
+const COUNTS: [(&str, usize, &str); 6] = [
+    (
+        "module M: nothing; pause; || emit S end module",
+        0,
+        "Some(5)",
+    ),
+    (
+        "module M: present S then run N end; run N; run N end module \
+         module N: weak abort pause || halt when S end module",
+        0,
+        "Some(15)",
+    ),
+    (DOUBLING, 3, "Some(1023)"),
+    (DOUBLING, 2, "Some(2047)"),
+    (DOUBLING, 1, "None"),
+    (DOUBLING, 0, "None"),
+];
+
+/// A text of which a module runs itself.
+const RINGS: [(&str, usize, &str); 1] = [(
+    "module M: run A end module module A: run C; run B end module \
+     module B: run A end module module C: pause end module",
+    0,
+    "Recursive(1)",
+)];
+
+/// Fails where a module of a text of a table has another number of statements, or another fault.
+fn expect_counts(rt: &impl Abort, alloc: Global, rows: &[(&str, usize, &str)]) {
+    for (text, place, count) in rows {
+        let found = counted(rt, alloc, text, *place);
+        expect_told(rt, found.as_str(), count, text);
+    }
 }
 
 #[test]
-fn statements_before_reduction(rt: HostRuntime) -> Result<(), Fail> {
-    let alloc = rt.alloc();
-    for (text, place, number) in [
-        ("module M: nothing; pause; || emit S end module", 0, Some(5)),
-        (
-            "module M: present S then run N end; run N; run N end module \
-            module N: weak abort pause || halt when S end module",
-            0,
-            Some(15),
-        ),
-        (DOUBLING, 3, Some(1023)),
-        (DOUBLING, 2, Some(2047)),
-        (DOUBLING, 1, None),
-        (DOUBLING, 0, None),
-    ] {
-        assert_eq!(rt; statements_at(alloc, text, place)?, number);
-    }
-    Ok(())
+fn statements_before_reduction(rt: HostRuntime) {
+    expect_counts(&rt, rt.alloc(), &COUNTS);
 }
 
 #[test]
-fn modules_that_run_themselves(rt: HostRuntime) -> Result<(), Fail> {
-    let alloc = rt.alloc();
-    for (text, fault) in [
-        (DOUBLING, None),
-        (
-            "module M: run A end module module A: run C; run B end module \
-            module B: run A end module module C: pause end module",
-            Some(OrderFault::Recursive(1)),
-        ),
-    ] {
-        assert_eq!(rt; order_fault(alloc, text)?, fault);
-    }
-    Ok(())
+fn modules_that_run_themselves(rt: HostRuntime) {
+    expect_counts(&rt, rt.alloc(), &RINGS);
 }

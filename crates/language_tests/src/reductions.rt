@@ -1,31 +1,18 @@
 //! Each derived statement against its kernel statement, written out. The interface is `input S; output O`.
 
-use est_kernel::interface::{Declaration, Interface, Kind, MOST_SIGNALS};
-use est_kernel::limits::Limit;
+use crate::told::expect_told;
+use est_kernel::interface::Interface;
 use est_kernel::statement::{Signal, Statement, Test};
-use est_reduce::body::{Body, BoundSignal, BoundTest, Wait};
+use est_link::link::link;
+use est_reduce::body::Body;
 use est_reduce::bound::is_bound;
-use est_reduce::fault::ReduceFault;
 use est_reduce::flat::Flat;
 use est_reduce::reduce::reduce;
 use est_relations::relations::Relations;
-use est_text::identifier::Identifier;
+use est_syntax::parse::parse;
+use est_text::lex::lex;
 use std::alloc::{AllocError, Global};
-use std::test::Fail;
-
-const S: BoundTest = BoundTest::Of(BoundSignal::Outer(0));
-
-const O: BoundSignal = BoundSignal::Outer(1);
-
-const LATER: Wait = Wait {
-    immediate: false,
-    test: S,
-};
-
-const AT_ONCE: Wait = Wait {
-    immediate: true,
-    test: S,
-};
+use std::process::Abort;
 
 fn write_signal(signal: Signal, text: &mut String) -> Result<(), AllocError> {
     match signal {
@@ -102,178 +89,161 @@ fn write(statement: &Statement, text: &mut String) -> Result<(), AllocError> {
     }
 }
 
-fn declare(interface: &mut Interface, name: &str, kind: Kind) -> Result<(), Fail> {
-    let Some(name) = Identifier::from_text(name) else {
-        return Err(Fail::from("no identifier"));
-    };
-    if interface.len() >= MOST_SIGNALS || interface.has(&name) {
-        return Err(Fail::from("no room for the name"));
+/// The kernel statement of a flat module, written out, or why it has none.
+fn reduced(rt: &impl Abort, alloc: Global, flat: &Flat) -> String {
+    match reduce(alloc, flat) {
+        Ok(kernel) => {
+            let mut text = String::new(alloc);
+            write(kernel.root(), &mut text).expect(rt, "room");
+            text
+        }
+        Err(fault) => format!(in alloc; "{fault:?}").expect(rt, "room"),
     }
-    Ok(interface.declare(Declaration { name, kind })?)
 }
 
 /// The flat module of a body.
-fn flat_of(alloc: Global, body: Body) -> Result<Flat, Fail> {
-    let mut interface = Interface::new(alloc);
-    declare(&mut interface, "S", Kind::Input)?;
-    declare(&mut interface, "O", Kind::Output)?;
-    if !is_bound(&interface, &body) {
-        return Err(Fail::from("a name that is not bound"));
-    }
-    Ok(Flat {
-        interface,
-        relations: Relations::new(alloc),
-        body,
-    })
+fn flat_of(rt: &impl Abort, alloc: Global, body: &str) -> Flat {
+    let text = format!(in alloc; "module M: input S; output O; {body} end module");
+    let text = text.expect(rt, "room");
+    let tokens = lex(alloc, text.as_str()).expect(rt, "tokens");
+    let library = parse(alloc, &tokens).expect(rt, "a library");
+    link(alloc, &library, "M").ok().expect(rt, "a flat module")
 }
 
-/// The body is this statement in the kernel.
-fn is(alloc: Global, body: Body, written: &str) -> Result<(), Fail> {
-    let flat = flat_of(alloc, body)?;
-    let Ok(kernel) = reduce(alloc, &flat) else {
-        return Err(Fail::from(format!(in alloc; "no kernel: {written}")?));
-    };
-    let mut text = String::new(alloc);
-    write(kernel.root(), &mut text)?;
-    if text.as_str() == written {
-        Ok(())
-    } else {
-        Err(Fail::from(format!(in alloc; "{text} in place of {written}")?))
+/// Fails where a body of a table is reduced to something else.
+fn expect_reduced(rt: &impl Abort, alloc: Global, rows: &[(&str, &str)]) {
+    for (body, written) in rows {
+        let flat = flat_of(rt, alloc, body);
+        let found = reduced(rt, alloc, &flat);
+        expect_told(rt, found.as_str(), written, body);
     }
 }
 
-/// `emit O`, as a part.
-fn emitting(alloc: Global) -> Result<Box<Body>, AllocError> {
-    Ok(Box::new(alloc, Body::Emit(O))?)
-}
-
-/// `exit T`, as a part, T being the innermost trap of the text.
-fn leaving(alloc: Global) -> Result<Box<Body>, AllocError> {
-    Ok(Box::new(alloc, Body::Exit(0))?)
-}
-
-#[test]
-fn waits(rt: HostRuntime) -> Result<(), Fail> {
-    let alloc = rt.alloc();
-    is(alloc, Body::Halt, "loop pause end")?;
-    is(alloc, Body::Sustain(O), "loop [emit O; pause] end")?;
-    is(
-        alloc,
-        Body::Await(LATER),
+const WAITS: [(&str, &str); 7] = [
+    ("halt", "loop pause end"),
+    ("sustain O", "loop [emit O; pause] end"),
+    (
+        "await S",
         "trap loop [pause; present S then exit 0 else nothing end] end end",
-    )?;
-    is(
-        alloc,
-        Body::Await(AT_ONCE),
+    ),
+    (
+        "await immediate S",
         "trap loop [present S then exit 0 else nothing end; pause] end end",
-    )?;
-    is(
-        alloc,
-        Body::Suspend(LATER, emitting(alloc)?),
-        "suspend emit O when S",
-    )?;
-    is(
-        alloc,
-        Body::Suspend(AT_ONCE, emitting(alloc)?),
+    ),
+    ("suspend emit O when S", "suspend emit O when S"),
+    (
+        "suspend emit O when immediate S",
         "suspend [present S then pause else nothing end; emit O] when S",
-    )?;
-    let inner = Box::new(alloc, Body::Emit(BoundSignal::Inner(1)))?;
-    is(
-        alloc,
-        Body::Signal(2, inner),
+    ),
+    (
+        "signal A, B in emit B end",
         "signal A in signal B in emit B end end",
-    )
-}
+    ),
+];
 
 #[test]
-fn aborts(rt: HostRuntime) -> Result<(), Fail> {
-    let alloc = rt.alloc();
-    is(
-        alloc,
-        Body::Abort(LATER, emitting(alloc)?),
+fn waits(rt: HostRuntime) {
+    expect_reduced(&rt, rt.alloc(), &WAITS);
+}
+
+const ABORTS: [(&str, &str); 4] = [
+    (
+        "abort emit O when S",
         "trap [[suspend emit O when S; exit 0] || \
          loop [pause; present S then exit 0 else nothing end] end] end",
-    )?;
-    is(
-        alloc,
-        Body::Abort(AT_ONCE, emitting(alloc)?),
+    ),
+    (
+        "abort emit O when immediate S",
         "present S then nothing else trap [[suspend emit O when S; exit 0] || \
          loop [pause; present S then exit 0 else nothing end] end] end end",
-    )?;
-    is(
-        alloc,
-        Body::WeakAbort(LATER, emitting(alloc)?),
+    ),
+    (
+        "weak abort emit O when S",
         "trap [[emit O; exit 0] || loop [pause; present S then exit 0 else nothing end] end] end",
-    )?;
-    is(
-        alloc,
-        Body::WeakAbort(AT_ONCE, emitting(alloc)?),
+    ),
+    (
+        "weak abort emit O when immediate S",
         "trap [[emit O; exit 0] || loop [present S then exit 0 else nothing end; pause] end] end",
-    )
-}
+    ),
+];
 
 #[test]
-fn exits_pass_fresh_traps(rt: HostRuntime) -> Result<(), Fail> {
-    let alloc = rt.alloc();
-    let abort = Box::new(alloc, Body::Abort(LATER, leaving(alloc)?))?;
-    is(
-        alloc,
-        Body::Trap(abort),
+fn aborts(rt: HostRuntime) {
+    expect_reduced(&rt, rt.alloc(), &ABORTS);
+}
+
+/// An exit out of an abort, and one out of a trap inside it.
+const EXITS: [(&str, &str); 2] = [
+    (
+        "trap T in abort exit T when S end",
         "trap trap [[suspend exit 1 when S; exit 0] || \
          loop [pause; present S then exit 0 else nothing end] end] end end",
-    )?;
-    let own = Box::new(alloc, Body::Trap(leaving(alloc)?))?;
-    is(
-        alloc,
-        Body::WeakAbort(LATER, own),
+    ),
+    (
+        "weak abort trap T in exit T end when S",
         "trap [[trap exit 0 end; exit 0] || \
          loop [pause; present S then exit 0 else nothing end] end] end",
-    )
-}
+    ),
+];
 
 #[test]
-fn repetitions(rt: HostRuntime) -> Result<(), Fail> {
-    let alloc = rt.alloc();
-    is(
-        alloc,
-        Body::LoopEach(S, emitting(alloc)?),
+fn exits_pass_fresh_traps(rt: HostRuntime) {
+    expect_reduced(&rt, rt.alloc(), &EXITS);
+}
+
+const REPETITIONS: [(&str, &str); 3] = [
+    (
+        "loop emit O each S",
         "loop trap [[suspend [emit O; loop pause end] when S; exit 0] || \
          loop [pause; present S then exit 0 else nothing end] end] end end",
-    )?;
-    is(
-        alloc,
-        Body::Every(LATER, emitting(alloc)?),
+    ),
+    (
+        "every S do emit O end",
         "[trap loop [pause; present S then exit 0 else nothing end] end end; \
          loop trap [[suspend [emit O; loop pause end] when S; exit 0] || \
          loop [pause; present S then exit 0 else nothing end] end] end end]",
-    )?;
-    is(
-        alloc,
-        Body::Every(AT_ONCE, emitting(alloc)?),
+    ),
+    (
+        "every immediate S do emit O end",
         "[trap loop [present S then exit 0 else nothing end; pause] end end; \
          loop trap [[suspend [emit O; loop pause end] when S; exit 0] || \
          loop [pause; present S then exit 0 else nothing end] end] end end]",
-    )
-}
+    ),
+];
 
 #[test]
-fn faults(rt: HostRuntime) -> Result<(), Fail> {
+fn repetitions(rt: HostRuntime) {
+    expect_reduced(&rt, rt.alloc(), &REPETITIONS);
+}
+
+/// Loops whose body takes no time, always and where S isn't there, and more local signals than a kernel may have.
+const FAULTS: [(&str, &str); 3] = [
+    ("loop emit O end", "InstantLoop"),
+    ("loop present S then pause end end", "InstantLoop"),
+    (
+        "signal A, B, C, D, E, F, G in pause end",
+        "TooLarge(Locals)",
+    ),
+];
+
+#[test]
+fn faults(rt: HostRuntime) {
+    expect_reduced(&rt, rt.alloc(), &FAULTS);
+}
+
+/// A body of four thousand million names, which no text can have.
+#[test]
+fn so_many_names_are_never_built(rt: HostRuntime) {
     let alloc = rt.alloc();
-    let instant = Body::Loop(emitting(alloc)?);
-    assert_eq!(rt;
-        reduce(alloc, &flat_of(alloc, instant)?).err(),
-        Some(ReduceFault::InstantLoop)
-    );
-    let names = Box::new(alloc, Body::Pause)?;
-    assert_eq!(rt;
-        reduce(alloc, &flat_of(alloc, Body::Signal(4_000_000_000, names))?).err(),
-        Some(ReduceFault::TooLarge(Limit::Statements)),
-        "so many names are never built"
-    );
-    let names = Box::new(alloc, Body::Pause)?;
-    assert_eq!(rt;
-        reduce(alloc, &flat_of(alloc, Body::Signal(7, names))?).err(),
-        Some(ReduceFault::TooLarge(Limit::Locals))
-    );
-    Ok(())
+    let interface = Interface::new(alloc);
+    let pause = Box::new(alloc, Body::Pause).expect(&rt, "room");
+    let body = Body::Signal(4_000_000_000, pause);
+    assert!(rt; is_bound(&interface, &body));
+    let flat = Flat {
+        interface,
+        relations: Relations::new(alloc),
+        body,
+    };
+    let found = reduced(&rt, alloc, &flat);
+    expect_told(&rt, found.as_str(), "TooLarge(Statements)", "so many names");
 }

@@ -5,10 +5,9 @@ mod prefixes;
 mod trees;
 
 use est_syntax::parse::{ParseFault, parse};
-use est_syntax::tree::Library;
 use est_text::lex::{LexFault, lex};
 use std::alloc::Global;
-use std::test::Fail;
+use std::process::Abort;
 
 /// What the reader answers to a text. A fault has its line and its column.
 #[derive(Clone, Copy, PartialEq, Eq, Debug)]
@@ -24,46 +23,35 @@ const KEYWORDS: &str =
     "module end input output inputoutput relation nothing pause halt emit sustain present then else \
     suspend when immediate loop each every do await abort weak trap in exit signal run and or not";
 
-/// The text of a module round a body.
-fn module_of(alloc: Global, body: &str) -> Result<String, Fail> {
-    Ok(format!(in alloc; "module M: {body} end module")?)
+/// The text of a module around a body.
+fn module_of(rt: &impl Abort, alloc: Global, body: &str) -> String {
+    format!(in alloc; "module M: {body} end module").expect(rt, "room")
 }
 
-/// The library of a text.
-fn library_of(alloc: Global, text: &str) -> Result<Library, Fail> {
-    let tokens = lex(alloc, text)?;
-    Ok(parse(alloc, &tokens)?)
-}
-
-/// The answer to a text, where there is memory.
-fn answer_of(alloc: Global, text: &str) -> Result<Answer, Fail> {
+/// The answer to a text.
+fn answer_of(rt: &impl Abort, alloc: Global, text: &str) -> Answer {
     let tokens = match lex(alloc, text) {
         Ok(tokens) => tokens,
-        Err(LexFault::Lexical(place)) => return Ok(Answer::Lexical(place.line, place.column)),
-        Err(LexFault::Memory) => return Err(Fail::from("no memory")),
+        Err(LexFault::Lexical(place)) => return Answer::Lexical(place.line, place.column),
+        Err(LexFault::Memory) => return None.expect(rt, "room"),
     };
     match parse(alloc, &tokens) {
-        Ok(_) => Ok(Answer::Accepted),
-        Err(ParseFault::Syntax(place)) => Ok(Answer::Syntax(place.line, place.column)),
-        Err(ParseFault::TooLarge(place)) => Ok(Answer::TooLarge(place.line, place.column)),
-        Err(ParseFault::Memory) => Err(Fail::from("no memory")),
+        Ok(_) => Answer::Accepted,
+        Err(ParseFault::Syntax(place)) => Answer::Syntax(place.line, place.column),
+        Err(ParseFault::TooLarge(place)) => Answer::TooLarge(place.line, place.column),
+        Err(ParseFault::Memory) => None.expect(rt, "room"),
     }
 }
 
 /// Fails where a text has another answer.
-fn expect_answer(alloc: Global, text: &str, answer: Answer) -> Result<(), Fail> {
-    let found = answer_of(alloc, text)?;
-    if found == answer {
-        return Ok(());
-    }
-    Err(Fail::from(format!(in alloc; "{found:?} in place of {answer:?}: {text}")?))
+fn expect_answer(rt: &impl Abort, alloc: Global, text: &str, answer: Answer) {
+    assert_eq!(rt; answer_of(rt, alloc, text), answer, "{text}");
 }
 
 /// Fails where a text of a table has another answer. The same begin stands before each.
-fn expect_answers(alloc: Global, begin: &str, rows: &[(&str, Answer)]) -> Result<(), Fail> {
+fn expect_answers(rt: &impl Abort, alloc: Global, begin: &str, rows: &[(&str, Answer)]) {
     for (end, answer) in rows {
-        let text = format!(in alloc; "{begin}{end}")?;
-        expect_answer(alloc, text.as_str(), *answer)?;
+        let text = format!(in alloc; "{begin}{end}").expect(rt, "room");
+        expect_answer(rt, alloc, text.as_str(), *answer);
     }
-    Ok(())
 }

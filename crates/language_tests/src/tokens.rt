@@ -1,64 +1,48 @@
 //! Texts, their tokens and their faults.
+use crate::told::{expect_holds, expect_told};
 use est_text::identifier::Identifier;
-use est_text::keyword::Keyword;
 use est_text::lex::{LexFault, lex};
 use est_text::place::Place;
-use est_text::token::{Symbol, Token};
+use est_text::token::{Located, Token};
 use est_text::tokens::Tokens;
 use std::alloc::Global;
 use std::process::Abort;
-use std::test::Fail;
 
-const KEYWORD_TEXT: &str =
-    "module end input output inputoutput relation nothing pause halt emit sustain present then else suspend when immediate loop each every do await abort weak trap in exit signal run and or not";
-
-const KEYWORDS: [Keyword; 32] = [
-    Keyword::Module,
-    Keyword::End,
-    Keyword::Input,
-    Keyword::Output,
-    Keyword::Inputoutput,
-    Keyword::Relation,
-    Keyword::Nothing,
-    Keyword::Pause,
-    Keyword::Halt,
-    Keyword::Emit,
-    Keyword::Sustain,
-    Keyword::Present,
-    Keyword::Then,
-    Keyword::Else,
-    Keyword::Suspend,
-    Keyword::When,
-    Keyword::Immediate,
-    Keyword::Loop,
-    Keyword::Each,
-    Keyword::Every,
-    Keyword::Do,
-    Keyword::Await,
-    Keyword::Abort,
-    Keyword::Weak,
-    Keyword::Trap,
-    Keyword::In,
-    Keyword::Exit,
-    Keyword::Signal,
-    Keyword::Run,
-    Keyword::And,
-    Keyword::Or,
-    Keyword::Not,
+/// Texts, and the values of their tokens.
+const VALUES: [(&str, &str); 3] = [
+    (
+        "module end input output inputoutput relation nothing pause halt emit sustain present then else suspend when \
+         immediate loop each every do await abort weak trap in exit signal run and or not",
+        "Module End Input Output Inputoutput Relation Nothing Pause Halt Emit Sustain Present Then Else Suspend When \
+         Immediate Loop Each Every Do Await Abort Weak Trap In Exit Signal Run And Or Not",
+    ),
+    (
+        ":;,/[]()||#=>",
+        "Colon Semicolon Comma Slash OpenBracket CloseBracket OpenParenthesis CloseParenthesis Parallel Hash Implies",
+    ),
+    (
+        "run Run\n\truns=>end1 %x\nend",
+        "Run Identifier Identifier Implies Identifier End",
+    ),
 ];
 
-const SYMBOLS: [Symbol; 11] = [
-    Symbol::Colon,
-    Symbol::Semicolon,
-    Symbol::Comma,
-    Symbol::Slash,
-    Symbol::OpenBracket,
-    Symbol::CloseBracket,
-    Symbol::OpenParenthesis,
-    Symbol::CloseParenthesis,
-    Symbol::Parallel,
-    Symbol::Hash,
-    Symbol::Implies,
+/// Texts, and line, column and slice of each of their tokens.
+const SLICES: [(&str, &str); 1] = [(
+    "run Run\n\truns=>end1 %x\nend",
+    "1:1 run, 1:5 Run, 2:2 runs, 2:6 =>, 2:8 end1, 3:1 end",
+)];
+
+/// Texts, and whether each is an identifier.
+const NAMES: [(&str, bool); 9] = [
+    ("A_1z", true),
+    ("", false),
+    ("1A", false),
+    ("_A", false),
+    ("A-B", false),
+    ("A.B", false),
+    ("\u{e4}", false),
+    ("abcdefghijklmnopqrstuvwxyzabcdefghijklmnopqrstuv", true),
+    ("abcdefghijklmnopqrstuvwxyzabcdefghijklmnopqrstuvw", false),
 ];
 
 /// An identifier of 48 bytes, the longest.
@@ -146,96 +130,149 @@ const FAULTS: [(&str, u64, u64); 32] = [
 /// The printable characters with which no token, blank or comment begins.
 const OTHERS: &str = "! \" $ & \' * + - . 0 1 2 3 4 5 6 7 8 9 < = > ? @ \\ ^ _ ` { | } ~";
 
-fn fault_of(alloc: Global, text: &str) -> Option<LexFault> {
-    lex(alloc, text).err()
-}
-
-/// Whether the token of this number is this one, and its text the other.
-fn stands(tokens: &Tokens<'_>, index: usize, token: Token, text: &str) -> bool {
-    match tokens.get(index) {
-        Some(located) => located.token == token && tokens.text(index) == Some(text.as_bytes()),
-        None => false,
+/// Fails where one of these texts is an identifier and shouldn't be, or the other way round.
+fn expect_names(rt: &impl Abort, rows: &[(&str, bool)]) {
+    for (text, is_name) in rows {
+        let holds = match Identifier::from_text(text) {
+            Some(name) => {
+                *is_name && name.as_str() == *text && name.as_bytes().len() == text.len()
+            }
+            None => !*is_name,
+        };
+        expect_holds(rt, holds, text);
     }
-}
-
-fn named(rt: &impl Abort, text: &str) -> Identifier {
-    Identifier::from_text(text).expect(rt, "an identifier")
 }
 
 #[test]
 fn identifiers(rt: HostRuntime) {
-    assert_eq!(rt; named(&rt, "A_1z").as_str(), "A_1z");
-    for text in ["", "1A", "_A", "A-B", "A.B", "\u{e4}"] {
-        assert_eq!(rt; Identifier::from_text(text), None, "{text}");
+    expect_names(&rt, &NAMES);
+}
+
+/// Adds the value of a token to a list of them.
+fn add_value(rt: &impl Abort, alloc: Global, values: &mut String, located: &Located) {
+    let value = match located.token {
+        Token::Keyword(keyword) => format!(in alloc; "{keyword:?}"),
+        Token::Symbol(symbol) => format!(in alloc; "{symbol:?}"),
+        Token::Identifier(_) => format!(in alloc; "Identifier"),
+    };
+    if !values.is_empty() {
+        values.push_str(" ").expect(rt, "room");
     }
-    let longest = "abcdefghijklmnopqrstuvwxyzabcdefghijklmnopqrstuv";
-    assert_eq!(rt; named(&rt, longest).as_bytes().len(), 48);
-    assert_eq!(rt;
-        Identifier::from_text("abcdefghijklmnopqrstuvwxyzabcdefghijklmnopqrstuvw"),
-        None
-    );
+    values
+        .push_str(value.expect(rt, "room").as_str())
+        .expect(rt, "room");
+}
+
+/// The values of a text's tokens, with blanks between them.
+fn values_of(rt: &impl Abort, alloc: Global, text: &str) -> String {
+    let tokens = lex(alloc, text).expect(rt, "tokens");
+    let mut values = String::new(alloc);
+    for located in tokens.as_slice() {
+        add_value(rt, alloc, &mut values, located);
+    }
+    values
+}
+
+/// Fails where a text has other tokens.
+fn expect_values(rt: &impl Abort, alloc: Global, rows: &[(&str, &str)]) {
+    for (text, values) in rows {
+        let found = values_of(rt, alloc, text);
+        expect_told(rt, found.as_str(), values, text);
+    }
 }
 
 #[test]
-fn each_keyword_is_read(rt: HostRuntime) -> Result<(), Fail> {
-    let tokens = lex(rt.alloc(), KEYWORD_TEXT)?;
-    assert_eq!(rt; tokens.as_slice().len(), KEYWORDS.len());
-    for (located, keyword) in tokens.as_slice().iter().zip(KEYWORDS.iter()) {
-        assert_eq!(rt; located.token, Token::Keyword(*keyword));
+fn each_keyword_and_symbol_is_read(rt: HostRuntime) {
+    expect_values(&rt, rt.alloc(), &VALUES);
+}
+
+/// Fails where a text has another number of tokens, or another place just after them.
+fn expect_counts(rt: &impl Abort, alloc: Global, rows: &[(&str, usize, u64, u64)]) {
+    for (text, count, line, column) in rows {
+        let tokens = lex(alloc, text).expect(rt, "tokens");
+        let end = Place {
+            line: *line,
+            column: *column,
+        };
+        let holds = tokens.as_slice().len() == *count
+            && tokens.end() == end
+            && tokens.place(*count) == end;
+        expect_holds(rt, holds, text);
     }
-    Ok(())
 }
 
 #[test]
-fn each_symbol_is_read(rt: HostRuntime) -> Result<(), Fail> {
-    let tokens = lex(rt.alloc(), ":;,/[]()||#=>")?;
-    assert_eq!(rt; tokens.as_slice().len(), SYMBOLS.len());
-    for (located, symbol) in tokens.as_slice().iter().zip(SYMBOLS.iter()) {
-        assert_eq!(rt; located.token, Token::Symbol(*symbol));
+fn tokens_are_counted_and_placed(rt: HostRuntime) {
+    expect_counts(&rt, rt.alloc(), &COUNTED);
+}
+
+/// Adds place and slice of the token of this number to a list of them.
+fn add_slice(
+    rt: &impl Abort,
+    alloc: Global,
+    slices: &mut String,
+    tokens: &Tokens<'_>,
+    index: usize,
+) {
+    let place = tokens.place(index);
+    let bytes = tokens.text(index).expect(rt, "a token");
+    let slice = str::from_utf8(bytes).ok().expect(rt, "characters");
+    let separator = if index == 0 { "" } else { ", " };
+    let part = format!(in alloc; "{separator}{}:{} {slice}", place.line, place.column);
+    slices
+        .push_str(part.expect(rt, "room").as_str())
+        .expect(rt, "room");
+}
+
+/// Places and slices of a text's tokens, with commas between them. There is no token behind the last.
+fn slices_of(rt: &impl Abort, alloc: Global, text: &str) -> String {
+    let tokens = lex(alloc, text).expect(rt, "tokens");
+    let count = tokens.as_slice().len();
+    let mut slices = String::new(alloc);
+    for index in 0..count {
+        add_slice(rt, alloc, &mut slices, &tokens, index);
     }
-    Ok(())
+    let ends = tokens.get(count).is_none() && tokens.text(count).is_none();
+    expect_holds(rt, ends && tokens.source() == text, text);
+    slices
+}
+
+/// Fails where the tokens of a text lie elsewhere.
+fn expect_slices(rt: &impl Abort, alloc: Global, rows: &[(&str, &str)]) {
+    for (text, slices) in rows {
+        let found = slices_of(rt, alloc, text);
+        expect_told(rt, found.as_str(), slices, text);
+    }
 }
 
 #[test]
-fn tokens_are_counted_and_placed(rt: HostRuntime) -> Result<(), Fail> {
-    for (text, count, line, column) in COUNTED {
-        let tokens = lex(rt.alloc(), text)?;
-        let end = Place { line, column };
-        assert_eq!(rt; tokens.as_slice().len(), count, "{text}");
-        assert_eq!(rt; tokens.end(), end, "{text}");
-        assert_eq!(rt; tokens.place(count), end, "{text}");
+fn texts_are_slices(rt: HostRuntime) {
+    expect_slices(&rt, rt.alloc(), &SLICES);
+}
+
+/// Fails where the first fault of a text is not at this place.
+fn expect_fault(rt: &impl Abort, alloc: Global, text: &str, line: u64, column: u64) {
+    let fault = Some(LexFault::Lexical(Place { line, column }));
+    expect_holds(rt, lex(alloc, text).err() == fault, text);
+}
+
+/// Fails where the first fault of a text of a table is at another place.
+fn expect_faults(rt: &impl Abort, alloc: Global, rows: &[(&str, u64, u64)]) {
+    for (text, line, column) in rows {
+        expect_fault(rt, alloc, text, *line, *column);
     }
-    Ok(())
+}
+
+/// Fails where one of these characters, which have blanks between them, begins a token.
+fn expect_no_tokens(rt: &impl Abort, alloc: Global, characters: &str) {
+    for other in characters.split(' ') {
+        let text = format!(in alloc; "a;\nb;{other}").expect(rt, "room");
+        expect_fault(rt, alloc, text.as_str(), 2, 3);
+    }
 }
 
 #[test]
-fn texts_are_slices(rt: HostRuntime) -> Result<(), Fail> {
-    let tokens = lex(rt.alloc(), "run Run\n\truns=>end1 %x\nend")?;
-    assert_eq!(rt; tokens.source().len(), 26);
-    assert!(rt; stands(&tokens, 0, Token::Keyword(Keyword::Run), "run"));
-    assert_eq!(rt; tokens.text(1), Some("Run".as_bytes()));
-    assert_eq!(rt; tokens.text(2), Some("runs".as_bytes()));
-    assert!(rt; stands(&tokens, 3, Token::Symbol(Symbol::Implies), "=>"));
-    assert_eq!(rt; tokens.text(4), Some("end1".as_bytes()));
-    assert!(rt; stands(&tokens, 5, Token::Keyword(Keyword::End), "end"));
-    assert_eq!(rt; tokens.text(6), None);
-    assert_eq!(rt; tokens.place(2), Place { line: 2, column: 2 });
-    assert_eq!(rt; tokens.place(5), Place { line: 3, column: 1 });
-    Ok(())
-}
-
-#[test]
-fn first_faults_are_placed(rt: HostRuntime) -> Result<(), Fail> {
-    for (text, line, column) in FAULTS {
-        let fault = Some(LexFault::Lexical(Place { line, column }));
-        assert_eq!(rt; fault_of(rt.alloc(), text), fault, "{text}");
-    }
-    for other in OTHERS.split(' ') {
-        let fault = Some(LexFault::Lexical(Place { line: 2, column: 3 }));
-        let mut text = String::new(rt.alloc());
-        text.push_str("a;\nb;")?;
-        text.push_str(other)?;
-        assert_eq!(rt; fault_of(rt.alloc(), text.as_str()), fault, "{text}");
-    }
-    Ok(())
+fn first_faults_are_placed(rt: HostRuntime) {
+    expect_faults(&rt, rt.alloc(), &FAULTS);
+    expect_no_tokens(&rt, rt.alloc(), OTHERS);
 }

@@ -10,3 +10,5 @@ mod derived;
 mod loads;
 #[cfg(test)]
 mod programs;
+#[cfg(test)]
+mod reactions;

@@ -1,7 +1,8 @@
 //! Faults of texts, by line and column.
 use super::Answer::{self, Accepted, Lexical, Syntax};
 use super::{KEYWORDS, expect_answer, expect_answers};
-use std::test::Fail;
+use std::alloc::Global;
+use std::process::Abort;
 
 /// What the documents show: one fault of each kind, and the forms that are easily mistaken for Esterel's.
 const WORKED: [(&str, Answer); 10] = [
@@ -166,22 +167,26 @@ const LEXICAL: [(&str, Answer); 7] = [
 ];
 
 #[test]
-fn first_faults_are_placed(rt: HostRuntime) -> Result<(), Fail> {
-    expect_answers(rt.alloc(), "", &WORKED)?;
-    expect_answers(rt.alloc(), "", &SHORT)?;
-    expect_answers(rt.alloc(), "", &MODULES)?;
-    expect_answers(rt.alloc(), "module M: ", &STATEMENTS)?;
-    expect_answers(rt.alloc(), "", &LEXICAL)
+fn first_faults_are_placed(rt: HostRuntime) {
+    let alloc = rt.alloc();
+    expect_answers(&rt, alloc, "", &WORKED);
+    expect_answers(&rt, alloc, "", &SHORT);
+    expect_answers(&rt, alloc, "", &MODULES);
+    expect_answers(&rt, alloc, "module M: ", &STATEMENTS);
+    expect_answers(&rt, alloc, "", &LEXICAL);
 }
 
-/// `emit` of each keyword, and of a name that only begins like one.
+/// Fails where `emit` of a keyword is taken, or one of a name that only begins like it is not.
+fn expect_no_name(rt: &impl Abort, alloc: Global, keyword: &str) {
+    let text = format!(in alloc; "module M: emit {keyword} end module").expect(rt, "room");
+    expect_answer(rt, alloc, text.as_str(), Syntax(1, 16));
+    let text = format!(in alloc; "module M: emit {keyword}_ end module").expect(rt, "room");
+    expect_answer(rt, alloc, text.as_str(), Accepted);
+}
+
 #[test]
-fn a_keyword_is_no_name(rt: HostRuntime) -> Result<(), Fail> {
+fn a_keyword_is_no_name(rt: HostRuntime) {
     for keyword in KEYWORDS.split(' ') {
-        let text = format!(in rt.alloc(); "module M: emit {keyword} end module")?;
-        expect_answer(rt.alloc(), text.as_str(), Syntax(1, 16))?;
-        let text = format!(in rt.alloc(); "module M: emit {keyword}_ end module")?;
-        expect_answer(rt.alloc(), text.as_str(), Accepted)?;
+        expect_no_name(&rt, rt.alloc(), keyword);
     }
-    Ok(())
 }

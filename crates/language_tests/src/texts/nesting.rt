@@ -2,7 +2,7 @@
 use super::Answer::{self, Accepted, Lexical, Syntax, TooLarge};
 use super::{expect_answer, module_of};
 use std::alloc::Global;
-use std::test::Fail;
+use std::process::Abort;
 
 /// What begins a unit that is open at once with those in it, and what ends it.
 const NESTS: [(&str, &str); 24] = [
@@ -34,50 +34,54 @@ const NESTS: [(&str, &str); 24] = [
 
 /// So many units in one another, of all kinds in turn, from this one on, in a module; and the column of the token that opens
 /// the last of them.
-fn mixed(alloc: Global, first: usize, depth: usize) -> Result<(String, u64), Fail> {
+fn mixed(rt: &impl Abort, alloc: Global, first: usize, depth: usize) -> (String, u64) {
     let mut text = String::new(alloc);
     let mut closes = String::new(alloc);
     let mut column = 1;
-    text.push_str("module M: ")?;
+    text.push_str("module M: ").expect(rt, "room");
     for (open, close) in NESTS.iter().cycle().skip(first).take(depth) {
         column = (text.len() as u64).saturating_add(1);
-        text.push_str(open)?;
-        closes.insert_str(0, close)?;
+        text.push_str(open).expect(rt, "room");
+        closes.insert_str(0, close).expect(rt, "room");
     }
-    text.push_str("pause")?;
-    text.push_str(closes.as_str())?;
-    text.push_str(" end module")?;
-    Ok((text, column))
+    text.push_str("pause").expect(rt, "room");
+    text.push_str(closes.as_str()).expect(rt, "room");
+    text.push_str(" end module").expect(rt, "room");
+    (text, column)
 }
 
 /// So many units of one kind in one another, in a module.
-fn alike(alloc: Global, open: &str, close: &str, depth: usize) -> Result<String, Fail> {
-    let opens = open.repeat(alloc, depth)?;
-    let closes = close.repeat(alloc, depth)?;
-    Ok(format!(in alloc; "module M: {opens}pause{closes} end module")?)
+fn alike(rt: &impl Abort, alloc: Global, open: &str, close: &str, depth: usize) -> String {
+    let opens = open.repeat(alloc, depth).expect(rt, "room");
+    let closes = close.repeat(alloc, depth).expect(rt, "room");
+    format!(in alloc; "module M: {opens}pause{closes} end module").expect(rt, "room")
 }
 
-#[test]
-fn units_of_a_kind_are_counted(rt: HostRuntime) -> Result<(), Fail> {
-    for (open, close) in NESTS {
-        let text = alike(rt.alloc(), open, close, 128)?;
-        expect_answer(rt.alloc(), text.as_str(), Accepted)?;
-        let text = alike(rt.alloc(), open, close, 129)?;
+/// Fails unless 128 units of each of these kinds are taken, and the last of 129 is one too many.
+fn expect_alike(rt: &impl Abort, alloc: Global, nests: &[(&str, &str)]) {
+    for (open, close) in nests {
+        let text = alike(rt, alloc, open, close, 128);
+        expect_answer(rt, alloc, text.as_str(), Accepted);
+        let text = alike(rt, alloc, open, close, 129);
         let column = (open.len() as u64).saturating_mul(128).saturating_add(11);
-        expect_answer(rt.alloc(), text.as_str(), TooLarge(1, column))?;
+        expect_answer(rt, alloc, text.as_str(), TooLarge(1, column));
     }
-    Ok(())
 }
 
 #[test]
-fn mixed_units_are_counted(rt: HostRuntime) -> Result<(), Fail> {
+fn units_of_a_kind_are_counted(rt: HostRuntime) {
+    expect_alike(&rt, rt.alloc(), &NESTS);
+}
+
+#[test]
+fn mixed_units_are_counted(rt: HostRuntime) {
+    let alloc = rt.alloc();
     for first in 0..NESTS.len() {
-        let (text, _) = mixed(rt.alloc(), first, 128)?;
-        expect_answer(rt.alloc(), text.as_str(), Accepted)?;
-        let (text, column) = mixed(rt.alloc(), first, 129)?;
-        expect_answer(rt.alloc(), text.as_str(), TooLarge(1, column))?;
+        let (text, _) = mixed(&rt, alloc, first, 128);
+        expect_answer(&rt, alloc, text.as_str(), Accepted);
+        let (text, column) = mixed(&rt, alloc, first, 129);
+        expect_answer(&rt, alloc, text.as_str(), TooLarge(1, column));
     }
-    Ok(())
 }
 
 /// So many `[` and then an end, what the reader answers, and what the row shows.
@@ -98,14 +102,20 @@ const GROUPS: [(usize, &str, Answer); 9] = [
     (128, "weak loop", TooLarge(1, 139)),
 ];
 
-#[test]
-fn open_units_are_counted(rt: HostRuntime) -> Result<(), Fail> {
-    for (count, end, answer) in GROUPS {
-        let groups = "[".repeat(rt.alloc(), count)?;
-        let text = format!(in rt.alloc(); "module M: {groups}{end}")?;
-        expect_answer(rt.alloc(), text.as_str(), answer)?;
+/// Fails where so many `[` and an end have another answer.
+fn expect_groups(rt: &impl Abort, alloc: Global, rows: &[(usize, &str, Answer)]) {
+    for (count, end, answer) in rows {
+        let groups = "[".repeat(alloc, *count).expect(rt, "room");
+        let text = format!(in alloc; "module M: {groups}{end}").expect(rt, "room");
+        expect_answer(rt, alloc, text.as_str(), *answer);
     }
-    let body = "[pause]; ".repeat(rt.alloc(), 300)?;
-    let text = module_of(rt.alloc(), body.as_str())?;
-    expect_answer(rt.alloc(), text.as_str(), Accepted)
+}
+
+#[test]
+fn open_units_are_counted(rt: HostRuntime) {
+    let alloc = rt.alloc();
+    expect_groups(&rt, alloc, &GROUPS);
+    let body = "[pause]; ".repeat(alloc, 300).expect(&rt, "room");
+    let text = module_of(&rt, alloc, body.as_str());
+    expect_answer(&rt, alloc, text.as_str(), Accepted);
 }

@@ -5,7 +5,7 @@ use est_text::keyword::Keyword;
 use est_text::lex::lex;
 use est_text::token::{Located, Token};
 use est_text::tokens::Tokens;
-use std::test::Fail;
+use std::process::Abort;
 
 /// A module with each declaration and each statement, with and without the words that may be left out: what stands
 /// before a comment over lines, the comment, and what stands behind it. Neither has another comment with two ends, and
@@ -97,35 +97,36 @@ fn cut_token(whole: &Tokens<'_>, count: usize) -> Option<Located> {
 /// - in a word, another word is left. Where the whole word is a name, or the `immediate` before one, a name may stand:
 ///   the text ends too early, unless the word that is left is a keyword. Else that word is the fault;
 /// - behind a token, and in a blank or a comment to the end of its line, the text ends too early.
-fn expected(whole: &Tokens<'_>, front: &str) -> Result<Answer, Fail> {
+fn expected(rt: &impl Abort, whole: &Tokens<'_>, front: &str) -> Answer {
     if ends_in_comment(front) {
-        return Ok(lexical(HEAD));
+        return lexical(HEAD);
     }
     let Some(cut) = cut_token(whole, front.len()) else {
-        return Ok(syntax(front));
+        return syntax(front);
     };
-    let before = front.get(..cut.span.start).ok_or("no front")?;
-    let left = front.get(cut.span.start..).ok_or("no word")?;
+    let before = front.get(..cut.span.start).expect(rt, "a front");
+    let left = front.get(cut.span.start..).expect(rt, "a word");
     let name = match cut.token {
-        Token::Symbol(_) => return Ok(lexical(before)),
+        Token::Symbol(_) => return lexical(before),
         Token::Keyword(keyword) => keyword == Keyword::Immediate,
         Token::Identifier(_) => true,
     };
     if name && KEYWORDS.split(' ').all(|keyword| keyword != left) {
-        Ok(syntax(front))
+        syntax(front)
     } else {
-        Ok(syntax(before))
+        syntax(before)
     }
 }
 
 #[test]
-fn each_proper_front_has_a_fault(rt: HostRuntime) -> Result<(), Fail> {
-    let text = format!(in rt.alloc(); "{HEAD}{COMMENT}{TAIL}")?;
-    let whole = lex(rt.alloc(), text.as_str())?;
+fn each_proper_front_has_a_fault(rt: HostRuntime) {
+    let alloc = rt.alloc();
+    let text = format!(in alloc; "{HEAD}{COMMENT}{TAIL}").expect(&rt, "room");
+    let whole = lex(alloc, text.as_str()).expect(&rt, "tokens");
     for count in 0..text.len() {
-        let front = text.get(..count).ok_or("no front")?;
-        let answer = expected(&whole, front)?;
-        expect_answer(rt.alloc(), front, answer)?;
+        let front = text.get(..count).expect(&rt, "a front");
+        let answer = expected(&rt, &whole, front);
+        expect_answer(&rt, alloc, front, answer);
     }
-    expect_answer(rt.alloc(), text.as_str(), Accepted)
+    expect_answer(&rt, alloc, text.as_str(), Accepted);
 }

@@ -1,9 +1,13 @@
 //! Texts and their trees.
 use super::Answer::Accepted;
-use super::{expect_answer, library_of, module_of};
-use est_syntax::tree::{Branches, Statement, Unit, WeakEnd};
+use super::{expect_answer, module_of};
+use crate::told::{expect_holds, expect_told};
+use est_syntax::parse::parse;
+use est_syntax::tree::{Branches, Library, Module, Renaming, Sequence, Unit, WeakEnd};
+use est_text::identifier::Identifier;
+use est_text::lex::lex;
 use std::alloc::Global;
-use std::test::Fail;
+use std::process::Abort;
 
 /// Bodies of modules: each form of the grammar, and `;` and `||` in each place where they may stand.
 const BODIES: [&str; 27] = [
@@ -49,16 +53,25 @@ const TEXTS: [&str; 9] = [
     "module M: pause end module\r\n%\r\nmodule N: input I; halt end module\r\n",
 ];
 
+/// Fails where a body isn't taken.
+fn expect_bodies(rt: &impl Abort, alloc: Global, bodies: &[&str]) {
+    for body in bodies {
+        let text = module_of(rt, alloc, body);
+        expect_answer(rt, alloc, text.as_str(), Accepted);
+    }
+}
+
+/// Fails where a text isn't taken.
+fn expect_texts(rt: &impl Abort, alloc: Global, texts: &[&str]) {
+    for text in texts {
+        expect_answer(rt, alloc, text, Accepted);
+    }
+}
+
 #[test]
-fn texts_are_taken(rt: HostRuntime) -> Result<(), Fail> {
-    for body in BODIES {
-        let text = module_of(rt.alloc(), body)?;
-        expect_answer(rt.alloc(), text.as_str(), Accepted)?;
-    }
-    for text in TEXTS {
-        expect_answer(rt.alloc(), text, Accepted)?;
-    }
-    Ok(())
+fn texts_are_taken(rt: HostRuntime) {
+    expect_bodies(&rt, rt.alloc(), &BODIES);
+    expect_texts(&rt, rt.alloc(), &TEXTS);
 }
 
 /// Units whose last words may be left out, and those words.
@@ -82,11 +95,6 @@ const CLOSINGS: [(&str, &str); 17] = [
     ("signal A, B in pause end", " signal"),
 ];
 
-/// The first unit of a statement.
-fn first_of(statement: &Statement) -> &Unit {
-    &statement.first.first
-}
-
 /// Whether the last words that may be left out are written.
 fn is_closed(unit: &Unit) -> bool {
     match unit {
@@ -100,72 +108,128 @@ fn is_closed(unit: &Unit) -> bool {
     }
 }
 
+/// The library of a text.
+fn library_of(rt: &impl Abort, alloc: Global, text: &str) -> Library {
+    let tokens = lex(alloc, text).expect(rt, "tokens");
+    parse(alloc, &tokens).expect(rt, "a library")
+}
+
 /// Whether the last words of the first unit of a body are written.
-fn is_body_closed(alloc: Global, body: &str) -> Result<bool, Fail> {
-    let text = module_of(alloc, body)?;
-    let library = library_of(alloc, text.as_str())?;
-    Ok(is_closed(first_of(&library.first.body)))
+fn is_body_closed(rt: &impl Abort, alloc: Global, body: &str) -> bool {
+    let text = module_of(rt, alloc, body);
+    let library = library_of(rt, alloc, text.as_str());
+    is_closed(&library.first.body.first.first)
 }
 
-#[test]
-fn last_words_are_kept(rt: HostRuntime) -> Result<(), Fail> {
-    for (unit, last) in CLOSINGS {
-        let whole = format!(in rt.alloc(); "{unit}{last}")?;
-        assert!(rt; !is_body_closed(rt.alloc(), unit)?, "{unit}");
-        assert!(rt; is_body_closed(rt.alloc(), whole.as_str())?, "{whole}");
-    }
-    Ok(())
-}
-
-#[test]
-fn lists_keep_their_order(rt: HostRuntime) -> Result<(), Fail> {
-    let library = library_of(
-        rt.alloc(),
-        "module M: input I, J; relation A # B # C; pause; halt; nothing; || nothing || pause; nothing end module module N: relation A # B; halt end module",
-    )?;
-    let body = &library.first.body;
-    assert_eq!(rt; library.first.name.as_str(), "M");
-    assert_eq!(rt; library.first.declarations.len(), 2);
-    assert!(rt; matches!(first_of(body), Unit::Pause));
-    assert!(rt; body.first.closed);
-    assert_eq!(rt; body.first.later.len(), 2);
-    assert!(rt; matches!(body.first.later[0], Unit::Halt));
-    assert!(rt; matches!(body.first.later[1], Unit::Nothing));
-    assert_eq!(rt; body.later.len(), 2);
-    assert!(rt; !body.later[0].closed);
-    assert!(rt; matches!(*body.later[0].first, Unit::Nothing));
-    assert!(rt; matches!(*body.later[1].first, Unit::Pause));
-    assert_eq!(rt; body.later[1].later.len(), 1);
-    assert_eq!(rt; library.later.len(), 1);
-    assert_eq!(rt; library.later[0].name.as_str(), "N");
-    Ok(())
-}
-
-#[test]
-fn renamings_keep_their_sides(rt: HostRuntime) -> Result<(), Fail> {
-    let library = library_of(rt.alloc(), "module M: run P [signal A/B, C/D] end module")?;
-    match first_of(&library.first.body) {
-        Unit::Run(name, renamings) => {
-            assert_eq!(rt; name.as_str(), "P");
-            assert_eq!(rt; renamings.len(), 2);
-            assert_eq!(rt; renamings[0].outer.as_str(), "A");
-            assert_eq!(rt; renamings[0].inner.as_str(), "B");
-            assert_eq!(rt; renamings[1].outer.as_str(), "C");
-            assert_eq!(rt; renamings[1].inner.as_str(), "D");
-            Ok(())
-        }
-        _ => Err(Fail::from("no module is run")),
+/// Fails where a tree tells the last words of a unit otherwise, left out or written.
+fn expect_last_words(rt: &impl Abort, alloc: Global, rows: &[(&str, &str)]) {
+    for (unit, last) in rows {
+        let whole = format!(in alloc; "{unit}{last}").expect(rt, "room");
+        expect_holds(rt, !is_body_closed(rt, alloc, unit), unit);
+        expect_holds(
+            rt,
+            is_body_closed(rt, alloc, whole.as_str()),
+            whole.as_str(),
+        );
     }
 }
 
 #[test]
-fn units_keep_their_order(rt: HostRuntime) -> Result<(), Fail> {
-    let library = library_of(rt.alloc(), "module M: pause; halt; nothing end module")?;
-    let sequence = &library.first.body.first;
-    assert!(rt; !sequence.closed);
-    assert!(rt; matches!(*sequence.first, Unit::Pause));
-    assert_eq!(rt; sequence.later.len(), 2);
-    assert!(rt; matches!(sequence.later[0], Unit::Halt));
-    assert!(rt; matches!(sequence.later[1], Unit::Nothing));
-    Ok(())
+fn last_words_are_kept(rt: HostRuntime) {
+    expect_last_words(&rt, rt.alloc(), &CLOSINGS);
+}
+
+/// Texts, and a sketch of their trees: of each module its name, how many declarations it has, and its body, in which a
+/// unit is one word and a `;` before `||` or the end closes a sequence. Of a run the module and its renamings are told.
+const SKETCHES: [(&str, &str); 3] = [
+    (
+        "module M: input I, J; relation A # B # C; pause; halt; nothing; || nothing || pause; nothing end module \
+         module N: relation A # B; halt end module",
+        "M with 2: pause; halt; nothing; || nothing || pause; nothing | N with 1: halt",
+    ),
+    (
+        "module M: run P [signal A/B, C/D] end module",
+        "M with 0: run P, outer A inner B, outer C inner D",
+    ),
+    (
+        "module M: pause; halt; nothing end module",
+        "M with 0: pause; halt; nothing",
+    ),
+];
+
+/// Adds words to a sketch.
+fn add(rt: &impl Abort, sketch: &mut String, words: &str) {
+    sketch.push_str(words).expect(rt, "room");
+}
+
+/// Adds a run to a sketch, each renaming with its sides.
+fn add_run(rt: &impl Abort, sketch: &mut String, name: &Identifier, renamings: &[Renaming]) {
+    add(rt, sketch, "run ");
+    add(rt, sketch, name.as_str());
+    for renaming in renamings {
+        add(rt, sketch, ", outer ");
+        add(rt, sketch, renaming.outer.as_str());
+        add(rt, sketch, " inner ");
+        add(rt, sketch, renaming.inner.as_str());
+    }
+}
+
+/// Adds a unit to a sketch.
+fn add_unit(rt: &impl Abort, sketch: &mut String, unit: &Unit) {
+    match unit {
+        Unit::Nothing => add(rt, sketch, "nothing"),
+        Unit::Pause => add(rt, sketch, "pause"),
+        Unit::Halt => add(rt, sketch, "halt"),
+        Unit::Run(name, renamings) => add_run(rt, sketch, name, renamings),
+        _ => add(rt, sketch, "another"),
+    }
+}
+
+/// Adds the units of a sequence to a sketch.
+fn add_sequence(rt: &impl Abort, sketch: &mut String, sequence: &Sequence) {
+    add_unit(rt, sketch, &sequence.first);
+    for unit in &sequence.later {
+        add(rt, sketch, "; ");
+        add_unit(rt, sketch, unit);
+    }
+    if sequence.closed {
+        add(rt, sketch, ";");
+    }
+}
+
+/// Adds a module to a sketch.
+fn add_module(rt: &impl Abort, alloc: Global, sketch: &mut String, module: &Module) {
+    let count = format!(in alloc; " with {}: ", module.declarations.len()).expect(rt, "room");
+    add(rt, sketch, module.name.as_str());
+    add(rt, sketch, count.as_str());
+    add_sequence(rt, sketch, &module.body.first);
+    for sequence in &module.body.later {
+        add(rt, sketch, " || ");
+        add_sequence(rt, sketch, sequence);
+    }
+}
+
+/// The sketch of a text's tree.
+fn sketch_of(rt: &impl Abort, alloc: Global, text: &str) -> String {
+    let library = library_of(rt, alloc, text);
+    let mut sketch = String::new(alloc);
+    add_module(rt, alloc, &mut sketch, &library.first);
+    for module in &library.later {
+        add(rt, &mut sketch, " | ");
+        add_module(rt, alloc, &mut sketch, module);
+    }
+    sketch
+}
+
+/// Fails where a text has another sketch.
+fn expect_sketches(rt: &impl Abort, alloc: Global, rows: &[(&str, &str)]) {
+    for (text, sketch) in rows {
+        let found = sketch_of(rt, alloc, text);
+        expect_told(rt, found.as_str(), sketch, text);
+    }
+}
+
+#[test]
+fn trees_are_as_they_are_written(rt: HostRuntime) {
+    expect_sketches(&rt, rt.alloc(), &SKETCHES);
 }
