@@ -2,13 +2,13 @@
 use est_link::duplicates::first_duplicate;
 use est_link::head::Head;
 use est_link::heads::heads_of;
-use est_link::linked_module::linked_body;
 use est_link::orders::order_heads;
 use est_link::runs::first_missing;
 use est_reduce::body::{Body, BoundSignal};
 use est_syntax::parse::parse;
 use est_text::identifier::Identifier;
 use est_text::lex::lex;
+use link_mistakes::bodies::linked_body;
 use std::alloc::Global;
 use std::test::Fail;
 

@@ -1,13 +1,14 @@
 //! Libraries and the first fault of their checks.
-use est_link::checks::{fault_before_order, fault_behind_order};
 use est_link::emission::Emission;
-use est_link::emissions::emissions_of;
 use est_link::fault::LinkFault;
 use est_link::head::Head;
 use est_link::heads::heads_of;
 use est_syntax::parse::parse;
+use est_syntax::tree::Renaming;
 use est_text::identifier::Identifier;
 use est_text::lex::lex;
+use link_mistakes::emitting::{callers_name, emissions_of};
+use link_mistakes::faults::{fault_before_order, fault_behind_order};
 use std::alloc::Global;
 use std::test::Fail;
 
@@ -356,23 +357,73 @@ fn expect_emissions(
     Ok(())
 }
 
-/// N emits A and P. Told that N emits A, M emits A by one run, and by the other the O that stands for it.
-#[test]
-fn callers_see_what_is_emitted(rt: HostRuntime) -> Result<(), Fail> {
-    let text =
+/// Libraries of a module N and one that runs it, what N emits, and what the other emits where N is told to emit A.
+const EMITTED: [(&str, &[&str], &[&str]); 2] = [
+    // by one run A, and by the other the O that stands for it
+    (
         "module N: output A, B, P; emit A; sustain P || present B then emit A end end module \
-        module M: output A, B, O, P; signal P in run N end; run N [signal O/A, A/P] end module";
-    let tokens = lex(rt.alloc(), text)?;
-    let library = parse(rt.alloc(), &tokens)?;
-    let heads = heads_of(rt.alloc(), &library)?;
+        module M: output A, B, O, P; signal P in run N end; run N [signal O/A, A/P] end module",
+        &["A", "P"],
+        &["A", "O"],
+    ),
+    // by a run after the end of the `signal` that hides it
+    (
+        "module N: output A; emit A end module \
+        module M: output A; signal A in run N end; run N end module",
+        &["A"],
+        &["A"],
+    ),
+];
+
+/// Fails where the modules of a library of the table emit other names.
+fn expect_emitted(
+    alloc: Global,
+    text: &str,
+    of_run: &[&str],
+    of_home: &[&str],
+) -> Result<(), Fail> {
+    let tokens = lex(alloc, text)?;
+    let library = parse(alloc, &tokens)?;
+    let heads = heads_of(alloc, &library)?;
     let Some(table) = table() else {
         return Err(Fail::from("no name"));
     };
     match heads.as_slice() {
         [run, home] => {
-            expect_emissions(rt.alloc(), &heads, &[], run, &["A", "P"])?;
-            expect_emissions(rt.alloc(), &heads, &table, home, &["A", "O"])
+            expect_emissions(alloc, &heads, &[], run, of_run)?;
+            expect_emissions(alloc, &heads, &table, home, of_home)
         }
         _ => Err(Fail::from("not two modules")),
     }
+}
+
+#[test]
+fn callers_see_what_is_emitted(rt: HostRuntime) -> Result<(), Fail> {
+    for (text, of_run, of_home) in EMITTED {
+        expect_emitted(rt.alloc(), text, of_run, of_home)?;
+    }
+    Ok(())
+}
+
+/// In `[signal A/B, B/C]` the names of the caller stand on the left: A for B, and B for C.
+#[test]
+fn callers_names_stand_on_the_left(_rt: HostRuntime) -> Result<(), Fail> {
+    let (Some(a), Some(b), Some(c)) = (
+        Identifier::from_text("A"),
+        Identifier::from_text("B"),
+        Identifier::from_text("C"),
+    ) else {
+        return Err(Fail::from("no name"));
+    };
+    let renamings = [
+        Renaming { outer: a, inner: b },
+        Renaming { outer: b, inner: c },
+    ];
+    if callers_name(&renamings, &a) != a
+        || callers_name(&renamings, &b) != a
+        || callers_name(&renamings, &c) != b
+    {
+        return Err(Fail::from("another name"));
+    }
+    Ok(())
 }

@@ -1,10 +1,10 @@
 //! Libraries that are linked, and the first fault of all their checks.
 use est_link::fault::{Limit, LinkFault};
-use est_link::link::link;
 use est_reduce::flat::Flat;
 use est_syntax::parse::parse;
 use est_text::identifier::Identifier;
 use est_text::lex::lex;
+use link_mistakes::bodies::link;
 use std::alloc::Global;
 use std::test::Fail;
 
@@ -413,6 +413,20 @@ fn runs_are_counted(rt: HostRuntime) -> Result<(), Fail> {
         if found != fault {
             return Err(Fail::from(format!(in alloc; "{found:?} in place of {fault:?}")?));
         }
+    }
+    Ok(())
+}
+
+/// A statement is counted as it is written: of 1,024 `halt` with `;` between them there are 2,047, though each `halt` is two
+/// statements of the kernel.
+#[test]
+fn derived_statements_are_counted_once(rt: HostRuntime) -> Result<(), Fail> {
+    let alloc = rt.alloc();
+    let mut text = String::from_str(alloc, "module M: halt")?;
+    repeat(&mut text, "; halt", 1023)?;
+    text.push_str(" end module")?;
+    if fault_of(alloc, &text)?.is_some() {
+        return Err(Fail::from("a fault"));
     }
     Ok(())
 }

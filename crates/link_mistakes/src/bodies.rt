@@ -1,0 +1,58 @@
+//! Linked modules and their flat bodies.
+ghost use Rattle.std.specs.Prelude.{◌≡◌, ℕ, Bool, List, None, Some, IsTrue, IfOk, map};
+ghost use Rattle.est_link.specs.Bodies.{IsLinked, HasSoundNames};
+ghost use Rattle.est_link.specs.Duplicates.{first_duplicate};
+ghost use Rattle.est_link.specs.FirstFaults.{IsLinkOf};
+ghost use Rattle.est_link.specs.MainModule.{declarations_of};
+ghost use Rattle.est_link.specs.Modules.{Program, program_of, program_named};
+ghost use Rattle.est_link.specs.Orders.{IsOrderOf};
+ghost use Rattle.est_link.specs.Runs.{first_missing};
+ghost use Rattle.est_reduce.specs.Bound.{IsBound};
+ghost use Rattle.est_reduce.specs.Views.{body_of};
+ghost use Rattle.est_syntax.specs.Views.{library_view};
+ghost use Rattle.est_text.specs.Identifiers.{is_identifier};
+
+use est_link::fault::LinkFault;
+use est_link::head::Head;
+use est_link::{link, linked_module};
+use est_reduce::body::Body;
+use est_reduce::flat::Flat;
+use est_syntax::tree::Library;
+use est_text::identifier::Identifier;
+use module_order::order::Order;
+use std::alloc::{AllocError, Global};
+
+/// The flat body of main, from those of the modules that it runs.
+///
+/// # Errors
+///
+/// `AllocError` where memory is refused.
+pub fn linked_body<'a>(
+    alloc: Global,
+    heads: &'a [Head<'a>],
+    order: &Order,
+    main: &Identifier,
+) -> Result<Body, AllocError>
+    requires order { IsOrderOf (map program_of heads.now) order.now }
+    requires distinct { first_duplicate (map program_of heads.now) ≡ None }
+    requires there { first_missing (map program_of heads.now) main.now ≡ None }
+    ensures linked { IfOk result (λ b. IsLinked (map program_of heads.now) main.now (body_of b)) }
+    ensures bound { IfOk result (λ b. (emitted : List ℕ → List ℕ → Bool) (p : Program)
+        → HasSoundNames (map program_of heads.now) emitted
+        → program_named (map program_of heads.now) main.now ≡ Some p
+        → IsBound (declarations_of p) 0 0 (body_of b)) }
+{
+    linked_module::linked_body(alloc, heads, order, main)
+}
+
+/// Links a library: its flat main module, or the first fault of its checks.
+///
+/// # Errors
+///
+/// The first fault of the checks in their order; or `Memory`.
+pub fn link(alloc: Global, library: &Library, main: &str) -> Result<Flat, LinkFault>
+    requires { IsTrue (is_identifier main.now) }
+    ensures { IsLinkOf (library_view library.now) main.now result }
+{
+    link::link(alloc, library, main)
+}

@@ -1,0 +1,201 @@
+//! The first faults of libraries.
+ghost use Rattle.std.specs.Prelude.{◌≡◌, [], map, option_map, IfOk};
+ghost use Rattle.est_link.specs.Duplicates.{first_duplicate};
+ghost use Rattle.est_link.specs.Emissions.{emitted_of, refused_at};
+ghost use Rattle.est_link.specs.LinkFaults.{lawless_number, fault_before_order, fault_behind_order};
+ghost use Rattle.est_link.specs.Modules.{program_of, first_in_bodies};
+ghost use Rattle.est_link.specs.Occurrences.{first_of, occurrences};
+ghost use Rattle.est_link.specs.Renamings.{bad_renaming_at};
+ghost use Rattle.est_link.specs.Visible.{unknown_at};
+
+use est_link::check::{Check, first_in_bodies, first_in_body};
+use est_link::emission::Emission;
+use est_link::fault::LinkFault;
+use est_link::head::{Head, head_named};
+use est_link::open_names::OpenNames;
+use est_link::relations::first_lawless;
+use est_link::renamings::BadRename;
+use est_link::runs::first_missing;
+use est_link::scope::{Act, Scope};
+use est_link::unknown::UnknownName;
+use est_link::unseen::unseen_of;
+use est_link::{duplicates, emission};
+use est_text::identifier::Identifier;
+use std::alloc::{AllocError, Global};
+
+/// The first name of a library that is declared a second time, or is `tick`.
+///
+/// # Errors
+///
+/// `AllocError` where memory is refused for the names that were met.
+pub fn first_duplicate<'a>(
+    alloc: Global,
+    heads: &'a [Head<'a>],
+) -> Result<Option<Identifier>, AllocError>
+    ensures { IfOk result (λ name. name ≡ first_duplicate (map program_of heads.now)) }
+{
+    duplicates::first_duplicate(alloc, heads)
+}
+
+/// The first right name of a renaming that is no interface signal of the module that is run, or stands on the right twice.
+///
+/// # Errors
+///
+/// `AllocError`, as a check answers it.
+pub fn first_bad_renaming<'a>(
+    alloc: Global,
+    heads: &'a [Head<'a>],
+) -> Result<Option<Identifier>, AllocError>
+    ensures { IfOk result (λ name. name ≡ first_in_bodies (bad_renaming_at
+        (map program_of heads.now)) (map program_of heads.now)) }
+{
+    let kept = OpenNames::new(alloc);
+    first_in_bodies(&kept, &BadRename { heads: &*heads }, &*heads)
+}
+
+/// The check for names that aren't visible where they are used. It is asked of the places in one module.
+#[derive(Clone, Copy)]
+pub struct Unknown<'a> {
+    /// The modules of the library.
+    pub heads: &'a [Head<'a>],
+    /// The module.
+    pub home: &'a Head<'a>,
+}
+
+impl Check for Unknown<'_> {
+    ghost use Rattle.std.specs.Prelude.{map};
+    ghost use Rattle.est_link.specs.Modules.{program_of, is_declared};
+    ghost use Rattle.est_link.specs.Unseen.{unseen_by};
+    ghost use Rattle.est_link.specs.Visible.{unknown_at};
+
+    ghost base = { λ c. unseen_by (map program_of c.heads.now)
+        (is_declared (program_of c.home.now).interface) };
+
+    ghost fault = { λ c p. unknown_at (map program_of c.heads.now)
+        (program_of c.home.now) };
+
+    fn fault(
+        &self,
+        home: &Head<'_>,
+        kept: &OpenNames,
+        act: &Act<'_>,
+        scope: &Scope<'_>,
+    ) -> Result<Option<Identifier>, AllocError> {
+        let names = UnknownName {
+            heads: self.heads,
+            home: self.home,
+        };
+        names.fault(home, kept, act, scope)
+    }
+}
+
+/// The first name of a module that isn't visible where it is used.
+fn unknown_in<'a>(
+    alloc: Global,
+    heads: &'a [Head<'a>],
+    home: &'a Head<'a>,
+) -> Result<Option<Identifier>, AllocError>
+    ensures { IfOk result (λ name. name ≡ first_of (unknown_at (map program_of heads.now)
+        (program_of home.now)) (occurrences [] (program_of home.now).body)) }
+{
+    let kept = unseen_of(alloc, &*heads, &*home)?;
+    first_in_body(&Unknown { heads, home }, &kept, &*home)
+}
+
+/// The first name of a library that isn't visible where it is used.
+///
+/// # Errors
+///
+/// `AllocError` where memory is refused for names.
+pub fn first_unknown<'a>(
+    alloc: Global,
+    heads: &'a [Head<'a>],
+) -> Result<Option<Identifier>, AllocError>
+    ensures { IfOk result (λ name. name ≡ first_in_bodies (unknown_at (map program_of heads.now))
+        (map program_of heads.now)) }
+{
+    for home in heads {
+        if let Some(name) = unknown_in(alloc, &*heads, &*home)? {
+            return Ok(Some(name));
+        }
+    }
+    Ok(None)
+}
+
+/// The first input, or `tick`, that a module of a library emits. The table says what each module emits.
+///
+/// # Errors
+///
+/// `AllocError` where memory is refused for names.
+pub fn first_refused<'a>(
+    alloc: Global,
+    heads: &'a [Head<'a>],
+    table: &'a [Emission],
+) -> Result<Option<Identifier>, AllocError>
+    ensures { IfOk result (λ name. name ≡ first_in_bodies (refused_at (map program_of heads.now)
+        (emitted_of table.now)) (map program_of heads.now)) }
+{
+    emission::first_refused(alloc, heads, table)
+}
+
+/// The number of the first lawless relation of the main module.
+fn lawless_number(alloc: Global, main: Option<&Head<'_>>) -> Result<Option<usize>, AllocError>
+    ensures { IfOk result (λ number. number ≡ lawless_number (option_map (λ h. program_of h.now)
+        main.entry)) }
+{
+    match main {
+        Some(home) => first_lawless(alloc, home),
+        None => Ok(None),
+    }
+}
+
+/// The first fault of the checks that come before the order of the modules.
+///
+/// # Errors
+///
+/// `AllocError` where memory is refused for the names that were met.
+pub fn fault_before_order<'a>(
+    alloc: Global,
+    heads: &'a [Head<'a>],
+    main: &Identifier,
+) -> Result<Option<LinkFault>, AllocError>
+    ensures { IfOk result (λ fault. fault ≡ fault_before_order (map program_of heads.now)
+        main.now) }
+{
+    if let Some(name) = first_duplicate(alloc, &*heads)? {
+        return Ok(Some(LinkFault::DuplicateName(name)));
+    }
+    match first_missing(alloc, &*heads, main)? {
+        Some(name) => Ok(Some(LinkFault::UnknownModule(name))),
+        None => Ok(None),
+    }
+}
+
+/// The first fault of the checks that come after the order of the modules. The table says what each module emits.
+///
+/// # Errors
+///
+/// `AllocError` where memory is refused.
+pub fn fault_behind_order<'a>(
+    alloc: Global,
+    heads: &'a [Head<'a>],
+    main: &Identifier,
+    table: &'a [Emission],
+) -> Result<Option<LinkFault>, AllocError>
+    ensures { IfOk result (λ fault. fault ≡ fault_behind_order (map program_of heads.now) main.now
+        (emitted_of table.now)) }
+{
+    if let Some(name) = first_bad_renaming(alloc, &*heads)? {
+        return Ok(Some(LinkFault::BadRename(name)));
+    }
+    if let Some(name) = first_unknown(alloc, &*heads)? {
+        return Ok(Some(LinkFault::UnknownName(name)));
+    }
+    if let Some(name) = first_refused(alloc, &*heads, &*table)? {
+        return Ok(Some(LinkFault::EmitInput(name)));
+    }
+    match lawless_number(alloc, head_named(heads, main))? {
+        Some(number) => Ok(Some(LinkFault::Semantics(number))),
+        None => Ok(None),
+    }
+}
