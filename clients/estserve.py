@@ -16,7 +16,9 @@ Each command of docs/PROTOCOL.md is a method of `estserve.Client`; a refusal is 
 `estserve.Refusal`. Python 3.9 or later, nothing else.
 """
 import argparse
+import importlib
 import os
+import pathlib
 import sys
 
 from estserve_client.applying import apply
@@ -31,6 +33,8 @@ __all__ = [
     "CannotBeSent", "Client", "Disconnected", "NotText", "Refusal", "TooLong", "connect", "sentence", "start",
 ]
 
+NEIGHBOURS = ("estserve_team",)  # packages beside this file, which may be there, with subcommands of their own
+
 
 def add_server(parser, roles):
     parser.add_argument("--socket", metavar="PATH", help="the server's Unix socket; without it the program is started for you alone")
@@ -42,9 +46,18 @@ def add_server(parser, roles):
     )
 
 
+def add_neighbours(commands):
+    """Adds the subcommands of the packages beside this file: each whose folder is there has a module `command`, with
+    a function `add_parser(subparsers)`."""
+    for package in NEIGHBOURS:
+        if (pathlib.Path(__file__).resolve().parent / package).is_dir():
+            importlib.import_module(package + ".command").add_parser(commands)
+
+
 def make_parser():
     parser = argparse.ArgumentParser(prog="estserve.py", description="The client of estserve.")
     commands = parser.add_subparsers(dest="command", required=True)
+    add_neighbours(commands)
     running = commands.add_parser("run", help="run a module through a list of inputs, and draw its instants")
     running.add_argument("file", metavar="FILE", help="the module text")
     running.add_argument("--main", metavar="MODULE", help="the module to run (the first one that no other runs)")
