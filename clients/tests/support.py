@@ -19,16 +19,23 @@ DIALOGUES = CLIENTS / "tests" / "dialogues"
 sys.path.insert(0, str(CLIENTS))
 
 
-def read_vcd(lines):
-    """The changes in a VCD file: from the name of each wire to the values that it takes, by their times."""
-    names, changes, time = {}, {}, None
+def read_vcd(lines, scope=1):
+    """The changes in a VCD file: from the name of each wire of the outer scope to its values, by their instants.
+
+    With a deeper `scope` the wires of that depth are given, by the scope's name and their own."""
+    names, changes, instant, scopes = {}, {}, None, []
     for words in map(str.split, lines):
-        if words[0] == "$var":
-            names[words[3]] = words[4]
+        if words[0] == "$scope":
+            scopes.append(words[2])
+        elif words[0] == "$upscope":
+            scopes.pop()
+        elif words[0] == "$var" and len(scopes) == scope:
+            names.setdefault(words[3], []).append(".".join([*scopes[1:], words[4]]))
         elif words[0].startswith("#"):
-            time = int(words[0][1:])
+            instant = int(words[0][1:]) / 10
         elif words[0][0] in "01x":
-            changes.setdefault(names[words[0][1:]], {})[time] = words[0][0]
+            for name in names.get(words[0][1:], ()):
+                changes.setdefault(name, {})[instant] = words[0][0]
     return changes
 
 

@@ -14,7 +14,10 @@ import estserve
 
 # what is told besides of the runs that end at an instant which is refused
 REFUSED = {
-    "paradox": "instant 2: Stuck: the instant has no constructive reaction; undecided: O",
+    "paradox": f"""instant 2: Stuck: the instant has no constructive reaction; undecided: O
+possibly in a circle, each waiting for the next, and the last for the first:
+  {EXAMPLES}/paradox/paradox.strl:6:16: emit O
+  {EXAMPLES}/paradox/paradox.strl:6:1: present O""",
     "no_second": "instant 2: Implied: relation 1 (MINUTE => SECOND) asks for SECOND too",
     "both": "instant 2: Excluded: relation 1 (A # R) excludes R, since A is pending",
 }
@@ -53,10 +56,11 @@ class Controllers(unittest.TestCase):
 
     def check_changes(self, changes, rows):
         """Each wire is 1 in the instants in whose rows of the table its signal stands, and 0 in the others."""
+        self.assertEqual(list(changes.pop("tick").values()), ["1", "0"] * len(rows))
         for name, values in changes.items():
             now, drawn = None, []
-            for time in range(len(rows)):
-                now = values.get(time, now)
+            for instant in range(1, len(rows) + 1):
+                now = values.get(instant, now)
                 drawn.append(now)
             self.assertEqual(drawn, ["1" if name in row.split()[1:] else "0" for row in rows], name)
 
@@ -65,8 +69,8 @@ class Controllers(unittest.TestCase):
             path = pathlib.Path(folder) / "abro.vcd"
             self.assertEqual(self.check_picture(EXAMPLES / "abro" / "abro.table", "--vcd", path), "")
             changes = read_vcd(path.read_text().splitlines())
-        self.assertEqual(changes["O"], {0: "0", 2: "1", 3: "0", 5: "1", 6: "0"})
-        self.assertEqual(sorted(changes), ["A", "B", "O", "R"])
+        self.assertEqual(changes["O"], {1: "0", 3: "1", 4: "0", 6: "1", 7: "0"})
+        self.assertEqual(sorted(changes), ["A", "B", "O", "R", "tick"])
 
 
 class Policies(unittest.TestCase):
@@ -80,7 +84,7 @@ class Policies(unittest.TestCase):
         self.assertEqual(ran.status, 1)
         self.assertIn("again.toml:1: adduser root: UserExists", ran.printed)
         self.assertIn("again.toml:5: assign ann nobody: UnknownRole: there is no role nobody", ran.told)
-        self.assertIn("1 made, 2 there already, 1 refused", ran.printed)
+        self.assertIn("0 after it were not sent; 1 of 1 that were made are taken back\n", ran.told)
 
 
 class Dialogues(unittest.TestCase):
@@ -91,7 +95,7 @@ class Dialogues(unittest.TestCase):
             (DIALOGUES.parent / f"{name}.{kind}").read_text().replace("EXAMPLES", str(EXAMPLES)) for kind in ("typed", "printed")
         )
         ran = play_dialogue(DIALOGUES / name, ["shell"], typed)
-        self.assertEqual((ran.status, ran.printed, ran.told), (0, wanted, ""))
+        self.assertEqual((ran.printed, ran.told, ran.status), (wanted, "", 1))
 
     def test_a_dialogue_for_people(self):
         self.check("shell")

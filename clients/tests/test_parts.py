@@ -5,9 +5,11 @@ import unittest
 from support import read_vcd
 
 from estserve_client.inputs import read_inputs
-from estserve_client.module_text import main_of, modules_of, show_place
-from estserve_client.pictures import Seen, code_of, table_lines, vcd_lines, wave_lines
+from estserve_client.library_text import show_place
+from estserve_client.module_text import main_of, modules_of
+from estserve_client.pictures import Seen, Table, code_of, table_lines, vcd_lines, wave_lines
 from estserve_client.policy_file import BadPolicy, read_policy
+from estserve_client.scopes import scopes_of
 
 TEXT = """% a comment with module X: in it
 module A:
@@ -33,7 +35,10 @@ class Inputs(unittest.TestCase):
 
     def test_lines_end_at_their_line_feeds(self):
         self.assertEqual(self.names("A\r\n\r\nB\x0cC\n"), [["A"], [], ["B", "C"]])
-        self.assertEqual([self.names(""), self.names("\n"), self.names("A")], [[], [[]], [["A"]]])
+        self.assertEqual([self.names(""), self.names("\n"), self.names("A")], [[], [], [["A"]]])
+
+    def test_blank_lines_are_instants_within_and_none_at_the_end(self):
+        self.assertEqual(self.names("\n\nA\n\n;\n\n% end\n \n"), [[], [], ["A"], [], []])
 
     def test_a_comment_is_no_instant(self):
         self.assertEqual(self.names("% nothing\nA % then B\n;% empty\n"), [["A"], []])
@@ -80,7 +85,8 @@ class Pictures(unittest.TestCase):
         self.assertEqual(table_lines(Seen("slot0", [], [{}])), ["instant  inputs  outputs", "      1"])
 
     def test_a_table_that_goes_on_keeps_its_columns(self):
-        self.assertEqual(table_lines(SEEN, 9)[2], "      2  I .        O")
+        table = Table(SEEN, 9)
+        self.assertEqual(table.row(2, SEEN.instants[1]), "      2  I .        O")
 
     def test_waves_go_on_in_blocks_within_the_columns(self):
         instants = [{"I": number % 2 == 0, "J": False, "O": True} for number in range(7)]
@@ -101,14 +107,33 @@ class Pictures(unittest.TestCase):
             self.assertEqual(ruler[4 * number - 3:].split()[0], str(number))
 
     def test_a_vcd_file(self):
-        self.assertEqual(
-            read_vcd(vcd_lines(SEEN)),
-            {"I": {0: "1"}, "J": {0: "0", 1: "x"}, "O": {0: "x", 1: "1"}},
-        )
+        changes = read_vcd(vcd_lines(SEEN))
+        self.assertEqual(changes.pop("tick"), {1: "1", 1.5: "0", 2: "1", 2.5: "0"})
+        self.assertEqual(changes, {"I": {1: "1"}, "J": {1: "0", 2: "x"}, "O": {1: "x", 2: "1"}})
         hidden = Seen("A", SEEN.signals, [{"I": True}, {"I": False}])
-        self.assertEqual(read_vcd(vcd_lines(hidden)), {"I": {0: "1", 1: "0"}})
-        self.assertEqual(read_vcd(vcd_lines(Seen("A", SEEN.signals, []))), {})
-        self.assertEqual(vcd_lines(SEEN)[-1], "#2")
+        self.assertEqual(sorted(read_vcd(vcd_lines(hidden))), ["I", "tick"])
+        self.assertEqual(vcd_lines(SEEN)[-1], "#30")
+
+    def test_ten_present_instants_are_counted_by_the_tick(self):
+        seen = Seen("A", [("I", "input")], [{"I": True}] * 10)
+        changes = read_vcd(vcd_lines(seen))
+        self.assertEqual(changes["I"], {1: "1"})
+        self.assertEqual(list(changes["tick"].values()), ["1", "0"] * 10)
+
+    def test_a_vcd_file_without_instants_has_wires(self):
+        lines = vcd_lines(Seen("A", SEEN.signals, []))
+        self.assertEqual([line.split()[4] for line in lines if line.startswith("$var")], ["tick", "I", "J", "O"])
+        self.assertEqual(read_vcd(lines), {})
+
+    def test_a_scope_for_each_module_that_is_run(self):
+        text = """module CELL: input I; output O; run LEAF [signal I/L] end module
+            module LEAF: input L; pause end module
+            module M: input A; output B; signal S in run CELL [signal A/I, S/O] || run CELL [signal S/I, B/O] end end module"""
+        signals = [("A", "input"), ("B", "output")]
+        lines = vcd_lines(Seen("M", signals, [{"A": True, "B": False}], scopes=scopes_of(text, "M")))
+        self.assertEqual(read_vcd(lines, 2), {"CELL_1.I": {1: "1"}, "CELL_2.O": {1: "0"}})
+        self.assertEqual(read_vcd(lines, 3), {"CELL_1.LEAF.L": {1: "1"}})
+        self.assertEqual(lines.count("$upscope $end"), 5)
 
     def test_wires_have_names_of_their_own(self):
         codes = [code_of(number) for number in range(9000)]

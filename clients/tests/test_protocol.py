@@ -8,7 +8,8 @@ from support import ROOT
 
 from estserve_client.connection import Client, Refusal
 from estserve_client.sentences import SENTENCES, out_of_form, sentence
-from estserve_client.shell import PLAIN, Shell
+from estserve_client.shell import Shell
+from estserve_client.shell_words import PLAIN
 
 TEXT = (ROOT / "docs" / "PROTOCOL.md").read_text()
 EVERY = {"Memory", "NotARequest"}  # refusals of every command
@@ -63,8 +64,8 @@ class Commands(unittest.TestCase):
     def test_each_command_is_one_of_the_shell(self):
         for name in COMMANDS:
             self.assertTrue(name in PLAIN or hasattr(Shell, f"do_{name}"), name)
-        for name, (keys, _) in PLAIN.items():
-            self.assertEqual(sorted(keys.split()), sorted(COMMANDS[name][0]))
+        for name, plain in PLAIN.items():
+            self.assertEqual(sorted(plain.words.split()), sorted(COMMANDS[name][0]))
 
 
 class Sentences(unittest.TestCase):

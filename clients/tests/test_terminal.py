@@ -122,7 +122,7 @@ class InATerminal(unittest.TestCase):
             terminal.type("off\t\tA\t\n")
             terminal.sees("offer 15 A \nA is pending\nroot> ")
             terminal.type("help ste\t\n")
-            terminal.sees("step SLOT: the next instant, with what is pending\n")
+            terminal.sees("step [SLOT]: makes the next instant of what is pending, and shows what came out\n")
             terminal.sees("root> ")
             terminal.type("half a line\x03")
             terminal.sees("root> ")

@@ -55,7 +55,7 @@ class Tutorial(unittest.TestCase):
                 with self.subTest(command):
                     self.check(path, command, typed, printed)
         changes = read_vcd((self.folder / "abro.vcd").read_text().splitlines())
-        self.assertEqual(sorted(changes), ["A", "B", "O", "R"])
+        self.assertEqual(sorted(changes), ["A", "B", "O", "R", "tick"])
 
     def test_the_first_screen_shows_the_waves_of_abro(self):
         screen = (ROOT / "README.md").read_text().partition("## ")[0]

@@ -80,18 +80,19 @@ class Texts(WhatGoesWrong):
     def check_fault(self, dialogue, text, told):
         ran = play_dialogue(DIALOGUES / dialogue, ["run", self.file("m.strl", text)])
         self.assertEqual((ran.status, ran.printed), (1, ""))
-        self.assertEqual(ran.told, f"estserve.py: {self.folder}/m.strl: {told}\n")
+        self.assertEqual(ran.told, f"{self.folder}/m.strl:{told}\n")
 
     def test_a_fault_of_the_text_is_shown_at_its_place(self):
-        told = "Syntax: the text cannot go on so at line 3, column 8\n  emit end module\n       ^"
+        told = "3:8: Syntax: the text cannot go on so\n  emit end module\n       ^"
         self.check_fault("fault_of_a_text", "module M:\noutput O;\n  emit end module\n", told)
 
     def test_an_empty_text(self):
-        self.check_fault("empty_text", "", "Syntax: the text cannot go on so at line 1, column 1\n\n^")
+        self.check_fault("empty_text", "", "1:1: Syntax: the text cannot go on so\n\n^")
 
-    def test_a_fault_without_a_place_is_one_line(self):
+    def test_a_fault_that_names_no_place_is_shown_at_its_place_too(self):
         text = "module M: loop nothing end end module\n"
-        self.check_fault("instant_loop", text, "InstantLoop: a loop's body can end in the instant in which it begins")
+        told = "1:11: InstantLoop: a loop's body can end in the instant in which it begins: the loop stands in M"
+        self.check_fault("instant_loop", text, f"{told}\n{text}          ^")
 
     def test_a_module_that_is_not_there(self):
         words = [*run_words("abro"), "--main", "ABBA"]
@@ -159,11 +160,14 @@ class Programs(WhatGoesWrong):
         self.fails(["shell", "--program", path], "the server has gone away", "step 0\nstep 0\n", greeting)
 
     def test_building_without_rt(self):
-        with unittest.mock.patch.dict(os.environ, {"PATH": str(self.folder)}):
-            self.fails([*run_words("abro"), "--unproved"], "rt cannot be started: No such file")
-        (self.folder / "rt").symlink_to("/bin/false")
-        with unittest.mock.patch.dict(os.environ, {"PATH": str(self.folder)}):
-            self.fails([*run_words("abro"), "--unproved"], "the program could not be built and run")
+        words = [*COMMAND, *map(str, run_words("abro")), "--unproved"]
+        variables = {**os.environ, "PATH": str(self.folder), "ESTSERVE": ""}
+        ran = subprocess.run(words, capture_output=True, text=True, env=variables, timeout=60)
+        self.assertEqual((ran.returncode, ran.stdout), (1, ""))
+        self.assertEqual(ran.stderr.splitlines(), [
+            "trial.py: rt cannot be started: No such file or directory",
+            "estserve.py: the program could not be built: try `make try`",
+        ])
 
 
 class Servers(WhatGoesWrong):
@@ -227,13 +231,13 @@ class Streams(WhatGoesWrong):
         path = self.program(f"read line; echo '{LOGIN}'; cat > /dev/null")
         typed = b"adduser \xff\nload 0 a\0b\nlook 0 \xc2\xb2\nstep " + b"9" * 5_000 + b"\n\xff\n"
         ran = subprocess.run([*COMMAND, "shell", "--program", str(path)], input=typed, capture_output=True, timeout=60)
-        self.assertEqual((ran.returncode, ran.stderr), (0, b""))
+        self.assertEqual((ran.returncode, ran.stderr), (1, b""))
         self.assertEqual(ran.stdout.decode().splitlines()[1:], [
-            "a word of the command is not UTF-8",
-            "the module text a\0b cannot be read: embedded null byte",
-            "² is no number",
-            "9" * 5_000 + " is no number",
-            "there is no command \\udcff: help lists them",
+            "line 1: a word of the command is not UTF-8",
+            "line 2: the module text a\0b cannot be read: embedded null byte",
+            "line 3: ² is no number",
+            "line 4: " + "9" * 5_000 + " is no number",
+            "line 5: there is no command \\udcff: help lists them",
         ])
 
 
