@@ -578,13 +578,15 @@ def connect(path: Path, timeout: Optional[float] = None, reads: int = READS) -> 
 
 
 def find_program(named: Optional[Path] = None) -> Path:
-    """The program: the one that is named, or of the variable ESTSERVE, or the one that `make run` builds, or one on the path.
+    """The program: the one that is named, or of the variable ESTSERVE, or the one that `make run` builds, or one on the
+    path, or one beside the command that was started.
 
     Raises Disconnected, if there is none."""
-    built = ROOT / "crates" / "estserve" / "out" / "estserve"
     if named or os.environ.get("ESTSERVE"):
         return named or os.environ["ESTSERVE"]
-    program = str(built) if built.exists() else shutil.which("estserve")
+    built = ROOT / "crates" / "estserve" / "out" / "estserve"
+    beside = pathlib.Path(sys.argv[0]).resolve().parent / "estserve"
+    program = str(built) if built.exists() else shutil.which("estserve") or shutil.which(str(beside))
     if program is None:
         raise Disconnected("there is no program estserve: build it by `make build`, or name it by --program")
     return program

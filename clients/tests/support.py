@@ -6,6 +6,7 @@ import pathlib
 import signal
 import sys
 import tempfile
+import unittest
 import unittest.mock
 
 # What runs in the background may have been started with interrupts ignored, and programs inherit that.
@@ -85,3 +86,16 @@ def play_dialogue(path, words, typed=""):
         if faults.exists():
             raise AssertionError(f"{path.name}: {faults.read_text()}")
     return ran
+
+
+def needs_program(test):
+    """Marks a test that runs the real program, which the variable ESTSERVE names."""
+    return unittest.skipUnless(os.environ.get("ESTSERVE"), "the variable ESTSERVE names no program")(test)
+
+
+def serve(*words):
+    """A server of the real program, as the tests of the socket start it. Used with `with`."""
+    sys.path.append(str(ROOT / "tests" / "socket"))
+    import running
+
+    return running.Server(*words)
