@@ -67,8 +67,8 @@ def build(folder):
         made.mkdir()
         try:
             words = running.built_program(made)
-        except AssertionError as fault:
-            raise CannotBuild(str(fault)) from fault
+        except (AssertionError, StopIteration) as fault:
+            raise CannotBuild(str(fault) or "the program that was built was not found") from fault
         (made / "first").unlink(missing_ok=True)
         (made / "estserve").rename(made / "program")
         write_caller([*words[:-1], str(folder / "program")], made / "estserve")
