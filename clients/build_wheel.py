@@ -1,6 +1,8 @@
-"""Builds the client for pip, with the standard library alone: a wheel is a zip file with four files of metadata.
+"""Builds the client for pip, with the standard library alone: a wheel is a zip file with four files
+of metadata.
 
-pip calls these functions, as pyproject.toml says. So `pip install ./clients` needs no network and no other package.
+pip calls these functions, as pyproject.toml says. So `pip install ./clients` needs no network and
+no other package.
 """
 from __future__ import annotations
 
@@ -40,7 +42,10 @@ def sources() -> List[Entry]:
     folders = [HERE / name for name in PACKAGES if (HERE / name).is_dir()]
     paths = [path for folder in folders for path in sorted(folder.rglob("*")) if path.is_file()]
     kept = [path for path in paths if "__pycache__" not in path.parts]
-    return [(path.relative_to(HERE).as_posix(), path.read_bytes()) for path in [HERE / "estserve.py", *kept]]
+    return [
+        (path.relative_to(HERE).as_posix(), path.read_bytes())
+        for path in [HERE / "estserve.py", *kept]
+    ]
 
 
 def metadata() -> List[Entry]:
@@ -58,7 +63,9 @@ def write_wheel(directory: str, entries: Iterable[Entry]) -> str:
     """Writes a wheel of these files and the metadata. Answers its name."""
     files = [*entries, *metadata()]
     record = f"estserve_client-{version()}.dist-info/RECORD"
-    lines = [f"{name},sha256={digest_of(data)},{len(data)}\n" for name, data in files] + [f"{record},,\n"]
+    lines = [f"{name},sha256={digest_of(data)},{len(data)}\n" for name, data in files] + [
+        f"{record},,\n"
+    ]
     name = f"estserve_client-{version()}-py3-none-any.whl"
     with zipfile.ZipFile(pathlib.Path(directory) / name, "w", zipfile.ZIP_DEFLATED) as wheel:
         for inner, data in [*files, (record, "".join(lines).encode())]:
@@ -74,12 +81,16 @@ def get_requires_for_build_wheel(settings: Optional[Dict[str, Any]] = None) -> L
 get_requires_for_build_editable = get_requires_for_build_sdist = get_requires_for_build_wheel
 
 
-def build_wheel(directory: str, settings: Optional[Dict[str, Any]] = None, made: Optional[str] = None) -> str:
+def build_wheel(
+    directory: str, settings: Optional[Dict[str, Any]] = None, made: Optional[str] = None
+) -> str:
     """Writes the wheel into this folder. Answers its name."""
     return write_wheel(directory, sources())
 
 
-def build_editable(directory: str, settings: Optional[Dict[str, Any]] = None, made: Optional[str] = None) -> str:
+def build_editable(
+    directory: str, settings: Optional[Dict[str, Any]] = None, made: Optional[str] = None
+) -> str:
     """Writes a wheel that leads to this very folder, for `pip install -e`. Answers its name."""
     return write_wheel(directory, [("estserve_client.pth", f"{HERE}\n".encode())])
 

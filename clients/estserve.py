@@ -1,5 +1,6 @@
 #!/usr/bin/env python3
-"""The client of estserve: run a module through inputs, test a folder, speak with a server, apply a policy.
+"""The client of estserve: run a module through inputs, test a folder, speak with a server, apply a
+policy.
 
     estserve.py run abro.strl --inputs abro.inputs --wave
     estserve.py test scenarios
@@ -65,8 +66,15 @@ __all__ = [
     "sentence",
     "start",
 ]
-NEIGHBOURS = ("estserve_team",)  # packages beside this file, which may be there, with subcommands of their own
+NEIGHBOURS = (
+    "estserve_team",
+)  # packages beside this file, which may be there, with subcommands of their own
 Parser = argparse.ArgumentParser
+STREAMS = (
+    ("stdin", "r", "surrogateescape"),
+    ("stdout", "w", "backslashreplace"),
+    ("stderr", "w", ""),
+)
 
 
 def add_program(parser: Any) -> None:
@@ -83,24 +91,44 @@ def add_server(parser: Parser, roles: Any) -> None:
     help = "the server's Unix socket; without it the program is started for you alone"
     parser.add_argument("--socket", metavar="PATH", help=help)
     parser.add_argument("--user", default="root", help="the user to log in as (root)")
-    help = "a role to activate; may stand more than once (root for the user root, and none for others)"
+    help = (
+        "a role to activate; may stand more than once (root for the user root, and none for others)"
+    )
     parser.add_argument("--role", action="extend", nargs=roles, metavar="ROLE", help=help)
-    help = "connect again after this many reads of the server (1,000,000, after which it ends a connection)"
+    help = "connect again after this many reads of the server, which ends one after 1,000,000"
     parser.add_argument("--reads", type=int, default=READS, metavar="N", help=help)
 
 
 def add_run(commands: Any) -> None:
-    parser = commands.add_parser("run", help="run a module through a list of inputs, and draw its instants")
+    parser = commands.add_parser(
+        "run", help="run a module through a list of inputs, and draw its instants"
+    )
     add = parser.add_argument
-    add("file", nargs="+", metavar="FILE", help="the module text; of several files all modules make one library")
+    add(
+        "file",
+        nargs="+",
+        metavar="FILE",
+        help="the module text; of several files all modules make one library",
+    )
     add("--main", metavar="MODULE", help="the module to run (the first one that no other runs)")
-    add("--inputs", default="-", metavar="FILE", help="the list of inputs, one instant a line (standard input)")
+    add(
+        "--inputs",
+        default="-",
+        metavar="FILE",
+        help="the list of inputs, one instant a line (standard input)",
+    )
     add("--signals", action="append", metavar="A,B", help="draw these signals, and no others")
     pictures = parser.add_mutually_exclusive_group()
-    pictures.add_argument("--table", action="store_true", help="draw a row an instant (so without any of the three)")
+    pictures.add_argument(
+        "--table", action="store_true", help="draw a row an instant (so without any of the three)"
+    )
     pictures.add_argument("--wave", action="store_true", help="draw waves with characters")
     pictures.add_argument("--vcd", metavar="OUT", help="write a VCD file, for a viewer of waves")
-    add("--expect", metavar="FILE", help="compare the table with that of the file, and show the first difference")
+    add(
+        "--expect",
+        metavar="FILE",
+        help="compare the table with that of the file, and show the first difference",
+    )
     add("--update", action="store_true", help="write the file of --expect anew")
     add("--watch", action="store_true", help="run again whenever a file is saved, until Ctrl-C")
     programs = parser.add_mutually_exclusive_group()
@@ -108,7 +136,11 @@ def add_run(commands: Any) -> None:
     add_unproved(programs)
     add_server(parser, 1)
     add("--slot", type=int, default=0, metavar="N", help="the slot of the server to run in (0)")
-    add("--loaded", action="store_true", help="run what is loaded in that slot; nothing is loaded or unloaded")
+    add(
+        "--loaded",
+        action="store_true",
+        help="run what is loaded in that slot; nothing is loaded or unloaded",
+    )
     parser.set_defaults(act=run)
 
 
@@ -117,7 +149,7 @@ def add_test(commands: Any) -> None:
     parser = commands.add_parser("test", help=help)
     add = parser.add_argument
     add("folder", metavar="DIR", help="the folder")
-    help = "a module text, for all of them (NAME.strl where it is there, else all .strl files of the folder)"
+    help = "a module text for all of them (NAME.strl, or else all .strl files of the folder)"
     add("--module", action="append", metavar="FILE", help=help)
     add("--main", metavar="MODULE", help="the module to run (the first one that no other runs)")
     add("--update", action="store_true", help="write each NAME.expected anew")
@@ -128,20 +160,34 @@ def add_test(commands: Any) -> None:
 
 
 def add_shell(commands: Any) -> None:
-    parser = commands.add_parser("shell", help="a dialogue, or a script: one command a line, `help` lists them")
+    parser = commands.add_parser(
+        "shell", help="a dialogue, or a script: one command a line, `help` lists them"
+    )
     add_server(parser, "+")
     add_program(parser)
-    parser.add_argument("--stop", action="store_true", help="end a script at the first line that is refused")
+    parser.add_argument(
+        "--stop", action="store_true", help="end a script at the first line that is refused"
+    )
     parser.set_defaults(act=shell)
 
 
 def add_apply(commands: Any) -> None:
-    parser = commands.add_parser("apply", help="make users, roles, permissions and sets from a file")
+    parser = commands.add_parser(
+        "apply", help="make users, roles, permissions and sets from a file"
+    )
     add = parser.add_argument
     add("file", metavar="POLICY", help="the policy, in TOML")
-    add("--dry-run", action="store_true", help="try it on a program of its own, list its commands, and send nothing")
+    add(
+        "--dry-run",
+        action="store_true",
+        help="try it on a program of its own, list its commands, and send nothing",
+    )
     add("--prune", action="store_true", help="ask, and take away what the file doesn't ask for")
-    add("--before", metavar="OLD", help="an earlier policy file: --prune takes away its users, roles and sets too")
+    add(
+        "--before",
+        metavar="OLD",
+        help="an earlier policy file: --prune takes away its users, roles and sets too",
+    )
     add("--yes", action="store_true", help="let --prune not ask")
     add_server(parser, 1)
     add_program(parser)
@@ -149,8 +195,9 @@ def add_apply(commands: Any) -> None:
 
 
 def add_neighbours(commands: Any) -> None:
-    """Adds the subcommands of the packages beside this file: each whose folder is there has a module `command`, with
-    a function `add_parser(subparsers)`."""
+    """Adds the subcommands of the packages beside this file: each whose folder is there has a
+    module `command`, with a function `add_parser(subparsers)`.
+    """
     for package in NEIGHBOURS:
         if (pathlib.Path(__file__).resolve().parent / package).is_dir():
             importlib.import_module(package + ".command").add_parser(commands)
@@ -167,17 +214,20 @@ def make_parser() -> Parser:
 
 
 def prepare_streams() -> None:
-    """Opens what was closed, and lets no stream fail at a text for its letters: what is no UTF-8 is told where it is used."""
-    for name, mode in (("stdin", "r"), ("stdout", "w"), ("stderr", "w")):
+    """Opens what was closed, and lets no stream fail at a text for its letters: what is no UTF-8 is
+    told where it is used.
+    """
+    for name, mode, errors in STREAMS:
         if getattr(sys, name) is None:
             setattr(sys, name, open(os.devnull, mode))
-    for stream, errors in ((sys.stdin, "surrogateescape"), (sys.stdout, "backslashreplace")):
-        if hasattr(stream, "reconfigure"):
-            stream.reconfigure(errors=errors)
+        if errors and hasattr(getattr(sys, name), "reconfigure"):
+            getattr(sys, name).reconfigure(errors=errors)
 
 
 def tell_of_output(fault: OSError) -> int:
-    """Ends since standard output cannot be written. What is still to be written is given up, or Python would try it again."""
+    """Ends since standard output cannot be written. What is still to be written is given up, or
+    Python would try it again.
+    """
     try:
         with open(os.devnull, "w") as nowhere:
             os.dup2(nowhere.fileno(), sys.stdout.fileno())
@@ -187,7 +237,9 @@ def tell_of_output(fault: OSError) -> int:
 
 
 def main(words: Optional[List[str]] = None) -> int:
-    """Does what the words say. Answers the status: 0, or another one with one message on standard error."""
+    """Does what the words say. Answers the status: 0, or another one with one message on standard
+    error.
+    """
     arguments = make_parser().parse_args(words)
     prepare_streams()
     try:

@@ -4,9 +4,10 @@
 usage: trial.py COMMAND [WORD ..]
        trial.py --path
 
-The program is built by `rt try`, and kept in out/trial while no source changes: no file `crates/**/*.rt`, not crates.txt, not
-the kit. Where ESTSERVE names a program already, it is taken. Ends with the command's status; with --path it builds the
-program where that is needed, and prints where it lies.
+The program is built by `rt try`, and kept in out/trial while no source changes: no file
+`crates/**/*.rt`, not crates.txt, not the kit. Where ESTSERVE names a program already, it is taken.
+Ends with the command's status; with --path it builds the program where that is needed, and prints
+where it lies.
 """
 import hashlib
 import os
@@ -32,19 +33,26 @@ class CannotBuild(Exception):
 def sources():
     """The files that the program is built of."""
     paths = sorted((ROOT / "crates").glob("**/*.rt"))
-    return [ROOT / "crates.txt", *[path for path in paths if "out" not in path.relative_to(ROOT).parts]]
+    return [
+        ROOT / "crates.txt",
+        *[path for path in paths if "out" not in path.relative_to(ROOT).parts],
+    ]
 
 
 def kit():
     """The version of the kit. Raises CannotBuild."""
     try:
-        return subprocess.run(["rt", "version"], stdin=subprocess.DEVNULL, capture_output=True).stdout
+        return subprocess.run(
+            ["rt", "version"], stdin=subprocess.DEVNULL, capture_output=True
+        ).stdout
     except OSError as fault:
         raise CannotBuild(f"rt cannot be started: {fault.strerror or fault}") from fault
 
 
 def key():
-    """What tells one program from another: a digest of its sources and of the kit's version. Raises CannotBuild."""
+    """What tells one program from another: a digest of its sources and of the kit's version. Raises
+    CannotBuild.
+    """
     digest = hashlib.sha256(kit())
     for path in sources():
         data = path.read_bytes()
@@ -59,8 +67,14 @@ def write_caller(words, path):
 
 
 def build(folder):
-    """Builds the program, and puts it into this folder at once when it is whole. Raises CannotBuild."""
-    print("The program is built WITHOUT proof, which takes a minute or two ..", file=sys.stderr, flush=True)
+    """Builds the program, and puts it into this folder at once when it is whole. Raises
+    CannotBuild.
+    """
+    print(
+        "The program is built WITHOUT proof, which takes a minute or two ..",
+        file=sys.stderr,
+        flush=True,
+    )
     KEPT.mkdir(parents=True, exist_ok=True)
     with tempfile.TemporaryDirectory(dir=KEPT, prefix="building-") as name:
         made = pathlib.Path(name) / "made"

@@ -61,7 +61,9 @@ def back_of(command: Command) -> Command:
 
 @dataclasses.dataclass
 class Applied:
-    """What became of a policy: what was made, what was there already, the wish that was refused, what is left of it."""
+    """What became of a policy: what was made, what was there already, the wish that was refused,
+    what is left of it.
+    """
 
     made: List[Wish] = dataclasses.field(default_factory=list)
     there: List[Wish] = dataclasses.field(default_factory=list)
@@ -118,7 +120,9 @@ def apply_file(client: Client, path: Union[str, "os.PathLike[str]"]) -> Applied:
 
 
 def warnings_of(policy: Policy, path: str) -> Iterator[str]:
-    """What is said of each permission on a signal that the slot's module doesn't have, or nobody can offer."""
+    """What is said of each permission on a signal that the slot's module doesn't have, or nobody
+    can offer.
+    """
     folder = pathlib.Path(path).parent
     modules = {
         slot: (name, main_of(read_text(folder / name, "the module text")))
@@ -149,7 +153,9 @@ def tell_refusal(applied: Applied, path: str) -> None:
     assert wish and refusal
     print(f"{path}:{wish.line}: {text_of(wish.command)}: {sentence(refusal)}", file=sys.stderr)
     for left in applied.left:
-        print(f"{path}:{left.line}: {text_of(left.command)}: could not be taken back", file=sys.stderr)
+        print(
+            f"{path}:{left.line}: {text_of(left.command)}: could not be taken back", file=sys.stderr
+        )
 
 
 def end_of(applied: Applied) -> str:
@@ -161,7 +167,9 @@ def end_of(applied: Applied) -> str:
 
 
 def dry_run(arguments: argparse.Namespace, policy: Policy) -> None:
-    """Makes the policy on a program of its own, and lists its commands. Raises Failed where one is refused there."""
+    """Makes the policy on a program of its own, and lists its commands. Raises Failed where one is
+    refused there.
+    """
     path = arguments.file
     with start(arguments.program) as client:
         client.login("root", ["root"])
@@ -177,7 +185,9 @@ def dry_run(arguments: argparse.Namespace, policy: Policy) -> None:
 
 
 def apply(arguments: argparse.Namespace) -> None:
-    """Applies the policy of a file as the user that the arguments name. Raises Failed where the file is no policy, or a command was refused."""
+    """Applies the policy of a file as the user that the arguments name. Raises Failed where the
+    file is no policy, or a command was refused.
+    """
     path = arguments.file
     policy = read_policy_file(path)
     for warning in warnings_of(policy, path):

@@ -3,8 +3,8 @@
 `connect` speaks to a server over its Unix socket, `start` runs the program itself and speaks to its
 standard input and output. Both give a `Client`, with a method for each command of docs/PROTOCOL.md.
 A refusal is raised as `Refusal`; a connection that cannot be made, or that ends before an answer,
-as `Disconnected`; an answer that doesn't come in time as `TimedOut`; a command that fills no line as
-`TooLong`, one that is no text as `NotText`.
+as `Disconnected`; an answer that doesn't come in time as `TimedOut`; a command that fills no line
+as `TooLong`, one that is no text as `NotText`.
 """
 from __future__ import annotations
 
@@ -39,7 +39,9 @@ if TYPE_CHECKING:
 ROOT = pathlib.Path(__file__).resolve().parents[2]  # of the repository
 LINE_BYTES = 65_536  # a command's line may have this many bytes before its LF
 AHEAD_BYTES = 24_000  # commands are sent ahead in batches whose answers have about this many bytes
-END_SECONDS = 10  # a program that was started ends in this many when its input has ended, or is stopped
+END_SECONDS = (
+    10  # a program that was started ends in this many when its input has ended, or is stopped
+)
 READS = 1_000_000  # a connection ends after this many reads of the server
 READ_BYTES = 4_096  # what is sent at once may take the server a read for each of these
 
@@ -51,8 +53,8 @@ class Refusal(Exception):
     """A command was refused, and nothing was changed.
 
     `code` (int) and `fault` (str) are those of the table of refusals in docs/PROTOCOL.md, `name` is
-    `fault` too, and `fields` (dict) has the further keys of the answer, as `{"op": .., "object": ..}`.
-    `command` (dict) is the command, where it is known.
+    `fault` too, and `fields` (dict) has the further keys of the answer, as `{"op": .., "object":
+    ..}`. `command` (dict) is the command, where it is known.
     """
 
     def __init__(self, answer: Answer, command: Optional[Answer] = None) -> None:
@@ -74,7 +76,9 @@ class TimedOut(Exception):
 
     def __init__(self, seconds: float) -> None:
         self.seconds = seconds
-        super().__init__(f"no answer came in {seconds:g} seconds; the command may have been carried out")
+        super().__init__(
+            f"no answer came in {seconds:g} seconds; the command may have been carried out"
+        )
 
 
 class CannotBeSent(Exception):
@@ -109,7 +113,9 @@ def line_of(command: Answer) -> bytes:
 
 
 def answer_of(line: bytes, cmd: Optional[str] = None) -> Answer:
-    """The answer that a line holds, to this command where it is named, be it a refusal or not. Raises Disconnected."""
+    """The answer that a line holds, to this command where it is named, be it a refusal or not.
+    Raises Disconnected.
+    """
     try:
         answer = json.loads(line)
     except (ValueError, RecursionError):
@@ -123,7 +129,9 @@ def answer_of(line: bytes, cmd: Optional[str] = None) -> Answer:
 
 @dataclasses.dataclass(frozen=True)
 class Instant:
-    """What came of an instant: its number from 1, and the signals that the session may observe, by their names."""
+    """What came of an instant: its number from 1, and the signals that the session may observe, by
+    their names.
+    """
 
     number: int
     signals: Dict[str, bool]
@@ -147,7 +155,9 @@ def names_of(names: Iterable[str]) -> List[str]:
 def batches_of(groups: Iterable[List[Answer]]) -> Iterator[List[List[Answer]]]:
     """Groups of commands, gathered into batches that are sent at once.
 
-    Two batches and their answers fill no pipe: the answer to a look, which has each signal, is the longest."""
+    Two batches and their answers fill no pipe: the answer to a look, which has each signal, is the
+    longest.
+    """
     batch: List[List[Answer]] = []
     size = 0
     for group in groups:
@@ -164,11 +174,11 @@ def batches_of(groups: Iterable[List[Answer]]) -> Iterator[List[List[Answer]]]:
 class Client:
     """One connection, with a method for each command of docs/PROTOCOL.md, by its name there.
 
-    Used with `with`, it is closed at the end, by which its session is logged out. A command gives the
-    answer, a dictionary: each docstring names its keys besides `ok`. Each command raises
+    Used with `with`, it is closed at the end, by which its session is logged out. A command gives
+    the answer, a dictionary: each docstring names its keys besides `ok`. Each command raises
 
-    - Refusal, as each docstring says; besides as NotARequest, where a word is out of form, as Memory,
-      and all but `login` as NoSession;
+    - Refusal, as each docstring says; besides as NotARequest, where a word is out of form, as
+      Memory, and all but `login` as NoSession;
     - Disconnected, where the connection has ended;
     - TooLong or NotText, before anything is sent.
 
@@ -184,11 +194,14 @@ class Client:
         again: Optional[Callable[[], Channel]] = None,
         reads: int = READS,
     ) -> None:
-        """A client that reads answers from one binary file and writes commands to another; `close()` ends both.
+        """A client that reads answers from one binary file and writes commands to another;
+        `close()` ends both.
 
-        An answer is waited for `timeout` seconds, or for as long as it takes. The server ends a connection after
-        `reads` reads: shortly before, `again()` makes a new one, where it is given, on which the same user logs in
-        with the same roles. Then `when_renewed` is called with the answer to that login."""
+        An answer is waited for `timeout` seconds, or for as long as it takes. The server ends a
+        connection after `reads` reads: shortly before, `again()` makes a new one, where it is
+        given, on which the same user logs in with the same roles. Then `when_renewed` is called
+        with the answer to that login.
+        """
         self._reader, self._writer, self._close = reader, writer, close
         self.timeout, self._again, self.reads = timeout, again, reads
         self.when_renewed: Callable[[Answer], None] = lambda answer: None
@@ -225,7 +238,9 @@ class Client:
         self._cut = False
 
     def _receive(self, cmd: Optional[str] = None) -> Answer:
-        """The next answer, to this command where it is named, be it a refusal or not. Raises Disconnected."""
+        """The next answer, to this command where it is named, be it a refusal or not. Raises
+        Disconnected.
+        """
         return answer_of(self._read_line(), cmd)
 
     def _read_line(self) -> bytes:
@@ -239,7 +254,10 @@ class Client:
     def _read_more(self) -> bytes:
         """The next bytes that come. Raises Disconnected, TimedOut."""
         try:
-            if self.timeout is not None and not select.select([self._reader], [], [], self.timeout)[0]:
+            if (
+                self.timeout is not None
+                and not select.select([self._reader], [], [], self.timeout)[0]
+            ):
                 raise TimedOut(self.timeout)
             more = self._reader.read1(LINE_BYTES)
         except (OSError, ValueError) as fault:
@@ -255,7 +273,9 @@ class Client:
         return "the server has gone away"
 
     def _renew(self) -> None:
-        """Makes a new connection, on which the same user has the same roles. Raises Refusal, Disconnected."""
+        """Makes a new connection, on which the same user has the same roles. Raises Refusal,
+        Disconnected.
+        """
         assert self._again is not None
         self._close()
         self._reader, self._writer, self._close = self._again()
@@ -266,7 +286,9 @@ class Client:
             self.when_renewed(answer)
 
     def _renew_in_time(self) -> None:
-        """Makes a new connection where this one is soon at its end. Raises Refusal, Disconnected."""
+        """Makes a new connection where this one is soon at its end. Raises Refusal,
+        Disconnected.
+        """
         margin = max(1, self.reads // 100)
         if self._again and not self._owed and self._used >= self.reads - margin:
             self._renew()
@@ -284,7 +306,9 @@ class Client:
             self._login[1].remove(command["role"])
 
     def _pass_over(self) -> None:
-        """Reads the answers that came to nobody, since their commands were interrupted. Raises Disconnected."""
+        """Reads the answers that came to nobody, since their commands were interrupted. Raises
+        Disconnected.
+        """
         if self._cut:
             raise Disconnected("an earlier command was broken off while it was sent")
         while self._owed > 0:
@@ -296,9 +320,11 @@ class Client:
         return self._owed > 0
 
     def ask(self, cmd: str, **keys: Any) -> Answer:
-        """Sends a command, and gives its answer, a dictionary with the keys that docs/PROTOCOL.md lists.
+        """Sends a command, and gives its answer, a dictionary with the keys that docs/PROTOCOL.md
+        lists.
 
-        Raises Refusal, Disconnected, TimedOut, TooLong, NotText."""
+        Raises Refusal, Disconnected, TimedOut, TooLong, NotText.
+        """
         command = {"cmd": cmd, **keys}
         line_of(command)
         self._pass_over()
@@ -314,7 +340,9 @@ class Client:
         return answer
 
     def _ask_once(self, command: Answer) -> Answer:
-        """Sends a command on this very connection, and gives its answer. Raises Refusal, Disconnected, TimedOut."""
+        """Sends a command on this very connection, and gives its answer. Raises Refusal,
+        Disconnected, TimedOut.
+        """
         self._send([line_of(command)])
         answer = self._receive(command["cmd"])
         if "code" in answer:
@@ -322,18 +350,23 @@ class Client:
         return answer
 
     def ask_all(self, commands: Iterable[Answer]) -> List[Answer]:
-        """Sends commands ahead of their answers, and gives the list of the answers, refusals among them.
+        """Sends commands ahead of their answers, and gives the list of the answers, refusals among
+        them.
 
-        Each command is a dictionary, with its name as `cmd`. Raises Disconnected, TimedOut, TooLong, NotText."""
+        Each command is a dictionary, with its name as `cmd`. Raises Disconnected, TimedOut,
+        TooLong, NotText.
+        """
         groups = [[command] for command in commands]
         return [answer for answers in self.ask_ahead(groups) for answer in answers]
 
     def ask_ahead(
         self, groups: Iterable[List[Answer]], stopped: Callable[[], bool] = lambda: False
     ) -> Iterator[List[Answer]]:
-        """Sends groups of commands ahead of their answers, and gives the answers to each group as they come.
+        """Sends groups of commands ahead of their answers, and gives the answers to each group as
+        they come.
 
-        No more is sent once `stopped()`; what was sent is still answered. Raises as `ask_all`."""
+        No more is sent once `stopped()`; what was sent is still answered. Raises as `ask_all`.
+        """
         self._pass_over()
         self._renew_in_time()
         waiting: Deque[List[List[Answer]]] = collections.deque()
@@ -358,8 +391,9 @@ class Client:
     def instant(self, slot: int, names: Iterable[str] = ()) -> Instant:
         """Offers these inputs, steps, and gives the `Instant` that came of it.
 
-        An input that is pending already is left so. Where an offer or the step is refused, as each of them can be,
-        the inputs that were offered before stay pending."""
+        An input that is pending already is left so. Where an offer or the step is refused, as each
+        of them can be, the inputs that were offered before stay pending.
+        """
         for name in names_of(names):
             try:
                 self.offer(slot, name)
@@ -375,18 +409,25 @@ class Client:
             raise
 
     def apply(self, policy: Path) -> Applied:
-        """Makes what a policy file asks for, and gives what became of it, as `estserve.py apply` does.
+        """Makes what a policy file asks for, and gives what became of it, as `estserve.py apply`
+        does.
 
-        Raises BadPolicy where the file is none, OSError where it can't be read."""
+        Raises BadPolicy where the file is none, OSError where it can't be read.
+        """
         from .applying import apply_file
 
         return apply_file(self, policy)
 
-    def waves(self, slot: int, text: str = "", main: Optional[str] = None, plain: bool = False) -> str:
-        """The instants of the slot so far as waves, of what the session may observe; `plain` keeps to ASCII.
+    def waves(
+        self, slot: int, text: str = "", main: Optional[str] = None, plain: bool = False
+    ) -> str:
+        """The instants of the slot so far as waves, of what the session may observe; `plain` keeps
+        to ASCII.
 
-        With the module's text, and the name of its main module where it isn't the first that no other runs, inputs
-        and outputs are told apart, and what may not be observed shows as dots. Refused as look is."""
+        With the module's text, and the name of its main module where it isn't the first that no
+        other runs, inputs and outputs are told apart, and what may not be observed shows as dots.
+        Refused as look is.
+        """
         from .module_text import main_of
         from .pictures import wave_lines
         from .seeing import see_slot
@@ -482,7 +523,7 @@ class Client:
         return self.ask("disinherit", senior=senior, junior=junior)
 
     def dsd(self, name: str, roles: Iterable[str], count: int) -> Answer:
-        """No session may have so many of the roles active, or below an active one. Gives `version`.
+        """No session may have `count` of the roles active, or below an active one. Gives `version`.
 
         Refused as Permission, DsdExists, UnknownRole, DsdShape, DsdViolated, Full, JournalFull."""
         return self.ask("dsd", name=name, roles=names_of(roles), count=count)
@@ -572,23 +613,30 @@ def open_socket(path: Path) -> Channel:
 def connect(path: Path, timeout: Optional[float] = None, reads: int = READS) -> Client:
     """A client of the server whose Unix socket lies at the path. Raises Disconnected.
 
-    An answer is waited for `timeout` seconds, or for as long as it takes. The server ends a connection after
-    1,000,000 reads: the client connects again shortly before, and logs in as it was. `reads` is another such limit."""
+    An answer is waited for `timeout` seconds, or for as long as it takes. The server ends a
+    connection after 1,000,000 reads: the client connects again shortly before, and logs in as it
+    was. `reads` is another such limit.
+    """
     return Client(*open_socket(path), timeout, lambda: open_socket(path), reads)
 
 
 def find_program(named: Optional[Path] = None) -> Path:
-    """The program: the one that is named, or of the variable ESTSERVE, or the one that `make run` builds, or one on the
-    path, or one beside the command that was started.
+    """The program: the one that is named, or of the variable ESTSERVE, or the one that `make run`
+    builds, or one on the path, or one beside the command that was started.
 
-    Raises Disconnected, if there is none."""
+    Raises Disconnected, if there is none.
+    """
     if named or os.environ.get("ESTSERVE"):
         return named or os.environ["ESTSERVE"]
     built = ROOT / "crates" / "estserve" / "out" / "estserve"
     beside = pathlib.Path(sys.argv[0]).resolve().parent / "estserve"
-    program = str(built) if built.exists() else shutil.which("estserve") or shutil.which(str(beside))
+    program = (
+        str(built) if built.exists() else shutil.which("estserve") or shutil.which(str(beside))
+    )
     if program is None:
-        raise Disconnected("there is no program estserve: build it by `make build`, or name it by --program")
+        raise Disconnected(
+            "there is no program estserve: build it by `make build`, or name it by --program"
+        )
     return program
 
 
@@ -605,9 +653,12 @@ def unproved_program() -> Path:
 
 
 def start(program: Optional[Path] = None, timeout: Optional[float] = None) -> Client:
-    """A client of a program that is started for it alone, as `estserve script`. Raises Disconnected.
+    """A client of a program that is started for it alone, as `estserve script`. Raises
+    Disconnected.
 
-    An answer is waited for `timeout` seconds, or for as long as it takes. The program is in a process group of its own, so that Ctrl-C interrupts the client and not the program."""
+    An answer is waited for `timeout` seconds, or for as long as it takes. The program is in a
+    process group of its own, so that Ctrl-C interrupts the client and not the program.
+    """
     command = [find_program(program), "script"]
     try:
         child = subprocess.Popen(

@@ -23,7 +23,9 @@ def is_plain(stream: TextIO) -> bool:
 
 
 def waves_for(stream: TextIO, seen: Seen) -> List[str]:
-    """The lines of waves, as the stream can show them: within its columns, where it is a terminal."""
+    """The lines of waves, as the stream can show them: within its columns, where it is a
+    terminal.
+    """
     columns = shutil.get_terminal_size().columns if stream.isatty() else None
     return wave_lines(seen, is_plain(stream), columns)
 
@@ -34,7 +36,9 @@ def write_vcd(path: str, seen: Seen) -> None:
 
 
 def table_for(seen: Seen, scenario: Scenario, hidden: FrozenSet[str] = frozenset()) -> Table:
-    """A table that has room for the inputs of all instants, of which some signals may not be observed."""
+    """A table that has room for the inputs of all instants, of which some signals may not be
+    observed.
+    """
     shown = [name for name in scenario.module.kinds() if name not in hidden]
     table = Table(seen)
     table.widen([instant_of(shown, offers.names) for offers in scenario.instants])
@@ -47,7 +51,9 @@ def instant_of(shown: List[str], present: List[str]) -> Instant:
 
 
 class Drawing:
-    """Draws the instants as they come into what is `seen`: a table at once, waves and a VCD file at the end."""
+    """Draws the instants as they come into what is `seen`: a table at once, waves and a VCD file at
+    the end.
+    """
 
     def __init__(self, seen: Seen, wave: bool = False, vcd: Optional[str] = None) -> None:
         self.seen, self.wave, self.vcd = seen, wave, vcd

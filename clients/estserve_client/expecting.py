@@ -22,7 +22,9 @@ def starts_of(head: str) -> List[int]:
 
 
 def row_of(line: str, starts: List[int]) -> Row:
-    """The cells of a line, however wide the columns are; of a line that is no instant's its words."""
+    """The cells of a line, however wide the columns are; of a line that is no instant's its
+    words.
+    """
     if len(starts) < 2 or not line[: starts[1]].strip().isdigit():
         return tuple(line.split())
     ends: List[Optional[int]] = [*starts[1:], None]
@@ -38,10 +40,16 @@ def place_of(row: Row) -> str:
     """What a line of an outcome is about."""
     if row and row[0].isdigit():
         return f"instant {row[0]}"
-    return f"instant {row[1].rstrip(':')}" if len(row) > 1 and row[1].rstrip(":").isdigit() else "the heads"
+    return (
+        f"instant {row[1].rstrip(':')}"
+        if len(row) > 1 and row[1].rstrip(":").isdigit()
+        else "the heads"
+    )
 
 
-def first_difference(expected: List[str], came: List[str], path: str) -> Optional[Tuple[str, List[str]]]:
+def first_difference(
+    expected: List[str], came: List[str], path: str
+) -> Optional[Tuple[str, List[str]]]:
     """Where two outcomes differ first, and the lines of a diff; None where they don't."""
     pairs = itertools.zip_longest(rows_of(expected), rows_of(came))
     at = next((number for number, (one, other) in enumerate(pairs) if one != other), None)
@@ -50,7 +58,9 @@ def first_difference(expected: List[str], came: List[str], path: str) -> Optiona
     place = place_of(rows_of(came)[at] if at < len(came) else rows_of(expected)[at])
     lines = [f"--- {path}", "+++ this run", f"@@ {place} @@"]
     lines += [" " + line for line in came[max(1, at - 2) : at]]
-    lines += ["-" + line for line in expected[at : at + 1]] + ["+" + line for line in came[at : at + 1]]
+    lines += ["-" + line for line in expected[at : at + 1]] + [
+        "+" + line for line in came[at : at + 1]
+    ]
     return place, lines
 
 
@@ -60,7 +70,9 @@ def read_expected(path: str) -> List[str]:
 
 
 def update(path: str, lines: List[str]) -> bool:
-    """Writes an outcome into its file where it isn't there already. Answers whether it was written. Raises Failed."""
+    """Writes an outcome into its file where it isn't there already. Answers whether it was written.
+    Raises Failed.
+    """
     if pathlib.Path(path).exists() and read_expected(path) == lines:
         return False
     write_lines(path, lines)

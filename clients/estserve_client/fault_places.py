@@ -1,7 +1,8 @@
 """Where the faults of a load lie that name no place: the client's own reading of the text.
 
-estserve answers such a fault by a name, or by the number of a relation, and keeps to the first place of the text.
-Here each place that the name can mean is found by the same rules, in the order of the text.
+estserve answers such a fault by a name, or by the number of a relation, and keeps to the first
+place of the text. Here each place that the name can mean is found by the same rules, in the order
+of the text.
 """
 from __future__ import annotations
 
@@ -16,7 +17,9 @@ EMITS = ("emit", "sustain")
 
 @dataclasses.dataclass(frozen=True)
 class Place:
-    """A place that a fault can mean: its token, the module that it stands in, and what is so there."""
+    """A place that a fault can mean: its token, the module that it stands in, and what is so
+    there.
+    """
 
     at: Token
     module: str
@@ -41,7 +44,9 @@ class Scope:
 
 
 def scoped(module: ModuleTree) -> Iterator[Tuple[Node, Scope]]:
-    """Each statement of a module with the names that it sees besides the interface, in the order of the text."""
+    """Each statement of a module with the names that it sees besides the interface, in the order of
+    the text.
+    """
     line: List[Tuple[Node, Scope]] = [(module.body, Scope())]
     while line:
         node, scope = line.pop()
@@ -73,7 +78,9 @@ def duplicates(modules: List[ModuleTree], name: str, _: str) -> List[Place]:
     for module in modules:
         names.append(module.name)
         if module.name in [token for token in repeated(names) if token.text != "tick"]:
-            found.append(Place(module.name, module.name.text, "a module of this name stands before"))
+            found.append(
+                Place(module.name, module.name.text, "a module of this name stands before")
+            )
         lists = [node.names for node in module.body.walk() if node.kind == "signal"]
         tokens = [token for list_ in [module.interface, *lists] for token in repeated(list_)]
         found += [Place(token, module.name.text, declared_again(token)) for token in tokens]
@@ -101,7 +108,9 @@ def runs_of(module: ModuleTree) -> List[Node]:
 
 
 def recursive_runs(modules: List[ModuleTree], name: str, _: str) -> List[Place]:
-    """The chain of runs that leads from a module back to it, a place a link. It is a shortest one."""
+    """The chain of runs that leads from a module back to it, a place a link. It is a shortest
+    one.
+    """
     known = by_name(modules)
     chains: Dict[str, List[Place]] = {name: []}
     line = [name]
@@ -118,7 +127,9 @@ def recursive_runs(modules: List[ModuleTree], name: str, _: str) -> List[Place]:
 
 
 def bad_renamings(modules: List[ModuleTree], name: str, _: str) -> List[Place]:
-    """Where the name is the right one of a renaming and no signal of the module that is run, or stands there again."""
+    """Where the name is the right one of a renaming and no signal of the module that is run, or
+    stands there again.
+    """
     known, found = by_name(modules), []
     for module in modules:
         for node in runs_of(module):
@@ -143,7 +154,9 @@ def visible(module: ModuleTree, scope: Scope, name: str) -> bool:
 
 
 def unknown_names(modules: List[ModuleTree], name: str, _: str) -> List[Place]:
-    """Where the name is emitted, tested, renamed, left as a trap or needed by a run, and isn't visible."""
+    """Where the name is emitted, tested, renamed, left as a trap or needed by a run, and isn't
+    visible.
+    """
     known, found = by_name(modules), []
     for module in modules:
         for node, scope in scoped(module):
@@ -171,7 +184,8 @@ def unknown_in(
     renamed = {renaming.right.text for renaming in node.renamings}
     for needed in target.names() if target else ():
         if needed not in renamed and not visible(module, scope, needed):
-            told = f"{inside} sees no signal {needed} for that of {node.names[0].text}, and renames none to it"
+            run = node.names[0].text
+            told = f"{inside} sees no signal {needed} for that of {run}, and renames none to it"
             found.append((needed, Place(node.names[0], inside, told)))
     return found
 
@@ -189,17 +203,30 @@ def emitted_names(modules: List[ModuleTree]) -> Dict[str, Set[str]]:
 def emissions(
     module: ModuleTree, known: Dict[str, ModuleTree], emitted: Dict[str, Set[str]]
 ) -> List[Tuple[str, Token, str]]:
-    """Each emission of an interface name or of `tick` in a module: the name, its token, and what is so there."""
+    """Each emission of an interface name or of `tick` in a module: the name, its token, and what is
+    so there.
+    """
     found = []
     for node, scope in scoped(module):
         if node.kind in EMITS:
-            found += [(node.names[0].text, node.names[0], scope, f"{node.kind} {node.names[0].text}")]
+            found += [
+                (node.names[0].text, node.names[0], scope, f"{node.kind} {node.names[0].text}")
+            ]
         elif node.kind == "run":
             target = known.get(node.names[0].text)
             left = {renaming.right.text: renaming.left.text for renaming in node.renamings}
-            names = [name for name in target.names() if name in emitted[target.name.text]] if target else []
+            names = (
+                [name for name in target.names() if name in emitted[target.name.text]]
+                if target
+                else []
+            )
             found += [
-                (left.get(name, name), node.names[0], scope, f"{node.names[0].text} emits its {name}")
+                (
+                    left.get(name, name),
+                    node.names[0],
+                    scope,
+                    f"{node.names[0].text} emits its {name}",
+                )
                 for name in names
             ]
     return [(name, at, told) for name, at, scope, told in found if name not in scope.signals]
@@ -213,7 +240,9 @@ def emitted_inputs(modules: List[ModuleTree], name: str, _: str) -> List[Place]:
         for emitting, at, told in emissions(module, known, emitted):
             if emitting == name and emitting in inputs:
                 what = "tick" if name == "tick" else f"the input {name}"
-                found.append(Place(at, module.name.text, f"{told}, which is {what} of {module.name.text}"))
+                found.append(
+                    Place(at, module.name.text, f"{told}, which is {what} of {module.name.text}")
+                )
     return in_order(found)
 
 
@@ -250,7 +279,9 @@ def trapped(codes: Codes) -> Codes:
 
 
 class StartCodes:
-    """The start codes of statements, and the loops whose bodies may end in the instant in which they begin."""
+    """The start codes of statements, and the loops whose bodies may end in the instant in which
+    they begin.
+    """
 
     def __init__(self, modules: List[ModuleTree]) -> None:
         self.known = by_name(modules)
@@ -319,11 +350,15 @@ class StartCodes:
 
 
 def instant_loops(modules: List[ModuleTree], _: str, main: str) -> List[Place]:
-    """The loops of the main module, and of what it runs, whose bodies may end in the instant in which they begin."""
+    """The loops of the main module, and of what it runs, whose bodies may end in the instant in
+    which they begin.
+    """
     codes, module = StartCodes(modules), by_name(modules).get(main)
     if module is not None:
         codes.of(module.body, (), main)
-    return in_order([Place(node.at, name, f"the loop stands in {name}") for node, name in codes.loops])
+    return in_order(
+        [Place(node.at, name, f"the loop stands in {name}") for node, name in codes.loops]
+    )
 
 
 FINDERS: Dict[str, Callable[[List[ModuleTree], str, str], List[Place]]] = {
@@ -339,7 +374,9 @@ FINDERS: Dict[str, Callable[[List[ModuleTree], str, str], List[Place]]] = {
 
 
 def places_of(fault: str, name: object, text: str, main: str) -> List[Place]:
-    """The places of the text that a fault of a load can mean, the most likely one first. None are known of other faults."""
+    """The places of the text that a fault of a load can mean, the most likely one first. None are
+    known of other faults.
+    """
     modules = parse(text)
     finder = FINDERS.get(fault)
     return finder(modules, str(name), main) if modules and finder else []

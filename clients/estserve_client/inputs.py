@@ -1,8 +1,8 @@
 """Lists of inputs: one instant a line, names apart by blanks.
 
-A `;` ends an instant too, so `A; B` is two instants, and a line that ends by `;` has no instant after it. `%` begins
-a comment up to the line's end. A blank line is an instant without inputs, unless no instant with names or `;` comes
-after it; a line with nothing but a comment is no instant.
+A `;` ends an instant too, so `A; B` is two instants, and a line that ends by `;` has no instant
+after it. `%` begins a comment up to the line's end. A blank line is an instant without inputs,
+unless no instant with names or `;` comes after it; a line with nothing but a comment is no instant.
 """
 from __future__ import annotations
 
@@ -39,4 +39,6 @@ def read_inputs(text: str) -> List[Offers]:
     lines = text.split("\n")
     while lines and is_blank(lines[-1]):
         lines.pop()
-    return [offers for line, written in enumerate(lines, 1) for offers in offers_of_line(written, line)]
+    return [
+        offers for line, written in enumerate(lines, 1) for offers in offers_of_line(written, line)
+    ]

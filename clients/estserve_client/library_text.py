@@ -1,4 +1,6 @@
-"""A library of modules from one file or more: one text for estserve, and the file and line of each of its lines."""
+"""A library of modules from one file or more: one text for estserve, and the file and line of each
+of its lines.
+"""
 from __future__ import annotations
 
 import dataclasses
@@ -33,7 +35,9 @@ class LibraryText:
 
 
 def join_texts(pieces: Sequence[Tuple[str, str]]) -> LibraryText:
-    """One text of several files, each a path and its text. A text that goes on ends its last line first."""
+    """One text of several files, each a path and its text. A text that goes on ends its last line
+    first.
+    """
     begins, texts, line = [], [], 1
     for at, (path, text) in enumerate(pieces):
         begins.append((str(path), line))

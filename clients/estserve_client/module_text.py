@@ -1,6 +1,8 @@
-"""The modules of a text, as far as a client needs them: names, interface signals, relations by their text.
+"""The modules of a text, as far as a client needs them: names, interface signals, relations by
+their text.
 
-The text is not checked: estserve does that. Of a text that it accepts, what is read here is what it declares.
+The text is not checked: estserve does that. Of a text that it accepts, what is read here is what it
+declares.
 """
 from __future__ import annotations
 
@@ -14,8 +16,9 @@ KEPT = re.compile(r"[^\s%]")
 
 @dataclasses.dataclass
 class Module:
-    """A module: its name, its signals in declaration order as pairs of a name and `input` or `output`, its relations
-    by their text, and what it runs."""
+    """A module: its name, its signals in declaration order as pairs of a name and `input` or
+    `output`, its relations by their text, and what it runs.
+    """
 
     name: str
     signals: List[Tuple[str, str]]
@@ -39,7 +42,9 @@ def tokens_of(text: str) -> List[str]:
 
 
 def parts_of(tokens: List[str], at: int) -> Tuple[List[List[str]], int]:
-    """The comma parts of a declaration that begins here, each a list of tokens, and the place after its semicolon."""
+    """The comma parts of a declaration that begins here, each a list of tokens, and the place after
+    its semicolon.
+    """
     parts: List[List[str]] = [[]]
     while at < len(tokens) and tokens[at] != ";":
         if tokens[at] == ",":

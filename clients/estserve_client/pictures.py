@@ -1,8 +1,9 @@
-"""Pictures of a run: a table of its instants, waves drawn with characters, and VCD files (IEEE 1364).
+"""Pictures of a run: a table of its instants, waves drawn with characters, and VCD files (IEEE
+1364).
 
-A picture is drawn of `Seen`: the signals, each a name and its kind, and the instants, each a dictionary
-from the name of a signal to its presence. A signal that an instant doesn't have could not be observed:
-it shows as `.`, and a VCD file leaves it out where no instant has it.
+A picture is drawn of `Seen`: the signals, each a name and its kind, and the instants, each a
+dictionary from the name of a signal to its presence. A signal that an instant doesn't have could
+not be observed: it shows as `.`, and a VCD file leaves it out where no instant has it.
 """
 from __future__ import annotations
 
@@ -15,16 +16,19 @@ HIGH, LOW, HIDDEN = "_/‾\\", "____", "...."
 PLAIN_HIGH = "_/^\\"
 Instant = Dict[str, bool]
 Signals = List[Tuple[str, str]]
-STEP = 10  # an instant of a VCD file takes so many units of time: instant n begins at time n * STEP
+STEP = 10  # an instant of a VCD file takes this many units of time: instant n begins at n * STEP
 TICK = "tick"  # the wire that goes up with each instant, and down in its middle
 
 
 @dataclasses.dataclass
 class Seen:
-    """What was seen of a module: its name, its signals, its instants, and the number of the first of these.
+    """What was seen of a module: its name, its signals, its instants, and the number of the first
+    of these.
 
-    The signals stand in declaration order, pairs of a name and `input` or `output`, or `signal` where it
-    isn't known which of the two it is. `scopes` has the modules that it runs, where they are known."""
+    The signals stand in declaration order, pairs of a name and `input` or `output`, or `signal`
+    where it isn't known which of the two it is. `scopes` has the modules that it runs, where they
+    are known.
+    """
 
     module: str
     signals: Signals
@@ -44,11 +48,15 @@ class Seen:
 
 def present_of(names: List[str], instant: Instant) -> str:
     """The names that were present in an instant, and `.` for each that could not be observed."""
-    return " ".join("." if name not in instant else name for name in names if instant.get(name, True))
+    return " ".join(
+        "." if name not in instant else name for name in names if instant.get(name, True)
+    )
 
 
 class Table:
-    """A table that is written as its instants come: the width of the column after the numbers is known before."""
+    """A table that is written as its instants come: the width of the column after the numbers is
+    known before.
+    """
 
     def __init__(self, seen: Seen, wide: int = 0) -> None:
         self.kinds = [seen.of_kind(kind) for kind in seen.kinds()]
@@ -81,7 +89,9 @@ def table_lines(seen: Seen) -> List[str]:
 
 
 def ruler_of(first: int, last: int) -> str:
-    """The numbers of instants over their waves: each, or each fifth where they have over three digits."""
+    """The numbers of instants over their waves: each, or each fifth where they have over three
+    digits.
+    """
     if last < 1000:
         return "".join(f"{number:>3} " for number in range(first, last + 1))
     ruler = ""
@@ -109,7 +119,9 @@ def block_lines(seen: Seen, wide: int, high: str) -> List[str]:
     ruler = ruler_of(seen.first, seen.first + len(seen.instants) - 1)
     lines = [f"{'instant':<{wide}}         {ruler}"]
     for name, kind in seen.signals:
-        drawn = "".join(HIDDEN if name not in i else high if i[name] else LOW for i in seen.instants)
+        drawn = "".join(
+            HIDDEN if name not in i else high if i[name] else LOW for i in seen.instants
+        )
         lines.append(f"{name:<{wide}}  {kind:<6} {drawn}")
     return [line.rstrip() for line in lines]
 
@@ -128,7 +140,9 @@ def vcd_value(instant: Instant, name: str) -> str:
 
 
 def scope_lines(scopes: List[Scope], codes: Dict[str, str]) -> List[str]:
-    """The scopes of the modules that are run: their names for the wires of the one that runs them."""
+    """The scopes of the modules that are run: their names for the wires of the one that runs
+    them.
+    """
     lines: List[str] = []
     for scope in scopes:
         wires = [(name, codes[signal]) for name, signal in scope.signals if signal in codes]
@@ -139,7 +153,9 @@ def scope_lines(scopes: List[Scope], codes: Dict[str, str]) -> List[str]:
 
 
 def wires_of(seen: Seen) -> List[str]:
-    """The signals that a VCD file has: those that could be observed, or all where there was no instant."""
+    """The signals that a VCD file has: those that could be observed, or all where there was no
+    instant.
+    """
     shown = {name for instant in seen.instants for name in instant}
     return [name for name, _ in seen.signals if name in shown or not seen.instants]
 
@@ -147,12 +163,16 @@ def wires_of(seen: Seen) -> List[str]:
 def vcd_lines(seen: Seen) -> List[str]:
     """The lines of a VCD file: a wire for each signal that could be observed, and the wire `tick`.
 
-    Instant n lasts from time 10 n to 10 n + 10, and `tick` is 1 in its first half, so that instants can be
-    counted. A wire is `x` in an instant in which its signal, which could be observed in others, could not be."""
+    Instant n lasts from time 10 n to 10 n + 10, and `tick` is 1 in its first half, so that instants
+    can be counted. A wire is `x` in an instant in which its signal, which could be observed in
+    others, could not be.
+    """
     wires = wires_of(seen)
     codes = {name: code_of(number) for number, name in enumerate(wires, 1)}
     lines = ["$version estserve $end", "$timescale 1 ns $end", f"$scope module {seen.module} $end"]
-    lines += [f"$var wire 1 {code} {name} $end" for name, code in {TICK: code_of(0), **codes}.items()]
+    lines += [
+        f"$var wire 1 {code} {name} $end" for name, code in {TICK: code_of(0), **codes}.items()
+    ]
     lines += [*scope_lines(seen.scopes or [], codes), "$upscope $end", "$enddefinitions $end"]
     before: Dict[str, str] = {}
     for number, instant in enumerate(seen.instants, seen.first):

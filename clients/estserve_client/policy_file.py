@@ -16,15 +16,15 @@
     roles = ["driver", "chief"]
     count = 2
 
-    [slots]                        # names for slots, which may stand in permissions: "offer door.OPEN"
+    [slots]                        # names of slots for permissions, as "offer door.OPEN"
     door = 3
 
-    [modules]                      # the module text of a slot: each permission on a signal is held against it
+    [modules]                      # the text of a slot, against which permissions are held
     door = "door.strl"
 
-Values are strings in double quotes without `\\`, whole numbers, and lists of strings, which may go over
-several lines. (Python has a reader of the whole of TOML from 3.11 on, which doesn't say on which line a
-value stands.)
+Values are strings in double quotes without `\\`, whole numbers, and lists of strings, which may go
+over several lines. (Python has a reader of the whole of TOML from 3.11 on, which doesn't say on
+which line a value stands.)
 """
 from __future__ import annotations
 
@@ -60,7 +60,9 @@ class Wish:
 
 @dataclasses.dataclass
 class Policy:
-    """What a file asks for: commands in an order that works, and the module text of each slot with its line."""
+    """What a file asks for: commands in an order that works, and the module text of each slot with
+    its line.
+    """
 
     wishes: List[Wish]
     modules: Dict[int, Tuple[int, str]]
@@ -76,7 +78,9 @@ def without_comment(line: str) -> str:
 
 
 def statements_of(text: str) -> Iterator[Tuple[int, str]]:
-    """The statements of the file, each with its first line: a list that is not closed goes on over the next lines."""
+    """The statements of the file, each with its first line: a list that is not closed goes on over
+    the next lines.
+    """
     held, first = "", 0
     for number, line in enumerate(text.split("\n"), 1):
         line = without_comment(line).strip()
@@ -138,7 +142,9 @@ def tables_of(text: str) -> Dict[str, Table]:
 
 
 def lists_of(table: Optional[Table]) -> Iterator[Tuple[str, str, int]]:
-    """Each key of a table with each string of its list, and the string's line. No table has none."""
+    """Each key of a table with each string of its list, and the string's line. No table has
+    none.
+    """
     for key, (line, value) in table.keys.items() if table else ():
         if not isinstance(value, list):
             raise BadPolicy(line, f"{key} is a list of strings")
@@ -180,7 +186,9 @@ def permissions_of(table: Optional[Table], slots: Dict[str, int]) -> Iterator[Wi
             raise BadPolicy(line, told)
         object = object_of(words[1], slots)
         if not OBJECT.fullmatch(object):
-            raise BadPolicy(line, f"{words[1]} is no object: policy, a slot, or a signal of one, as 0.A")
+            raise BadPolicy(
+                line, f"{words[1]} is no object: policy, a slot, or a signal of one, as 0.A"
+            )
         yield Wish(line, {"cmd": "grant", "role": role, "op": words[0], "object": object})
 
 
@@ -190,7 +198,10 @@ def modules_of(table: Optional[Table], slots: Dict[str, int]) -> Dict[int, Tuple
     for name, (line, path) in table.keys.items() if table else ():
         slot = slot_of(name, slots)
         if slot is None:
-            raise BadPolicy(line, f"{name} is no slot: a number from 0 to {SLOTS - 1}, or a name of the table slots")
+            raise BadPolicy(
+                line,
+                f"{name} is no slot: a number from 0 to {SLOTS - 1}, or a name of the table slots",
+            )
         if not isinstance(path, str):
             raise BadPolicy(line, f"{name} has a file's name, as a string")
         found[slot] = line, path
@@ -213,7 +224,9 @@ def check_names(tables: Dict[str, Table]) -> None:
     """Raises BadPolicy where a table, or a key before the first head, has no meaning here."""
     for name, table in tables.items():
         if name not in ("", *TABLES) and not name.startswith("separate."):
-            raise BadPolicy(table.line, f"there is no table {name}: {', '.join(TABLES)}, separate.NAME")
+            raise BadPolicy(
+                table.line, f"there is no table {name}: {', '.join(TABLES)}, separate.NAME"
+            )
     for key, (line, _) in tables[""].keys.items():
         if key not in ("users", "roles"):
             raise BadPolicy(line, f"there is no key {key} here: users, roles")
@@ -225,8 +238,12 @@ def read_file(text: str) -> Policy:
     check_names(tables)
     slots = slots_of(tables.get("slots"))
     top = list(lists_of(tables[""]))
-    wishes = [Wish(line, {"cmd": "addrole", "role": name}) for key, name, line in top if key == "roles"]
-    wishes += [Wish(line, {"cmd": "adduser", "user": name}) for key, name, line in top if key == "users"]
+    wishes = [
+        Wish(line, {"cmd": "addrole", "role": name}) for key, name, line in top if key == "roles"
+    ]
+    wishes += [
+        Wish(line, {"cmd": "adduser", "user": name}) for key, name, line in top if key == "users"
+    ]
     for senior, junior, line in lists_of(tables.get("inherit")):
         wishes.append(Wish(line, {"cmd": "inherit", "senior": senior, "junior": junior}))
     sets = [name for name in tables if name.startswith("separate.")]
@@ -238,6 +255,7 @@ def read_file(text: str) -> Policy:
 
 
 def read_policy(text: str) -> List[Wish]:
-    """The commands that a policy file asks for, in an order that works: roles, users, edges, sets, assignments,
-    permissions. Raises BadPolicy."""
+    """The commands that a policy file asks for, in an order that works: roles, users, edges, sets,
+    assignments, permissions. Raises BadPolicy.
+    """
     return read_file(text).wishes

@@ -1,7 +1,8 @@
 """What `apply --prune` takes away: what a policy file doesn't ask for.
 
-The protocol has no command that lists a policy. So what may be there is tried: each assignment, edge and permission
-over the names that the file has, or an earlier file. One that isn't there is refused, and changes nothing.
+The protocol has no command that lists a policy. So what may be there is tried: each assignment,
+edge and permission over the names that the file has, or an earlier file. One that isn't there is
+refused, and changes nothing.
 """
 from __future__ import annotations
 
@@ -39,16 +40,25 @@ def wanted_of(policy: Policy) -> Set[Tuple[str, ...]]:
 
 
 def objects_of(policies: List[Policy]) -> List[str]:
-    """The objects on which permissions are tried: the policy, each slot, and each signal that is named."""
-    return ["policy", *map(str, range(SLOTS)), *[name for name in names_of(policies, "object") if "." in name]]
+    """The objects on which permissions are tried: the policy, each slot, and each signal that is
+    named.
+    """
+    return [
+        "policy",
+        *map(str, range(SLOTS)),
+        *[name for name in names_of(policies, "object") if "." in name],
+    ]
 
 
 def candidates(policy: Policy, before: Optional[Policy] = None) -> List[Command]:
-    """The commands by which all is taken away that the file doesn't ask for, as far as its names and those of an
-    earlier file tell. Root's own role and its right to administer stay."""
+    """The commands by which all is taken away that the file doesn't ask for, as far as its names
+    and those of an earlier file tell. Root's own role and its right to administer stay.
+    """
     policies = [policy, *([before] if before else [])]
     users, roles = names_of(policies, "user"), names_of(policies, "role", "senior", "junior")
-    kept_users, kept_roles = names_of([policy], "user"), names_of([policy], "role", "senior", "junior")
+    kept_users, kept_roles = names_of([policy], "user"), names_of(
+        [policy], "role", "senior", "junior"
+    )
     wanted = wanted_of(policy)
     found: List[Command] = [
         {"cmd": "revoke", "role": role, "op": op, "object": object}
@@ -67,24 +77,36 @@ def candidates(policy: Policy, before: Optional[Policy] = None) -> List[Command]
     ]
     sets = [name for name in names_of(policies, "name") if name not in names_of([policy], "name")]
     found += [{"cmd": "undsd", "name": name} for name in sets]
-    found += [{"cmd": "deluser", "user": user} for user in users if user not in kept_users + ["root"]]
-    return found + [{"cmd": "delrole", "role": role} for role in roles if role not in kept_roles + ["root"]]
+    found += [
+        {"cmd": "deluser", "user": user} for user in users if user not in kept_users + ["root"]
+    ]
+    return found + [
+        {"cmd": "delrole", "role": role} for role in roles if role not in kept_roles + ["root"]
+    ]
 
 
 def is_agreed(is_certain: bool) -> bool:
-    """Whether a person agrees to take away what the file doesn't ask for. Raises Failed where nobody can be asked."""
+    """Whether a person agrees to take away what the file doesn't ask for. Raises Failed where
+    nobody can be asked.
+    """
     if is_certain:
         return True
     if not sys.stdin.isatty():
         raise Failed("--prune asks, and standard input is no terminal: say --yes")
-    print("take away what the file doesn't ask for? sessions that need it end [y/N] ", end="", flush=True)
+    print(
+        "take away what the file doesn't ask for? sessions that need it end [y/N] ",
+        end="",
+        flush=True,
+    )
     return sys.stdin.readline().strip().lower() in ("y", "yes")
 
 
 def prune(
     client: Client, commands: List[Command], is_certain: bool, text_of: Callable[[Command], str]
 ) -> None:
-    """Takes away what is there, and lists it. Raises Failed where a command is refused that was not for nothing."""
+    """Takes away what is there, and lists it. Raises Failed where a command is refused that was not
+    for nothing.
+    """
     if not is_agreed(is_certain):
         print("nothing is taken away")
         return
@@ -97,4 +119,5 @@ def prune(
     refusals = [Refusal(answer, command) for command, answer in pairs if "code" in answer]
     left = [refusal for refusal in refusals if refusal.fault not in NOT_THERE]
     if left:
-        raise Failed(f"{len(left)} could not be taken away; the first: {text_of(left[0].command)}: {left[0].fault}")
+        first = f"{text_of(left[0].command)}: {left[0].fault}"
+        raise Failed(f"{len(left)} could not be taken away; the first: {first}")

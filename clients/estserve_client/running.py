@@ -28,7 +28,9 @@ def program_of(arguments: argparse.Namespace) -> Optional[str]:
 def read_scenario(arguments: argparse.Namespace) -> Scenario:
     """The module and the inputs that the arguments name. Raises Failed."""
     if "-" in arguments.file and arguments.inputs == "-":
-        raise Failed("the module text is read from standard input: name the inputs by --inputs FILE")
+        raise Failed(
+            "the module text is read from standard input: name the inputs by --inputs FILE"
+        )
     library = read_library(arguments.file)
     module = main_of(library.text, arguments.main)
     return Scenario(library, module, read_inputs(read_text(arguments.inputs, "the list of inputs")))
@@ -40,14 +42,18 @@ def chosen(module: Module, named: Optional[List[str]]) -> Signals:
     unknown = [name for name in names if name not in module.kinds()]
     if unknown:
         raise Failed(f"{module.name} has no signal {unknown[0]}")
-    return [(name, module.kinds()[name]) for name in dict.fromkeys(names)] if names else module.signals
+    return (
+        [(name, module.kinds()[name]) for name in dict.fromkeys(names)] if names else module.signals
+    )
 
 
 @contextlib.contextmanager
 def place_to_run(arguments: argparse.Namespace) -> Iterator[Union[Stage, SharedSlot]]:
     """Where the module runs: a slot of the server that is named, or a program of its own."""
     if arguments.socket:
-        with session_of(arguments) as (client, _), SharedSlot(client, arguments.slot, not arguments.loaded) as slot:
+        with session_of(arguments) as (client, _), SharedSlot(
+            client, arguments.slot, not arguments.loaded
+        ) as slot:
             yield slot
     else:
         program = program_of(arguments)
@@ -56,11 +62,16 @@ def place_to_run(arguments: argparse.Namespace) -> Iterator[Union[Stage, SharedS
 
 
 def play(
-    place: Union[Stage, SharedSlot], scenario: Scenario, add: Callable[[object], None], progress: Progress
+    place: Union[Stage, SharedSlot],
+    scenario: Scenario,
+    add: Callable[[object], None],
+    progress: Progress,
 ) -> Optional[Refused]:
-    """Runs the module that is loaded, and gives each instant to `add`. Answers the refusal that ended it, if one did.
+    """Runs the module that is loaded, and gives each instant to `add`. Answers the refusal that
+    ended it, if one did.
 
-    Raises Interrupted after the first Ctrl-C, when what was sent is answered."""
+    Raises Interrupted after the first Ctrl-C, when what was sent is answered.
+    """
     number, total = 0, len(scenario.instants)
     with stopping() as stopped:
         try:
@@ -76,8 +87,12 @@ def play(
     return None
 
 
-def draw_run(arguments: argparse.Namespace, place: Union[Stage, SharedSlot], scenario: Scenario) -> None:
-    """Runs the module that is loaded, and draws it as the arguments ask. Raises Failed, also where an instant is refused."""
+def draw_run(
+    arguments: argparse.Namespace, place: Union[Stage, SharedSlot], scenario: Scenario
+) -> None:
+    """Runs the module that is loaded, and draws it as the arguments ask. Raises Failed, also where
+    an instant is refused.
+    """
     module = scenario.module
     signals = chosen(module, arguments.signals)
     scopes = scopes_of(scenario.library.text, module.name) if arguments.vcd else None
@@ -93,8 +108,12 @@ def draw_run(arguments: argparse.Namespace, place: Union[Stage, SharedSlot], sce
         raise refusal
 
 
-def hold_run(arguments: argparse.Namespace, place: Union[Stage, SharedSlot], scenario: Scenario) -> None:
-    """Runs the module that is loaded, and holds it against what is expected. Raises Failed where it differs."""
+def hold_run(
+    arguments: argparse.Namespace, place: Union[Stage, SharedSlot], scenario: Scenario
+) -> None:
+    """Runs the module that is loaded, and holds it against what is expected. Raises Failed where it
+    differs.
+    """
     seen = Seen(scenario.module.name, chosen(scenario.module, arguments.signals), [])
     refusal = play(place, scenario, seen.instants.append, Progress(len(scenario.instants), True))
     lines = outcome_lines(seen, refusal.told if refusal else None)
@@ -115,7 +134,9 @@ def counted(seen: Seen) -> str:
 
 
 def run_once(arguments: argparse.Namespace) -> None:
-    """Runs the module through the list of inputs, once. Raises Failed, Refusal, Disconnected, CannotBeSent."""
+    """Runs the module through the list of inputs, once. Raises Failed, Refusal, Disconnected,
+    CannotBeSent.
+    """
     scenario = read_scenario(arguments)
     fault = fault_of_inputs(scenario)
     try:
@@ -131,7 +152,10 @@ def run_once(arguments: argparse.Namespace) -> None:
 def told_of_server(refusal: Refusal, arguments: argparse.Namespace) -> Exception:
     """What a refusal on a server is told as: a slot that is loaded can be run as it is."""
     if refusal.fault == "Occupied" and arguments.socket:
-        return Failed(f"slot {arguments.slot} is loaded: name another by --slot, or run what is there by --loaded")
+        return Failed(
+            f"slot {arguments.slot} is loaded: name another by --slot,"
+            " or run what is there by --loaded"
+        )
     return refusal
 
 
@@ -149,10 +173,16 @@ def check_words(arguments: argparse.Namespace) -> None:
 
 
 def run(arguments: argparse.Namespace) -> None:
-    """Runs a module through a list of inputs, and draws what was seen, also where an instant is refused. Raises Failed."""
+    """Runs a module through a list of inputs, and draws what was seen, also where an instant is
+    refused. Raises Failed.
+    """
     check_words(arguments)
     if arguments.watch:
-        files = [*arguments.file, arguments.inputs, *([arguments.expect] if arguments.expect else [])]
+        files = [
+            *arguments.file,
+            arguments.inputs,
+            *([arguments.expect] if arguments.expect else []),
+        ]
         watch_files(files, lambda: run_once(arguments))
     else:
         run_once(arguments)

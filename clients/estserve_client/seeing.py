@@ -22,7 +22,9 @@ def instants_from(client: Client, slot: int, first: int) -> List[Instant]:
 
 
 def module_for(module: Optional[Module], slot: int, names: List[str]) -> Module:
-    """The module of which these signals were shown. Where it isn't known, or another one, its signals are those."""
+    """The module of which these signals were shown. Where it isn't known, or another one, its
+    signals are those.
+    """
     if module is None or not set(names) <= set(module.kinds()):
         return Module(f"slot{slot}", [(name, "signal") for name in names], [], [])
     return module

@@ -68,14 +68,17 @@ OPERATION = re.compile("|".join(OPERATIONS))
 OBJECT = re.compile(rf"policy|([0-9]|1[0-5])(\.{IDENTIFIER.pattern})?")
 A_NAME = (NAME, "a name: 1 to 24 letters, digits, _ and -")
 AN_IDENTIFIER = (IDENTIFIER, "an identifier: a letter, then letters, digits and _, at most 48")
-# The forms of docs/PROTOCOL.md, by the key: a word out of its form is what the server takes for no command.
+# The forms of docs/PROTOCOL.md, by the key: the server takes a word out of its form for no command.
 FORMS = {
     **dict.fromkeys(("user", "role", "senior", "junior", "name", "roles"), A_NAME),
     **dict.fromkeys(("main", "signal"), AN_IDENTIFIER),
     "op": (OPERATION, "an operation: " + " ".join(OPERATIONS)),
     "object": (OBJECT, "an object: policy, a slot from 0 to 15, or a signal of one, as 0.A"),
 }
-ROLES, NUMBERS = 32, 2**64  # a command has at most this many roles, and numbers are under this one
+ROLES, NUMBERS = (
+    32,
+    2**64,
+)  # a command has at most this many roles, and numbers are under this one
 
 
 def wrong_word(key: str, word: Any) -> Optional[str]:
@@ -89,7 +92,9 @@ def wrong_word(key: str, word: Any) -> Optional[str]:
 
 
 def out_of_form(keys: Dict[str, Any]) -> Optional[str]:
-    """What the first word of a command is not, by its keys; None where each is in form, as the protocol has it."""
+    """What the first word of a command is not, by its keys; None where each is in form, as the
+    protocol has it.
+    """
     lists = {key: value if isinstance(value, list) else [value] for key, value in keys.items()}
     pairs = [(key, word) for key, words in lists.items() for word in words]
     wrong = [told for told in (wrong_word(key, word) for key, word in pairs) if told]
@@ -99,7 +104,9 @@ def out_of_form(keys: Dict[str, Any]) -> Optional[str]:
 
 
 def sentence(refusal: Refusal, relations: Sequence[str] = ()) -> str:
-    """The sentence of a refusal. With the texts of the module's relations, a relation is told by its text."""
+    """The sentence of a refusal. With the texts of the module's relations, a relation is told by
+    its text.
+    """
     fields: Dict[str, Any] = {"offered": refusal.command.get("signal", "it"), **refusal.fields}
     number = fields.get("relation")
     if isinstance(number, int) and 0 < number <= len(relations):

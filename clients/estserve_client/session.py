@@ -13,18 +13,22 @@ PATIENCE = 2.0  # seconds after which a person is told that the server is waited
 
 
 def roles_of(arguments: argparse.Namespace) -> List[str]:
-    """The roles to activate: those that are named, and else root for the user root, and none for others."""
+    """The roles to activate: those that are named, and else root for the user root, and none for
+    others.
+    """
     return arguments.role or (["root"] if arguments.user == "root" else [])
 
 
 def tell_waiting() -> None:
-    print("no answer yet: perhaps each worker of the server has a client", file=sys.stderr, flush=True)
+    print(
+        "no answer yet: perhaps each worker of the server has a client", file=sys.stderr, flush=True
+    )
 
 
 def tell_renewed(client: Client, answer: Answer) -> None:
     """Tells that the connection is a new one."""
-    told = f"the connection has had its {client.reads:,} reads: connected again, session {answer['session']}"
-    print(told, file=sys.stderr, flush=True)
+    told = f"the connection has had its {client.reads:,} reads: connected again"
+    print(f"{told}, session {answer['session']}", file=sys.stderr, flush=True)
 
 
 @contextlib.contextmanager

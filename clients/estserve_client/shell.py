@@ -33,13 +33,21 @@ class Shell(cmd.Cmd):
     """The dialogue over one client."""
 
     def __init__(self, client: Client, user: str, is_typed: bool, stops: bool = False) -> None:
-        """`is_typed` says that a person types; else the lines are a script, which a refusal ends where it `stops`."""
+        """`is_typed` says that a person types; else the lines are a script, which a refusal ends
+        where it `stops`.
+        """
         super().__init__()
         self.client, self.is_typed, self.stops = client, is_typed, stops
         self.slot = 0  # that of `use`
-        self.modules: Dict[int, Module] = {}  # the module that runs in a slot, as far as it is known here
+        self.modules: Dict[
+            int, Module
+        ] = {}  # the module that runs in a slot, as far as it is known here
         self.texts: Dict[int, LibraryText] = {}  # and its text
-        self.told: Dict[str, Set[str]] = {"user": {"root"}, "role": {"root"}, "name": set()}  # to complete
+        self.told: Dict[str, Set[str]] = {
+            "user": {"root"},
+            "role": {"root"},
+            "name": set(),
+        }  # to complete
         self.user, self.line, self.refused = user, 0, 0
         self.set_prompt(user)
 
@@ -66,9 +74,11 @@ class Shell(cmd.Cmd):
             return self.tell_wrong(str(fault))
 
     def tell_wrong(self, text: str, placed: str = "") -> bool:
-        """Tells what went wrong, in a script with the line's number: after what begins with a place of its own.
+        """Tells what went wrong, in a script with the line's number: after what begins with a place
+        of its own.
 
-        Answers whether the dialogue ends with it."""
+        Answers whether the dialogue ends with it.
+        """
         self.refused += 1
         if self.is_typed:
             text = placed.rstrip("\n") or text
@@ -80,7 +90,9 @@ class Shell(cmd.Cmd):
         slot = refusal.command.get("slot", -1)
         module, library = self.modules.get(slot), self.texts.get(slot)
         undecided = refusal.fields.get("undecided", ())
-        chain = chain_lines(library, module.name, undecided) if library and module and undecided else []
+        chain = (
+            chain_lines(library, module.name, undecided) if library and module and undecided else []
+        )
         return [sentence(refusal, module.relations if module else ()), *chain]
 
     def emptyline(self) -> bool:
@@ -103,7 +115,9 @@ class Shell(cmd.Cmd):
     # Instants.
 
     def make_instants(self, line: str) -> bool:
-        """Offers the names of each instant of a line, steps, and shows what came out. A refusal ends the line."""
+        """Offers the names of each instant of a line, steps, and shows what came out. A refusal
+        ends the line.
+        """
         for offers in offers_of_line(line, self.line):
             try:
                 print(self.instant_line(self.slot, self.client.instant(self.slot, offers.names)))
@@ -120,11 +134,14 @@ class Shell(cmd.Cmd):
         if refusal.fault in ("Empty", "NoSlot"):
             first += f" (slot {self.slot}; `use` names another)"
         elif offered:
-            first += f"; {' '.join(offered)} {'stays' if len(offered) == 1 else 'stay'} pending: discard takes that away"
+            stay = "stays" if len(offered) == 1 else "stay"
+            first += f"; {' '.join(offered)} {stay} pending: discard takes that away"
         return "\n".join([first, *more])
 
     def instant_line(self, slot: int, instant: Instant) -> str:
-        """What is said of an instant: its outputs, or all that was present where the module isn't known here."""
+        """What is said of an instant: its outputs, or all that was present where the module isn't
+        known here.
+        """
         told = f"instant {instant.number}"
         if not instant.signals:
             return told
@@ -139,10 +156,14 @@ class Shell(cmd.Cmd):
 
     def commands(self) -> List[str]:
         """The names of all commands."""
-        return sorted([name[3:] for name in self.get_names() if name.startswith("do_")] + list(PLAIN))
+        return sorted(
+            [name[3:] for name in self.get_names() if name.startswith("do_")] + list(PLAIN)
+        )
 
     def help_of(self, name: str) -> str:
-        """The line of help for a command: its words, and what it does. Empty where there is no such command."""
+        """The line of help for a command: its words, and what it does. Empty where there is no such
+        command.
+        """
         if name in PLAIN:
             words = PLAIN[name].words.upper().replace("SLOT", "[SLOT]")
             return f"{name} {words}: {PLAIN[name].does}"
@@ -150,7 +171,9 @@ class Shell(cmd.Cmd):
         return getattr(self, f"do_{name}").__doc__.split("\n")[0] if known else ""
 
     def completenames(self, text: str, *_: Any) -> List[str]:
-        return [name + " " for name in self.commands() + self.inputs_here() if name.startswith(text)]
+        return [
+            name + " " for name in self.commands() + self.inputs_here() if name.startswith(text)
+        ]
 
     def complete_help(self, text: str, *_: Any) -> List[str]:
         return [name + " " for name in self.commands() if name.startswith(text)]
@@ -165,7 +188,9 @@ class Shell(cmd.Cmd):
             return []
         key = words[min(len(before), len(words) - 1)].strip("[].").lower()
         found = [word for word in self.words_for(key, before, text) if word.startswith(text)]
-        return sorted(word + ("/" if key == "file" and os.path.isdir(word) else " ") for word in found)
+        return sorted(
+            word + ("/" if key == "file" and os.path.isdir(word) else " ") for word in found
+        )
 
     def inputs_here(self) -> List[str]:
         """The inputs of the module in the slot of `use`, as far as it is known here."""
@@ -182,7 +207,9 @@ class Shell(cmd.Cmd):
         if key == "slot":
             return slots
         if key == "object":
-            pairs = [(slot, name) for slot, module in self.modules.items() for name in module.kinds()]
+            pairs = [
+                (slot, name) for slot, module in self.modules.items() for name in module.kinds()
+            ]
             return ["policy", *slots, *[f"{slot}.{name}" for slot, name in pairs]]
         if key == "signal":
             known = {str(slot): module for slot, module in self.modules.items()}
@@ -271,7 +298,7 @@ class Shell(cmd.Cmd):
         print(f"{module.name} runs in slot {slot}")
 
     def do_module(self, line: str) -> None:
-        """module [SLOT] FILE [MODULE]: tells the shell, not the server, which text another client has loaded there"""
+        """module [SLOT] FILE [MODULE]: tells the shell which text another client has loaded there"""
         slot, library, module = self.module_of(line)
         self.keep(slot, library, module)
         inputs, outputs = " ".join(module.inputs()), " ".join(module.outputs())
@@ -335,9 +362,12 @@ class Shell(cmd.Cmd):
             print()
 
     def watch(self, slot: int) -> None:
-        """Shows the instants of a slot, and then asks for new ones again and again. An interrupt ends it.
+        """Shows the instants of a slot, and then asks for new ones again and again. An interrupt
+        ends it.
 
-        The last instant that was shown is asked for too: where it isn't there, the slot was loaded anew."""
+        The last instant that was shown is asked for too: where it isn't there, the slot was loaded
+        anew.
+        """
         shown, wide, is_headed = 0, 0, False
         while True:
             seen = see_slot(self.client, slot, self.modules.get(slot), max(shown, 1))
@@ -345,12 +375,16 @@ class Shell(cmd.Cmd):
                 print(f"slot {slot} was loaded anew", flush=True)
                 shown, is_headed = 0, False
                 continue
-            new = Seen(seen.module, seen.signals, seen.instants[1:] if shown else seen.instants, shown + 1)
+            new = Seen(
+                seen.module, seen.signals, seen.instants[1:] if shown else seen.instants, shown + 1
+            )
             table = Table(new, wide)
             table.widen(new.instants)
             wide = table.wide
             lines = [] if is_headed else [table.head()]
-            lines += [table.row(number, instant) for number, instant in enumerate(new.instants, shown + 1)]
+            lines += [
+                table.row(number, instant) for number, instant in enumerate(new.instants, shown + 1)
+            ]
             print("".join(told + "\n" for told in lines), end="", flush=True)
             shown, is_headed = shown + len(new.instants), True
             time.sleep(WATCHED)
@@ -366,7 +400,9 @@ def use_readline() -> None:
 
 
 def talk(dialogue: Shell, client: Client) -> Optional[bool]:
-    """The dialogue up to its end. An interrupt of a script is raised; one of a person's line is not."""
+    """The dialogue up to its end. An interrupt of a script is raised; one of a person's line is
+    not.
+    """
     while True:
         try:
             return dialogue.cmdloop()
@@ -377,14 +413,16 @@ def talk(dialogue: Shell, client: Client) -> Optional[bool]:
 
 
 def shell(arguments: argparse.Namespace) -> int:
-    """A dialogue as the user that the arguments name, until the end of standard input. Answers the status: 1 where a
-    line of a script was refused. Raises Refusal, Disconnected, NotText."""
+    """A dialogue as the user that the arguments name, until the end of standard input. Answers the
+    status: 1 where a line of a script was refused. Raises Refusal, Disconnected, NotText.
+    """
     is_typed = sys.stdin.isatty()
     if is_typed:
         use_readline()
     with session_of(arguments) as (client, answer):
         roles = " ".join(roles_of(arguments)) or "no role"
-        print(f"session {answer['session']} of {arguments.user}, with {roles}; help lists the commands")
+        told = f"session {answer['session']} of {arguments.user}, with {roles}"
+        print(f"{told}; help lists the commands")
         dialogue = Shell(client, arguments.user, is_typed, arguments.stop)
         talk(dialogue, client)
     return int(bool(dialogue.refused and not is_typed))

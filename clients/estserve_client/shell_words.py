@@ -10,7 +10,8 @@ from .sentences import OPERATIONS
 NUMBERS = ("slot", "instant", "count")
 ROLES = ("role", "senior", "junior")
 COMMENT = re.compile(r"(^|\s)[%#].*")
-LEGEND = f"""  A B;: offers A and B in the slot of `use`, steps, and shows what came out; `;` alone is an instant without inputs
+LEGEND = f"""  A B;: offers A and B in the slot of `use`, steps, and shows what came out
+  ;: makes an instant without inputs
   SLOT may be left away: then it is the slot of `use`, 0 at the start. % and # begin comments
   USER, ROLE, SENIOR, JUNIOR, NAME: 1 to 24 letters, digits, _ and -
   OP: {' '.join(OPERATIONS)}
@@ -23,7 +24,9 @@ class Usage(Exception):
 
 @dataclasses.dataclass(frozen=True)
 class Plain:
-    """A command that is sent as it is written: its words in their order, what it does, and what is so afterwards."""
+    """A command that is sent as it is written: its words in their order, what it does, and what is
+    so afterwards.
+    """
 
     words: str
     does: str
@@ -48,7 +51,9 @@ PLAIN = {
         "{user} has no more the role {role}",
     ),
     "grant": Plain(
-        "role op object", "lets the role do the operation on the object", "{role} may {op} on {object}"
+        "role op object",
+        "lets the role do the operation on the object",
+        "{role} may {op} on {object}",
     ),
     "revoke": Plain(
         "role op object",
@@ -68,13 +73,21 @@ PLAIN = {
     "undsd": Plain("name", "deletes the separation set", "the separation set {name} is deleted"),
     "activate": Plain("role", "makes a role of yours active in this session", "{role} is active"),
     "drop": Plain("role", "makes the role inactive in this session", "{role} is no more active"),
-    "offer": Plain("slot signal", "puts the input into what is pending for the next instant", "{signal} is pending"),
-    "discard": Plain("slot", "takes away what is pending for the next instant", "nothing is pending"),
+    "offer": Plain(
+        "slot signal",
+        "puts the input into what is pending for the next instant",
+        "{signal} is pending",
+    ),
+    "discard": Plain(
+        "slot", "takes away what is pending for the next instant", "nothing is pending"
+    ),
 }
 
 
 def without_comment(line: str) -> str:
-    """A line without its comment, which begins with `%` or `#` at the line's start or after a blank."""
+    """A line without its comment, which begins with `%` or `#` at the line's start or after a
+    blank.
+    """
     return COMMENT.sub("", line, count=1).strip()
 
 
@@ -86,7 +99,9 @@ def number_of(word: str) -> int:
 
 
 def keys_of(names: str, line: str, slot: int = 0) -> Dict[str, Any]:
-    """The keys of a command, from its words; where the slot is left away, it is this one. Raises Usage."""
+    """The keys of a command, from its words; where the slot is left away, it is this one. Raises
+    Usage.
+    """
     wanted, words = names.split(), line.split()
     if wanted[:1] == ["slot"] and len(words) == len(wanted) - 1:
         words.insert(0, str(slot))

@@ -36,7 +36,9 @@ class Scenario:
 
 
 class Refused(Failed):
-    """An instant was refused: its number, and what is said of it in one line. More lines may follow."""
+    """An instant was refused: its number, and what is said of it in one line. More lines may
+    follow.
+    """
 
     def __init__(self, number: int, told: str, more: List[str]) -> None:
         self.told = f"instant {number}: {told}"
@@ -52,7 +54,9 @@ def refused(refusal: Refusal, number: int, scenario: Scenario) -> Refused:
 
 
 def grants_of(module: Module, slot: int = 0) -> List[Answer]:
-    """What root needs to load the module, to offer its inputs, to step it and to see all of it: commands of grants."""
+    """What root needs to load the module, to offer its inputs, to step it and to see all of it:
+    commands of grants.
+    """
     wanted = [("load", f"{slot}"), ("step", f"{slot}")]
     wanted += [("offer", f"{slot}.{name}") for name in module.inputs()]
     wanted += [("observe", f"{slot}.{name}") for name, _ in module.signals]
@@ -68,7 +72,9 @@ def fault_of_inputs(scenario: Scenario) -> Optional[str]:
     for offers in scenario.instants:
         wrong = [name for name in offers.names if kinds.get(name) != "input"]
         if wrong:
-            return f"line {offers.line} of the inputs: {scenario.module.name} has no input {wrong[0]}"
+            return (
+                f"line {offers.line} of the inputs: {scenario.module.name} has no input {wrong[0]}"
+            )
     return None
 
 
@@ -83,7 +89,9 @@ def never() -> bool:
 
 
 class Stage:
-    """A program of its own, as root, on which one module after the other runs in slot 0. Used with `with`."""
+    """A program of its own, as root, on which one module after the other runs in slot 0. Used with
+    `with`.
+    """
 
     def __init__(self, begin: Callable[[], Client]) -> None:
         """`begin` starts a program: it is called again where the one that runs has no room left."""
@@ -105,7 +113,9 @@ class Stage:
         return self.client is not None and fits
 
     def load(self, scenario: Scenario) -> None:
-        """Loads the module in place of the one that ran before. Raises Failed where it is refused."""
+        """Loads the module in place of the one that ran before. Raises Failed where it is
+        refused.
+        """
         begins = not self.has_room(scenario)
         if begins:
             self.__exit__()
@@ -117,7 +127,12 @@ class Stage:
         ]
         self.granted |= {(grant["op"], grant["object"]) for grant in grants}
         unload = [{"cmd": "unload", "slot": 0}] * self.is_loaded
-        load = {"cmd": "load", "slot": 0, "main": scenario.module.name, "text": scenario.library.text}
+        load = {
+            "cmd": "load",
+            "slot": 0,
+            "main": scenario.module.name,
+            "text": scenario.library.text,
+        }
         self.entries += scenario.entries()
         self.is_loaded = False
         self.check([LOGIN] * begins + grants + unload + [load], scenario)
@@ -126,13 +141,17 @@ class Stage:
     def check(self, commands: List[Answer], scenario: Scenario) -> None:
         """Asks for the commands up to the load. Raises Failed where the module was not loaded.
 
-        Of what is refused the load is told first, unless it was refused for want of what was asked for before."""
+        Of what is refused the load is told first, unless it was refused for want of what was asked
+        for before.
+        """
         assert self.client is not None
         try:
             answers = self.client.ask_all(commands)
         except TooLong as fault:
             raise Failed(f"{scenario.library.paths[0]}: the text is too long: {fault}") from fault
-        refusals = [Refusal(told, asked) for asked, told in zip(commands, answers) if "code" in told]
+        refusals = [
+            Refusal(told, asked) for asked, told in zip(commands, answers) if "code" in told
+        ]
         loads = [refusal for refusal in refusals if refusal.command["cmd"] == "load"]
         if loads and loads[0].fault not in ("NoSession", "Permission"):
             raise load_fault(loads[0], scenario.library, scenario.module.name)
@@ -140,12 +159,16 @@ class Stage:
             raise Failed(f"root cannot load the module: {sentence(refusals[0])}")
 
     def play(self, scenario: Scenario, stopped: Callable[[], bool] = never) -> Iterator[Instant]:
-        """The instants of the module that is loaded, as they come, until it is stopped. Raises Failed."""
+        """The instants of the module that is loaded, as they come, until it is stopped. Raises
+        Failed.
+        """
         assert self.client is not None
         groups = (commands_of(offers, at) for at, offers in enumerate(scenario.instants, 1))
         for number, answers in enumerate(self.client.ask_ahead(groups, stopped), 1):
             asked = commands_of(scenario.instants[number - 1], number)
-            wrong = [Refusal(told, command) for told, command in zip(answers, asked) if "code" in told]
+            wrong = [
+                Refusal(told, command) for told, command in zip(answers, asked) if "code" in told
+            ]
             if wrong:
                 raise refused(wrong[0], number, scenario)
             yield dict(answers[-1]["signals"])
@@ -154,10 +177,14 @@ class Stage:
 class SharedSlot:
     """A slot of a server, as the user who is logged in, in which a module runs. Used with `with`.
 
-    Nothing is granted, and each command is answered before the next one is sent, since others may use the slot."""
+    Nothing is granted, and each command is answered before the next one is sent, since others may
+    use the slot.
+    """
 
     def __init__(self, client: Client, slot: int, loads: bool) -> None:
-        """`loads` says whether the module is loaded, and unloaded at the end; else it is there already."""
+        """`loads` says whether the module is loaded, and unloaded at the end; else it is there
+        already.
+        """
         self.client, self.slot, self.loads = client, slot, loads
         self.is_loaded = False
 
@@ -170,7 +197,9 @@ class SharedSlot:
             self.client.unload(self.slot)
 
     def load(self, scenario: Scenario) -> None:
-        """Loads the module where that is asked for. Raises Failed where its text is refused, and Refusal."""
+        """Loads the module where that is asked for. Raises Failed where its text is refused, and
+        Refusal.
+        """
         try:
             if self.loads:
                 self.client.load(self.slot, scenario.module.name, scenario.library.text)

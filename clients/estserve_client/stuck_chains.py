@@ -1,8 +1,9 @@
 """A chain of what waits for what in an instant that is stuck, drawn from the text.
 
-estserve names the outputs that stay undecided. Here the text is asked which tests come before each emission, in the
-same instant as far as the text tells, and a circle is looked for: an emission waits for a test, and the test for an
-emission of its signal. Where the program stands isn't known here, so that the circle is a possible one.
+estserve names the outputs that stay undecided. Here the text is asked which tests come before each
+emission, in the same instant as far as the text tells, and a circle is looked for: an emission
+waits for a test, and the test for an emission of its signal. Where the program stands isn't known
+here, so that the circle is a possible one.
 """
 from __future__ import annotations
 
@@ -13,7 +14,9 @@ from .fault_places import StartCodes
 from .library_text import LibraryText
 from .syntax_tree import ModuleTree, Node, Token, by_name, parse
 
-Signal = Tuple[str, int]  # a name, and 0 for the interface of the main module, else a number of its own
+Signal = Tuple[
+    str, int
+]  # a name, and 0 for the interface of the main module, else a number of its own
 Names = Dict[str, Signal]
 
 
@@ -57,20 +60,26 @@ class Waiting:
     def walk(
         self, node: Optional[Node], names: Names, begun: List[Act], held: List[Act], module: str
     ) -> List[Act]:
-        """Goes through a statement, which is begun after some tests and held by others, and gathers its emissions.
+        """Goes through a statement, which is begun after some tests and held by others, and gathers
+        its emissions.
 
-        Answers the tests that may decide whether it ends in this instant."""
+        Answers the tests that may decide whether it ends in this instant.
+        """
         if node is None or node.kind in ("nothing", "pause", "halt"):
             return []
         return getattr(self, "walk_" + node.kind)(node, names, begun, held, module)
 
-    def walk_emit(self, node: Node, names: Names, begun: List[Act], held: List[Act], _: str) -> List[Act]:
+    def walk_emit(
+        self, node: Node, names: Names, begun: List[Act], held: List[Act], _: str
+    ) -> List[Act]:
         self.emissions.append(Emission(self.act(node, names), begun[::-1] + held[::-1]))
         return []
 
     walk_sustain = walk_emit
 
-    def walk_exit(self, node: Node, _: Names, begun: List[Act], held: List[Act], __: str) -> List[Act]:
+    def walk_exit(
+        self, node: Node, _: Names, begun: List[Act], held: List[Act], __: str
+    ) -> List[Act]:
         around = [tests for name, tests in self.exits if name == node.names[0].text]
         if around:
             around[-1].append(begun + held)
@@ -171,7 +180,9 @@ Link = Tuple[Act, Act]  # an emission, and a test that comes before it
 
 
 def links_of(waiting: Waiting, undecided: Iterable[str]) -> Dict[Signal, List[Link]]:
-    """The links from each signal that may be undecided to others: the outputs that are, and local signals."""
+    """The links from each signal that may be undecided to others: the outputs that are, and local
+    signals.
+    """
     names = set(undecided)
     links: Dict[Signal, List[Link]] = {}
     for emission in waiting.emissions:
@@ -198,7 +209,9 @@ def circle_from(start: Signal, links: Dict[Signal, List[Link]]) -> List[Link]:
 
 
 def circle_of(text: str, main: str, undecided: Iterable[str]) -> List[Link]:
-    """A shortest circle of what waits for what, through an undecided output where there is one; empty where none is found."""
+    """A shortest circle of what waits for what, through an undecided output where there is one;
+    empty where none is found.
+    """
     modules = parse(text)
     if not modules or main not in by_name(modules):
         return []
@@ -206,12 +219,16 @@ def circle_of(text: str, main: str, undecided: Iterable[str]) -> List[Link]:
     links = links_of(Waiting(modules, main), names)
     outputs = [circle_from((name, 0), links) for name in names]
     found = [circle for circle in outputs if circle]
-    found = found or [circle for circle in (circle_from(signal, links) for signal in links) if circle]
+    found = found or [
+        circle for circle in (circle_from(signal, links) for signal in links) if circle
+    ]
     return min(found, key=len) if found else []
 
 
 def chain_lines(library: LibraryText, main: str, undecided: Iterable[str]) -> List[str]:
-    """What is said of a circle that may hold undecided outputs: a line for each emission, and for the test that it waits for."""
+    """What is said of a circle that may hold undecided outputs: a line for each emission, and for
+    the test that it waits for.
+    """
     circle = circle_of(library.text, main, undecided)
     if not circle:
         return []

@@ -1,6 +1,8 @@
-"""The tree of a module text, with the place of each word: what the client draws faults and chains from.
+"""The tree of a module text, with the place of each word: what the client draws faults and chains
+from.
 
-The text is one that estserve reads without a lexical or syntax fault; of any other `parse` gives None.
+The text is one that estserve reads without a lexical or syntax fault; of any other `parse` gives
+None.
 """
 from __future__ import annotations
 
@@ -8,18 +10,19 @@ import dataclasses
 import re
 from typing import Dict, Iterator, List, Optional
 
-TOKEN = re.compile(
-    r"%\{.*?\}%|%[^\n]*|\s+|[A-Za-z][A-Za-z0-9_]*|[0-9]+|\|\||=>|:=|<=|.", re.DOTALL
-)
+TOKEN = re.compile(r"%\{.*?\}%|%[^\n]*|\s+|[A-Za-z][A-Za-z0-9_]*|[0-9]+|\|\||=>|:=|<=|.", re.DOTALL)
 KEYWORDS = frozenset(
     "module end input output inputoutput relation nothing pause halt emit sustain present then else"
-    " suspend when immediate loop each every do await abort weak trap in exit signal run and or not".split()
+    " suspend when immediate loop each every do await abort weak trap in exit signal run"
+    " and or not".split()
 )
 
 
 @dataclasses.dataclass(frozen=True)
 class Token:
-    """A word or a symbol of a text, and the place of its first byte, from 1; columns count bytes."""
+    """A word or a symbol of a text, and the place of its first byte, from 1; columns count
+    bytes.
+    """
 
     text: str
     line: int
@@ -27,7 +30,9 @@ class Token:
 
 
 def tokens_of(text: str) -> List[Token]:
-    """The tokens of a text, without blanks and comments. What is no token stands among them as it is."""
+    """The tokens of a text, without blanks and comments. What is no token stands among them as it
+    is.
+    """
     tokens, line, begin, at, width = [], 1, 0, 0, 0
     for match in TOKEN.finditer(text):
         word, at = match.group(), match.start()
@@ -43,9 +48,10 @@ def tokens_of(text: str) -> List[Token]:
 class Node:
     """A statement.
 
-    `kind` is its keyword, `seq` or `par`; `loop` with `each` is `each`, and `weak abort` is `weak`. `at` is its first
-    token, `names` the names that it has (of a run the module's first), `parts` the statements in it. A branch of a
-    `present` that is left out is None."""
+    `kind` is its keyword, `seq` or `par`; `loop` with `each` is `each`, and `weak abort` is `weak`.
+    `at` is its first token, `names` the names that it has (of a run the module's first), `parts`
+    the statements in it. A branch of a `present` that is left out is None.
+    """
 
     kind: str
     at: Token
@@ -65,7 +71,9 @@ class Node:
 
 @dataclasses.dataclass(frozen=True)
 class Renaming:
-    """A renaming of a run: the caller's name on the left, that of the module that is run on the right."""
+    """A renaming of a run: the caller's name on the left, that of the module that is run on the
+    right.
+    """
 
     left: Token
     right: Token
@@ -73,7 +81,9 @@ class Renaming:
 
 @dataclasses.dataclass
 class ModuleTree:
-    """A module: its name, its interface in declaration order, its relations each as a list of members, its body."""
+    """A module: its name, its interface in declaration order, its relations each as a list of
+    members, its body.
+    """
 
     name: Token
     inputs: List[Token]
@@ -99,7 +109,7 @@ class Reader:
         self.at = 0
 
     def peek(self, ahead: int = 0) -> str:
-        """The text of a token that comes; empty behind the last one."""
+        """The text of a token that comes; empty after the last one."""
         return self.tokens[self.at + ahead].text if self.at + ahead < len(self.tokens) else ""
 
     def take(self, wanted: str = "") -> Token:
@@ -173,7 +183,15 @@ class Reader:
 
     def sequence(self) -> Node:
         parts = [self.unit()]
-        while self.takes(";") and self.peek() not in ("end", "]", "||", "then", "else", "when", "each"):
+        while self.takes(";") and self.peek() not in (
+            "end",
+            "]",
+            "||",
+            "then",
+            "else",
+            "when",
+            "each",
+        ):
             parts.append(self.unit())
         return parts[0] if len(parts) == 1 else Node("seq", parts[0].at, [], list(parts))
 

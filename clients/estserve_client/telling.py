@@ -15,9 +15,15 @@ class Teller:
         self.name = name
 
     def tell(self, told: object, status: int = 1) -> int:
-        """Tells one message, and gives this status. One that begins with a place stands as it is, for editors."""
+        """Tells one message, and gives this status. One that begins with a place stands as it is,
+        for editors.
+        """
         text = sentence(told) if isinstance(told, Refusal) else str(told)
-        print(text if isinstance(told, Placed) else f"{self.name}: {text}", file=sys.stderr, flush=True)
+        print(
+            text if isinstance(told, Placed) else f"{self.name}: {text}",
+            file=sys.stderr,
+            flush=True,
+        )
         return status
 
 

@@ -1,4 +1,6 @@
-"""The command `test`: each list of inputs of a folder, held against the table that is expected of it."""
+"""The command `test`: each list of inputs of a folder, held against the table that is expected of
+it.
+"""
 from __future__ import annotations
 
 import argparse
@@ -20,7 +22,9 @@ PASSED, FAILED, WRITTEN = "ok", "FAILED", "written"
 
 
 def texts_for(inputs: pathlib.Path, arguments: argparse.Namespace) -> List[pathlib.Path]:
-    """The module texts of a list of inputs: those that are named, or that of its name, or all of the folder. Raises Failed."""
+    """The module texts of a list of inputs: those that are named, or that of its name, or all of
+    the folder. Raises Failed.
+    """
     if arguments.module:
         return [pathlib.Path(path) for path in arguments.module]
     own = inputs.with_suffix(".strl")
@@ -30,7 +34,9 @@ def texts_for(inputs: pathlib.Path, arguments: argparse.Namespace) -> List[pathl
     return found
 
 
-def outcome(stage: Stage, inputs: pathlib.Path, arguments: argparse.Namespace) -> Tuple[Seen, List[str]]:
+def outcome(
+    stage: Stage, inputs: pathlib.Path, arguments: argparse.Namespace
+) -> Tuple[Seen, List[str]]:
     """What a list of inputs gives: what was seen, and its lines. Raises Failed."""
     library = read_library(texts_for(inputs, arguments))
     module = main_of(library.text, arguments.main)
@@ -44,8 +50,12 @@ def outcome(stage: Stage, inputs: pathlib.Path, arguments: argparse.Namespace) -
     return seen, outcome_lines(seen, refusal.told if refusal else None)
 
 
-def held(stage: Stage, inputs: pathlib.Path, arguments: argparse.Namespace) -> Tuple[str, str, List[str]]:
-    """How a list of inputs stands: the word for it, what is said, and the lines of a difference. Raises Interrupted."""
+def held(
+    stage: Stage, inputs: pathlib.Path, arguments: argparse.Namespace
+) -> Tuple[str, str, List[str]]:
+    """How a list of inputs stands: the word for it, what is said, and the lines of a difference.
+    Raises Interrupted.
+    """
     path = inputs.with_suffix(".expected")
     try:
         seen, lines = outcome(stage, inputs, arguments)
@@ -66,7 +76,9 @@ def held(stage: Stage, inputs: pathlib.Path, arguments: argparse.Namespace) -> T
 
 
 def test(arguments: argparse.Namespace) -> int:
-    """Runs each list of inputs of the folder on one program, with a line for each. Answers 1 where one failed. Raises Failed."""
+    """Runs each list of inputs of the folder on one program, with a line for each. Answers 1 where
+    one failed. Raises Failed.
+    """
     folder = pathlib.Path(arguments.folder)
     lists = sorted(folder.glob("*.inputs"))
     if not lists:

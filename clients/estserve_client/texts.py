@@ -15,7 +15,9 @@ class Failed(Exception):
 
 
 class Placed(Failed):
-    """The command ends with a text that begins with its place, `FILE:LINE:COL:`, as editors read it."""
+    """The command ends with a text that begins with its place, `FILE:LINE:COL:`, as editors read
+    it.
+    """
 
 
 class Interrupted(Failed):

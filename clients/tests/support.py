@@ -4,6 +4,7 @@ import io
 import os
 import pathlib
 import signal
+import socket
 import sys
 import tempfile
 import unittest
@@ -21,9 +22,11 @@ sys.path.insert(0, str(CLIENTS))
 
 
 def read_vcd(lines, scope=1):
-    """The changes in a VCD file: from the name of each wire of the outer scope to its values, by their instants.
+    """The changes in a VCD file: from the name of each wire of the outer scope to its values, by
+    their instants.
 
-    With a deeper `scope` the wires of that depth are given, by the scope's name and their own."""
+    With a deeper `scope` the wires of that depth are given, by the scope's name and their own.
+    """
     names, changes, instant, scopes = {}, {}, None, []
     for words in map(str.split, lines):
         if words[0] == "$scope":
@@ -41,15 +44,20 @@ def read_vcd(lines, scope=1):
 
 
 class Ran:
-    """What a command of the client gave: its status, what it printed, what it told on standard error."""
+    """What a command of the client gave: its status, what it printed, what it told on standard
+    error.
+    """
 
     def __init__(self, status, printed, told):
         self.status, self.printed, self.told = status, printed, told
 
 
 def run_client(words, typed="", variables=None):
-    """Runs the client with these words, `typed` on its standard input, and these variables besides."""
+    """Runs the client with these words, `typed` on its standard input, and these variables
+    besides.
+    """
     import estserve
+
     printed, told = (io.TextIOWrapper(io.BytesIO(), encoding="utf-8") for _ in range(2))
     stdin = io.TextIOWrapper(io.BytesIO(typed.encode()))
     with contextlib.ExitStack() as held:
@@ -70,7 +78,9 @@ def run_words(name, inputs=None, *more):
 
 
 def dialogue_variables(path, faults):
-    """The variables by which `dialogue.py` plays a stored dialogue, beside the real program that ESTSERVE names, if it does."""
+    """The variables by which `dialogue.py` plays a stored dialogue, beside the real program that
+    ESTSERVE names, if it does.
+    """
     variables = {"ESTSERVE": str(DIALOGUE), "DIALOGUE": str(path), "FAULTS": str(faults)}
     for name, real in (("RECORD", "RECORDER"), ("BESIDE", "ESTSERVE")):
         if os.environ.get(real):
@@ -90,7 +100,9 @@ def play_dialogue(path, words, typed=""):
 
 def needs_program(test):
     """Marks a test that runs the real program, which the variable ESTSERVE names."""
-    return unittest.skipUnless(os.environ.get("ESTSERVE"), "the variable ESTSERVE names no program")(test)
+    return unittest.skipUnless(
+        os.environ.get("ESTSERVE"), "the variable ESTSERVE names no program"
+    )(test)
 
 
 def serve(*words):
@@ -98,4 +110,5 @@ def serve(*words):
     sys.path.append(str(ROOT / "tests" / "socket"))
     import running
 
+    socket.setdefaulttimeout(None)  # which running sets, and stand-ins for servers can't have
     return running.Server(*words)

@@ -1,4 +1,6 @@
-"""The client's commands over stored dialogues, which `make examples` holds against the real program, and what it says of what goes wrong."""
+"""The client's commands over stored dialogues, which `make examples` holds against the real
+program, and what it says of what goes wrong.
+"""
 import os
 import pathlib
 import socket
@@ -7,7 +9,15 @@ import tempfile
 import threading
 import unittest
 
-from support import DIALOGUE, DIALOGUES, EXAMPLES, dialogue_variables, play_dialogue, read_vcd, run_words
+from support import (
+    DIALOGUE,
+    DIALOGUES,
+    EXAMPLES,
+    dialogue_variables,
+    play_dialogue,
+    read_vcd,
+    run_words,
+)
 
 import estserve
 
@@ -27,7 +37,9 @@ class Controllers(unittest.TestCase):
     """Each controller of the examples gives the pictures that stand beside it."""
 
     def check_picture(self, path, *more):
-        """What the client draws of the list of inputs by this name, over the dialogue by this name."""
+        """What the client draws of the list of inputs by this name, over the dialogue by this
+        name.
+        """
         words = run_words(path.parent.name, path.stem, *more)
         ran = play_dialogue(path.with_suffix(".dialogue"), words)
         told = REFUSED.get(path.stem)
@@ -36,7 +48,9 @@ class Controllers(unittest.TestCase):
 
     def test_tables(self):
         paths = sorted(EXAMPLES.glob("*/*.table"))
-        self.assertEqual([path.with_suffix(".inputs") for path in paths], sorted(EXAMPLES.glob("*/*.inputs")))
+        self.assertEqual(
+            [path.with_suffix(".inputs") for path in paths], sorted(EXAMPLES.glob("*/*.inputs"))
+        )
         for path in paths:
             with self.subTest(path.stem):
                 self.assertEqual(self.check_picture(path), path.read_text())
@@ -55,7 +69,9 @@ class Controllers(unittest.TestCase):
                 self.check_changes(changes, path.read_text().splitlines()[1:])
 
     def check_changes(self, changes, rows):
-        """Each wire is 1 in the instants in whose rows of the table its signal stands, and 0 in the others."""
+        """Each wire is 1 in the instants in whose rows of the table its signal stands, and 0 in the
+        others.
+        """
         self.assertEqual(list(changes.pop("tick").values()), ["1", "0"] * len(rows))
         for name, values in changes.items():
             now, drawn = None, []
@@ -67,7 +83,9 @@ class Controllers(unittest.TestCase):
     def test_a_vcd_file_of_abro(self):
         with tempfile.TemporaryDirectory() as folder:
             path = pathlib.Path(folder) / "abro.vcd"
-            self.assertEqual(self.check_picture(EXAMPLES / "abro" / "abro.table", "--vcd", path), "")
+            self.assertEqual(
+                self.check_picture(EXAMPLES / "abro" / "abro.table", "--vcd", path), ""
+            )
             changes = read_vcd(path.read_text().splitlines())
         self.assertEqual(changes["O"], {1: "0", 3: "1", 4: "0", 6: "1", 7: "0"})
         self.assertEqual(sorted(changes), ["A", "B", "O", "R", "tick"])
@@ -83,7 +101,9 @@ class Policies(unittest.TestCase):
         ran = play_dialogue(DIALOGUES / "apply_again", ["apply", DIALOGUES.parent / "again.toml"])
         self.assertEqual(ran.status, 1)
         self.assertIn("again.toml:1: adduser root: UserExists", ran.printed)
-        self.assertIn("again.toml:5: assign ann nobody: UnknownRole: there is no role nobody", ran.told)
+        self.assertIn(
+            "again.toml:5: assign ann nobody: UnknownRole: there is no role nobody", ran.told
+        )
         self.assertIn("0 after it were not sent; 1 of 1 that were made are taken back\n", ran.told)
 
 
@@ -92,7 +112,8 @@ class Dialogues(unittest.TestCase):
 
     def check(self, name):
         typed, wanted = (
-            (DIALOGUES.parent / f"{name}.{kind}").read_text().replace("EXAMPLES", str(EXAMPLES)) for kind in ("typed", "printed")
+            (DIALOGUES.parent / f"{name}.{kind}").read_text().replace("EXAMPLES", str(EXAMPLES))
+            for kind in ("typed", "printed")
         )
         ran = play_dialogue(DIALOGUES / name, ["shell"], typed)
         self.assertEqual((ran.printed, ran.told, ran.status), (wanted, "", 1))
@@ -115,7 +136,9 @@ class OverASocket(unittest.TestCase):
         def answer():
             connection, _ = server.accept()
             variables = dict(os.environ, **dialogue_variables(dialogue, faults))
-            subprocess.run([str(DIALOGUE), "script"], stdin=connection, stdout=connection, env=variables)
+            subprocess.run(
+                [str(DIALOGUE), "script"], stdin=connection, stdout=connection, env=variables
+            )
             connection.close()
             server.close()
 
@@ -132,7 +155,9 @@ class OverASocket(unittest.TestCase):
                 client.adduser("ann")
                 with self.assertRaises(estserve.Refusal) as raised:
                     client.load(0, "M", "module M: pause end module")
-                self.assertEqual((raised.exception.code, raised.exception.fault), (10, "Permission"))
+                self.assertEqual(
+                    (raised.exception.code, raised.exception.fault), (10, "Permission")
+                )
                 self.assertEqual(raised.exception.fields, {"object": "0", "op": "load"})
                 client.logout()
             thread.join()

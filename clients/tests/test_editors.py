@@ -19,7 +19,9 @@ SOURCE = ROOT / "crates" / "est_text" / "src" / "keyword.rt"
 def words_in_vim():
     """The words that the syntax file for Vim has, each with its group."""
     found = {}
-    for group, words in re.findall(r"^syntax keyword (\w+) ([a-z ]+)$", VIM.read_text(), re.MULTILINE):
+    for group, words in re.findall(
+        r"^syntax keyword (\w+) ([a-z ]+)$", VIM.read_text(), re.MULTILINE
+    ):
         found.update(dict.fromkeys(words.split(), group))
     return found
 
@@ -30,7 +32,9 @@ class Grammar:
     def __init__(self):
         self.whole = json.loads((VSCODE / "syntaxes" / "esterel.tmLanguage.json").read_text())
         self.patterns = [
-            (re.compile(pattern["match"]), pattern) for pattern in self.whole["patterns"] if "match" in pattern
+            (re.compile(pattern["match"]), pattern)
+            for pattern in self.whole["patterns"]
+            if "match" in pattern
         ]
 
     def scope_of(self, word):
@@ -70,13 +74,26 @@ class Editors(unittest.TestCase):
     def test_vim_reads_it(self):
         with tempfile.NamedTemporaryFile("r", suffix=".txt") as written:
             asked = 'synIDattr(synID({}, 1, 1), "name")'
-            script = "|".join([
-                "syntax on",
-                f"edit {EXAMPLES / 'abro' / 'abro.strl'}",
-                f"call writefile([&filetype, {asked.format(1)}, {asked.format(2)}, {asked.format(8)}], '{written.name}')",
-                "qall!",
-            ])
-            words = ["vim", "-u", "NONE", "-N", "-es", "--cmd", f"set runtimepath^={EDITORS / 'vim'}", "-c", script]
+            script = "|".join(
+                [
+                    "syntax on",
+                    f"edit {EXAMPLES / 'abro' / 'abro.strl'}",
+                    f"let names = [&filetype, {asked.format(1)}, {asked.format(2)}, {asked.format(8)}]",
+                    f"call writefile(names, '{written.name}')",
+                    "qall!",
+                ]
+            )
+            words = [
+                "vim",
+                "-u",
+                "NONE",
+                "-N",
+                "-es",
+                "--cmd",
+                f"set runtimepath^={EDITORS / 'vim'}",
+                "-c",
+                script,
+            ]
             subprocess.run(words, stdin=subprocess.DEVNULL, capture_output=True, timeout=60)
             lines = written.read().split()
         if not lines:

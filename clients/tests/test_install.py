@@ -1,8 +1,11 @@
-"""What is put in place: the page of the manual, completions, `clients/install`; and the program that scripts/trial.py keeps."""
+"""What is put in place: the page of the manual, completions, `clients/install`; and the program
+that scripts/trial.py keeps.
+"""
 import argparse
 import os
 import pathlib
 import re
+import resource
 import shutil
 import signal
 import subprocess
@@ -17,6 +20,12 @@ import estserve
 
 MANUAL = CLIENTS / "man" / "estserve-client.1"
 COMPLETIONS = CLIENTS / "completions"
+OF_MAKE = (
+    "MAKEFLAGS",
+    "MAKELEVEL",
+    "MFLAGS",
+    "ESTSERVE",
+)  # variables that a make of a test must not see
 # Stands for the kit: it tells its calls, and `try` starts a program that makes the socket it is asked to serve at.
 KIT = """#!/bin/sh
 echo "$1" >> "$CALLS"
@@ -39,9 +48,16 @@ def options():
     estserve.NEIGHBOURS = ()
     parser = estserve.make_parser()
     estserve.NEIGHBOURS = held
-    commands = next(action for action in parser._actions if isinstance(action, argparse._SubParsersAction))
+    commands = next(
+        action for action in parser._actions if isinstance(action, argparse._SubParsersAction)
+    )
     return {
-        name: {word for action in command._actions for word in action.option_strings if word.startswith("--")}
+        name: {
+            word
+            for action in command._actions
+            for word in action.option_strings
+            if word.startswith("--")
+        }
         for name, command in commands.choices.items()
     }
 
@@ -54,10 +70,17 @@ class Pages(unittest.TestCase):
             for word in words:
                 self.assertRegex(text, rf"(?m)^\.B[IR]? .*{word}\b", f"{name} {word}")
 
-    @unittest.skipUnless(shutil.which("man") and shutil.which("groff"), "man or groff is not installed")
+    @unittest.skipUnless(
+        shutil.which("man") and shutil.which("groff"), "man or groff is not installed"
+    )
     def test_the_manual_is_without_warnings(self):
         words = ["man", "--warnings", "-E", "UTF-8", "-l", "-Tutf8", "-Z", str(MANUAL)]
-        ran = subprocess.run(words, capture_output=True, text=True, env={**os.environ, "MANROFFSEQ": "", "LC_ALL": "C.UTF-8"})
+        ran = subprocess.run(
+            words,
+            capture_output=True,
+            text=True,
+            env={**os.environ, "MANROFFSEQ": "", "LC_ALL": "C.UTF-8"},
+        )
         self.assertEqual((ran.returncode, ran.stderr), (0, ""))
 
     def test_completions_have_each_command_and_option(self):
@@ -70,25 +93,37 @@ class Pages(unittest.TestCase):
                     self.assertRegex(text, re.escape(told) + r"\b", f"{path.name}: {name} {word}")
 
     def test_shells_read_their_completions(self):
-        checks = [("bash", ["-n"], "estserve-client.bash"), ("zsh", ["-n"], "_estserve-client"), ("fish", ["-n"], "estserve-client.fish")]
+        checks = [
+            ("bash", ["-n"], "estserve-client.bash"),
+            ("zsh", ["-n"], "_estserve-client"),
+            ("fish", ["-n"], "estserve-client.fish"),
+        ]
         for shell, words, name in checks:
             with self.subTest(shell):
                 if not shutil.which(shell):
                     self.skipTest(f"{shell} is not installed")
-                ran = subprocess.run([shell, *words, str(COMPLETIONS / name)], capture_output=True, text=True)
+                ran = subprocess.run(
+                    [shell, *words, str(COMPLETIONS / name)], capture_output=True, text=True
+                )
                 self.assertEqual((ran.returncode, ran.stderr), (0, ""))
 
     @unittest.skipUnless(shutil.which("bash"), "bash is not installed")
     def test_bash_completes(self):
         def completed(*words):
             script = f'. "{COMPLETIONS}/estserve-client.bash"; COMP_WORDS=("$@"); COMP_CWORD=$(($# - 1)); _estserve_client;'
-            ran = subprocess.run(["bash", "-c", script + ' printf "%s\\n" "${COMPREPLY[@]}"', "bash", *words], capture_output=True, text=True)
+            ran = subprocess.run(
+                ["bash", "-c", script + ' printf "%s\\n" "${COMPREPLY[@]}"', "bash", *words],
+                capture_output=True,
+                text=True,
+            )
             return ran.stdout.split()
 
         self.assertEqual(completed("estserve-client", "sh"), ["shell"])
         self.assertEqual(completed("estserve-client", "apply", "--d"), ["--dry-run"])
         self.assertEqual(set(completed("estserve-client", "run", "--")), options()["run"])
-        self.assertEqual(completed("estserve-client", "run", str(CLIENTS / "inst")), [str(CLIENTS / "install")])
+        self.assertEqual(
+            completed("estserve-client", "run", str(CLIENTS / "inst")), [str(CLIENTS / "install")]
+        )
 
 
 class InAFolder(unittest.TestCase):
@@ -108,21 +143,43 @@ class InAFolder(unittest.TestCase):
 class Installed(InAFolder):
     def install(self, program, **variables):
         words = ["make", "-s", "install", f"PREFIX={self.folder}/p", f"PROGRAM={program}"]
-        environment = {key: value for key, value in os.environ.items() if key not in ("MAKEFLAGS", "MAKELEVEL", "ESTSERVE")}
-        return subprocess.run(words, cwd=ROOT, capture_output=True, text=True, env={**environment, **variables})
+        environment = {key: value for key, value in os.environ.items() if key not in OF_MAKE}
+        return subprocess.run(
+            words, cwd=ROOT, capture_output=True, text=True, env={**environment, **variables}
+        )
 
     def test_program_client_manual_and_completions_are_put_in_place(self):
-        program = self.script("program", "#!/bin/sh\nread line\necho \"the program: $*\"\ncat > /dev/null\n")
+        program = self.script(
+            "program", '#!/bin/sh\nread line\necho "the program: $*"\ncat > /dev/null\n'
+        )
         ran = self.install(program)
         self.assertEqual((ran.returncode, ran.stderr), (0, ""))
         prefix = self.folder / "p"
-        self.assertEqual(subprocess.run([prefix / "bin" / "estserve", "script"], input="\n", capture_output=True, text=True).stdout, "the program: script\n")
+        self.assertEqual(
+            subprocess.run(
+                [prefix / "bin" / "estserve", "script"], input="\n", capture_output=True, text=True
+            ).stdout,
+            "the program: script\n",
+        )
         variables = {key: value for key, value in os.environ.items() if key != "ESTSERVE"}
         words = [prefix / "bin" / "estserve-client", "shell"]
-        ran = subprocess.run(words, capture_output=True, text=True, cwd=self.folder, stdin=subprocess.DEVNULL, env=variables)
-        self.assertEqual(ran.stderr, "estserve-client: this is no answer of estserve: 'the program: script'\n")
-        for name in ["man/man1/estserve-client.1", "bash-completion/completions/estserve-client",
-                     "zsh/site-functions/_estserve-client", "fish/vendor_completions.d/estserve-client.fish"]:
+        ran = subprocess.run(
+            words,
+            capture_output=True,
+            text=True,
+            cwd=self.folder,
+            stdin=subprocess.DEVNULL,
+            env=variables,
+        )
+        self.assertEqual(
+            ran.stderr, "estserve-client: this is no answer of estserve: 'the program: script'\n"
+        )
+        for name in [
+            "man/man1/estserve-client.1",
+            "bash-completion/completions/estserve-client",
+            "zsh/site-functions/_estserve-client",
+            "fish/vendor_completions.d/estserve-client.fish",
+        ]:
             self.assertTrue((prefix / "share" / name).exists(), name)
         self.assertFalse(list(prefix.glob("**/__pycache__/*")) and not sys.dont_write_bytecode)
 
@@ -130,13 +187,44 @@ class Installed(InAFolder):
         program = self.script("program", "#!/bin/sh\n")
         ran = self.install(program, DESTDIR=f"{self.folder}/stage")
         self.assertEqual((ran.returncode, ran.stderr), (0, ""))
-        text = (self.folder / "stage" / f"{self.folder}/p/bin/estserve-client".lstrip("/")).read_text()
+        text = (
+            self.folder / "stage" / f"{self.folder}/p/bin/estserve-client".lstrip("/")
+        ).read_text()
         self.assertIn(f'"{self.folder}/p/lib/estserve"', text)
 
     def test_without_a_program(self):
         ran = self.install(self.folder / "none")
         self.assertNotEqual(ran.returncode, 0)
-        self.assertIn(f"there is no program at {self.folder}/none: make build proves and builds it", ran.stderr)
+        self.assertIn(
+            f"there is no program at {self.folder}/none: make build proves and builds it",
+            ran.stderr,
+        )
+
+
+class Abro(unittest.TestCase):
+    """`make abro` on the program that scripts/trial.py keeps."""
+
+    def kept(self):
+        """Whether the program of these sources is kept."""
+        sys.path.append(str(ROOT / "scripts"))
+        import trial
+
+        try:
+            return (trial.KEPT / trial.key()).exists()
+        except trial.CannotBuild:
+            return False
+
+    def test_the_second_time_it_is_there_at_once(self):
+        if not self.kept():
+            self.skipTest("the program is not kept: scripts/trial.py builds it")
+        variables = {name: value for name, value in os.environ.items() if name not in OF_MAKE}
+        before = sum(resource.getrusage(resource.RUSAGE_CHILDREN)[:2])
+        words = ["make", "-s", "abro"]
+        ran = subprocess.run(words, cwd=ROOT, capture_output=True, text=True, env=variables)
+        seconds = sum(resource.getrusage(resource.RUSAGE_CHILDREN)[:2]) - before
+        self.assertEqual(ran.stdout, (ROOT / "examples" / "abro" / "abro.wave").read_text())
+        self.assertNotIn("which takes a minute", ran.stderr)
+        self.assertLess(seconds, 3)  # of the processor: a busy machine may take longer
 
 
 class Kept(InAFolder):
@@ -148,18 +236,32 @@ class Kept(InAFolder):
         for name in ("scripts/trial.py", "tests/socket/running.py", "crates.txt"):
             (self.repository / name).parent.mkdir(parents=True, exist_ok=True)
             shutil.copy(ROOT / name, self.repository / name)
-        shutil.copytree(CLIENTS / "estserve_client", self.repository / "clients" / "estserve_client")
+        shutil.copytree(
+            CLIENTS / "estserve_client", self.repository / "clients" / "estserve_client"
+        )
         (self.repository / "crates" / "estserve" / "src").mkdir(parents=True)
         self.source = self.repository / "crates" / "estserve" / "src" / "main.rt"
         self.source.write_text("fn main() {}\n")
         self.script("bin/rt", KIT)
         self.calls = self.folder / "calls"
-        self.variables = {**os.environ, "PATH": f"{self.folder}/bin:{os.environ['PATH']}", "CALLS": str(self.calls), "ESTSERVE": "",
-                          "PROGRAM": str(self.script("built/program", PROGRAM)), "SLOW": ""}
+        self.variables = {
+            **os.environ,
+            "PATH": f"{self.folder}/bin:{os.environ['PATH']}",
+            "CALLS": str(self.calls),
+            "ESTSERVE": "",
+            "PROGRAM": str(self.script("built/program", PROGRAM)),
+            "SLOW": "",
+        }
 
     def trial(self, *words, **more):
         words = [sys.executable, "-B", str(self.repository / "scripts" / "trial.py"), *words]
-        return subprocess.Popen(words, stdout=subprocess.PIPE, stderr=subprocess.PIPE, text=True, env={**self.variables, **more})
+        return subprocess.Popen(
+            words,
+            stdout=subprocess.PIPE,
+            stderr=subprocess.PIPE,
+            text=True,
+            env={**self.variables, **more},
+        )
 
     def built(self):
         """How often the program was built since this was asked last."""
@@ -190,7 +292,10 @@ class Kept(InAFolder):
         trial = self.trial("--path", SLOW="1")
         self.assertIn("WITHOUT proof", trial.stderr.readline())
         end = time.monotonic() + 60
-        while "try" not in (self.calls.read_text() if self.calls.exists() else "") and time.monotonic() < end:
+        while (
+            "try" not in (self.calls.read_text() if self.calls.exists() else "")
+            and time.monotonic() < end
+        ):
             time.sleep(0.02)
         trial.send_signal(signal.SIGINT)
         printed, told = trial.communicate(timeout=60)

@@ -1,4 +1,6 @@
-"""The commands `run` and `test` on the real program: what streams, what is expected, what is watched, what is interrupted."""
+"""The commands `run` and `test` on the real program: what streams, what is expected, what is
+watched, what is interrupted.
+"""
 import os
 import pathlib
 import signal
@@ -31,7 +33,13 @@ class InAFolder(unittest.TestCase):
     def start(self, *words):
         """The client as a program of its own, whose output is read as it comes."""
         pipe = subprocess.PIPE
-        child = subprocess.Popen([*COMMAND, *map(str, words)], stdin=subprocess.DEVNULL, stdout=pipe, stderr=pipe, text=True)
+        child = subprocess.Popen(
+            [*COMMAND, *map(str, words)],
+            stdin=subprocess.DEVNULL,
+            stdout=pipe,
+            stderr=pipe,
+            text=True,
+        )
         self.addCleanup(child.communicate)
         self.addCleanup(child.kill)
         return child
@@ -46,7 +54,9 @@ class LongRuns(InAFolder):
         self.inputs = self.file("inputs", "R3\nR1 R3\n" * (LONG // 2))
 
     def interrupted(self, child):
-        """Interrupts the client. Answers what it printed since, and how many instants it says that there were."""
+        """Interrupts the client. Answers what it printed since, and how many instants it says that
+        there were.
+        """
         child.send_signal(signal.SIGINT)
         printed, told = child.stdout.read(), child.stderr.read()
         self.assertEqual(child.wait(SECONDS), 130, told)
@@ -66,7 +76,9 @@ class LongRuns(InAFolder):
 
     def test_a_vcd_file_is_whole_after_an_interrupt(self):
         path = self.folder / "out.vcd"
-        child = self.start("run", ARBITER, "--inputs", self.inputs, "--vcd", path, "--signals", "R1,G1")
+        child = self.start(
+            "run", ARBITER, "--inputs", self.inputs, "--vcd", path, "--signals", "R1,G1"
+        )
         time.sleep(3)
         printed, number = self.interrupted(child)
         lines = path.read_text().splitlines()
@@ -81,7 +93,9 @@ class LongRuns(InAFolder):
 class Runs(InAFolder):
     def test_signals_that_are_named(self):
         ran = run_client(run_words("abro", None, "--signals", "O,B", "--wave"))
-        self.assertEqual([line.split()[0] for line in ran.printed.splitlines()], ["instant", "O", "B"])
+        self.assertEqual(
+            [line.split()[0] for line in ran.printed.splitlines()], ["instant", "O", "B"]
+        )
         ran = run_client(run_words("abro", None, "--signals", "O"))
         self.assertEqual(ran.printed.splitlines()[3:5], ["      3          O", "      4"])
         ran = run_client(run_words("abro", None, "--signals", "O,X"))
@@ -90,45 +104,85 @@ class Runs(InAFolder):
     def test_what_is_expected(self):
         expected = self.folder / "abro.expected"
         words = run_words("abro", None, "--expect", expected)
-        self.assertEqual(run_client(words).told, f"estserve.py: the expected table {expected} cannot be read: No such file or directory\n")
-        self.assertEqual(run_client([*words, "--update"]).printed, f"{expected} is written: 7 instants\n")
+        self.assertEqual(
+            run_client(words).told,
+            f"estserve.py: the expected table {expected} cannot be read: No such file or directory\n",
+        )
+        self.assertEqual(
+            run_client([*words, "--update"]).printed, f"{expected} is written: 7 instants\n"
+        )
         self.assertEqual(expected.read_text(), (EXAMPLES / "abro" / "abro.table").read_text())
-        self.assertEqual(run_client([*words, "--update"]).printed, f"{expected} is as it was: 7 instants\n")
+        self.assertEqual(
+            run_client([*words, "--update"]).printed, f"{expected} is as it was: 7 instants\n"
+        )
         ran = run_client(words)
         self.assertEqual((ran.status, ran.printed, ran.told), (0, "7 instants, as expected\n", ""))
-        expected.write_text("instant  inputs     outputs\n" + "".join(  # the same, with wider columns and blank lines
-            f"{line[:16]}   {line[16:]}\n" for line in expected.read_text().splitlines()[1:]) + "\n\n")
+        expected.write_text(
+            "instant  inputs     outputs\n"
+            + "".join(  # the same, with wider columns and blank lines
+                f"{line[:16]}   {line[16:]}\n" for line in expected.read_text().splitlines()[1:]
+            )
+            + "\n\n"
+        )
         self.assertEqual(run_client(words).status, 0)
 
     def test_the_first_difference_is_shown(self):
         text = (EXAMPLES / "abro" / "abro.table").read_text()
-        expected = self.file("abro.expected", text.replace("      3  B       O\n", "      3  B\n").replace("      6  A B     O", "      6  A B"))
+        expected = self.file(
+            "abro.expected",
+            text.replace("      3  B       O\n", "      3  B\n").replace(
+                "      6  A B     O", "      6  A B"
+            ),
+        )
         ran = run_client(run_words("abro", None, "--expect", expected))
         self.assertEqual(ran.status, 1)
-        self.assertEqual(ran.printed.splitlines(), [
-            f"--- {expected}", "+++ this run", "@@ instant 3 @@", "       1", "       2  A", "-      3  B", "+      3  B       O",
-        ])
-        self.assertEqual(ran.told, f"estserve.py: {expected}: the first difference is at instant 3\n")
+        self.assertEqual(
+            ran.printed.splitlines(),
+            [
+                f"--- {expected}",
+                "+++ this run",
+                "@@ instant 3 @@",
+                "       1",
+                "       2  A",
+                "-      3  B",
+                "+      3  B       O",
+            ],
+        )
+        self.assertEqual(
+            ran.told, f"estserve.py: {expected}: the first difference is at instant 3\n"
+        )
         expected.write_text(text.rsplit("\n", 2)[0] + "\n")
         ran = run_client(run_words("abro", None, "--expect", expected))
-        self.assertEqual(ran.printed.splitlines()[2:], ["@@ instant 7 @@", "       5  R", "       6  A B     O", "+      7  A B R"])
+        self.assertEqual(
+            ran.printed.splitlines()[2:],
+            ["@@ instant 7 @@", "       5  R", "       6  A B     O", "+      7  A B R"],
+        )
 
     def test_an_instant_that_is_to_be_refused(self):
         expected = self.folder / "expected"
         words = run_words("crossing", "no_second", "--expect", expected)
         run_client([*words, "--update"])
-        self.assertEqual(expected.read_text().splitlines()[-1], "instant 2: Implied: relation 1 (MINUTE => SECOND) asks for SECOND too")
+        self.assertEqual(
+            expected.read_text().splitlines()[-1],
+            "instant 2: Implied: relation 1 (MINUTE => SECOND) asks for SECOND too",
+        )
         self.assertEqual(run_client(words).status, 0)
         expected.write_text(expected.read_text().replace("SECOND too", "HOUR too"))
-        self.assertEqual(run_client(words).told, f"estserve.py: {expected}: the first difference is at instant 2\n")
+        self.assertEqual(
+            run_client(words).told,
+            f"estserve.py: {expected}: the first difference is at instant 2\n",
+        )
 
     def test_blank_lines_within_are_instants(self):
         ran = run_client(["run", ABRO, "--inputs", self.file("inputs", "\nA\n\nB\n\n\n")])
-        self.assertEqual(ran.printed.splitlines()[1:], ["      1", "      2  A", "      3", "      4  B       O"])
+        self.assertEqual(
+            ran.printed.splitlines()[1:], ["      1", "      2  A", "      3", "      4  B       O"]
+        )
 
     def test_words_that_do_not_go_together(self):
         for more, told in [
-            (["--update"], "--update writes the file that --expect names"), (["--slot", "3"], "--slot and --loaded are for a server"),
+            (["--update"], "--update writes the file that --expect names"),
+            (["--slot", "3"], "--slot and --loaded are for a server"),
             (["--expect", "x", "--wave"], "--expect compares tables"),
         ]:
             ran = run_client(run_words("abro", None, *more))
@@ -147,7 +201,9 @@ class Runs(InAFolder):
         self.assertEqual(lines[2:], ["      1\n", "      2  A\n"])
         text.write_text("module M: emit end module\n")
         self.assertIn(" saved at ", child.stdout.readline())
-        self.assertEqual(child.stderr.readline(), f"{text}:1:16: Syntax: the text cannot go on so\n")
+        self.assertEqual(
+            child.stderr.readline(), f"{text}:1:16: Syntax: the text cannot go on so\n"
+        )
         text.write_text(ABRO.read_text())
         self.assertIn(" saved at ", child.stdout.readline())
         self.assertEqual([child.stdout.readline() for _ in range(3)][2], "      2  A\n")
@@ -163,14 +219,31 @@ class OnAServer(InAFolder):
                 root.grant("root", op, "3")
             for op, name in [("offer", "A"), ("offer", "B"), ("observe", "A"), ("observe", "O")]:
                 root.grant("root", op, f"3.{name}")
-            words = ["run", ABRO, "--inputs", self.file("inputs", ";\nA\nB\n"), "--socket", server.path, "--slot", "3"]
-            wanted = ["instant  inputs  outputs", "      1  . .", "      2  A . .", "      3  . .     O"]
+            words = [
+                "run",
+                ABRO,
+                "--inputs",
+                self.file("inputs", ";\nA\nB\n"),
+                "--socket",
+                server.path,
+                "--slot",
+                "3",
+            ]
+            wanted = [
+                "instant  inputs  outputs",
+                "      1  . .",
+                "      2  A . .",
+                "      3  . .     O",
+            ]
             for _ in range(2):  # it is unloaded at the end
                 ran = run_client(words)
                 self.assertEqual((ran.status, ran.printed.splitlines(), ran.told), (0, wanted, ""))
             root.load(3, "ABRO", ABRO.read_text())
             ran = run_client(words)
-            self.assertEqual(ran.told, "estserve.py: slot 3 is loaded: name another by --slot, or run what is there by --loaded\n")
+            self.assertEqual(
+                ran.told,
+                "estserve.py: slot 3 is loaded: name another by --slot, or run what is there by --loaded\n",
+            )
             ran = run_client([*words, "--loaded"])
             self.assertEqual((ran.status, ran.printed.splitlines()), (0, wanted))
             root.grant("root", "audit", "policy")
@@ -178,7 +251,9 @@ class OnAServer(InAFolder):
             self.file("inputs", ";\nR\n;\n")
             ran = run_client([*words, "--loaded"])
             self.assertEqual(ran.told, "estserve.py: instant 2: Permission: needs offer on 3.R\n")
-            self.assertEqual(root.audit(3)["instants"], 4)  # the instant that was refused is no instant
+            self.assertEqual(
+                root.audit(3)["instants"], 4
+            )  # the instant that was refused is no instant
 
 
 @needs_program
@@ -193,18 +268,27 @@ class Folders(InAFolder):
         self.file("typo.inputs", "A C\n")
         ran = run_client(["test", self.folder])
         self.assertEqual((ran.status, ran.told), (1, ""))
-        self.assertEqual(ran.printed.splitlines(), [
-            "ok      both: 2 instants",
-            "FAILED  new: there is no new.expected: --update writes it",
-            "FAILED  typo: line 1 of the inputs: ABRO has no input C",
-            "FAILED  wrong: the first difference is at instant 2",
-            f"--- {self.folder}/wrong.expected", "+++ this run", "@@ instant 2 @@", "       1",
-            "-      2  A       O", "+      2  A",
-            "1 passed, 3 failed",
-        ])
+        self.assertEqual(
+            ran.printed.splitlines(),
+            [
+                "ok      both: 2 instants",
+                "FAILED  new: there is no new.expected: --update writes it",
+                "FAILED  typo: line 1 of the inputs: ABRO has no input C",
+                "FAILED  wrong: the first difference is at instant 2",
+                f"--- {self.folder}/wrong.expected",
+                "+++ this run",
+                "@@ instant 2 @@",
+                "       1",
+                "-      2  A       O",
+                "+      2  A",
+                "1 passed, 3 failed",
+            ],
+        )
         (self.folder / "typo.inputs").unlink()
         ran = run_client(["test", self.folder, "--update"])
-        self.assertEqual((ran.status, ran.printed.splitlines()[-1]), (0, "1 passed, 0 failed, 2 written"))
+        self.assertEqual(
+            (ran.status, ran.printed.splitlines()[-1]), (0, "1 passed, 0 failed, 2 written")
+        )
         ran = run_client(["test", self.folder])
         self.assertEqual((ran.status, ran.printed.splitlines()[-1]), (0, "3 passed, 0 failed"))
 
@@ -216,18 +300,30 @@ class Folders(InAFolder):
             self.file(f"{name}.strl", (EXAMPLES / name / f"{name}.strl").read_text())
             self.file(f"{name}.inputs", (EXAMPLES / name / f"{name}.inputs").read_text())
             self.file(f"{name}.expected", (EXAMPLES / name / f"{name}.table").read_text())
-        self.file("paradox.expected", (paradox / "paradox.table").read_text()
-                  + "instant 2: Stuck: the instant has no constructive reaction; undecided: O\n")
+        self.file(
+            "paradox.expected",
+            (paradox / "paradox.table").read_text()
+            + "instant 2: Stuck: the instant has no constructive reaction; undecided: O\n",
+        )
         ran = run_client(["test", self.folder])
-        self.assertEqual((ran.status, ran.printed.splitlines()[-1]), (0, "4 passed, 0 failed"), ran.printed)
+        self.assertEqual(
+            (ran.status, ran.printed.splitlines()[-1]), (0, "4 passed, 0 failed"), ran.printed
+        )
 
     def test_a_folder_without_scenarios(self):
-        self.assertEqual(run_client(["test", self.folder]).told, f"estserve.py: there is no NAME.inputs in {self.folder}\n")
+        self.assertEqual(
+            run_client(["test", self.folder]).told,
+            f"estserve.py: there is no NAME.inputs in {self.folder}\n",
+        )
         self.file("a.inputs", "")
         ran = run_client(["test", self.folder])
-        self.assertEqual(ran.printed.splitlines(), [
-            f"FAILED  a: there is no module text in {self.folder}: name it by --module", "0 passed, 1 failed",
-        ])
+        self.assertEqual(
+            ran.printed.splitlines(),
+            [
+                f"FAILED  a: there is no module text in {self.folder}: name it by --module",
+                "0 passed, 1 failed",
+            ],
+        )
 
 
 if __name__ == "__main__":
