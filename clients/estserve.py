@@ -99,6 +99,15 @@ def add_server(parser: Parser, roles: Any) -> None:
     parser.add_argument("--reads", type=int, default=READS, metavar="N", help=help)
 
 
+def add_pictures(parser: Parser) -> None:
+    pictures = parser.add_mutually_exclusive_group()
+    pictures.add_argument(
+        "--table", action="store_true", help="draw a row an instant (so without any of the three)"
+    )
+    pictures.add_argument("--wave", action="store_true", help="draw waves with characters")
+    pictures.add_argument("--vcd", metavar="OUT", help="write a VCD file, for a viewer of waves")
+
+
 def add_run(commands: Any) -> None:
     parser = commands.add_parser(
         "run", help="run a module through a list of inputs, and draw its instants"
@@ -118,12 +127,7 @@ def add_run(commands: Any) -> None:
         help="the list of inputs, one instant a line (standard input)",
     )
     add("--signals", action="append", metavar="A,B", help="draw these signals, and no others")
-    pictures = parser.add_mutually_exclusive_group()
-    pictures.add_argument(
-        "--table", action="store_true", help="draw a row an instant (so without any of the three)"
-    )
-    pictures.add_argument("--wave", action="store_true", help="draw waves with characters")
-    pictures.add_argument("--vcd", metavar="OUT", help="write a VCD file, for a viewer of waves")
+    add_pictures(parser)
     add(
         "--expect",
         metavar="FILE",

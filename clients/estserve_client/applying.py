@@ -9,7 +9,7 @@ import dataclasses
 import os
 import pathlib
 import sys
-from typing import Any, Dict, Iterator, List, Optional, Union
+from typing import Any, Callable, Dict, Iterator, List, Optional, Union
 
 from .connection import Client, Refusal, start
 from .module_text import main_of
@@ -84,7 +84,9 @@ def take_back(client: Client, made: List[Wish]) -> List[Wish]:
     return left
 
 
-def apply_wishes(client: Client, wishes: List[Wish], tell: "Any" = None) -> Applied:
+def apply_wishes(
+    client: Client, wishes: List[Wish], tell: Optional[Callable[[Wish, Refusal], None]] = None
+) -> Applied:
     """Asks for each command in turn. At one that is refused it stops, and takes back what was made.
 
     `tell(wish, refusal)` is called for each that was there already."""
@@ -174,10 +176,10 @@ def dry_run(arguments: argparse.Namespace, policy: Policy) -> None:
     with start(arguments.program) as client:
         client.login("root", ["root"])
         applied = apply_wishes(client, policy.wishes)
-    for wish in applied.made:
-        print(f"{path}:{wish.line}: {text_of(wish.command)}")
-    for wish in applied.there:
-        print(f"{path}:{wish.line}: {text_of(wish.command)}: there already")
+    told = [(wish, "") for wish in applied.made]
+    told += [(wish, ": there already") for wish in applied.there]
+    for wish, more in told:
+        print(f"{path}:{wish.line}: {text_of(wish.command)}{more}")
     if applied.refused:
         tell_refusal(applied, path)
         raise Failed("a command would be refused on a new server; nothing was sent to yours")

@@ -10,6 +10,7 @@ from __future__ import annotations
 
 import collections
 import dataclasses
+import io
 import json
 import os
 import pathlib
@@ -31,6 +32,7 @@ from typing import (
     Optional,
     Tuple,
     Union,
+    cast,
 )
 
 if TYPE_CHECKING:
@@ -142,7 +144,9 @@ class Instant:
         return [name for name, is_present in self.signals.items() if is_present]
 
 
-Channel = Tuple[BinaryIO, BinaryIO, Callable[[], None]]  # answers, commands, and what ends both
+Channel = Tuple[
+    io.BufferedIOBase, BinaryIO, Callable[[], None]
+]  # answers, commands, and what ends both
 
 
 def names_of(names: Iterable[str]) -> List[str]:
@@ -187,7 +191,7 @@ class Client:
 
     def __init__(
         self,
-        reader: BinaryIO,
+        reader: io.BufferedIOBase,
         writer: BinaryIO,
         close: Callable[[], None],
         timeout: Optional[float] = None,
@@ -678,4 +682,5 @@ def start(program: Optional[Path] = None, timeout: Optional[float] = None) -> Cl
             child.kill()
             child.wait()
 
-    return Client(child.stdout, child.stdin, close, timeout)
+    answers, commands = cast(io.BufferedIOBase, child.stdout), cast(BinaryIO, child.stdin)
+    return Client(answers, commands, close, timeout)

@@ -9,6 +9,7 @@ from __future__ import annotations
 import dataclasses
 from typing import Callable, Dict, Iterator, List, Optional, Set, Tuple
 
+from .circles import shortest_circle
 from .syntax_tree import ModuleTree, Node, Token, by_name, parse
 
 TESTS = ("await", "present", "suspend", "abort", "weak", "each", "every")
@@ -53,6 +54,12 @@ def scoped(module: ModuleTree) -> Iterator[Tuple[Node, Scope]]:
         yield node, scope
         inner = scope.inside(node)
         line += [(part, inner) for part in reversed(node.parts) if part]
+
+
+def statements(modules: List[ModuleTree]) -> Iterator[Tuple[ModuleTree, Node, Scope]]:
+    """Each statement of the modules, with its module and the names that it sees."""
+    for module in modules:
+        yield from ((module, node, scope) for node, scope in scoped(module))
 
 
 def in_order(places: List[Place]) -> List[Place]:
@@ -108,22 +115,14 @@ def runs_of(module: ModuleTree) -> List[Node]:
 
 
 def recursive_runs(modules: List[ModuleTree], name: str, _: str) -> List[Place]:
-    """The chain of runs that leads from a module back to it, a place a link. It is a shortest
-    one.
-    """
+    """A shortest chain of runs that leads from a module back to it, a place a link."""
     known = by_name(modules)
-    chains: Dict[str, List[Place]] = {name: []}
-    line = [name]
-    for module in line:
-        for node in runs_of(known[module]) if module in known else ():
-            target = node.names[0].text
-            chain = chains[module] + [Place(node.names[0], module, f"{module} runs {target}")]
-            if target == name:
-                return chain
-            if target not in chains:
-                chains[target] = chain
-                line.append(target)
-    return []
+
+    def links_from(module: str) -> List[Tuple[Place, str]]:
+        runs = [node.names[0] for node in runs_of(known[module])] if module in known else []
+        return [(Place(at, module, f"{module} runs {at.text}"), at.text) for at in runs]
+
+    return shortest_circle(name, links_from)
 
 
 def bad_renamings(modules: List[ModuleTree], name: str, _: str) -> List[Place]:
@@ -131,21 +130,19 @@ def bad_renamings(modules: List[ModuleTree], name: str, _: str) -> List[Place]:
     stands there again.
     """
     known, found = by_name(modules), []
-    for module in modules:
-        for node in runs_of(module):
-            target = node.names[0].text
-            rights = [renaming.right for renaming in node.renamings]
-            interface = known[target].names() if target in known else []
-            found += [
-                Place(token, module.name.text, f"{target} has no signal {token.text}")
-                for token in rights
-                if token.text not in interface
-            ]
-            found += [
-                Place(token, module.name.text, f"{token.text} is renamed again")
-                for at, token in enumerate(rights)
-                if token.text in [before.text for before in rights[:at]]
-            ]
+    for module, node, _scope in statements(modules):
+        target = node.names[0].text if node.kind == "run" else ""
+        interface = known[target].names() if target in known else []
+        rights = [renaming.right for renaming in node.renamings]
+        wrong = [token for token in rights if token.text not in interface]
+        again = [
+            token
+            for at, token in enumerate(rights)
+            if token.text in [before.text for before in rights[:at]]
+        ]
+        inside = module.name.text
+        found += [Place(at, inside, f"{target} has no signal {at.text}") for at in wrong]
+        found += [Place(at, inside, f"{at.text} is renamed again") for at in again]
     return in_order([place for place in found if place.at.text == name])
 
 
@@ -157,11 +154,13 @@ def unknown_names(modules: List[ModuleTree], name: str, _: str) -> List[Place]:
     """Where the name is emitted, tested, renamed, left as a trap or needed by a run, and isn't
     visible.
     """
-    known, found = by_name(modules), []
-    for module in modules:
-        for node, scope in scoped(module):
-            found += unknown_in(module, node, scope, known)
-    return in_order([place for at, place in found if at == name])
+    known = by_name(modules)
+    hidden = [
+        found
+        for module, node, scope in statements(modules)
+        for found in unknown_in(module, node, scope, known)
+    ]
+    return in_order([place for at, place in hidden if at == name])
 
 
 def unknown_in(
@@ -194,9 +193,11 @@ def emitted_names(modules: List[ModuleTree]) -> Dict[str, Set[str]]:
     """The interface names that each module emits, by itself or by what it runs."""
     known = by_name(modules)
     emitted: Dict[str, Set[str]] = {name: set() for name in known}
-    for _ in range(len(modules) + 1):
-        for name, module in known.items():
-            emitted[name] |= {token for token, _, _ in emissions(module, known, emitted)}
+    for _ in modules:  # a chain of runs has no more links
+        emitted = {
+            name: {token for token, _, _ in emissions(module, known, emitted)}
+            for name, module in known.items()
+        }
     return emitted
 
 
@@ -236,13 +237,13 @@ def emitted_inputs(modules: List[ModuleTree], name: str, _: str) -> List[Place]:
     """Where the name, which is an input or `tick`, is emitted, by a statement or by what is run."""
     known, emitted, found = by_name(modules), emitted_names(modules), []
     for module in modules:
-        inputs = {token.text for token in module.inputs} | {"tick"}
-        for emitting, at, told in emissions(module, known, emitted):
-            if emitting == name and emitting in inputs:
-                what = "tick" if name == "tick" else f"the input {name}"
-                found.append(
-                    Place(at, module.name.text, f"{told}, which is {what} of {module.name.text}")
-                )
+        inside, inputs = module.name.text, {token.text for token in module.inputs} | {"tick"}
+        what = "tick" if name == "tick" else f"the input {name}"
+        found += [
+            Place(at, inside, f"{told}, which is {what} of {inside}")
+            for emitting, at, told in emissions(module, known, emitted)
+            if emitting == name and emitting in inputs
+        ]
     return in_order(found)
 
 

@@ -12,7 +12,7 @@ from .expecting import first_difference, outcome_lines, read_expected, update
 from .inputs import read_inputs
 from .library_text import LibraryText
 from .module_text import Module, main_of
-from .pictures import Seen, Signals
+from .pictures import Instant, Seen, Signals
 from .scopes import scopes_of
 from .session import session_of
 from .stage import Refused, Scenario, SharedSlot, Stage, fault_of_inputs, stopping
@@ -64,7 +64,7 @@ def place_to_run(arguments: argparse.Namespace) -> Iterator[Union[Stage, SharedS
 def play(
     place: Union[Stage, SharedSlot],
     scenario: Scenario,
-    add: Callable[[object], None],
+    add: Callable[[Instant], None],
     progress: Progress,
 ) -> Optional[Refused]:
     """Runs the module that is loaded, and gives each instant to `add`. Answers the refusal that

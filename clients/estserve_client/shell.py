@@ -7,7 +7,7 @@ import glob
 import os
 import sys
 import time
-from typing import Any, Dict, Iterable, List, Optional, Set, Tuple
+from typing import Any, Dict, Iterable, List, Set, Tuple
 
 from .connection import CannotBeSent, Client, Instant, Refusal, TimedOut
 from .drawing import waves_for, write_vcd
@@ -98,7 +98,7 @@ class Shell(cmd.Cmd):
     def emptyline(self) -> bool:
         return False
 
-    def default(self, line: str) -> bool:
+    def default(self, line: str) -> bool:  # type: ignore[override]
         name, words = (line.split(None, 1) + [""])[:2]
         if name == "EOF":
             print(end="\n" if self.prompt else "")
@@ -175,18 +175,19 @@ class Shell(cmd.Cmd):
             name + " " for name in self.commands() + self.inputs_here() if name.startswith(text)
         ]
 
-    def complete_help(self, text: str, *_: Any) -> List[str]:
-        return [name + " " for name in self.commands() if name.startswith(text)]
+    def complete_help(self, *words: Any) -> List[str]:
+        return [name + " " for name in self.commands() if name.startswith(words[0])]
 
-    def completedefault(self, text: str, line: str, begin: int, _: int) -> List[str]:
-        """What the word at this place of a line may be."""
+    def completedefault(self, *words: Any) -> List[str]:
+        """What the word at this place of a line may be: `words` are it, the line, and its place."""
+        text, line, begin = words[:3]
         if not self.help_of(line.split()[0]):
             return sorted(name + " " for name in self.inputs_here() if name.startswith(text))
         name, *before = line[:begin].split()
-        words = self.help_of(name).partition(":")[0].split()[1:]
-        if not words:
+        asked = self.help_of(name).partition(":")[0].split()[1:]
+        if not asked:
             return []
-        key = words[min(len(before), len(words) - 1)].strip("[].").lower()
+        key = asked[min(len(before), len(asked) - 1)].strip("[].").lower()
         found = [word for word in self.words_for(key, before, text) if word.startswith(text)]
         return sorted(
             word + ("/" if key == "file" and os.path.isdir(word) else " ") for word in found
@@ -298,7 +299,7 @@ class Shell(cmd.Cmd):
         print(f"{module.name} runs in slot {slot}")
 
     def do_module(self, line: str) -> None:
-        """module [SLOT] FILE [MODULE]: tells the shell which text another client has loaded there"""
+        """module [SLOT] FILE [MODULE]: tells the shell which text another client has loaded"""
         slot, library, module = self.module_of(line)
         self.keep(slot, library, module)
         inputs, outputs = " ".join(module.inputs()), " ".join(module.outputs())
@@ -399,13 +400,14 @@ def use_readline() -> None:
     readline.set_completer_delims(" \t\n")
 
 
-def talk(dialogue: Shell, client: Client) -> Optional[bool]:
+def talk(dialogue: Shell, client: Client) -> None:
     """The dialogue up to its end. An interrupt of a script is raised; one of a person's line is
     not.
     """
     while True:
         try:
-            return dialogue.cmdloop()
+            dialogue.cmdloop()
+            return
         except KeyboardInterrupt:
             if not dialogue.is_typed:
                 raise

@@ -4,6 +4,7 @@ from __future__ import annotations
 import contextlib
 import dataclasses
 import signal
+import threading
 import types
 from typing import Any, Callable, Dict, Iterator, List, Optional, Set, Tuple
 
@@ -232,7 +233,10 @@ class SharedSlot:
 
 @contextlib.contextmanager
 def stopping() -> Iterator[Callable[[], bool]]:
-    """Lets the first Ctrl-C be seen by the function that it gives, and a second one interrupt."""
+    """Lets the first Ctrl-C be seen by the function that it gives, and a second one interrupt.
+
+    Where interrupts are ignored, as for what runs in the background, they stay so.
+    """
     seen: Dict[str, Any] = {}
 
     def stop(_: int, __: Optional[types.FrameType]) -> None:
@@ -240,11 +244,11 @@ def stopping() -> Iterator[Callable[[], bool]]:
             raise KeyboardInterrupt
         seen["stopped"] = True
 
-    try:
-        before = signal.signal(signal.SIGINT, stop)
-    except ValueError:  # this is not the main thread
+    before = signal.getsignal(signal.SIGINT)
+    if before == signal.SIG_IGN or threading.current_thread() is not threading.main_thread():
         yield never
         return
+    signal.signal(signal.SIGINT, stop)
     try:
         yield lambda: bool(seen)
     finally:

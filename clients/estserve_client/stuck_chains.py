@@ -10,6 +10,7 @@ from __future__ import annotations
 import dataclasses
 from typing import Dict, Iterable, List, Optional, Tuple
 
+from .circles import shortest_circle
 from .fault_places import StartCodes
 from .library_text import LibraryText
 from .syntax_tree import ModuleTree, Node, Token, by_name, parse
@@ -123,7 +124,8 @@ class Waiting:
     def walk_seq(
         self, node: Node, names: Names, begun: List[Act], held: List[Act], module: str
     ) -> List[Act]:
-        before, ends = begun, []
+        before = begun
+        ends: List[Act] = []
         for part in node.parts:
             tests = self.walk(part, names, before, held, module)
             takes_time = 0 not in self.codes.of(part, (), module)
@@ -195,17 +197,9 @@ def links_of(waiting: Waiting, undecided: Iterable[str]) -> Dict[Signal, List[Li
 
 def circle_from(start: Signal, links: Dict[Signal, List[Link]]) -> List[Link]:
     """A shortest circle of links from a signal back to it; empty where there is none."""
-    chains: Dict[Signal, List[Link]] = {start: []}
-    line = [start]
-    for signal in line:
-        for link in links.get(signal, ()):
-            target = link[1].signal
-            if target == start:
-                return chains[signal] + [link]
-            if target not in chains:
-                chains[target] = chains[signal] + [link]
-                line.append(target)
-    return []
+    return shortest_circle(
+        start, lambda signal: [(link, link[1].signal) for link in links.get(signal, ())]
+    )
 
 
 def circle_of(text: str, main: str, undecided: Iterable[str]) -> List[Link]:
