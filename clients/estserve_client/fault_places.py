@@ -194,10 +194,12 @@ def emitted_names(modules: List[ModuleTree]) -> Dict[str, Set[str]]:
     known = by_name(modules)
     emitted: Dict[str, Set[str]] = {name: set() for name in known}
     for _ in modules:  # a chain of runs has no more links
-        emitted = {
+        before, emitted = emitted, {
             name: {token for token, _, _ in emissions(module, known, emitted)}
             for name, module in known.items()
         }
+        if before == emitted:
+            break
     return emitted
 
 

@@ -1,6 +1,7 @@
 """The shell over the real program: instants, slots, scripts with comments and statuses, help; and a
 connection that ends.
 """
+import io
 import json
 import os
 import pathlib
@@ -231,6 +232,12 @@ class Renewals(unittest.TestCase):
             with self.assertRaisesRegex(estserve.Disconnected, "the server has gone away"):
                 client.check("step", "1")
         self.assertEqual(len(server.lines), 1)
+
+    def test_a_program_of_its_own_is_not_made_again(self):
+        for reads, told in ((2, "as it does after 2 reads"), (9, "the server has gone away")):
+            client = estserve.Client(io.BytesIO(), io.BytesIO(), lambda: None, reads=reads)
+            with self.assertRaisesRegex(estserve.Disconnected, told):
+                client.check("step", "0")
 
     def test_the_shell_says_so_and_goes_on(self):
         with FakeServer(self.path, 100):
