@@ -191,6 +191,8 @@ def apply(arguments: argparse.Namespace) -> None:
     file is no policy, or a command was refused.
     """
     path = arguments.file
+    if (arguments.before or arguments.yes) and not arguments.prune:
+        raise Failed("--before and --yes are for --prune")
     policy = read_policy_file(path)
     for warning in warnings_of(policy, path):
         print(warning, file=sys.stderr, flush=True)

@@ -44,6 +44,13 @@ class InAFolder(unittest.TestCase):
         return (ran.status, *lines)
 
 
+class Words(InAFolder):
+    def test_words_of_prune_alone(self):
+        told = "estserve.py: --before and --yes are for --prune"
+        for more in (["--yes"], ["--before", self.path]):
+            self.assertEqual(self.apply(*more), (1, [], [told]))
+
+
 class Slots(InAFolder):
     def test_a_name_of_a_slot_stands_for_its_number(self):
         grants = [
