@@ -82,7 +82,7 @@ def play(
             return refusal
         finally:
             progress.end()
-        if stopped() and number < total:
+        if stopped():
             raise Interrupted(f"interrupted after {number:,} of {total:,} instants")
     return None
 

@@ -48,6 +48,8 @@ def watch_files(paths: Sequence[str], act: Callable[[], None]) -> None:
             now = stamps_of(paths)
             saved = [path for path, old, new in zip(paths, before, now) if old != new]
             print(f"-- {' '.join(saved)} saved at {time.strftime('%H:%M:%S')} --", flush=True)
+    except Interrupted as fault:
+        TELLER.tell(fault)
     except KeyboardInterrupt:
         print(flush=True)
 

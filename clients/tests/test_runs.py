@@ -12,6 +12,14 @@ import unittest
 
 from support import CLIENTS, EXAMPLES, needs_program, read_vcd, run_client, run_words, serve
 
+from estserve_client.drawing import Progress
+from estserve_client.inputs import Offers
+from estserve_client.library_text import join_texts
+from estserve_client.module_text import Module
+from estserve_client.running import play
+from estserve_client.stage import Scenario
+from estserve_client.texts import Interrupted
+
 COMMAND = [sys.executable, "-B", str(CLIENTS / "estserve.py")]
 SECONDS = 60  # whatever is waited for comes in this time
 ARBITER = EXAMPLES / "arbiter" / "arbiter.strl"
@@ -209,6 +217,39 @@ class Runs(InAFolder):
         self.assertEqual([child.stdout.readline() for _ in range(3)][2], "      2  A\n")
         child.send_signal(signal.SIGINT)
         self.assertEqual(child.wait(SECONDS), 0)
+
+
+class Interrupts(unittest.TestCase):
+    """Where an interrupt comes in the middle of a run, and where it comes with its last instant."""
+
+    class Place:
+        """Stands for a program: it interrupts the client with the instant of this number."""
+
+        def __init__(self, number):
+            self.number = number
+
+        def play(self, scenario, stopped):
+            for number in range(1, 4):
+                if number == self.number:
+                    os.kill(os.getpid(), signal.SIGINT)
+                if stopped():
+                    return
+                yield {"number": number}
+
+    def test_it_is_told_how_many_instants_there_were(self):
+        module = Module("M", [], [], [])
+        scenario = Scenario(join_texts([("m.strl", "")]), module, [Offers([], 1)] * 3)
+        for number, count in ((2, 1), (3, 2), (4, 3)):
+            seen = []
+
+            def add(instant, number=number, seen=seen):
+                seen.append(instant)
+                if len(seen) == number - 1 == 3:  # after the last instant, before the run has ended
+                    os.kill(os.getpid(), signal.SIGINT)
+
+            with self.assertRaisesRegex(Interrupted, f"interrupted after {count} of 3 instants"):
+                play(self.Place(number), scenario, add, Progress(3, False))
+            self.assertEqual(len(seen), count)
 
 
 @needs_program
