@@ -7,10 +7,9 @@ import signal
 import subprocess
 import sys
 import tempfile
-import time
 import unittest
 
-from support import CLIENTS, EXAMPLES, needs_program, read_vcd, run_client, run_words, serve
+from support import CLIENTS, EXAMPLES, needs_program, run_client, run_words, serve
 
 from estserve_client.drawing import Progress
 from estserve_client.inputs import Offers
@@ -81,20 +80,6 @@ class LongRuns(InAFolder):
         self.assertLess(number, LONG)
         self.assertEqual([int(row.split()[0]) for row in rows], list(range(2, number + 1)))
         self.assertRegex(rows[-1], r"^ +\d+  R(3|1 R3) +G\d.* T\d")
-
-    def test_a_vcd_file_is_whole_after_an_interrupt(self):
-        path = self.folder / "out.vcd"
-        child = self.start(
-            "run", ARBITER, "--inputs", self.inputs, "--vcd", path, "--signals", "R1,G1"
-        )
-        time.sleep(3)
-        printed, number = self.interrupted(child)
-        lines = path.read_text().splitlines()
-        self.assertEqual(printed, "")
-        self.assertEqual(lines[-1], f"#{10 * (number + 1)}")
-        changes = read_vcd(lines)
-        self.assertEqual(sorted(changes), ["G1", "R1", "tick"] if number else [])
-        self.assertEqual(sum(value == "1" for value in changes.get("tick", {}).values()), number)
 
 
 @needs_program

@@ -16,7 +16,7 @@ import termios
 import time
 import unittest
 
-from support import CLIENTS, DIALOGUES, EXAMPLES, dialogue_variables, needs_program
+from support import CLIENTS, DIALOGUES, EXAMPLES, dialogue_variables, needs_program, read_vcd
 
 SECONDS = 60  # whatever a terminal is to show comes in so many
 LOGIN = '{"ok":"login","session":1,"version":5}'
@@ -228,8 +228,13 @@ class InATerminal(unittest.TestCase):
             terminal.sees(" of 20,000 instants")
             terminal.type("\x03")
             terminal.sees("interrupted after ")
-            self.assertEqual(terminal.ends()[1], 130)
-        self.assertTrue(vcd.read_text().endswith("0\n"))
+            shown, status = terminal.ends()
+        self.assertEqual(status, 130)
+        self.assertRegex(shown, r"\A[0-9,]+ of 20,000 instants\n\Z")
+        number = int(shown.split()[0].replace(",", ""))
+        lines = vcd.read_text().splitlines()  # it is whole
+        self.assertEqual(lines[-1], f"#{10 * (number + 1)}")
+        self.assertEqual(list(read_vcd(lines)["tick"].values()), ["1", "0"] * number)
 
     @needs_program
     def test_prune_asks(self):
