@@ -5,10 +5,11 @@ TEXTS := crates/text_bench/out/text_bench
 LOADS := crates/load_bench/out/load_bench
 POLICIES := crates/policy_bench/out/policy_bench
 ECHO := crates/echo_bench/out/echo_bench
+PREFIX ?= /usr/local
 # rt ci proves as many crates side by side as RT_JOBS says, each by one job: a second job at one crate costs more than it saves.
 CORES := $(shell nproc)
 
-.PHONY: help try run build abro examples client socket documents test bench faults times
+.PHONY: help try run build abro examples client socket documents test bench faults times install
 
 help:
 	@echo 'make try       run the opening script on the program as it stands, built WITHOUT proof: about a minute'
@@ -19,7 +20,8 @@ help:
 	@echo 'make examples  run each script and controller of examples on the program, built without proof, and compare its answers'
 	@echo 'make client    the tests of the client and of the tutorial, on the program built WITHOUT proof'
 	@echo 'make socket    the tests of the server over its socket, on the program built WITHOUT proof'
-	@echo 'make abro      the waves of ABRO, by the client, on the program built WITHOUT proof: about a minute'
+	@echo 'make abro      the waves of ABRO, by the client, on the program built WITHOUT proof: about a minute, and at once from then on'
+	@echo 'make install   put the proved program, the client, its page of the manual and completions under PREFIX (/usr/local)'
 	@echo 'make documents write the lists of docs/generated anew from the sources'
 	@echo 'make bench     prove and build, and then time commands, instants, texts, policies and the socket, and see how loads take memory'
 	@echo 'make faults    refuse each allocation of two tests in turn; no part of make test'
@@ -38,6 +40,9 @@ build:
 abro:
 	@echo 'This program is built WITHOUT proof; make build proves it first.' >&2
 	@python3 clients/estserve.py run examples/abro/abro.strl --inputs examples/abro/abro.inputs --wave --unproved
+
+install:
+	@clients/install '$(PREFIX)' $(PROGRAM)
 
 examples:
 	python3 scripts/examples.py

@@ -1,7 +1,9 @@
 #!/usr/bin/env python3
-"""The client of estserve: run a module through a list of inputs, speak with a server, apply a policy from a file.
+"""The client of estserve: run a module through inputs, test a folder, speak with a server, apply a
+policy.
 
     estserve.py run abro.strl --inputs abro.inputs --wave
+    estserve.py test scenarios
     estserve.py shell --socket PATH --user ann --role driver
     estserve.py apply team.toml --socket PATH
 
@@ -10,105 +12,258 @@ As a library:
     import estserve
     with estserve.connect(path) as client:
         client.login("ann", ["driver"])
-        client.offer(0, "A")
+        client.instant(0, ["A", "B"])
 
 Each command of docs/PROTOCOL.md is a method of `estserve.Client`; a refusal is raised as
 `estserve.Refusal`. Python 3.9 or later, nothing else.
 """
+from __future__ import annotations
+
 import argparse
+import importlib
 import os
+import pathlib
 import sys
+from typing import Any, List, Optional
 
-from estserve_client.applying import apply
-from estserve_client.connection import (
-    CannotBeSent, Client, Disconnected, NotText, Refusal, TooLong, connect, start,
+import estserve_client
+from estserve_client import (
+    Applied,
+    BadPolicy,
+    CannotBeSent,
+    Client,
+    Disconnected,
+    Instant,
+    NotText,
+    Refusal,
+    TimedOut,
+    TooLong,
+    connect,
+    sentence,
+    start,
 )
-from estserve_client.running import Failed, run
-from estserve_client.sentences import sentence
+from estserve_client.applying import apply
+from estserve_client.connection import READS
+from estserve_client.running import run
 from estserve_client.shell import shell
+from estserve_client.telling import TELLER
+from estserve_client.testing import test
+from estserve_client.texts import Failed
 
+__version__ = estserve_client.__version__
 __all__ = [
-    "CannotBeSent", "Client", "Disconnected", "NotText", "Refusal", "TooLong", "connect", "sentence", "start",
+    "Applied",
+    "BadPolicy",
+    "CannotBeSent",
+    "Client",
+    "Disconnected",
+    "Instant",
+    "NotText",
+    "Refusal",
+    "TimedOut",
+    "TooLong",
+    "connect",
+    "sentence",
+    "start",
 ]
+NEIGHBOURS = (
+    "estserve_team",
+)  # packages beside this file, which may be there, with subcommands of their own
+Parser = argparse.ArgumentParser
+STREAMS = (
+    ("stdin", "r", "surrogateescape"),
+    ("stdout", "w", "backslashreplace"),
+    ("stderr", "w", ""),
+)
 
 
-def add_server(parser, roles):
-    parser.add_argument("--socket", metavar="PATH", help="the server's Unix socket; without it the program is started for you alone")
-    parser.add_argument("--program", metavar="PATH", help="the program to start, in place of the one that `make run` builds")
+def add_program(parser: Any) -> None:
+    help = "the program to start, in place of the one that `make run` builds"
+    parser.add_argument("--program", metavar="PATH", help=help)
+
+
+def add_unproved(parser: Any) -> None:
+    help = "build the program without proof first, by `rt try`: a minute, and then it is kept"
+    parser.add_argument("--unproved", action="store_true", help=help)
+
+
+def add_server(parser: Parser, roles: Any) -> None:
+    help = "the server's Unix socket; without it the program is started for you alone"
+    parser.add_argument("--socket", metavar="PATH", help=help)
     parser.add_argument("--user", default="root", help="the user to log in as (root)")
-    parser.add_argument(
-        "--role", action="extend", nargs=roles, metavar="ROLE",
-        help="a role to activate; may stand more than once (root for the user root, and none for others)",
+    help = (
+        "a role to activate; may stand more than once (root for the user root, and none for others)"
     )
+    parser.add_argument("--role", action="extend", nargs=roles, metavar="ROLE", help=help)
+    help = "connect again after this many reads of the server, which ends one after 1,000,000"
+    parser.add_argument("--reads", type=int, default=READS, metavar="N", help=help)
 
 
-def make_parser():
-    parser = argparse.ArgumentParser(prog="estserve.py", description="The client of estserve.")
-    commands = parser.add_subparsers(dest="command", required=True)
-    running = commands.add_parser("run", help="run a module through a list of inputs, and draw its instants")
-    running.add_argument("file", metavar="FILE", help="the module text")
-    running.add_argument("--main", metavar="MODULE", help="the module to run (the first one that no other runs)")
-    running.add_argument("--inputs", default="-", metavar="FILE", help="the list of inputs, one instant a line (standard input)")
-    pictures = running.add_mutually_exclusive_group()
-    pictures.add_argument("--table", action="store_true", help="a row an instant (so without any of the three)")
-    pictures.add_argument("--wave", action="store_true", help="waves, drawn with characters")
-    pictures.add_argument("--vcd", metavar="OUT", help="a VCD file, for a viewer of waves")
-    programs = running.add_mutually_exclusive_group()
-    programs.add_argument("--program", metavar="PATH", help="the program to start, in place of the one that `make run` builds")
-    programs.add_argument("--unproved", action="store_true", help="build the program without proof first, by `rt try`: a minute")
-    running.set_defaults(act=run)
-    dialogue = commands.add_parser("shell", help="a dialogue: one command a line, `help` lists them")
-    add_server(dialogue, "+")
-    dialogue.set_defaults(act=shell)
-    applying = commands.add_parser("apply", help="make users, roles, permissions and sets from a file")
-    applying.add_argument("file", metavar="POLICY", help="the policy, in TOML")
-    add_server(applying, 1)
-    applying.set_defaults(act=apply)
+def add_pictures(parser: Parser) -> None:
+    pictures = parser.add_mutually_exclusive_group()
+    pictures.add_argument(
+        "--table", action="store_true", help="draw a row an instant (so without any of the three)"
+    )
+    pictures.add_argument("--wave", action="store_true", help="draw waves with characters")
+    pictures.add_argument("--vcd", metavar="OUT", help="write a VCD file, for a viewer of waves")
+
+
+def add_run(commands: Any) -> None:
+    parser = commands.add_parser(
+        "run", help="run a module through a list of inputs, and draw its instants"
+    )
+    add = parser.add_argument
+    add(
+        "file",
+        nargs="+",
+        metavar="FILE",
+        help="the module text; of several files all modules make one library",
+    )
+    add("--main", metavar="MODULE", help="the module to run (the first one that no other runs)")
+    add(
+        "--inputs",
+        default="-",
+        metavar="FILE",
+        help="the list of inputs, one instant a line (standard input)",
+    )
+    add("--signals", action="append", metavar="A,B", help="draw these signals, and no others")
+    add_pictures(parser)
+    add(
+        "--expect",
+        metavar="FILE",
+        help="compare the table with that of the file, and show the first difference",
+    )
+    add("--update", action="store_true", help="write the file of --expect anew")
+    add("--watch", action="store_true", help="run again whenever a file is saved, until Ctrl-C")
+    programs = parser.add_mutually_exclusive_group()
+    add_program(programs)
+    add_unproved(programs)
+    add_server(parser, 1)
+    add("--slot", type=int, default=0, metavar="N", help="the slot of the server to run in (0)")
+    add(
+        "--loaded",
+        action="store_true",
+        help="run what is loaded in that slot; nothing is loaded or unloaded",
+    )
+    parser.set_defaults(act=run)
+
+
+def add_test(commands: Any) -> None:
+    help = "run each NAME.inputs of a folder, and compare it with NAME.expected"
+    parser = commands.add_parser("test", help=help)
+    add = parser.add_argument
+    add("folder", metavar="DIR", help="the folder")
+    help = "a module text for all of them (NAME.strl, or else all .strl files of the folder)"
+    add("--module", action="append", metavar="FILE", help=help)
+    add("--main", metavar="MODULE", help="the module to run (the first one that no other runs)")
+    add("--update", action="store_true", help="write each NAME.expected anew")
+    programs = parser.add_mutually_exclusive_group()
+    add_program(programs)
+    add_unproved(programs)
+    parser.set_defaults(act=test)
+
+
+def add_shell(commands: Any) -> None:
+    parser = commands.add_parser(
+        "shell", help="a dialogue, or a script: one command a line, `help` lists them"
+    )
+    add_server(parser, "+")
+    add_program(parser)
+    parser.add_argument(
+        "--stop", action="store_true", help="end a script at the first line that is refused"
+    )
+    parser.set_defaults(act=shell)
+
+
+def add_apply(commands: Any) -> None:
+    parser = commands.add_parser(
+        "apply", help="make users, roles, permissions and sets from a file"
+    )
+    add = parser.add_argument
+    add("file", metavar="POLICY", help="the policy, in TOML")
+    add(
+        "--dry-run",
+        action="store_true",
+        help="try it on a program of its own, list its commands, and send nothing",
+    )
+    add("--prune", action="store_true", help="ask, and take away what the file doesn't ask for")
+    add(
+        "--before",
+        metavar="OLD",
+        help="an earlier policy file: --prune takes away its users, roles and sets too",
+    )
+    add("--yes", action="store_true", help="let --prune not ask")
+    add_server(parser, 1)
+    add_program(parser)
+    parser.set_defaults(act=apply)
+
+
+def add_neighbours(commands: Any) -> None:
+    """Adds the subcommands of the packages beside this file: each whose folder is there has a
+    module `command`, with a function `add_parser(subparsers)`.
+    """
+    for package in NEIGHBOURS:
+        if (pathlib.Path(__file__).resolve().parent / package).is_dir():
+            importlib.import_module(package + ".command").add_parser(commands)
+
+
+def make_parser() -> Parser:
+    """The words of the command line."""
+    parser = Parser(prog=TELLER.name, description="The client of estserve.")
+    parser.add_argument("--version", action="version", version=f"estserve-client {__version__}")
+    commands = parser.add_subparsers(dest="command", required=True, metavar="COMMAND")
+    for add in (add_run, add_test, add_shell, add_apply, add_neighbours):
+        add(commands)
     return parser
 
 
-def prepare_streams():
-    """Opens what was closed, and lets no stream fail at a text for its letters: what is no UTF-8 is told where it is used."""
-    for name, mode in (("stdin", "r"), ("stdout", "w"), ("stderr", "w")):
+def prepare_streams() -> None:
+    """Opens what was closed, and lets no stream fail at a text for its letters: what is no UTF-8 is
+    told where it is used.
+    """
+    for name, mode, errors in STREAMS:
         if getattr(sys, name) is None:
             setattr(sys, name, open(os.devnull, mode))
-    for stream, errors in ((sys.stdin, "surrogateescape"), (sys.stdout, "backslashreplace")):
-        if hasattr(stream, "reconfigure"):
-            stream.reconfigure(errors=errors)
+        if errors and hasattr(getattr(sys, name), "reconfigure"):
+            getattr(sys, name).reconfigure(errors=errors)
 
 
-def tell(text, status=1):
-    """Ends with one message on standard error, and this status."""
-    print(f"estserve.py: {text}", file=sys.stderr)
-    return status
-
-
-def tell_of_output(fault):
-    """Ends since standard output cannot be written. What is still to be written is given up, or Python would try it again."""
+def tell_of_output(fault: OSError) -> int:
+    """Ends since standard output cannot be written. What is still to be written is given up, or
+    Python would try it again.
+    """
     try:
         with open(os.devnull, "w") as nowhere:
             os.dup2(nowhere.fileno(), sys.stdout.fileno())
     except (OSError, ValueError):
         pass
-    return tell(f"standard output cannot be written: {fault.strerror or fault}")
+    return TELLER.tell(f"standard output cannot be written: {fault.strerror or fault}")
 
 
-def main(words=None):
-    """Does what the words say. Answers the status: 0, or another one with one message on standard error."""
+def main(words: Optional[List[str]] = None) -> int:
+    """Does what the words say. Answers the status: 0, or another one with one message on standard
+    error.
+    """
     arguments = make_parser().parse_args(words)
     prepare_streams()
     try:
-        arguments.act(arguments)
+        status = arguments.act(arguments)
         sys.stdout.flush()
-    except (Failed, Disconnected, CannotBeSent) as fault:
-        return tell(fault)
-    except Refusal as refusal:
-        return tell(sentence(refusal))
+    except Failed as fault:
+        return TELLER.tell(fault, fault.status)
+    except (Disconnected, CannotBeSent, TimedOut, Refusal) as fault:
+        return TELLER.tell(fault)
     except OSError as fault:
         return tell_of_output(fault)
     except KeyboardInterrupt:
-        return tell("interrupted", 130)
-    return 0
+        return TELLER.tell("interrupted", 130)
+    return int(status or 0)
+
+
+def installed() -> int:
+    """The command `estserve-client`, as pip and `make install` put it in place."""
+    TELLER.name = "estserve-client"
+    return main()
 
 
 if __name__ == "__main__":

@@ -1,51 +1,214 @@
-"""The command `apply`: makes what a policy file asks for, and tells what was there already."""
-import sys
+"""The command `apply`: makes what a policy file asks for, and tells what was there already.
 
-from .connection import Refusal
-from .policy_file import BadPolicy, read_policy
-from .running import Failed, read_text
+At the first command that is refused the rest is not sent, and what was made is taken back.
+"""
+from __future__ import annotations
+
+import argparse
+import dataclasses
+import os
+import pathlib
+import sys
+from typing import Any, Callable, Dict, Iterator, List, Optional, Union
+
+from .connection import Client, Refusal, start
+from .module_text import main_of
+from .policy_file import BadPolicy, Policy, Wish, read_file
+from .pruning import candidates, prune
 from .sentences import sentence
 from .session import session_of
+from .texts import Failed, read_text
 
-THERE_ALREADY = {"UserExists", "RoleExists", "AlreadyAssigned", "AlreadyGranted", "EdgeExists", "DsdExists"}
+THERE_ALREADY = {
+    "UserExists", "RoleExists", "AlreadyAssigned", "AlreadyGranted", "EdgeExists", "DsdExists",
+}  # fmt: skip
+WORDS = {
+    "adduser": "adduser {user}",
+    "deluser": "deluser {user}",
+    "addrole": "addrole {role}",
+    "delrole": "delrole {role}",
+    "inherit": "inherit {senior} {junior}",
+    "disinherit": "disinherit {senior} {junior}",
+    "assign": "assign {user} {role}",
+    "deassign": "deassign {user} {role}",
+    "grant": "grant {role} {op} {object}",
+    "revoke": "revoke {role} {op} {object}",
+    "dsd": "dsd {name} {count}",
+    "undsd": "undsd {name}",
+}
+BACK = {
+    "adduser": "deluser",
+    "addrole": "delrole",
+    "inherit": "disinherit",
+    "assign": "deassign",
+    "grant": "revoke",
+    "dsd": "undsd",
+}
+Command = Dict[str, Any]
 
 
-def text_of(command):
+def text_of(command: Command) -> str:
     """A command in words, as `grant driver offer 0.A`."""
-    words = {
-        "adduser": "adduser {user}",
-        "addrole": "addrole {role}",
-        "inherit": "inherit {senior} {junior}",
-        "assign": "assign {user} {role}",
-        "grant": "grant {role} {op} {object}",
-        "dsd": "dsd {name} {count}",
-    }
-    return words[command["cmd"]].format(**command) + "".join(f" {role}" for role in command.get("roles", ()))
+    words = WORDS[command["cmd"]].format(**command)
+    return words + "".join(f" {role}" for role in command.get("roles", ()))
 
 
-def apply_wishes(client, wishes, path):
-    """Asks for each command in turn, and tells of each that is refused. Answers how many were made, were there, were refused."""
-    made = there = refused = 0
-    for wish in wishes:
+def back_of(command: Command) -> Command:
+    """The command that takes another one back."""
+    kept = ("name",) if command["cmd"] == "dsd" else tuple(key for key in command if key != "cmd")
+    return {"cmd": BACK[command["cmd"]], **{key: command[key] for key in kept}}
+
+
+@dataclasses.dataclass
+class Applied:
+    """What became of a policy: what was made, what was there already, the wish that was refused,
+    what is left of it.
+    """
+
+    made: List[Wish] = dataclasses.field(default_factory=list)
+    there: List[Wish] = dataclasses.field(default_factory=list)
+    refused: Optional[Wish] = None
+    refusal: Optional[Refusal] = None
+    unsent: List[Wish] = dataclasses.field(default_factory=list)
+    left: List[Wish] = dataclasses.field(default_factory=list)  # made, and not taken back
+
+
+def take_back(client: Client, made: List[Wish]) -> List[Wish]:
+    """Takes back what was made, the last first. Answers what could not be."""
+    left = []
+    for wish in reversed(made):
+        try:
+            client.ask(**back_of(wish.command))
+        except Refusal:
+            left.append(wish)
+    return left
+
+
+def apply_wishes(
+    client: Client, wishes: List[Wish], tell: Optional[Callable[[Wish, Refusal], None]] = None
+) -> Applied:
+    """Asks for each command in turn. At one that is refused it stops, and takes back what was made.
+
+    `tell(wish, refusal)` is called for each that was there already."""
+    applied = Applied()
+    for at, wish in enumerate(wishes):
         try:
             client.ask(**wish.command)
-            made += 1
+            applied.made.append(wish)
         except Refusal as refusal:
-            is_there = refusal.fault in THERE_ALREADY
-            there, refused = there + is_there, refused + (not is_there)
-            stream = sys.stdout if is_there else sys.stderr
-            print(f"{path}:{wish.line}: {text_of(wish.command)}: {sentence(refusal)}", file=stream)
-    return made, there, refused
+            if refusal.fault not in THERE_ALREADY:
+                applied.refused, applied.refusal = wish, refusal
+                applied.unsent = wishes[at + 1 :]
+                applied.left = take_back(client, applied.made)
+                return applied
+            applied.there.append(wish)
+            if tell:
+                tell(wish, refusal)
+    return applied
 
 
-def apply(arguments):
-    """Applies the policy of a file as the user that the arguments name. Raises Failed where the file is no policy, or a command was refused."""
+def read_policy_file(path: Union[str, "os.PathLike[str]"]) -> Policy:
+    """What a policy file asks for. Raises Failed where it is none, or can't be read."""
     try:
-        wishes = read_policy(read_text(arguments.file, "the policy"))
+        return read_file(read_text(pathlib.Path(path) if str(path) != "-" else "-", "the policy"))
     except BadPolicy as fault:
-        raise Failed(f"{arguments.file}: {fault}") from fault
+        raise Failed(f"{path}: {fault}") from fault
+
+
+def apply_file(client: Client, path: Union[str, "os.PathLike[str]"]) -> Applied:
+    """Makes what a policy file asks for. Raises BadPolicy, OSError."""
+    policy = read_file(pathlib.Path(path).read_text(encoding="utf-8"))
+    return apply_wishes(client, policy.wishes)
+
+
+def warnings_of(policy: Policy, path: str) -> Iterator[str]:
+    """What is said of each permission on a signal that the slot's module doesn't have, or nobody
+    can offer.
+    """
+    folder = pathlib.Path(path).parent
+    modules = {
+        slot: (name, main_of(read_text(folder / name, "the module text")))
+        for slot, (_, name) in policy.modules.items()
+    }
+    for wish in policy.wishes:
+        slot, _, signal = wish.command.get("object", "").partition(".")
+        if signal and slot.isdigit() and int(slot) in modules:
+            name, module = modules[int(slot)]
+            wrong = wrong_permission(wish.command["op"], signal, module.kinds())
+            if wrong:
+                place = f"{path}:{wish.line}: warning: {text_of(wish.command)}"
+                yield f"{place}: {module.name} of {name} {wrong}"
+
+
+def wrong_permission(op: str, signal: str, kinds: Dict[str, str]) -> Optional[str]:
+    """What is wrong with a permission on a signal of a module; None where nothing is."""
+    if signal not in kinds:
+        return f"has no signal {signal}"
+    if op == "offer" and kinds[signal] != "input":
+        return f"gives {signal} as an output, which nobody can offer"
+    return None if op in ("offer", "observe") else f"knows no {op} on a signal"
+
+
+def tell_refusal(applied: Applied, path: str) -> None:
+    """Tells the command that was refused, and what could not be taken back."""
+    wish, refusal = applied.refused, applied.refusal
+    assert wish and refusal
+    print(f"{path}:{wish.line}: {text_of(wish.command)}: {sentence(refusal)}", file=sys.stderr)
+    for left in applied.left:
+        print(
+            f"{path}:{left.line}: {text_of(left.command)}: could not be taken back", file=sys.stderr
+        )
+
+
+def end_of(applied: Applied) -> str:
+    """What a policy that was refused ends with."""
+    back = len(applied.made) - len(applied.left)
+    told = f"a command was refused; {len(applied.unsent)} after it were not sent"
+    kept = f", {len(applied.left)} could not be" if applied.left else ""
+    return f"{told}; {back} of {len(applied.made)} that were made are taken back{kept}"
+
+
+def dry_run(arguments: argparse.Namespace, policy: Policy) -> None:
+    """Makes the policy on a program of its own, and lists its commands. Raises Failed where one is
+    refused there.
+    """
+    path = arguments.file
+    with start(arguments.program) as client:
+        client.login("root", ["root"])
+        applied = apply_wishes(client, policy.wishes)
+    told = [(wish, "") for wish in applied.made]
+    told += [(wish, ": there already") for wish in applied.there]
+    for wish, more in told:
+        print(f"{path}:{wish.line}: {text_of(wish.command)}{more}")
+    if applied.refused:
+        tell_refusal(applied, path)
+        raise Failed("a command would be refused on a new server; nothing was sent to yours")
+    print(f"{len(policy.wishes)} commands, on a program of its own; nothing was sent to a server")
+
+
+def apply(arguments: argparse.Namespace) -> None:
+    """Applies the policy of a file as the user that the arguments name. Raises Failed where the
+    file is no policy, or a command was refused.
+    """
+    path = arguments.file
+    if (arguments.before or arguments.yes) and not arguments.prune:
+        raise Failed("--before and --yes are for --prune")
+    policy = read_policy_file(path)
+    for warning in warnings_of(policy, path):
+        print(warning, file=sys.stderr, flush=True)
+    if arguments.dry_run:
+        return dry_run(arguments, policy)
+    before = read_policy_file(arguments.before) if arguments.before else None
+
+    def tell(wish: Wish, refusal: Refusal) -> None:
+        print(f"{path}:{wish.line}: {text_of(wish.command)}: {sentence(refusal)}")
+
     with session_of(arguments) as (client, _):
-        made, there, refused = apply_wishes(client, wishes, arguments.file)
-    print(f"{made} made, {there} there already, {refused} refused")
-    if refused:
-        raise Failed(f"{refused} of {len(wishes)} commands were refused")
+        applied = apply_wishes(client, policy.wishes, tell)
+        if applied.refused:
+            sys.stdout.flush()
+            tell_refusal(applied, path)
+            raise Failed(end_of(applied))
+        print(f"{len(applied.made)} made, {len(applied.there)} there already, 0 refused")
+        if arguments.prune:
+            prune(client, candidates(policy, before), arguments.yes, text_of)

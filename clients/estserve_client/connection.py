@@ -3,24 +3,49 @@
 `connect` speaks to a server over its Unix socket, `start` runs the program itself and speaks to its
 standard input and output. Both give a `Client`, with a method for each command of docs/PROTOCOL.md.
 A refusal is raised as `Refusal`; a connection that cannot be made, or that ends before an answer,
-as `Disconnected`; a command that fills no line as `TooLong`, one that is no text as `NotText`.
+as `Disconnected`; an answer that doesn't come in time as `TimedOut`; a command that fills no line
+as `TooLong`, one that is no text as `NotText`.
 """
 from __future__ import annotations
 
+import collections
+import dataclasses
+import io
 import json
 import os
 import pathlib
+import select
 import shutil
 import socket
 import subprocess
 import sys
-import tempfile
-from typing import Any, BinaryIO, Callable, Dict, Iterable, List, Optional, Union
+from typing import (
+    TYPE_CHECKING,
+    Any,
+    BinaryIO,
+    Callable,
+    Deque,
+    Dict,
+    Iterable,
+    Iterator,
+    List,
+    Optional,
+    Tuple,
+    Union,
+    cast,
+)
+
+if TYPE_CHECKING:
+    from .applying import Applied
 
 ROOT = pathlib.Path(__file__).resolve().parents[2]  # of the repository
-LINE_BYTES = 65_536  # a command's line may have so many bytes before its LF
-SENT_AHEAD = 50  # so many short commands are sent before their answers are read
-END_SECONDS = 10  # a program that was started ends in so many when its input has ended, or is stopped
+LINE_BYTES = 65_536  # a command's line may have this many bytes before its LF
+AHEAD_BYTES = 24_000  # commands are sent ahead in batches whose answers have about this many bytes
+END_SECONDS = (
+    10  # a program that was started ends in this many when its input has ended, or is stopped
+)
+READS = 1_000_000  # a connection ends after this many reads of the server
+READ_BYTES = 4_096  # what is sent at once may take the server a read for each of these
 
 Answer = Dict[str, Any]
 Path = Union[str, "os.PathLike[str]"]
@@ -30,8 +55,8 @@ class Refusal(Exception):
     """A command was refused, and nothing was changed.
 
     `code` (int) and `fault` (str) are those of the table of refusals in docs/PROTOCOL.md, `name` is
-    `fault` too, and `fields` (dict) has the further keys of the answer, as `{"op": .., "object": ..}`.
-    `command` (dict) is the command, where it is known.
+    `fault` too, and `fields` (dict) has the further keys of the answer, as `{"op": .., "object":
+    ..}`. `command` (dict) is the command, where it is known.
     """
 
     def __init__(self, answer: Answer, command: Optional[Answer] = None) -> None:
@@ -46,6 +71,16 @@ class Refusal(Exception):
 
 class Disconnected(Exception):
     """There is no connection: none could be made, or it ended before an answer came."""
+
+
+class TimedOut(Exception):
+    """No answer came in time. The command may have been carried out; its answer is passed over."""
+
+    def __init__(self, seconds: float) -> None:
+        self.seconds = seconds
+        super().__init__(
+            f"no answer came in {seconds:g} seconds; the command may have been carried out"
+        )
 
 
 class CannotBeSent(Exception):
@@ -80,7 +115,9 @@ def line_of(command: Answer) -> bytes:
 
 
 def answer_of(line: bytes, cmd: Optional[str] = None) -> Answer:
-    """The answer that a line holds, to this command where it is named, be it a refusal or not. Raises Disconnected."""
+    """The answer that a line holds, to this command where it is named, be it a refusal or not.
+    Raises Disconnected.
+    """
     try:
         answer = json.loads(line)
     except (ValueError, RecursionError):
@@ -92,6 +129,26 @@ def answer_of(line: bytes, cmd: Optional[str] = None) -> Answer:
     raise Disconnected(f"this is no answer of estserve: {line[:60].decode(errors='replace')!r}")
 
 
+@dataclasses.dataclass(frozen=True)
+class Instant:
+    """What came of an instant: its number from 1, and the signals that the session may observe, by
+    their names.
+    """
+
+    number: int
+    signals: Dict[str, bool]
+
+    @property
+    def present(self) -> List[str]:
+        """The names of the signals that were present, in declaration order."""
+        return [name for name, is_present in self.signals.items() if is_present]
+
+
+Channel = Tuple[
+    io.BufferedIOBase, BinaryIO, Callable[[], None]
+]  # answers, commands, and what ends both
+
+
 def names_of(names: Iterable[str]) -> List[str]:
     """A list of names. Raises TypeError where one name stands for the list."""
     if isinstance(names, str):
@@ -99,26 +156,68 @@ def names_of(names: Iterable[str]) -> List[str]:
     return list(names)
 
 
+def batches_of(groups: Iterable[List[Answer]]) -> Iterator[List[List[Answer]]]:
+    """Groups of commands, gathered into batches that are sent at once.
+
+    Two batches and their answers fill no pipe: the answer to a look, which has each signal, is the
+    longest.
+    """
+    batch: List[List[Answer]] = []
+    size = 0
+    for group in groups:
+        weight = sum(4_000 if command["cmd"] == "look" else 300 for command in group)
+        if batch and size + weight > AHEAD_BYTES:
+            yield batch
+            batch, size = [], 0
+        batch.append(group)
+        size += weight
+    if batch:
+        yield batch
+
+
 class Client:
     """One connection, with a method for each command of docs/PROTOCOL.md, by its name there.
 
-    Used with `with`, it is closed at the end, by which its session is logged out. A command gives the
-    answer, a dictionary: each docstring names its keys besides `ok`. Each command raises
+    Used with `with`, it is closed at the end, by which its session is logged out. A command gives
+    the answer, a dictionary: each docstring names its keys besides `ok`. Each command raises
 
-    - Refusal, as each docstring says; besides as NotARequest, where a word is out of form, as Memory,
-      and all but `login` as NoSession;
+    - Refusal, as each docstring says; besides as NotARequest, where a word is out of form, as
+      Memory, and all but `login` as NoSession;
     - Disconnected, where the connection has ended;
     - TooLong or NotText, before anything is sent.
 
     A command that is interrupted, by Ctrl-C, may have been carried out; its answer is passed over.
     """
 
-    def __init__(self, reader: BinaryIO, writer: BinaryIO, close: Callable[[], None]) -> None:
-        """A client that reads answers from one binary file and writes commands to another; `close()` ends both."""
+    def __init__(
+        self,
+        reader: io.BufferedIOBase,
+        writer: BinaryIO,
+        close: Callable[[], None],
+        timeout: Optional[float] = None,
+        again: Optional[Callable[[], Channel]] = None,
+        reads: int = READS,
+    ) -> None:
+        """A client that reads answers from one binary file and writes commands to another;
+        `close()` ends both.
+
+        An answer is waited for `timeout` seconds, or for as long as it takes. The server ends a
+        connection after `reads` reads: shortly before, `again()` makes a new one, where it is
+        given, on which the same user logs in with the same roles. Then `when_renewed` is called
+        with the answer to that login.
+        """
         self._reader, self._writer, self._close = reader, writer, close
-        self._held = b""  # what was read behind the last answer
-        self._owed = 0  # so many answers come still
+        self.timeout, self._again, self.reads = timeout, again, reads
+        self.when_renewed: Callable[[Answer], None] = lambda answer: None
+        self._login: Optional[Tuple[str, List[str]]] = None  # the user and the active roles
+        self._begin()
+
+    def _begin(self) -> None:
+        """The counts of a connection on which nothing was sent yet."""
+        self._held = b""  # what was read after the last answer
+        self._owed = 0  # this many answers come still
         self._cut = False  # whether a command may have been sent in part
+        self._used = 0  # this many reads, about, the server has made
 
     def __enter__(self) -> Client:
         return self
@@ -133,33 +232,87 @@ class Client:
     def _send(self, lines: List[bytes]) -> None:
         self._cut = True
         self._owed += len(lines)
+        sent = b"".join(lines)
+        self._used += 1 + len(sent) // READ_BYTES
         try:
-            self._writer.write(b"".join(lines))
+            self._writer.write(sent)
             self._writer.flush()
         except (OSError, ValueError) as fault:
             raise Disconnected("the server has gone away") from fault
         self._cut = False
 
     def _receive(self, cmd: Optional[str] = None) -> Answer:
-        """The next answer, to this command where it is named, be it a refusal or not. Raises Disconnected."""
+        """The next answer, to this command where it is named, be it a refusal or not. Raises
+        Disconnected.
+        """
         return answer_of(self._read_line(), cmd)
 
     def _read_line(self) -> bytes:
-        """The next answer's line. Raises Disconnected."""
+        """The next answer's line. Raises Disconnected, TimedOut."""
         while b"\n" not in self._held:
-            try:
-                more = self._reader.read1(LINE_BYTES)
-            except (OSError, ValueError) as fault:
-                raise Disconnected("the server has gone away") from fault
-            if not more:
-                raise Disconnected("the server has gone away")
-            self._held += more
+            self._held += self._read_more()
         line, _, self._held = self._held.partition(b"\n")
         self._owed -= 1
         return line
 
+    def _read_more(self) -> bytes:
+        """The next bytes that come. Raises Disconnected, TimedOut."""
+        try:
+            if (
+                self.timeout is not None
+                and not select.select([self._reader], [], [], self.timeout)[0]
+            ):
+                raise TimedOut(self.timeout)
+            more = self._reader.read1(LINE_BYTES)
+        except (OSError, ValueError) as fault:
+            raise Disconnected("the server has gone away") from fault
+        if not more:
+            raise Disconnected(self._ended())
+        return more
+
+    def _ended(self) -> str:
+        """What is said of a connection that the server has ended."""
+        if 2 * self._used >= self.reads:
+            return f"the server has ended the connection, as it does after {self.reads:,} reads"
+        return "the server has gone away"
+
+    def _renew(self) -> None:
+        """Makes a new connection, on which the same user has the same roles. Raises Refusal,
+        Disconnected.
+        """
+        assert self._again is not None
+        self._close()
+        self._reader, self._writer, self._close = self._again()
+        self._begin()
+        if self._login:
+            user, roles = self._login
+            answer = self._ask_once({"cmd": "login", "user": user, "roles": roles})
+            self.when_renewed(answer)
+
+    def _renew_in_time(self) -> None:
+        """Makes a new connection where this one is soon at its end. Raises Refusal,
+        Disconnected.
+        """
+        margin = max(1, self.reads // 100)
+        if self._again and not self._owed and self._used >= self.reads - margin:
+            self._renew()
+
+    def _keep_login(self, command: Answer) -> None:
+        """Keeps who is logged in with which roles, by a command that was accepted."""
+        name = command["cmd"]
+        if name == "login":
+            self._login = command["user"], list(command["roles"])
+        elif name == "logout":
+            self._login = None
+        elif self._login and name == "activate":
+            self._login[1].append(command["role"])
+        elif self._login and name == "drop" and command["role"] in self._login[1]:
+            self._login[1].remove(command["role"])
+
     def _pass_over(self) -> None:
-        """Reads the answers that came to nobody, since their commands were interrupted. Raises Disconnected."""
+        """Reads the answers that came to nobody, since their commands were interrupted. Raises
+        Disconnected.
+        """
         if self._cut:
             raise Disconnected("an earlier command was broken off while it was sent")
         while self._owed > 0:
@@ -171,29 +324,120 @@ class Client:
         return self._owed > 0
 
     def ask(self, cmd: str, **keys: Any) -> Answer:
-        """Sends a command, and gives its answer, a dictionary with the keys that docs/PROTOCOL.md lists.
+        """Sends a command, and gives its answer, a dictionary with the keys that docs/PROTOCOL.md
+        lists.
 
-        Raises Refusal, Disconnected, TooLong, NotText."""
+        Raises Refusal, Disconnected, TimedOut, TooLong, NotText.
+        """
         command = {"cmd": cmd, **keys}
-        line = line_of(command)
+        line_of(command)
         self._pass_over()
-        self._send([line])
-        answer = self._receive(cmd)
+        self._renew_in_time()
+        try:
+            answer = self._ask_once(command)
+        except Disconnected:
+            if self._again is None or 2 * self._used < self.reads:
+                raise
+            self._renew()
+            answer = self._ask_once(command)
+        self._keep_login(command)
+        return answer
+
+    def _ask_once(self, command: Answer) -> Answer:
+        """Sends a command on this very connection, and gives its answer. Raises Refusal,
+        Disconnected, TimedOut.
+        """
+        self._send([line_of(command)])
+        answer = self._receive(command["cmd"])
         if "code" in answer:
             raise Refusal(answer, command)
         return answer
 
     def ask_all(self, commands: Iterable[Answer]) -> List[Answer]:
-        """Sends commands, which are short, ahead of their answers, and gives the list of the answers, refusals among them.
+        """Sends commands ahead of their answers, and gives the list of the answers, refusals among
+        them.
 
-        Each command is a dictionary, with its name as `cmd`. Raises Disconnected, TooLong, NotText."""
-        commands, answers = list(commands), []
+        Each command is a dictionary, with its name as `cmd`. Raises Disconnected, TimedOut,
+        TooLong, NotText.
+        """
+        groups = [[command] for command in commands]
+        return [answer for answers in self.ask_ahead(groups) for answer in answers]
+
+    def ask_ahead(
+        self, groups: Iterable[List[Answer]], stopped: Callable[[], bool] = lambda: False
+    ) -> Iterator[List[Answer]]:
+        """Sends groups of commands ahead of their answers, and gives the answers to each group as
+        they come.
+
+        No more is sent once `stopped()`; what was sent is still answered. Raises as `ask_all`.
+        """
         self._pass_over()
-        for first in range(0, len(commands), SENT_AHEAD):
-            ahead = commands[first:first + SENT_AHEAD]
-            self._send([line_of(command) for command in ahead])
-            answers += [self._receive(command["cmd"]) for command in ahead]
-        return answers
+        self._renew_in_time()
+        waiting: Deque[List[List[Answer]]] = collections.deque()
+        for batch in batches_of(groups):
+            if stopped():
+                break
+            self._send([line_of(command) for group in batch for command in group])
+            waiting.append(batch)
+            if len(waiting) > 1:
+                yield from self._answers_to(waiting.popleft())
+        for batch in waiting:
+            yield from self._answers_to(batch)
+
+    def _answers_to(self, batch: List[List[Answer]]) -> Iterator[List[Answer]]:
+        """The answers to each group of a batch that was sent."""
+        for group in batch:
+            answers = [self._receive(command["cmd"]) for command in group]
+            for command in (asked for asked, answer in zip(group, answers) if "ok" in answer):
+                self._keep_login(command)
+            yield answers
+
+    def instant(self, slot: int, names: Iterable[str] = ()) -> Instant:
+        """Offers these inputs, steps, and gives the `Instant` that came of it.
+
+        An input that is pending already is left so. Where an offer or the step is refused, as each
+        of them can be, the inputs that were offered before stay pending.
+        """
+        for name in names_of(names):
+            try:
+                self.offer(slot, name)
+            except Refusal as refusal:
+                if refusal.fault != "AlreadyOffered":
+                    raise
+        number = self.step(slot)["instant"]
+        try:
+            return Instant(number, dict(self.look(slot, number)["signals"]))
+        except Refusal as refusal:
+            if refusal.fault in ("NoInstant", "Empty"):  # another client has unloaded the module
+                return Instant(number, {})
+            raise
+
+    def apply(self, policy: Path) -> Applied:
+        """Makes what a policy file asks for, and gives what became of it, as `estserve.py apply`
+        does.
+
+        Raises BadPolicy where the file is none, OSError where it can't be read.
+        """
+        from .applying import apply_file
+
+        return apply_file(self, policy)
+
+    def waves(
+        self, slot: int, text: str = "", main: Optional[str] = None, plain: bool = False
+    ) -> str:
+        """The instants of the slot so far as waves, of what the session may observe; `plain` keeps
+        to ASCII.
+
+        With the module's text, and the name of its main module where it isn't the first that no
+        other runs, inputs and outputs are told apart, and what may not be observed shows as dots.
+        Refused as look is.
+        """
+        from .module_text import main_of
+        from .pictures import wave_lines
+        from .seeing import see_slot
+
+        seen = see_slot(self, slot, main_of(text, main) if text else None)
+        return "\n".join(wave_lines(seen, plain)) + "\n"
 
     # The session of this connection.
 
@@ -283,7 +527,7 @@ class Client:
         return self.ask("disinherit", senior=senior, junior=junior)
 
     def dsd(self, name: str, roles: Iterable[str], count: int) -> Answer:
-        """No session may have so many of the roles active, or below an active one. Gives `version`.
+        """No session may have `count` of the roles active, or below an active one. Gives `version`.
 
         Refused as Permission, DsdExists, UnknownRole, DsdShape, DsdViolated, Full, JournalFull."""
         return self.ask("dsd", name=name, roles=names_of(roles), count=count)
@@ -348,38 +592,6 @@ class Client:
         return self.ask("audit", slot=slot)
 
 
-class Trial:
-    """The program, built without proof by `rt try`, which takes all commands of a connection at once. Used with `with`, as a client is."""
-
-    def __enter__(self) -> Trial:
-        return self
-
-    def __exit__(self, *_: object) -> None:
-        pass
-
-    def ask_all(self, commands: Iterable[Answer]) -> List[Answer]:
-        """Runs the program on the commands, and gives the list of the answers, refusals among them.
-
-        Raises Disconnected, TooLong, NotText."""
-        commands = list(commands)
-        if sys.stderr.isatty():
-            print("building the program without proof, which takes a minute or two ..", file=sys.stderr)
-        with tempfile.TemporaryFile() as lines:
-            lines.writelines([line_of(command) for command in commands])
-            lines.seek(0)
-            try:
-                ran = subprocess.run(
-                    ["rt", "try", "--", "script"],
-                    cwd=ROOT / "crates" / "estserve", stdin=lines, capture_output=True,
-                )
-            except OSError as fault:
-                raise Disconnected(f"rt cannot be started: {fault.strerror or fault}") from fault
-        answers = [line for line in ran.stdout.splitlines() if line.startswith(b"{")]
-        if len(answers) != len(commands):
-            raise Disconnected("the program could not be built and run: try `make try`")
-        return [answer_of(line, command["cmd"]) for line, command in zip(answers, commands)]
-
-
 def close_all(files: Iterable[Any]) -> None:
     """Closes files, whatever becomes of what was still to be written."""
     for file in files:
@@ -389,8 +601,8 @@ def close_all(files: Iterable[Any]) -> None:
             pass
 
 
-def connect(path: Path) -> Client:
-    """A client of the server whose Unix socket lies at the path. Raises Disconnected."""
+def open_socket(path: Path) -> Channel:
+    """What a connection to the server at this path is. Raises Disconnected."""
     connection = socket.socket(socket.AF_UNIX, socket.SOCK_STREAM)
     try:
         connection.connect(os.fspath(path))
@@ -399,26 +611,58 @@ def connect(path: Path) -> Client:
         told = getattr(fault, "strerror", None) or fault
         raise Disconnected(f"no server answers at {path}: {told}") from fault
     reader, writer = connection.makefile("rb"), connection.makefile("wb")
-    return Client(reader, writer, lambda: close_all((writer, reader, connection)))
+    return reader, writer, lambda: close_all((writer, reader, connection))
+
+
+def connect(path: Path, timeout: Optional[float] = None, reads: int = READS) -> Client:
+    """A client of the server whose Unix socket lies at the path. Raises Disconnected.
+
+    An answer is waited for `timeout` seconds, or for as long as it takes. The server ends a
+    connection after 1,000,000 reads: the client connects again shortly before, and logs in as it
+    was. `reads` is another such limit.
+    """
+    return Client(*open_socket(path), timeout, lambda: open_socket(path), reads)
 
 
 def find_program(named: Optional[Path] = None) -> Path:
-    """The program: the one that is named, or of the variable ESTSERVE, or the one that `make run` builds, or one on the path.
+    """The program: the one that is named, or of the variable ESTSERVE, or the one that `make run`
+    builds, or one on the path, or one beside the command that was started.
 
-    Raises Disconnected, if there is none."""
-    built = ROOT / "crates" / "estserve" / "out" / "estserve"
+    Raises Disconnected, if there is none.
+    """
     if named or os.environ.get("ESTSERVE"):
         return named or os.environ["ESTSERVE"]
-    program = str(built) if built.exists() else shutil.which("estserve")
+    built = ROOT / "crates" / "estserve" / "out" / "estserve"
+    beside = pathlib.Path(sys.argv[0]).resolve().parent / "estserve"
+    program = (
+        str(built) if built.exists() else shutil.which("estserve") or shutil.which(str(beside))
+    )
     if program is None:
-        raise Disconnected("there is no program estserve: build it by `make build`, or name it by --program")
+        raise Disconnected(
+            "there is no program estserve: build it by `make build`, or name it by --program"
+        )
     return program
 
 
-def start(program: Optional[Path] = None) -> Client:
-    """A client of a program that is started for it alone, as `estserve script`. Raises Disconnected.
+def unproved_program() -> Path:
+    """The program, built without proof by scripts/trial.py, which keeps it. Raises Disconnected."""
+    try:
+        words = [sys.executable, str(ROOT / "scripts" / "trial.py"), "--path"]
+        ran = subprocess.run(words, stdout=subprocess.PIPE, text=True)
+    except OSError as fault:
+        raise Disconnected(f"scripts/trial.py cannot be run: {fault.strerror or fault}") from fault
+    if ran.returncode != 0:
+        raise Disconnected("the program could not be built: try `make try`")
+    return ran.stdout.strip()
 
-    The program is in a process group of its own, so that Ctrl-C interrupts the client and not the program."""
+
+def start(program: Optional[Path] = None, timeout: Optional[float] = None) -> Client:
+    """A client of a program that is started for it alone, as `estserve script`. Raises
+    Disconnected.
+
+    An answer is waited for `timeout` seconds, or for as long as it takes. The program is in a
+    process group of its own, so that Ctrl-C interrupts the client and not the program.
+    """
     command = [find_program(program), "script"]
     try:
         child = subprocess.Popen(
@@ -438,4 +682,5 @@ def start(program: Optional[Path] = None) -> Client:
             child.kill()
             child.wait()
 
-    return Client(child.stdout, child.stdin, close)
+    answers, commands = cast(io.BufferedIOBase, child.stdout), cast(BinaryIO, child.stdin)
+    return Client(answers, commands, close, timeout)

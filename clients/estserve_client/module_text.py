@@ -1,9 +1,14 @@
-"""The modules of a text, as far as a client needs them: names, interface signals in declaration order, relations by their text.
+"""The modules of a text, as far as a client needs them: names, interface signals, relations by
+their text.
 
-The text is not checked: estserve does that. Of a text that it accepts, what is read here is what it declares.
+The text is not checked: estserve does that. Of a text that it accepts, what is read here is what it
+declares.
 """
+from __future__ import annotations
+
 import dataclasses
 import re
+from typing import Dict, List, Optional, Tuple
 
 TOKEN = re.compile(r"%\{.*?\}%|%[^\n]*|\s+|[A-Za-z][A-Za-z0-9_]*|\|\||=>|.", re.DOTALL)
 KEPT = re.compile(r"[^\s%]")
@@ -11,29 +16,36 @@ KEPT = re.compile(r"[^\s%]")
 
 @dataclasses.dataclass
 class Module:
-    """A module: its name, its signals as pairs of a name and `input` or `output`, its relations by their text, and what it runs."""
+    """A module: its name, its signals in declaration order as pairs of a name and `input` or
+    `output`, its relations by their text, and what it runs.
+    """
 
     name: str
-    signals: list
-    relations: list
-    runs: list
+    signals: List[Tuple[str, str]]
+    relations: List[str]
+    runs: List[str]
 
-    def kinds(self):
+    def kinds(self) -> Dict[str, str]:
         """The kind of each signal, by its name."""
         return dict(self.signals)
 
-    def inputs(self):
+    def inputs(self) -> List[str]:
         return [name for name, kind in self.signals if kind == "input"]
 
+    def outputs(self) -> List[str]:
+        return [name for name, kind in self.signals if kind != "input"]
 
-def tokens_of(text):
+
+def tokens_of(text: str) -> List[str]:
     """The tokens of a text, without blanks and comments."""
     return [token for token in TOKEN.findall(text) if KEPT.match(token)]
 
 
-def parts_of(tokens, at):
-    """The comma parts of a declaration that begins at this place, each a list of tokens, and the place behind its semicolon."""
-    parts = [[]]
+def parts_of(tokens: List[str], at: int) -> Tuple[List[List[str]], int]:
+    """The comma parts of a declaration that begins here, each a list of tokens, and the place after
+    its semicolon.
+    """
+    parts: List[List[str]] = [[]]
     while at < len(tokens) and tokens[at] != ";":
         if tokens[at] == ",":
             parts.append([])
@@ -43,9 +55,9 @@ def parts_of(tokens, at):
     return parts, at + 1
 
 
-def read_module(tokens, at, end):
+def read_module(tokens: List[str], at: int, end: int) -> Module:
     """The module whose name stands at this place, and whose tokens end before another."""
-    runs = [name for word, name in zip(tokens[at:end], tokens[at + 1:end]) if word == "run"]
+    runs = [name for word, name in zip(tokens[at:end], tokens[at + 1 : end]) if word == "run"]
     module = Module(tokens[at], [], [], runs)
     at += 2
     while at < len(tokens) and tokens[at] in ("input", "output", "relation"):
@@ -58,31 +70,24 @@ def read_module(tokens, at, end):
     return module
 
 
-def modules_of(text):
+def modules_of(text: str) -> List[Module]:
     """The modules of a text, in its order."""
     tokens = tokens_of(text)
     begins = [
         at + 1
         for at, token in enumerate(tokens[:-1])
-        if token == "module" and tokens[at - 1:at] != ["end"]
+        if token == "module" and tokens[at - 1 : at] != ["end"]
     ]
     return [read_module(tokens, at, end) for at, end in zip(begins, begins[1:] + [len(tokens)])]
 
 
-def main_of(text, named=None):
-    """The module of this name, or the first one of the text that no module runs. Of a name that no module has, one without signals."""
+def main_of(text: str, named: Optional[str] = None) -> Module:
+    """The module of this name, or the first one of the text that no module runs.
+
+    Of a name that no module has, one without signals."""
     modules = modules_of(text)
     run = {name for module in modules for name in module.runs}
     for module in modules:
         if module.name == named or (named is None and module.name not in run):
             return module
     return Module(named or "main", [], [], [])
-
-
-def show_place(text, line, column):
-    """The line of the text with a caret under the place; columns count bytes, from 1."""
-    lines = text.split("\n")
-    shown = lines[line - 1] if line <= len(lines) else ""
-    before = shown.encode()[:column - 1].decode(errors="ignore")
-    blanks = "".join("\t" if letter == "\t" else " " for letter in before)
-    return f"{shown.rstrip()}\n{blanks}^"

@@ -1,64 +1,97 @@
-"""Pictures of a run: a table of its instants, waves drawn with characters, and VCD files (IEEE 1364).
+"""Pictures of a run: a table of its instants, waves drawn with characters, and VCD files (IEEE
+1364).
 
-A picture is drawn of `Seen`: the signals, each a name and its kind, and the instants, each a dictionary
-from the name of a signal to its presence. A signal that an instant doesn't have could not be observed:
-it shows as `.`, and a VCD file leaves it out where no instant has it.
+A picture is drawn of `Seen`: the signals, each a name and its kind, and the instants, each a
+dictionary from the name of a signal to its presence. A signal that an instant doesn't have could
+not be observed: it shows as `.`, and a VCD file leaves it out where no instant has it.
 """
+from __future__ import annotations
+
 import dataclasses
+from typing import Dict, List, Optional, Tuple
+
+from .scopes import Scope
 
 HIGH, LOW, HIDDEN = "_/‾\\", "____", "...."
 PLAIN_HIGH = "_/^\\"
+Instant = Dict[str, bool]
+Signals = List[Tuple[str, str]]
+STEP = 10  # an instant of a VCD file takes this many units of time: instant n begins at n * STEP
+TICK = "tick"  # the wire that goes up with each instant, and down in its middle
 
 
 @dataclasses.dataclass
 class Seen:
-    """What was seen of a module: its name, its signals, its instants, and the number of the first of these.
+    """What was seen of a module: its name, its signals, its instants, and the number of the first
+    of these.
 
-    The signals stand in declaration order, pairs of a name and `input` or `output`, or `signal` where it
-    isn't known which of the two it is."""
+    The signals stand in declaration order, pairs of a name and `input` or `output`, or `signal`
+    where it isn't known which of the two it is. `scopes` has the modules that it runs, where they
+    are known.
+    """
 
     module: str
-    signals: list
-    instants: list
+    signals: Signals
+    instants: List[Instant]
     first: int = 1
+    scopes: Optional[List[Scope]] = None
 
-    def kinds(self):
+    def kinds(self) -> Tuple[str, ...]:
         """The kinds of signals that are told apart."""
         known = all(kind in ("input", "output") for _, kind in self.signals)
         return ("input", "output") if known else ("signal",)
 
-
-def present_of(seen, instant, kind):
-    """The names of the signals of a kind that were present, and `.` for each that could not be observed."""
-    names = [name for name, other in seen.signals if kind in ("signal", other)]
-    return " ".join("." if name not in instant else name for name in names if instant.get(name, True))
+    def of_kind(self, kind: str) -> List[str]:
+        """The names of the signals of a kind."""
+        return [name for name, other in self.signals if kind in ("signal", other)]
 
 
-def rows_of(seen):
-    """The rows of a table, each the texts of its columns: the heads, and then the instants."""
-    kinds = seen.kinds()
-    rows = [("instant", *(kind + "s" for kind in kinds))]
-    for number, instant in enumerate(seen.instants, seen.first):
-        rows.append((str(number), *(present_of(seen, instant, kind) for kind in kinds)))
-    return rows
+def present_of(names: List[str], instant: Instant) -> str:
+    """The names that were present in an instant, and `.` for each that could not be observed."""
+    return " ".join(
+        "." if name not in instant else name for name in names if instant.get(name, True)
+    )
 
 
-def width_of(seen):
-    """How wide the column behind the numbers is."""
-    return max(len(row[1]) for row in rows_of(seen))
+class Table:
+    """A table that is written as its instants come: the width of the column after the numbers is
+    known before.
+    """
+
+    def __init__(self, seen: Seen, wide: int = 0) -> None:
+        self.kinds = [seen.of_kind(kind) for kind in seen.kinds()]
+        self.heads = [kind + "s" for kind in seen.kinds()]
+        self.wide = max(wide, len(self.heads[0]))
+
+    def widen(self, instants: List[Instant]) -> None:
+        """Makes room for what these instants show."""
+        widths = [len(present_of(self.kinds[0], instant)) for instant in instants]
+        self.wide = max([self.wide, *widths])
+
+    def line(self, number: str, cells: List[str]) -> str:
+        return "  ".join([f"{number:>7}", f"{cells[0]:<{self.wide}}", *cells[1:]]).rstrip()
+
+    def head(self) -> str:
+        """The line over the instants."""
+        return self.line("instant", self.heads)
+
+    def row(self, number: int, instant: Instant) -> str:
+        """The line of an instant."""
+        return self.line(str(number), [present_of(names, instant) for names in self.kinds])
 
 
-def table_lines(seen, wide=0):
-    """The lines of a table: a row an instant, with the inputs and the outputs that were present.
+def table_lines(seen: Seen) -> List[str]:
+    """The lines of a table: a row an instant, with the inputs and the outputs that were present."""
+    table = Table(seen)
+    table.widen(seen.instants)
+    rows = [table.row(number, instant) for number, instant in enumerate(seen.instants, seen.first)]
+    return [table.head(), *rows]
 
-    The column behind the numbers is `wide` at least."""
-    wide = max(wide, width_of(seen))
-    rows = [(f"{number:>7}", f"{told:<{wide}}", *more) for number, told, *more in rows_of(seen)]
-    return ["  ".join(row).rstrip() for row in rows]
 
-
-def ruler_of(first, last):
-    """The numbers of instants over their waves: each, or each fifth where they have over three digits."""
+def ruler_of(first: int, last: int) -> str:
+    """The numbers of instants over their waves: each, or each fifth where they have over three
+    digits.
+    """
     if last < 1000:
         return "".join(f"{number:>3} " for number in range(first, last + 1))
     ruler = ""
@@ -67,31 +100,33 @@ def ruler_of(first, last):
     return ruler
 
 
-def wave_lines(seen, plain=False, columns=None):
+def wave_lines(seen: Seen, plain: bool = False, columns: Optional[int] = None) -> List[str]:
     """The lines of waves: a line a signal, a pulse in each instant in which it was present.
 
-    `plain` keeps to ASCII; with a number of `columns` the waves go on in a further block behind an
+    `plain` keeps to ASCII; with a number of `columns` the waves go on in a further block after an
     empty line where they would be wider."""
     wide = max([len("instant")] + [len(name) for name, _ in seen.signals])
     block = max(1, (columns - wide - 9) // 4) if columns else max(1, len(seen.instants))
-    lines = []
+    lines: List[str] = []
     for at in range(0, max(1, len(seen.instants)), block):
-        part = Seen(seen.module, seen.signals, seen.instants[at:at + block], seen.first + at)
+        part = Seen(seen.module, seen.signals, seen.instants[at : at + block], seen.first + at)
         lines += [""] * (at > 0) + block_lines(part, wide, PLAIN_HIGH if plain else HIGH)
     return lines
 
 
-def block_lines(seen, wide, high):
-    """The lines of one block of waves, behind names in so wide a column."""
+def block_lines(seen: Seen, wide: int, high: str) -> List[str]:
+    """The lines of one block of waves, after names in a column of this width."""
     ruler = ruler_of(seen.first, seen.first + len(seen.instants) - 1)
     lines = [f"{'instant':<{wide}}         {ruler}"]
     for name, kind in seen.signals:
-        drawn = "".join(HIDDEN if name not in i else high if i[name] else LOW for i in seen.instants)
+        drawn = "".join(
+            HIDDEN if name not in i else high if i[name] else LOW for i in seen.instants
+        )
         lines.append(f"{name:<{wide}}  {kind:<6} {drawn}")
     return [line.rstrip() for line in lines]
 
 
-def code_of(number):
+def code_of(number: int) -> str:
     """The short name of a wire in a VCD file: printable characters from `!` to `~`."""
     code = chr(33 + number % 94)
     while number >= 94:
@@ -100,25 +135,52 @@ def code_of(number):
     return code
 
 
-def vcd_value(instant, name):
+def vcd_value(instant: Instant, name: str) -> str:
     return "x" if name not in instant else "1" if instant[name] else "0"
 
 
-def vcd_lines(seen):
-    """The lines of a VCD file: one wire a signal that could be observed, one time step an instant.
+def scope_lines(scopes: List[Scope], codes: Dict[str, str]) -> List[str]:
+    """The scopes of the modules that are run: their names for the wires of the one that runs
+    them.
+    """
+    lines: List[str] = []
+    for scope in scopes:
+        wires = [(name, codes[signal]) for name, signal in scope.signals if signal in codes]
+        lines.append(f"$scope module {scope.name} $end")
+        lines += [f"$var wire 1 {code} {name} $end" for name, code in wires]
+        lines += [*scope_lines(scope.inner, codes), "$upscope $end"]
+    return lines
 
-    The first instant is at time 0, and the last one lasts until the time behind it. A wire is `x` in an
-    instant in which its signal, which could be observed in others, could not be."""
-    wires = [name for name, _ in seen.signals if any(name in instant for instant in seen.instants)]
-    codes = {name: code_of(number) for number, name in enumerate(wires)}
+
+def wires_of(seen: Seen) -> List[str]:
+    """The signals that a VCD file has: those that could be observed, or all where there was no
+    instant.
+    """
+    shown = {name for instant in seen.instants for name in instant}
+    return [name for name, _ in seen.signals if name in shown or not seen.instants]
+
+
+def vcd_lines(seen: Seen) -> List[str]:
+    """The lines of a VCD file: a wire for each signal that could be observed, and the wire `tick`.
+
+    Instant n lasts from time 10 n to 10 n + 10, and `tick` is 1 in its first half, so that instants
+    can be counted. A wire is `x` in an instant in which its signal, which could be observed in
+    others, could not be.
+    """
+    wires = wires_of(seen)
+    codes = {name: code_of(number) for number, name in enumerate(wires, 1)}
     lines = ["$version estserve $end", "$timescale 1 ns $end", f"$scope module {seen.module} $end"]
-    lines += [f"$var wire 1 {codes[name]} {name} $end" for name in wires]
-    lines += ["$upscope $end", "$enddefinitions $end"]
-    before = {}
-    for time, instant in enumerate(seen.instants):
+    lines += [
+        f"$var wire 1 {code} {name} $end" for name, code in {TICK: code_of(0), **codes}.items()
+    ]
+    lines += [*scope_lines(seen.scopes or [], codes), "$upscope $end", "$enddefinitions $end"]
+    before: Dict[str, str] = {}
+    for number, instant in enumerate(seen.instants, seen.first):
         values = {name: vcd_value(instant, name) for name in wires}
         changed = [values[name] + codes[name] for name in wires if values[name] != before.get(name)]
-        lines.append(f"#{time}")
-        lines += ["$dumpvars", *changed, "$end"] if time == 0 else changed
+        changed.insert(0, "1" + code_of(0))
+        lines.append(f"#{STEP * number}")
+        lines += changed if before or number > seen.first else ["$dumpvars", *changed, "$end"]
+        lines += [f"#{STEP * number + STEP // 2}", "0" + code_of(0)]
         before = values
-    return lines + [f"#{len(seen.instants)}"]
+    return lines + [f"#{STEP * (seen.first + len(seen.instants))}"]

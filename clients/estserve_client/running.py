@@ -1,162 +1,188 @@
 """The command `run`: a module, a list of inputs, a picture."""
-import pathlib
-import shutil
+from __future__ import annotations
+
+import argparse
+import contextlib
 import sys
+from typing import Callable, Iterator, List, Optional, Union
 
-from .connection import Refusal, TooLong, Trial, start
+from .connection import Client, Disconnected, Refusal, start, unproved_program
+from .drawing import Drawing, Progress
+from .expecting import first_difference, outcome_lines, read_expected, update
 from .inputs import read_inputs
-from .module_text import main_of, show_place
-from .pictures import Seen, table_lines, vcd_lines, wave_lines
-from .sentences import sentence
+from .library_text import LibraryText
+from .module_text import Module, main_of
+from .pictures import Instant, Seen, Signals
+from .scopes import scopes_of
+from .session import session_of
+from .stage import Refused, Scenario, SharedSlot, Stage, fault_of_inputs, stopping
+from .texts import Failed, Interrupted, read_library, read_text
+from .watching import watch_files
 
 
-class Failed(Exception):
-    """The command ends, with this text as its one message."""
+def program_of(arguments: argparse.Namespace) -> Optional[str]:
+    """The program to start, where it is named, or built without proof. Raises Disconnected."""
+    return str(unproved_program()) if arguments.unproved else arguments.program
 
 
-def read_stdin(what):
-    """All bytes of standard input. Where a person types them, it is said what is waited for."""
-    if sys.stdin.isatty():
-        print(f"{what} is read from the keyboard, up to Ctrl-D:", file=sys.stderr, flush=True)
-    return sys.stdin.buffer.read()
+def read_scenario(arguments: argparse.Namespace) -> Scenario:
+    """The module and the inputs that the arguments name. Raises Failed."""
+    if "-" in arguments.file and arguments.inputs == "-":
+        raise Failed(
+            "the module text is read from standard input: name the inputs by --inputs FILE"
+        )
+    library = read_library(arguments.file)
+    module = main_of(library.text, arguments.main)
+    return Scenario(library, module, read_inputs(read_text(arguments.inputs, "the list of inputs")))
 
 
-def read_text(path, what):
-    """The text of a file, or of standard input where the path is `-`. Raises Failed."""
-    try:
-        data = read_stdin(what) if str(path) == "-" else pathlib.Path(path).read_bytes()
-    except (OSError, ValueError) as fault:
-        told = getattr(fault, "strerror", None) or fault
-        raise Failed(f"{what} {path} cannot be read: {told}") from fault
-    try:
-        return data.decode()
-    except UnicodeDecodeError as fault:
-        raise Failed(f"{what} {path} is not UTF-8: byte {fault.start + 1}") from fault
+def chosen(module: Module, named: Optional[List[str]]) -> Signals:
+    """The signals that are drawn: those that are named, in that order, or all. Raises Failed."""
+    names = [name for names in named or () for name in names.replace(",", " ").split()]
+    unknown = [name for name in names if name not in module.kinds()]
+    if unknown:
+        raise Failed(f"{module.name} has no signal {unknown[0]}")
+    return (
+        [(name, module.kinds()[name]) for name in dict.fromkeys(names)] if names else module.signals
+    )
 
 
-def grants_of(module, slot=0):
-    """What root needs to load the module, to offer its inputs, to step it and to see all of it: commands of grants."""
-    wanted = [("load", f"{slot}"), ("step", f"{slot}")]
-    wanted += [("offer", f"{slot}.{name}") for name in module.inputs()]
-    wanted += [("observe", f"{slot}.{name}") for name, _ in module.signals]
-    return [{"cmd": "grant", "op": op, "object": object, "role": "root"} for op, object in dict.fromkeys(wanted)]
+@contextlib.contextmanager
+def place_to_run(arguments: argparse.Namespace) -> Iterator[Union[Stage, SharedSlot]]:
+    """Where the module runs: a slot of the server that is named, or a program of its own."""
+    if arguments.socket:
+        with session_of(arguments) as (client, _), SharedSlot(
+            client, arguments.slot, not arguments.loaded
+        ) as slot:
+            yield slot
+    else:
+        program = program_of(arguments)
+        with Stage(lambda: start(program)) as stage:
+            yield stage
 
 
-def load_fault(refusal, path, text):
-    """What is said of a load that is refused: the fault, and where it has a place, the line with a caret under it."""
-    told = f"{path}: {sentence(refusal)}"
-    if "line" in refusal.fields:
-        told += "\n" + show_place(text, refusal.fields["line"], refusal.fields["column"])
-    return told
+def play(
+    place: Union[Stage, SharedSlot],
+    scenario: Scenario,
+    add: Callable[[Instant], None],
+    progress: Progress,
+) -> Optional[Refused]:
+    """Runs the module that is loaded, and gives each instant to `add`. Answers the refusal that
+    ended it, if one did.
 
-
-def fault_of_inputs(module, instants):
-    """What is said of the first name that is no input of the module; None where each is one."""
-    for offers in instants:
-        for name in offers.names:
-            if module.kinds().get(name) != "input":
-                return f"line {offers.line} of the inputs: {module.name} has no input {name}"
+    Raises Interrupted after the first Ctrl-C, when what was sent is answered.
+    """
+    number, total = 0, len(scenario.instants)
+    with stopping() as stopped:
+        try:
+            for number, instant in enumerate(place.play(scenario, stopped), 1):
+                add(instant)
+                progress.at(number)
+        except Refused as refusal:
+            return refusal
+        finally:
+            progress.end()
+        if stopped():
+            raise Interrupted(f"interrupted after {number:,} of {total:,} instants")
     return None
 
 
-def commands_before(module, text):
-    """The commands before the first instant: root logs in, is granted what it needs, and loads the module into slot 0."""
-    login = {"cmd": "login", "user": "root", "roles": ["root"]}
-    return [login, *grants_of(module), {"cmd": "load", "slot": 0, "main": module.name, "text": text}]
-
-
-def commands_of(offers, number):
-    """The commands of one instant: its offers, the step, and a look at it."""
-    offered = [{"cmd": "offer", "slot": 0, "signal": name} for name in offers.names]
-    return [*offered, {"cmd": "step", "slot": 0}, {"cmd": "look", "slot": 0, "instant": number}]
-
-
-def check_load(commands, answers, path, text):
-    """Raises Failed where the module was not loaded, by the commands before the first instant and their answers.
-
-    Of what is refused the load is told first, unless it was refused for want of what root asked for before."""
-    refusals = [Refusal(answer, command) for command, answer in zip(commands, answers) if "code" in answer]
-    loads = [refusal for refusal in refusals if refusal.command["cmd"] == "load"]
-    if loads and loads[0].fault not in ("NoSession", "Permission"):
-        raise Failed(load_fault(loads[0], path, text))
-    if refusals:
-        raise Failed(f"root cannot load the module: {sentence(refusals[0])}")
-
-
-def see_instant(commands, answers, number, module):
-    """What was present in an instant, by its commands and their answers. Raises Failed at the first that is refused."""
-    for command, answer in zip(commands, answers):
-        if "code" in answer:
-            raise Failed(f"instant {number}: {sentence(Refusal(answer, command), module.relations)}")
-    return dict(answers[-1]["signals"])
-
-
-def see_all(answers, module, instants, seen):
-    """Adds each instant to what was seen. Raises Failed at the first that is refused."""
-    for number, offers in enumerate(instants, 1):
-        commands = commands_of(offers, number)
-        seen.instants.append(see_instant(commands, answers[:len(commands)], number, module))
-        answers = answers[len(commands):]
-
-
-def is_plain(stream):
-    """Whether the stream can't write the line over a pulse."""
+def draw_run(
+    arguments: argparse.Namespace, place: Union[Stage, SharedSlot], scenario: Scenario
+) -> None:
+    """Runs the module that is loaded, and draws it as the arguments ask. Raises Failed, also where
+    an instant is refused.
+    """
+    module = scenario.module
+    signals = chosen(module, arguments.signals)
+    scopes = scopes_of(scenario.library.text, module.name) if arguments.vcd else None
+    drawing = Drawing(Seen(module.name, signals, [], 1, scopes), arguments.wave, arguments.vcd)
+    hidden = place.hidden(module) if isinstance(place, SharedSlot) else ()
+    drawing.begin(scenario, frozenset(hidden))
+    is_silent = bool(arguments.wave or arguments.vcd) or not sys.stdout.isatty()
     try:
-        "‾".encode(stream.encoding or "ascii")
-    except (UnicodeEncodeError, LookupError):
-        return True
-    return False
-
-
-def write_vcd(path, seen):
-    """Writes a VCD file of what was seen. Raises Failed."""
-    try:
-        pathlib.Path(path).write_text("\n".join(vcd_lines(seen)) + "\n", encoding="ascii")
-    except (OSError, ValueError) as fault:
-        told = getattr(fault, "strerror", None) or fault
-        raise Failed(f"{path} cannot be written: {told}") from fault
-
-
-def waves_for(stream, seen):
-    """The lines of waves, as the stream can show them: within its columns, where it is a terminal."""
-    columns = shutil.get_terminal_size().columns if stream.isatty() else None
-    return wave_lines(seen, is_plain(stream), columns)
-
-
-def draw(seen, arguments):
-    """Draws what was seen as the arguments ask: into a VCD file, or as a table or as waves on standard output. Raises Failed."""
-    if arguments.vcd:
-        return write_vcd(arguments.vcd, seen)
-    lines = waves_for(sys.stdout, seen) if arguments.wave else table_lines(seen)
-    print("\n".join(lines), flush=True)
-
-
-def ask_all(arguments, commands):
-    """The answers to all commands of the run. Raises Failed."""
-    try:
-        with Trial() if arguments.unproved else start(arguments.program) as client:
-            return client.ask_all(commands)
-    except TooLong as fault:
-        raise Failed(f"{arguments.file}: the text is too long: {fault}") from fault
-
-
-def run(arguments):
-    """Runs the module of a file through a list of inputs, and draws what was seen, also where an instant is refused. Raises Failed."""
-    if arguments.file == arguments.inputs == "-":
-        raise Failed("the module text is read from standard input: name the inputs by --inputs FILE")
-    text = read_text(arguments.file, "the module text")
-    module = main_of(text, arguments.main)
-    instants = read_inputs(read_text(arguments.inputs, "the list of inputs"))
-    commands, fault = commands_before(module, text), fault_of_inputs(module, instants)
-    before = len(commands)
-    for number, offers in enumerate([] if fault else instants, 1):
-        commands += commands_of(offers, number)
-    answers = ask_all(arguments, commands)
-    check_load(commands[:before], answers[:before], arguments.file, text)
-    if fault:
-        raise Failed(fault)
-    seen = Seen(module.name, module.signals, [])
-    try:
-        see_all(answers[before:], module, instants, seen)
+        refusal = play(place, scenario, drawing.add, Progress(len(scenario.instants), is_silent))
     finally:
-        draw(seen, arguments)
+        drawing.end()
+    if refusal:
+        raise refusal
+
+
+def hold_run(
+    arguments: argparse.Namespace, place: Union[Stage, SharedSlot], scenario: Scenario
+) -> None:
+    """Runs the module that is loaded, and holds it against what is expected. Raises Failed where it
+    differs.
+    """
+    seen = Seen(scenario.module.name, chosen(scenario.module, arguments.signals), [])
+    refusal = play(place, scenario, seen.instants.append, Progress(len(scenario.instants), True))
+    lines = outcome_lines(seen, refusal.told if refusal else None)
+    if arguments.update:
+        written = update(arguments.expect, lines)
+        print(f"{arguments.expect} is {'written' if written else 'as it was'}: {counted(seen)}")
+        return
+    found = first_difference(read_expected(arguments.expect), lines, arguments.expect)
+    if found:
+        print("\n".join(found[1]), flush=True)
+        raise Failed(f"{arguments.expect}: the first difference is at {found[0]}")
+    print(f"{counted(seen)}, as expected")
+
+
+def counted(seen: Seen) -> str:
+    """How many instants were seen, in words."""
+    return f"{len(seen.instants):,} instant{'' if len(seen.instants) == 1 else 's'}"
+
+
+def run_once(arguments: argparse.Namespace) -> None:
+    """Runs the module through the list of inputs, once. Raises Failed, Refusal, Disconnected,
+    CannotBeSent.
+    """
+    scenario = read_scenario(arguments)
+    fault = fault_of_inputs(scenario)
+    try:
+        with place_to_run(arguments) as place:
+            place.load(scenario)
+            if fault:
+                raise Failed(fault)
+            (hold_run if arguments.expect else draw_run)(arguments, place, scenario)
+    except Refusal as refusal:
+        raise told_of_server(refusal, arguments) from refusal
+
+
+def told_of_server(refusal: Refusal, arguments: argparse.Namespace) -> Exception:
+    """What a refusal on a server is told as: a slot that is loaded can be run as it is."""
+    if refusal.fault == "Occupied" and arguments.socket:
+        return Failed(
+            f"slot {arguments.slot} is loaded: name another by --slot,"
+            " or run what is there by --loaded"
+        )
+    return refusal
+
+
+def check_words(arguments: argparse.Namespace) -> None:
+    """Raises Failed where the arguments don't go together."""
+    files = [*arguments.file, arguments.inputs]
+    if arguments.update and not arguments.expect:
+        raise Failed("--update writes the file that --expect names: name it")
+    if arguments.watch and "-" in files:
+        raise Failed("--watch looks at files: name the inputs by --inputs FILE")
+    if arguments.expect and (arguments.wave or arguments.vcd):
+        raise Failed("--expect compares tables: leave --wave and --vcd away")
+    if not arguments.socket and (arguments.loaded or arguments.slot):
+        raise Failed("--slot and --loaded are for a server: name it by --socket")
+
+
+def run(arguments: argparse.Namespace) -> None:
+    """Runs a module through a list of inputs, and draws what was seen, also where an instant is
+    refused. Raises Failed.
+    """
+    check_words(arguments)
+    if arguments.watch:
+        files = [
+            *arguments.file,
+            arguments.inputs,
+            *([arguments.expect] if arguments.expect else []),
+        ]
+        watch_files(files, lambda: run_once(arguments))
+    else:
+        run_once(arguments)

@@ -1,5 +1,11 @@
 """What a refusal says, as a short sentence."""
+from __future__ import annotations
+
 import re
+from typing import TYPE_CHECKING, Any, Dict, Optional, Sequence
+
+if TYPE_CHECKING:
+    from .connection import Refusal
 
 SENTENCES = {
     "TooLong": "the line is too long",
@@ -62,17 +68,20 @@ OPERATION = re.compile("|".join(OPERATIONS))
 OBJECT = re.compile(rf"policy|([0-9]|1[0-5])(\.{IDENTIFIER.pattern})?")
 A_NAME = (NAME, "a name: 1 to 24 letters, digits, _ and -")
 AN_IDENTIFIER = (IDENTIFIER, "an identifier: a letter, then letters, digits and _, at most 48")
-# The forms of docs/PROTOCOL.md, by the key: a word that has not its form is what the server takes for no command.
+# The forms of docs/PROTOCOL.md, by the key: the server takes a word out of its form for no command.
 FORMS = {
     **dict.fromkeys(("user", "role", "senior", "junior", "name", "roles"), A_NAME),
     **dict.fromkeys(("main", "signal"), AN_IDENTIFIER),
     "op": (OPERATION, "an operation: " + " ".join(OPERATIONS)),
     "object": (OBJECT, "an object: policy, a slot from 0 to 15, or a signal of one, as 0.A"),
 }
-ROLES, NUMBERS = 32, 2**64  # so many roles a command may have, and numbers are under this one
+ROLES, NUMBERS = (
+    32,
+    2**64,
+)  # a command has at most this many roles, and numbers are under this one
 
 
-def wrong_word(key, word):
+def wrong_word(key: str, word: Any) -> Optional[str]:
     """What the word of a command is not, that stands for this key; None where it is in form."""
     form, wanted = FORMS.get(key, (None, ""))
     if isinstance(word, int) and word >= NUMBERS:
@@ -82,18 +91,23 @@ def wrong_word(key, word):
     return None
 
 
-def out_of_form(keys):
-    """What the first word of a command is not, by its keys; None where each is in form, as the protocol has it."""
+def out_of_form(keys: Dict[str, Any]) -> Optional[str]:
+    """What the first word of a command is not, by its keys; None where each is in form, as the
+    protocol has it.
+    """
     lists = {key: value if isinstance(value, list) else [value] for key, value in keys.items()}
-    wrong = [told for key, words in lists.items() for told in (wrong_word(key, word) for word in words) if told]
+    pairs = [(key, word) for key, words in lists.items() for word in words]
+    wrong = [told for told in (wrong_word(key, word) for key, word in pairs) if told]
     if any(len(words) > ROLES for words in lists.values()):
         wrong.append(f"a command has at most {ROLES} roles")
     return wrong[0] if wrong else None
 
 
-def sentence(refusal, relations=()):
-    """The sentence of a refusal. Where the texts of the module's relations are given, a relation is told by its text."""
-    fields = {"offered": refusal.command.get("signal", "it"), **refusal.fields}
+def sentence(refusal: Refusal, relations: Sequence[str] = ()) -> str:
+    """The sentence of a refusal. With the texts of the module's relations, a relation is told by
+    its text.
+    """
+    fields: Dict[str, Any] = {"offered": refusal.command.get("signal", "it"), **refusal.fields}
     number = fields.get("relation")
     if isinstance(number, int) and 0 < number <= len(relations):
         fields["relation"] = f"{number} ({relations[number - 1]})"

@@ -1,24 +1,38 @@
-"""How `shell` and `apply` come to a session of their own."""
+"""How `run`, `shell` and `apply` come to a session of their own."""
+from __future__ import annotations
+
+import argparse
 import contextlib
 import sys
 import threading
+from typing import Iterator, List, Tuple
 
-from .connection import connect, start
+from .connection import Answer, Client, connect, start
 
 PATIENCE = 2.0  # seconds after which a person is told that the server is waited for
 
 
-def roles_of(arguments):
-    """The roles to activate: those that are named, and else root for the user root, and none for others."""
+def roles_of(arguments: argparse.Namespace) -> List[str]:
+    """The roles to activate: those that are named, and else root for the user root, and none for
+    others.
+    """
     return arguments.role or (["root"] if arguments.user == "root" else [])
 
 
-def tell_waiting():
-    print("no answer yet: perhaps each worker of the server has a client", file=sys.stderr, flush=True)
+def tell_waiting() -> None:
+    print(
+        "no answer yet: perhaps each worker of the server has a client", file=sys.stderr, flush=True
+    )
+
+
+def tell_renewed(client: Client, answer: Answer) -> None:
+    """Tells that the connection is a new one."""
+    told = f"the connection has had its {client.reads:,} reads: connected again"
+    print(f"{told}, session {answer['session']}", file=sys.stderr, flush=True)
 
 
 @contextlib.contextmanager
-def telling_of_waiting(arguments):
+def telling_of_waiting(arguments: argparse.Namespace) -> Iterator[None]:
     """Tells a person at a terminal where a server's answer doesn't come at once."""
     waiting = threading.Timer(PATIENCE, tell_waiting)
     waiting.daemon = True
@@ -30,12 +44,20 @@ def telling_of_waiting(arguments):
         waiting.cancel()
 
 
+def open_client(arguments: argparse.Namespace) -> Client:
+    """A client of the server that is named, or of a program of its own. Raises Disconnected."""
+    if arguments.socket:
+        return connect(arguments.socket, reads=arguments.reads)
+    return start(arguments.program)
+
+
 @contextlib.contextmanager
-def session_of(arguments):
+def session_of(arguments: argparse.Namespace) -> Iterator[Tuple[Client, Answer]]:
     """A client that is logged in as the arguments say, and the answer to its login.
 
     It is closed at the end. Raises Refusal, Disconnected, NotText."""
-    with connect(arguments.socket) if arguments.socket else start(arguments.program) as client:
+    with open_client(arguments) as client:
+        client.when_renewed = lambda answer: tell_renewed(client, answer)
         with telling_of_waiting(arguments):
             answer = client.login(arguments.user, roles_of(arguments))
         yield client, answer

@@ -1,191 +1,255 @@
 """The command `shell`: a dialogue for people. A line is a command, its answer a short sentence."""
+from __future__ import annotations
+
+import argparse
 import cmd
 import glob
 import os
 import sys
 import time
+from typing import Any, Dict, Iterable, List, Set, Tuple
 
-from .connection import CannotBeSent, Refusal
+from .connection import CannotBeSent, Client, Instant, Refusal, TimedOut
+from .drawing import waves_for, write_vcd
+from .inputs import offers_of_line
+from .library_text import LibraryText
+from .load_faults import load_fault
 from .module_text import Module, main_of
-from .pictures import Seen, table_lines, width_of
-from .running import Failed, load_fault, read_text, waves_for, write_vcd
+from .pictures import Seen, Table, present_of, table_lines
+from .scopes import scopes_of
+from .seeing import module_for, see_slot
 from .sentences import OPERATIONS, sentence
 from .session import roles_of, session_of
+from .shell_words import LEGEND, PLAIN, ROLES, Usage, keys_of, number_of, without_comment
+from .stuck_chains import chain_lines
+from .texts import Failed, Placed, read_library
 
 WATCHED = 0.1  # seconds between two questions of `watch`
 SLOTS = 16
 FAULTS_OF_TEXTS = range(70, 81)  # their codes
 
-# Each command that is sent as it is written: the names of its words in their order, and what is so where it is accepted.
-PLAIN = {
-    "adduser": ("user", "{user} is a user"),
-    "deluser": ("user", "{user} is deleted, and its sessions have ended"),
-    "addrole": ("role", "{role} is a role"),
-    "delrole": ("role", "{role} is deleted"),
-    "assign": ("user role", "{user} has the role {role}"),
-    "deassign": ("user role", "{user} has no more the role {role}"),
-    "grant": ("role op object", "{role} may {op} on {object}"),
-    "revoke": ("role op object", "{role} has no more {op} on {object} itself"),
-    "inherit": ("senior junior", "{senior} stands above {junior}"),
-    "disinherit": ("senior junior", "{senior} stands no more right above {junior}"),
-    "undsd": ("name", "the separation set {name} is deleted"),
-    "activate": ("role", "{role} is active"),
-    "drop": ("role", "{role} is no more active"),
-    "offer": ("slot signal", "{signal} is pending"),
-    "discard": ("slot", "nothing is pending"),
-}
-NUMBERS = ("slot", "instant", "count")
-ROLES = ("role", "senior", "junior")
-LEGEND = f"""  USER, ROLE, SENIOR, JUNIOR, NAME: 1 to 24 letters, digits, _ and -
-  OP: {' '.join(OPERATIONS)}
-  OBJECT: policy, a slot as 0, or a signal of a slot as 0.A"""
-
-
-class Usage(Exception):
-    """The words of a line don't fit the command."""
-
-
-def number_of(word):
-    """The number that a word is. Raises Usage."""
-    if not (word.isascii() and word.isdigit() and len(word) <= 20):
-        raise Usage(f"{word} is no number")
-    return int(word)
-
-
-def keys_of(names, words):
-    """The keys of a command, from its words. Raises Usage."""
-    names = names.split()
-    if len(words) != len(names):
-        raise Usage("expected: " + (" ".join(names).upper() or "nothing behind the command"))
-    keys = dict(zip(names, words))
-    return {name: number_of(word) if name in NUMBERS else word for name, word in keys.items()}
-
-
-def slot_of(line):
-    """The slot that is the one word of a line. Raises Usage."""
-    return keys_of("slot", line.split())["slot"]
-
 
 class Shell(cmd.Cmd):
     """The dialogue over one client."""
 
-    def __init__(self, client, user, is_typed):
+    def __init__(self, client: Client, user: str, is_typed: bool, stops: bool = False) -> None:
+        """`is_typed` says that a person types; else the lines are a script, which a refusal ends
+        where it `stops`.
+        """
         super().__init__()
-        self.client, self.is_typed = client, is_typed
-        self.modules = {}  # the module that runs in a slot, as far as it is known here
-        self.told = {"user": {"root"}, "role": {"root"}, "name": set()}  # names that were typed, to complete
+        self.client, self.is_typed, self.stops = client, is_typed, stops
+        self.slot = 0  # that of `use`
+        self.modules: Dict[
+            int, Module
+        ] = {}  # the module that runs in a slot, as far as it is known here
+        self.texts: Dict[int, LibraryText] = {}  # and its text
+        self.told: Dict[str, Set[str]] = {
+            "user": {"root"},
+            "role": {"root"},
+            "name": set(),
+        }  # to complete
+        self.user, self.line, self.refused = user, 0, 0
         self.set_prompt(user)
 
-    def set_prompt(self, user):
-        self.prompt = f"{user}> " if self.is_typed else ""
+    def set_prompt(self, user: str) -> None:
+        self.user = user
+        slot = f" {self.slot}" if self.slot else ""
+        self.prompt = f"{user}{slot}> " if self.is_typed else ""
 
     # One line.
 
-    def onecmd(self, line):
+    def onecmd(self, line: str) -> bool:
         """Does what a line says, and tells what became of it. True ends the dialogue."""
+        self.line += line != "EOF"
+        written = without_comment(line)
         try:
-            return super().onecmd(line)
+            if ";" in written:
+                return self.make_instants(written)
+            return bool(super().onecmd(written))
         except Refusal as refusal:
-            module = self.modules.get(refusal.command.get("slot"))
-            print(sentence(refusal, module.relations if module else ()))
-        except (Usage, Failed, CannotBeSent) as fault:
-            print(fault)
+            return self.tell_wrong("\n".join(self.refusal_lines(refusal)))
+        except Placed as fault:
+            return self.tell_wrong("the module text is refused", f"{fault}\n")
+        except (Usage, Failed, CannotBeSent, TimedOut) as fault:
+            return self.tell_wrong(str(fault))
+
+    def tell_wrong(self, text: str, placed: str = "") -> bool:
+        """Tells what went wrong, in a script with the line's number: after what begins with a place
+        of its own.
+
+        Answers whether the dialogue ends with it.
+        """
+        self.refused += 1
+        if self.is_typed:
+            text = placed.rstrip("\n") or text
+        print(text if self.is_typed else f"{placed}line {self.line}: {text}", flush=True)
+        return self.stops and not self.is_typed
+
+    def refusal_lines(self, refusal: Refusal) -> List[str]:
+        """What is said of a refusal: by its module's text, as far as that is known here."""
+        slot = refusal.command.get("slot", -1)
+        module, library = self.modules.get(slot), self.texts.get(slot)
+        undecided = refusal.fields.get("undecided", ())
+        chain = (
+            chain_lines(library, module.name, undecided) if library and module and undecided else []
+        )
+        return [sentence(refusal, module.relations if module else ()), *chain]
+
+    def emptyline(self) -> bool:
         return False
 
-    def emptyline(self):
-        return False
-
-    def default(self, line):
-        name, *words = line.split()
+    def default(self, line: str) -> bool:  # type: ignore[override]
+        name, words = (line.split(None, 1) + [""])[:2]
         if name == "EOF":
             print(end="\n" if self.prompt else "")
             return True
         if name not in PLAIN:
-            print(f"there is no command {name}: help lists them")
-            return False
-        names, said = PLAIN[name]
-        keys = keys_of(names, words)
+            raise Usage(f"there is no command {name}: help lists them")
+        keys = keys_of(PLAIN[name].words, words, self.slot)
         self.client.ask(name, **keys)
         for key, word in keys.items():
-            self.told.get("role" if key in ROLES else key, set()).add(word)
-        print(said.format(**keys))
+            self.told.get("role" if key in ROLES else key, set()).add(str(word))
+        print(PLAIN[name].said.format(**keys))
         return False
+
+    # Instants.
+
+    def make_instants(self, line: str) -> bool:
+        """Offers the names of each instant of a line, steps, and shows what came out. A refusal
+        ends the line.
+        """
+        for offers in offers_of_line(line, self.line):
+            try:
+                print(self.instant_line(self.slot, self.client.instant(self.slot, offers.names)))
+            except Refusal as refusal:
+                raise Failed(self.refused_instant(refusal, offers.names)) from refusal
+        return False
+
+    def refused_instant(self, refusal: Refusal, names: List[str]) -> str:
+        """What is said of an instant that was refused: what was offered for it stays pending."""
+        name = refusal.command.get("signal")
+        offered = names[: names.index(name)] if name in names else names
+        first, *more = self.refusal_lines(refusal)
+        first = f"{name}: {first}" if name else first
+        if refusal.fault in ("Empty", "NoSlot"):
+            first += f" (slot {self.slot}; `use` names another)"
+        elif offered:
+            stay = "stays" if len(offered) == 1 else "stay"
+            first += f"; {' '.join(offered)} {stay} pending: discard takes that away"
+        return "\n".join([first, *more])
+
+    def instant_line(self, slot: int, instant: Instant) -> str:
+        """What is said of an instant: its outputs, or all that was present where the module isn't
+        known here.
+        """
+        told = f"instant {instant.number}"
+        if not instant.signals:
+            return told
+        module = module_for(self.modules.get(slot), slot, list(instant.signals))
+        names = module.outputs()
+        shown = present_of(names, instant.signals)
+        if slot not in self.modules or module is not self.modules[slot]:
+            return f"{told}: present: {shown or 'nothing'}"
+        return f"{told}: {shown or 'no output'}"
 
     # Help and completion.
 
-    def commands(self):
+    def commands(self) -> List[str]:
         """The names of all commands."""
-        return sorted([name[3:] for name in self.get_names() if name.startswith("do_")] + list(PLAIN))
+        return sorted(
+            [name[3:] for name in self.get_names() if name.startswith("do_")] + list(PLAIN)
+        )
 
-    def help_of(self, name):
-        """The line of help for a command; empty where there is no such command."""
+    def help_of(self, name: str) -> str:
+        """The line of help for a command: its words, and what it does. Empty where there is no such
+        command.
+        """
         if name in PLAIN:
-            names, said = PLAIN[name]
-            return f"{name} {names.upper()}: {said.format(**{key: key.upper() for key in names.split()})}"
-        return getattr(getattr(self, f"do_{name}", None), "__doc__", None) or ""
+            words = PLAIN[name].words.upper().replace("SLOT", "[SLOT]")
+            return f"{name} {words}: {PLAIN[name].does}"
+        known = name in self.commands()
+        return getattr(self, f"do_{name}").__doc__.split("\n")[0] if known else ""
 
-    def completenames(self, text, *_):
-        return [name + " " for name in self.commands() if name.startswith(text)]
+    def completenames(self, text: str, *_: Any) -> List[str]:
+        return [
+            name + " " for name in self.commands() + self.inputs_here() if name.startswith(text)
+        ]
 
-    def complete_help(self, text, *_):
-        return self.completenames(text)
+    def complete_help(self, *words: Any) -> List[str]:
+        return [name + " " for name in self.commands() if name.startswith(words[0])]
 
-    def completedefault(self, text, line, begin, _):
-        """What the word at this place of a line may be."""
+    def completedefault(self, *words: Any) -> List[str]:
+        """What the word at this place of a line may be: `words` are it, the line, and its place."""
+        text, line, begin = words[:3]
+        if not self.help_of(line.split()[0]):
+            return sorted(name + " " for name in self.inputs_here() if name.startswith(text))
         name, *before = line[:begin].split()
-        words = self.help_of(name).partition(":")[0].split()[1:]
-        if not words:
+        asked = self.help_of(name).partition(":")[0].split()[1:]
+        if not asked:
             return []
-        key = words[min(len(before), len(words) - 1)].strip("[].").lower()
-        words = self.words_for(key, before, text)
-        return sorted(word + ("/" if key == "file" and os.path.isdir(word) else " ") for word in words if word.startswith(text))
+        key = asked[min(len(before), len(asked) - 1)].strip("[].").lower()
+        found = [word for word in self.words_for(key, before, text) if word.startswith(text)]
+        return sorted(
+            word + ("/" if key == "file" and os.path.isdir(word) else " ") for word in found
+        )
 
-    def words_for(self, key, before, text):
-        """The words that may stand for a key of a command, behind the words before it."""
+    def inputs_here(self) -> List[str]:
+        """The inputs of the module in the slot of `use`, as far as it is known here."""
+        module = self.modules.get(self.slot)
+        return module.inputs() if module else []
+
+    def words_for(self, key: str, before: List[str], text: str) -> Iterable[str]:
+        """The words that may stand for a key of a command, after the words before it."""
+        slots = [str(slot) for slot in self.modules or range(SLOTS)]
         if key == "file":
             return glob.glob(glob.escape(text) + "*")
         if key == "op":
             return OPERATIONS
         if key == "slot":
-            return [str(slot) for slot in self.modules or range(SLOTS)]
+            return slots
         if key == "object":
-            signals = [f"{slot}.{name}" for slot, module in self.modules.items() for name in module.kinds()]
-            return ["policy", *map(str, self.modules or range(SLOTS)), *signals]
+            pairs = [
+                (slot, name) for slot, module in self.modules.items() for name in module.kinds()
+            ]
+            return ["policy", *slots, *[f"{slot}.{name}" for slot, name in pairs]]
         if key == "signal":
-            return [name for slot, module in self.modules.items() if before[:1] == [str(slot)] for name in module.inputs()]
+            known = {str(slot): module for slot, module in self.modules.items()}
+            return known[before[0]].inputs() if before[:1] and before[0] in known else []
         return self.told.get("role" if key in ROLES else key, ())
 
-    def do_help(self, line):
-        """help [COMMAND]: lists the commands"""
+    def do_help(self, line: str) -> None:
+        """help [COMMAND]: says what a command does, or lists them all"""
         for name in line.split() or self.commands():
-            print(f"  {self.help_of(name)}" if self.help_of(name) else f"there is no command {name}: help lists them")
+            if not self.help_of(name):
+                raise Usage(f"there is no command {name}: help lists them")
+            print(f"  {self.help_of(name)}")
         if not line:
             print(LEGEND)
 
-    def do_quit(self, line):
+    def do_quit(self, line: str) -> bool:
         """quit: logs out and ends, as Ctrl-D does"""
-        keys_of("", line.split())
+        keys_of("", line)
         return True
 
     # The session and the policy.
 
-    def do_login(self, line):
-        """login USER ROLE..: begins a session, after a logout"""
+    def do_login(self, line: str) -> None:
+        """login USER ROLE..: begins a session of the user with these roles, after a logout"""
         user, *roles = line.split() or [""]
         if not user:
             raise Usage("expected: USER ROLE..")
         print(f"session {self.client.login(user, roles)['session']} of {user}")
         self.set_prompt(user)
 
-    def do_logout(self, line):
+    def do_logout(self, line: str) -> None:
         """logout: ends the session"""
-        keys_of("", line.split())
+        keys_of("", line)
         self.client.logout()
         print("logged out")
         self.set_prompt("")
 
-    def do_dsd(self, line):
-        """dsd NAME COUNT ROLE..: no session may have COUNT of the roles"""
+    def do_dsd(self, line: str) -> None:
+        """dsd NAME COUNT ROLE..: makes a separation set: no session may have COUNT of the roles"""
         name, count, *roles = line.split() if len(line.split()) > 2 else ("", "0")
         if not roles:
             raise Usage("expected: NAME COUNT ROLE..")
@@ -193,131 +257,141 @@ class Shell(cmd.Cmd):
         self.told["name"].add(name)
         print(f"no session may have {count} of {' '.join(roles)}")
 
-    def do_check(self, line):
-        """check OP OBJECT: whether you may do the operation on the object"""
-        keys = keys_of("op object", line.split())
+    def do_check(self, line: str) -> None:
+        """check OP OBJECT: tells whether you may do the operation on the object"""
+        keys = keys_of("op object", line)
         print("yes" if self.client.check(**keys)["allowed"] else "no")
 
     # The slots.
 
-    def module_of(self, line):
-        """The slot, the file, the text and the module that a line names. Raises Usage, Failed."""
-        words = line.split()
-        if len(words) not in (2, 3):
-            raise Usage("expected: SLOT FILE [MODULE]")
-        slot, text = number_of(words[0]), read_text(words[1], "the module text")
-        return slot, words[1], text, main_of(text, words[2] if len(words) == 3 else None)
+    def do_use(self, line: str) -> None:
+        """use SLOT: makes the slot the one that is meant where none is named"""
+        slot = keys_of("slot", line)["slot"] if line else None
+        if slot is None or slot >= SLOTS:
+            raise Usage(f"expected: SLOT, from 0 to {SLOTS - 1}")
+        self.slot = slot
+        self.set_prompt(self.user)
+        print(f"slot {slot}")
 
-    def do_load(self, line):
-        """load SLOT FILE [MODULE]: loads a module of the file"""
-        slot, path, text, module = self.module_of(line)
+    def module_of(self, line: str) -> Tuple[int, LibraryText, Module]:
+        """The slot, the text and the module that a line names. Raises Usage, Failed."""
+        words = line.split()
+        if words and not words[0].isdigit() and len(words) < 3:
+            words.insert(0, str(self.slot))
+        if len(words) not in (2, 3):
+            raise Usage("expected: [SLOT] FILE [MODULE]")
+        slot, library = number_of(words[0]), read_library([words[1]])
+        return slot, library, main_of(library.text, words[2] if len(words) == 3 else None)
+
+    def keep(self, slot: int, library: LibraryText, module: Module) -> None:
+        self.modules[slot], self.texts[slot] = module, library
+
+    def do_load(self, line: str) -> None:
+        """load [SLOT] FILE [MODULE]: loads a module of the file into the slot"""
+        slot, library, module = self.module_of(line)
         try:
-            self.client.load(slot, module.name, text)
+            self.client.load(slot, module.name, library.text)
         except Refusal as refusal:
             if refusal.code in FAULTS_OF_TEXTS:
-                raise Failed(load_fault(refusal, path, text)) from refusal
+                raise load_fault(refusal, library, module.name) from refusal
             raise
-        self.modules[slot] = module
+        self.keep(slot, library, module)
         print(f"{module.name} runs in slot {slot}")
 
-    def do_module(self, line):
-        """module SLOT FILE [MODULE]: tells the shell, not the server, what another client has loaded, for the pictures"""
-        slot, _, _, module = self.module_of(line)
-        self.modules[slot] = module
-        inputs = module.inputs()
-        outputs = [name for name, _ in module.signals if name not in inputs]
-        print(f"{module.name}: inputs {' '.join(inputs) or 'none'}, outputs {' '.join(outputs) or 'none'}")
+    def do_module(self, line: str) -> None:
+        """module [SLOT] FILE [MODULE]: tells the shell which text another client has loaded"""
+        slot, library, module = self.module_of(line)
+        self.keep(slot, library, module)
+        inputs, outputs = " ".join(module.inputs()), " ".join(module.outputs())
+        print(f"{module.name}: inputs {inputs or 'none'}, outputs {outputs or 'none'}")
 
-    def do_unload(self, line):
-        """unload SLOT: takes the module out of the slot"""
-        slot = slot_of(line)
+    def do_unload(self, line: str) -> None:
+        """unload [SLOT]: takes the module out of the slot, with its instants"""
+        slot = keys_of("slot", line, self.slot)["slot"]
         self.client.unload(slot)
         self.modules.pop(slot, None)
+        self.texts.pop(slot, None)
         print(f"slot {slot} is empty")
 
-    def do_step(self, line):
-        """step SLOT: the next instant, with what is pending"""
-        print(f"instant {self.client.step(slot_of(line))['instant']}")
+    def do_step(self, line: str) -> None:
+        """step [SLOT]: makes the next instant of what is pending, and shows what came out"""
+        slot = keys_of("slot", line, self.slot)["slot"]
+        print(self.instant_line(slot, self.client.instant(slot)))
 
-    def do_audit(self, line):
-        """audit SLOT: how long the slot's journal is"""
-        answer = self.client.audit(slot_of(line))
+    def do_audit(self, line: str) -> None:
+        """audit [SLOT]: tells how long the slot's journal is"""
+        answer = self.client.audit(keys_of("slot", line, self.slot)["slot"])
         print(f"{answer['entries']} entries, {answer['instants']} instants since the load")
 
-    def do_look(self, line):
-        """look SLOT INSTANT: the signals of an instant that you may observe"""
-        answer = self.client.look(**keys_of("slot instant", line.split()))
+    def do_look(self, line: str) -> None:
+        """look [SLOT] INSTANT: shows the signals of an instant that you may observe"""
+        answer = self.client.look(**keys_of("slot instant", line, self.slot))
         told = [name + ("" if present else "=0") for name, present in answer["signals"]]
         print(" ".join(told) or "nothing that you may observe")
 
     # Pictures.
 
-    def instants_from(self, slot, first):
-        """The instants from this one on, each a dictionary from a name to its presence."""
-        instants = []
-        while True:
-            try:
-                answer = self.client.look(slot, first + len(instants))
-            except Refusal as refusal:
-                if refusal.fault == "NoInstant":
-                    return instants
-                raise
-            instants.append(dict(answer["signals"]))
+    def seen_of(self, line: str) -> Seen:
+        """What may be seen of the instants of the slot that a line names."""
+        slot = keys_of("slot", line, self.slot)["slot"]
+        return see_slot(self.client, slot, self.modules.get(slot))
 
-    def seen_of(self, slot, first=1):
-        """What may be seen of a slot's instants from this one on.
+    def do_show(self, line: str) -> None:
+        """show [SLOT]: shows all instants so far as a table"""
+        print("\n".join(table_lines(self.seen_of(line))))
 
-        Where the module isn't known, or another client has loaded another one, its signals are those that were shown."""
-        instants = self.instants_from(slot, first)
-        names = list(dict.fromkeys(name for instant in instants for name in instant))
-        module = self.modules.get(slot)
-        if module is None or not set(names) <= set(module.kinds()):
-            module = Module(f"slot{slot}", [(name, "signal") for name in names], [], [])
-        return Seen(module.name, module.signals, instants, first)
+    def do_wave(self, line: str) -> None:
+        """wave [SLOT]: shows all instants so far as waves"""
+        print("\n".join(waves_for(sys.stdout, self.seen_of(line))))
 
-    def do_show(self, line):
-        """show SLOT: all instants so far, as a table"""
-        print("\n".join(table_lines(self.seen_of(slot_of(line)))))
-
-    def do_wave(self, line):
-        """wave SLOT: all instants so far, as waves"""
-        print("\n".join(waves_for(sys.stdout, self.seen_of(slot_of(line)))))
-
-    def do_vcd(self, line):
-        """vcd SLOT FILE: all instants so far, into a VCD file for a viewer of waves"""
-        keys = keys_of("slot file", line.split())
-        seen = self.seen_of(keys["slot"])
+    def do_vcd(self, line: str) -> None:
+        """vcd [SLOT] FILE: writes all instants so far into a VCD file, for a viewer of waves"""
+        keys = keys_of("slot file", line, self.slot)
+        seen = self.seen_of(str(keys["slot"]))
+        module, library = self.modules.get(keys["slot"]), self.texts.get(keys["slot"])
+        if library and module and module.name == seen.module:
+            seen.scopes = scopes_of(library.text, module.name)
         write_vcd(keys["file"], seen)
         print(f"{len(seen.instants)} instants in {keys['file']}")
 
-    def do_watch(self, line):
-        """watch SLOT: new instants as they come, until Ctrl-C"""
-        slot = slot_of(line)
+    def do_watch(self, line: str) -> None:
+        """watch [SLOT]: shows new instants as they come, until Ctrl-C"""
+        slot = keys_of("slot", line, self.slot)["slot"]
         try:
             self.watch(slot)
         except KeyboardInterrupt:
             print()
 
-    def watch(self, slot):
-        """Shows the instants of a slot, and then asks for new ones again and again. An interrupt ends it.
+    def watch(self, slot: int) -> None:
+        """Shows the instants of a slot, and then asks for new ones again and again. An interrupt
+        ends it.
 
-        The last instant that was shown is asked for too: where it isn't there, the slot was loaded anew."""
+        The last instant that was shown is asked for too: where it isn't there, the slot was loaded
+        anew.
+        """
         shown, wide, is_headed = 0, 0, False
         while True:
-            seen = self.seen_of(slot, max(shown, 1))
+            seen = see_slot(self.client, slot, self.modules.get(slot), max(shown, 1))
             if shown and not seen.instants:
                 print(f"slot {slot} was loaded anew", flush=True)
                 shown, is_headed = 0, False
                 continue
-            new = Seen(seen.module, seen.signals, seen.instants[1:] if shown else seen.instants, shown + 1)
-            wide = max(wide, width_of(new))
-            lines = table_lines(new, wide)[is_headed:]
+            new = Seen(
+                seen.module, seen.signals, seen.instants[1:] if shown else seen.instants, shown + 1
+            )
+            table = Table(new, wide)
+            table.widen(new.instants)
+            wide = table.wide
+            lines = [] if is_headed else [table.head()]
+            lines += [
+                table.row(number, instant) for number, instant in enumerate(new.instants, shown + 1)
+            ]
             print("".join(told + "\n" for told in lines), end="", flush=True)
             shown, is_headed = shown + len(new.instants), True
             time.sleep(WATCHED)
 
 
-def use_readline():
+def use_readline() -> None:
     """Lets a person's lines have history and completion, where this Python has readline."""
     try:
         import readline
@@ -326,19 +400,31 @@ def use_readline():
     readline.set_completer_delims(" \t\n")
 
 
-def shell(arguments):
-    """A dialogue as the user that the arguments name, until the end of standard input. Raises Refusal, Disconnected, NotText."""
+def talk(dialogue: Shell, client: Client) -> None:
+    """The dialogue up to its end. An interrupt of a script is raised; one of a person's line is
+    not.
+    """
+    while True:
+        try:
+            dialogue.cmdloop()
+            return
+        except KeyboardInterrupt:
+            if not dialogue.is_typed:
+                raise
+            print("\ninterrupted; the command may have been carried out" if client.is_owed else "")
+
+
+def shell(arguments: argparse.Namespace) -> int:
+    """A dialogue as the user that the arguments name, until the end of standard input. Answers the
+    status: 1 where a line of a script was refused. Raises Refusal, Disconnected, NotText.
+    """
     is_typed = sys.stdin.isatty()
     if is_typed:
         use_readline()
     with session_of(arguments) as (client, answer):
         roles = " ".join(roles_of(arguments)) or "no role"
-        print(f"session {answer['session']} of {arguments.user}, with {roles}; help lists the commands")
-        dialogue = Shell(client, arguments.user, is_typed)
-        while True:
-            try:
-                return dialogue.cmdloop()
-            except KeyboardInterrupt:
-                if not is_typed:
-                    raise
-                print("\ninterrupted; the command may have been carried out" if client.is_owed else "")
+        told = f"session {answer['session']} of {arguments.user}, with {roles}"
+        print(f"{told}; help lists the commands")
+        dialogue = Shell(client, arguments.user, is_typed, arguments.stop)
+        talk(dialogue, client)
+    return int(bool(dialogue.refused and not is_typed))

@@ -1,11 +1,12 @@
 #!/usr/bin/env python3
-"""Stands for the program `estserve` in the client's tests: it plays a stored dialogue, or stores one.
+"""Stands for the program `estserve` in the client's tests: it plays a stored dialogue, or stores
+one.
 
-The variable DIALOGUE names the stored lines, one command each; the answers stand in the file of that
-name with `.stdout` behind it. A command that is not the stored one, or one that never comes, is told in
-the file that the variable FAULTS names. Where BESIDE names a real program, it is run beside, on the same
-commands, and an answer of its that isn't the stored one is told too. Where RECORD names one, the commands
-are sent to it, and stored with its answers.
+The variable DIALOGUE names the stored lines, one command each; the answers stand in the file of
+that name with `.stdout` behind it. A command that is not the stored one, or one that never comes,
+is told in the file that the variable FAULTS names. Where BESIDE names a real program, it is run
+beside, on the same commands, and an answer of its that isn't the stored one is told too. Where
+RECORD names one, the commands are sent to it, and stored with its answers.
 """
 import json
 import os
@@ -34,7 +35,9 @@ class Program:
 
 
 def play(stored, beside, tell):
-    """Answers each command that is the stored one. Stops, and tells, at the first that isn't, and at the end if one is missing."""
+    """Answers each command that is the stored one. Stops, and tells, at the first that isn't, and
+    at the end if one is missing.
+    """
     for number, (line, answer) in enumerate(stored, 1):
         given = sys.stdin.buffer.readline()
         if not given:

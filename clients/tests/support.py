@@ -4,8 +4,10 @@ import io
 import os
 import pathlib
 import signal
+import socket
 import sys
 import tempfile
+import unittest
 import unittest.mock
 
 # What runs in the background may have been started with interrupts ignored, and programs inherit that.
@@ -19,29 +21,43 @@ DIALOGUES = CLIENTS / "tests" / "dialogues"
 sys.path.insert(0, str(CLIENTS))
 
 
-def read_vcd(lines):
-    """The changes in a VCD file: from the name of each wire to the values that it takes, by their times."""
-    names, changes, time = {}, {}, None
+def read_vcd(lines, scope=1):
+    """The changes in a VCD file: from the name of each wire of the outer scope to its values, by
+    their instants.
+
+    With a deeper `scope` the wires of that depth are given, by the scope's name and their own.
+    """
+    names, changes, instant, scopes = {}, {}, None, []
     for words in map(str.split, lines):
-        if words[0] == "$var":
-            names[words[3]] = words[4]
+        if words[0] == "$scope":
+            scopes.append(words[2])
+        elif words[0] == "$upscope":
+            scopes.pop()
+        elif words[0] == "$var" and len(scopes) == scope:
+            names.setdefault(words[3], []).append(".".join([*scopes[1:], words[4]]))
         elif words[0].startswith("#"):
-            time = int(words[0][1:])
+            instant = int(words[0][1:]) / 10
         elif words[0][0] in "01x":
-            changes.setdefault(names[words[0][1:]], {})[time] = words[0][0]
+            for name in names.get(words[0][1:], ()):
+                changes.setdefault(name, {})[instant] = words[0][0]
     return changes
 
 
 class Ran:
-    """What a command of the client gave: its status, what it printed, what it told on standard error."""
+    """What a command of the client gave: its status, what it printed, what it told on standard
+    error.
+    """
 
     def __init__(self, status, printed, told):
         self.status, self.printed, self.told = status, printed, told
 
 
 def run_client(words, typed="", variables=None):
-    """Runs the client with these words, `typed` on its standard input, and these variables besides."""
+    """Runs the client with these words, `typed` on its standard input, and these variables
+    besides.
+    """
     import estserve
+
     printed, told = (io.TextIOWrapper(io.BytesIO(), encoding="utf-8") for _ in range(2))
     stdin = io.TextIOWrapper(io.BytesIO(typed.encode()))
     with contextlib.ExitStack() as held:
@@ -62,7 +78,9 @@ def run_words(name, inputs=None, *more):
 
 
 def dialogue_variables(path, faults):
-    """The variables by which `dialogue.py` plays a stored dialogue, beside the real program that ESTSERVE names, if it does."""
+    """The variables by which `dialogue.py` plays a stored dialogue, beside the real program that
+    ESTSERVE names, if it does.
+    """
     variables = {"ESTSERVE": str(DIALOGUE), "DIALOGUE": str(path), "FAULTS": str(faults)}
     for name, real in (("RECORD", "RECORDER"), ("BESIDE", "ESTSERVE")):
         if os.environ.get(real):
@@ -78,3 +96,19 @@ def play_dialogue(path, words, typed=""):
         if faults.exists():
             raise AssertionError(f"{path.name}: {faults.read_text()}")
     return ran
+
+
+def needs_program(test):
+    """Marks a test that runs the real program, which the variable ESTSERVE names."""
+    return unittest.skipUnless(
+        os.environ.get("ESTSERVE"), "the variable ESTSERVE names no program"
+    )(test)
+
+
+def serve(*words):
+    """A server of the real program, as the tests of the socket start it. Used with `with`."""
+    sys.path.append(str(ROOT / "tests" / "socket"))
+    import running
+
+    socket.setdefaulttimeout(None)  # which running sets, and stand-ins for servers can't have
+    return running.Server(*words)

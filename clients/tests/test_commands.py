@@ -1,4 +1,6 @@
-"""The client's commands over stored dialogues, which `make examples` holds against the real program, and what it says of what goes wrong."""
+"""The client's commands over stored dialogues, which `make examples` holds against the real
+program, and what it says of what goes wrong.
+"""
 import os
 import pathlib
 import socket
@@ -7,14 +9,25 @@ import tempfile
 import threading
 import unittest
 
-from support import DIALOGUE, DIALOGUES, EXAMPLES, dialogue_variables, play_dialogue, read_vcd, run_words
+from support import (
+    DIALOGUE,
+    DIALOGUES,
+    EXAMPLES,
+    dialogue_variables,
+    play_dialogue,
+    read_vcd,
+    run_words,
+)
 
 import estserve
 
 
 # what is told besides of the runs that end at an instant which is refused
 REFUSED = {
-    "paradox": "instant 2: Stuck: the instant has no constructive reaction; undecided: O",
+    "paradox": f"""instant 2: Stuck: the instant has no constructive reaction; undecided: O
+possibly in a circle, each waiting for the next, and the last for the first:
+  {EXAMPLES}/paradox/paradox.strl:6:16: emit O
+  {EXAMPLES}/paradox/paradox.strl:6:1: present O""",
     "no_second": "instant 2: Implied: relation 1 (MINUTE => SECOND) asks for SECOND too",
     "both": "instant 2: Excluded: relation 1 (A # R) excludes R, since A is pending",
 }
@@ -24,7 +37,9 @@ class Controllers(unittest.TestCase):
     """Each controller of the examples gives the pictures that stand beside it."""
 
     def check_picture(self, path, *more):
-        """What the client draws of the list of inputs by this name, over the dialogue by this name."""
+        """What the client draws of the list of inputs by this name, over the dialogue by this
+        name.
+        """
         words = run_words(path.parent.name, path.stem, *more)
         ran = play_dialogue(path.with_suffix(".dialogue"), words)
         told = REFUSED.get(path.stem)
@@ -33,7 +48,9 @@ class Controllers(unittest.TestCase):
 
     def test_tables(self):
         paths = sorted(EXAMPLES.glob("*/*.table"))
-        self.assertEqual([path.with_suffix(".inputs") for path in paths], sorted(EXAMPLES.glob("*/*.inputs")))
+        self.assertEqual(
+            [path.with_suffix(".inputs") for path in paths], sorted(EXAMPLES.glob("*/*.inputs"))
+        )
         for path in paths:
             with self.subTest(path.stem):
                 self.assertEqual(self.check_picture(path), path.read_text())
@@ -52,21 +69,26 @@ class Controllers(unittest.TestCase):
                 self.check_changes(changes, path.read_text().splitlines()[1:])
 
     def check_changes(self, changes, rows):
-        """Each wire is 1 in the instants in whose rows of the table its signal stands, and 0 in the others."""
+        """Each wire is 1 in the instants in whose rows of the table its signal stands, and 0 in the
+        others.
+        """
+        self.assertEqual(list(changes.pop("tick").values()), ["1", "0"] * len(rows))
         for name, values in changes.items():
             now, drawn = None, []
-            for time in range(len(rows)):
-                now = values.get(time, now)
+            for instant in range(1, len(rows) + 1):
+                now = values.get(instant, now)
                 drawn.append(now)
             self.assertEqual(drawn, ["1" if name in row.split()[1:] else "0" for row in rows], name)
 
     def test_a_vcd_file_of_abro(self):
         with tempfile.TemporaryDirectory() as folder:
             path = pathlib.Path(folder) / "abro.vcd"
-            self.assertEqual(self.check_picture(EXAMPLES / "abro" / "abro.table", "--vcd", path), "")
+            self.assertEqual(
+                self.check_picture(EXAMPLES / "abro" / "abro.table", "--vcd", path), ""
+            )
             changes = read_vcd(path.read_text().splitlines())
-        self.assertEqual(changes["O"], {0: "0", 2: "1", 3: "0", 5: "1", 6: "0"})
-        self.assertEqual(sorted(changes), ["A", "B", "O", "R"])
+        self.assertEqual(changes["O"], {1: "0", 3: "1", 4: "0", 6: "1", 7: "0"})
+        self.assertEqual(sorted(changes), ["A", "B", "O", "R", "tick"])
 
 
 class Policies(unittest.TestCase):
@@ -79,8 +101,10 @@ class Policies(unittest.TestCase):
         ran = play_dialogue(DIALOGUES / "apply_again", ["apply", DIALOGUES.parent / "again.toml"])
         self.assertEqual(ran.status, 1)
         self.assertIn("again.toml:1: adduser root: UserExists", ran.printed)
-        self.assertIn("again.toml:5: assign ann nobody: UnknownRole: there is no role nobody", ran.told)
-        self.assertIn("1 made, 2 there already, 1 refused", ran.printed)
+        self.assertIn(
+            "again.toml:5: assign ann nobody: UnknownRole: there is no role nobody", ran.told
+        )
+        self.assertIn("0 after it were not sent; 1 of 1 that were made are taken back\n", ran.told)
 
 
 class Dialogues(unittest.TestCase):
@@ -88,10 +112,11 @@ class Dialogues(unittest.TestCase):
 
     def check(self, name):
         typed, wanted = (
-            (DIALOGUES.parent / f"{name}.{kind}").read_text().replace("EXAMPLES", str(EXAMPLES)) for kind in ("typed", "printed")
+            (DIALOGUES.parent / f"{name}.{kind}").read_text().replace("EXAMPLES", str(EXAMPLES))
+            for kind in ("typed", "printed")
         )
         ran = play_dialogue(DIALOGUES / name, ["shell"], typed)
-        self.assertEqual((ran.status, ran.printed, ran.told), (0, wanted, ""))
+        self.assertEqual((ran.printed, ran.told, ran.status), (wanted, "", 1))
 
     def test_a_dialogue_for_people(self):
         self.check("shell")
@@ -111,7 +136,9 @@ class OverASocket(unittest.TestCase):
         def answer():
             connection, _ = server.accept()
             variables = dict(os.environ, **dialogue_variables(dialogue, faults))
-            subprocess.run([str(DIALOGUE), "script"], stdin=connection, stdout=connection, env=variables)
+            subprocess.run(
+                [str(DIALOGUE), "script"], stdin=connection, stdout=connection, env=variables
+            )
             connection.close()
             server.close()
 
@@ -128,7 +155,9 @@ class OverASocket(unittest.TestCase):
                 client.adduser("ann")
                 with self.assertRaises(estserve.Refusal) as raised:
                     client.load(0, "M", "module M: pause end module")
-                self.assertEqual((raised.exception.code, raised.exception.fault), (10, "Permission"))
+                self.assertEqual(
+                    (raised.exception.code, raised.exception.fault), (10, "Permission")
+                )
                 self.assertEqual(raised.exception.fields, {"object": "0", "op": "load"})
                 client.logout()
             thread.join()

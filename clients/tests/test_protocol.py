@@ -1,4 +1,6 @@
-"""The client keeps up with docs/PROTOCOL.md: its commands, what each is refused as, and a sentence for each refusal."""
+"""The client keeps up with docs/PROTOCOL.md: its commands, what each is refused as, and a sentence
+for each refusal.
+"""
 import inspect
 import re
 import string
@@ -8,7 +10,8 @@ from support import ROOT
 
 from estserve_client.connection import Client, Refusal
 from estserve_client.sentences import SENTENCES, out_of_form, sentence
-from estserve_client.shell import PLAIN, Shell
+from estserve_client.shell import Shell
+from estserve_client.shell_words import PLAIN
 
 TEXT = (ROOT / "docs" / "PROTOCOL.md").read_text()
 EVERY = {"Memory", "NotARequest"}  # refusals of every command
@@ -16,7 +19,7 @@ EVERY = {"Memory", "NotARequest"}  # refusals of every command
 
 def rows_of(heading):
     """The cells of each row of the first table behind a line."""
-    table = TEXT[TEXT.index(heading):].partition("\n|---")[2].partition("\n\n")[0]
+    table = TEXT[TEXT.index(heading) :].partition("\n|---")[2].partition("\n\n")[0]
     return [[cell.strip() for cell in row.strip("|").split("|")] for row in table.split("\n")[1:]]
 
 
@@ -24,7 +27,10 @@ def words_of(cell):
     return re.findall(r"`(\w+)`", cell)
 
 
-COMMANDS = {words_of(name)[0]: (words_of(keys), words_of(answer)) for name, keys, _, answer in rows_of("## Commands")}
+COMMANDS = {
+    words_of(name)[0]: (words_of(keys), words_of(answer))
+    for name, keys, _, answer in rows_of("## Commands")
+}
 REFUSALS = {int(code): (name, words_of(keys)) for code, name, keys, _ in rows_of("## Refusals")}
 ORDERS = {
     name: {int(code) for code in re.findall(r"\b\d+\b", order)}
@@ -50,7 +56,11 @@ class Commands(unittest.TestCase):
     def test_each_docstring_names_the_keys_of_the_answer(self):
         for name, (_, answer) in COMMANDS.items():
             with self.subTest(name):
-                told = inspect.getdoc(getattr(Client, name)).partition("Gives ")[2].partition("Refused as")[0]
+                told = (
+                    inspect.getdoc(getattr(Client, name))
+                    .partition("Gives ")[2]
+                    .partition("Refused as")[0]
+                )
                 self.assertEqual(sorted(words_of(told)), sorted(answer))
 
     def test_each_docstring_names_the_refusals(self):
@@ -63,8 +73,8 @@ class Commands(unittest.TestCase):
     def test_each_command_is_one_of_the_shell(self):
         for name in COMMANDS:
             self.assertTrue(name in PLAIN or hasattr(Shell, f"do_{name}"), name)
-        for name, (keys, _) in PLAIN.items():
-            self.assertEqual(sorted(keys.split()), sorted(COMMANDS[name][0]))
+        for name, plain in PLAIN.items():
+            self.assertEqual(sorted(plain.words.split()), sorted(COMMANDS[name][0]))
 
 
 class Sentences(unittest.TestCase):
@@ -76,26 +86,46 @@ class Sentences(unittest.TestCase):
     def test_each_sentence_says_no_more_than_the_keys(self):
         for name, keys in REFUSALS.values():
             with self.subTest(name):
-                fields = {field for _, field, _, _ in string.Formatter().parse(SENTENCES[name]) if field}
+                fields = {
+                    field for _, field, _, _ in string.Formatter().parse(SENTENCES[name]) if field
+                }
                 self.assertLessEqual(fields - {"offered"}, set(keys))
 
     def test_an_exclusion_names_the_input_that_was_offered(self):
-        refusal = Refusal({"code": 40, "fault": "Excluded", "relation": 2, "signal": "B"}, {"cmd": "offer", "signal": "A"})
+        refusal = Refusal(
+            {"code": 40, "fault": "Excluded", "relation": 2, "signal": "B"},
+            {"cmd": "offer", "signal": "A"},
+        )
         self.assertEqual(sentence(refusal), "Excluded: relation 2 excludes A, since B is pending")
         told = "Excluded: relation 2 (A # B) excludes A, since B is pending"
         self.assertEqual(sentence(refusal, ["A => C", "A # B"]), told)
 
     def test_a_word_out_of_form_is_told(self):
         wrong = {
-            "user": "a.b", "role": "", "senior": "x" * 25, "signal": "1A", "main": "é", "op": "fly", "object": "16",
-            "slot": 2**64, "roles": ["a", "b c"],
+            "user": "a.b",
+            "role": "",
+            "senior": "x" * 25,
+            "signal": "1A",
+            "main": "é",
+            "op": "fly",
+            "object": "16",
+            "slot": 2**64,
+            "roles": ["a", "b c"],
         }
         for key, word in wrong.items():
             with self.subTest(key):
                 told = out_of_form({"cmd": "x", key: word})
                 self.assertIn(str(word[1] if key == "roles" else word), told)
         self.assertEqual(out_of_form({"roles": ["r"] * 33}), "a command has at most 32 roles")
-        right = {"user": "a_-9", "signal": "A_1", "op": "audit", "object": "15.A", "slot": 99, "roles": [], "count": 1}
+        right = {
+            "user": "a_-9",
+            "signal": "A_1",
+            "op": "audit",
+            "object": "15.A",
+            "slot": 99,
+            "roles": [],
+            "count": 1,
+        }
         self.assertIsNone(out_of_form(right))
 
     def test_a_refusal_without_its_keys_is_told_plainly(self):

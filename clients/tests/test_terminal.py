@@ -1,4 +1,6 @@
-"""The dialogue in a terminal: its prompt, completion and history, Ctrl-C and Ctrl-D, and how wide its pictures are."""
+"""The dialogue in a terminal: its prompt, completion and history, Ctrl-C and Ctrl-D, and how wide
+its pictures are.
+"""
 import fcntl
 import importlib.util
 import os
@@ -14,7 +16,7 @@ import termios
 import time
 import unittest
 
-from support import CLIENTS, DIALOGUES, EXAMPLES, dialogue_variables
+from support import CLIENTS, DIALOGUES, EXAMPLES, dialogue_variables, needs_program, read_vcd
 
 SECONDS = 60  # whatever a terminal is to show comes in so many
 LOGIN = '{"ok":"login","session":1,"version":5}'
@@ -122,7 +124,9 @@ class InATerminal(unittest.TestCase):
             terminal.type("off\t\tA\t\n")
             terminal.sees("offer 15 A \nA is pending\nroot> ")
             terminal.type("help ste\t\n")
-            terminal.sees("step SLOT: the next instant, with what is pending\n")
+            terminal.sees(
+                "step [SLOT]: makes the next instant of what is pending, and shows what came out\n"
+            )
             terminal.sees("root> ")
             terminal.type("half a line\x03")
             terminal.sees("root> ")
@@ -162,17 +166,29 @@ class InATerminal(unittest.TestCase):
                 connection.close()
 
     def test_waves_are_as_wide_as_the_terminal(self):
-        words = ["run", EXAMPLES / "abro" / "abro.strl", "--inputs", EXAMPLES / "abro" / "abro.inputs", "--wave"]
+        words = [
+            "run",
+            EXAMPLES / "abro" / "abro.strl",
+            "--inputs",
+            EXAMPLES / "abro" / "abro.inputs",
+            "--wave",
+        ]
         with self.over(EXAMPLES / "abro" / "abro.dialogue", words, columns=33) as terminal:
             shown, status = terminal.ends()
         self.assertEqual(status, 0)
-        self.assertEqual([line for line in shown.split("\n") if line.startswith("instant")], [
-            "instant           1   2   3   4", "instant           5   6   7",
-        ])
+        self.assertEqual(
+            [line for line in shown.split("\n") if line.startswith("instant")],
+            [
+                "instant           1   2   3   4",
+                "instant           5   6   7",
+            ],
+        )
         self.assertTrue(all(len(line) <= 33 for line in shown.split("\n")), shown)
 
     def test_inputs_from_the_keyboard(self):
-        with self.over(EXAMPLES / "abro" / "abro.dialogue", ["run", EXAMPLES / "abro" / "abro.strl"]) as terminal:
+        with self.over(
+            EXAMPLES / "abro" / "abro.dialogue", ["run", EXAMPLES / "abro" / "abro.strl"]
+        ) as terminal:
             terminal.sees("the list of inputs is read from the keyboard, up to Ctrl-D:\n")
             terminal.type((EXAMPLES / "abro" / "abro.inputs").read_text())
             terminal.sees("R A B")
@@ -181,6 +197,60 @@ class InATerminal(unittest.TestCase):
             shown, status = terminal.ends()
         self.assertEqual(status, 0)
         self.assertEqual(re.findall(r"^ +(\d) .*O$", shown, re.MULTILINE), ["3", "6"])
+
+    def test_an_instant_and_the_slot_in_the_prompt(self):
+        answers = [
+            LOGIN,
+            '{"ok":"offer","place":2,"version":5}',
+            '{"instant":1,"ok":"step","place":3,"version":5}',
+            '{"instant":1,"ok":"look","signals":[["A",true],["O",false]],"version":5}',
+        ]
+        lines = "".join(f"read line; echo '{answer}'\n" for answer in answers)
+        path = self.program(f"#!/bin/sh\n{lines}cat > /dev/null\n")
+        with Terminal(["shell", "--program", path], {}) as terminal:
+            terminal.sees("root> ")
+            terminal.type("use 3\n")
+            terminal.sees("slot 3\nroot 3> ")
+            terminal.type("A;\n")
+            terminal.sees("instant 1: present: A\nroot 3> ")
+            terminal.type("fly\n")
+            terminal.sees("\nthere is no command fly: help lists them\nroot 3> ")
+            terminal.type("quit\n")
+            self.assertEqual(terminal.ends()[1], 0)  # a person has seen what was refused
+
+    @needs_program
+    def test_a_long_run_shows_how_far_it_is(self):
+        inputs, vcd = self.folder / "inputs", self.folder / "out.vcd"
+        inputs.write_text("R3\nR1 R3\n" * 10_000)
+        words = ["run", EXAMPLES / "arbiter" / "arbiter.strl", "--inputs", inputs, "--vcd", vcd]
+        with Terminal(words, {}) as terminal:
+            terminal.sees(" of 20,000 instants")
+            terminal.sees(" of 20,000 instants")
+            terminal.type("\x03")
+            terminal.sees("interrupted after ")
+            shown, status = terminal.ends()
+        self.assertEqual(status, 130)
+        self.assertRegex(shown, r"\A[0-9,]+ of 20,000 instants\n\Z")
+        number = int(shown.split()[0].replace(",", ""))
+        lines = vcd.read_text().splitlines()  # it is whole
+        self.assertEqual(lines[-1], f"#{10 * (number + 1)}")
+        self.assertEqual(list(read_vcd(lines)["tick"].values()), ["1", "0"] * number)
+
+    @needs_program
+    def test_prune_asks(self):
+        policy = self.folder / "p.toml"
+        policy.write_text('roles = ["guest"]\n')
+        for answer, told in (
+            ("y", "0 taken away"),
+            ("", "nothing is taken away"),
+            ("no", "nothing"),
+        ):
+            with Terminal(["apply", policy, "--prune"], {}) as terminal:
+                terminal.sees("1 made, 0 there already, 0 refused\n")
+                terminal.sees("sessions that need it end [y/N] ")
+                terminal.type(f"{answer}\n")
+                terminal.sees(told)
+                self.assertEqual(terminal.ends()[1], 0)
 
 
 if __name__ == "__main__":

@@ -1,11 +1,11 @@
 """Each command of docs/TUTORIAL.md prints what stands there.
 
-A block between fences that are marked `console` is run: a line that begins with `$ ` is a command, the
-lines under it are what it prints, and where it reads standard input, lines that begin with `> ` are typed.
-A comment `<!-- dialogue: PATH -->` before a block names the stored dialogue that stands for the program,
-which `make examples` holds against the real one; so `--unproved` is left out. What is written into /tmp
-goes into a folder of the test's own. The blocks behind `<!-- server -->` speak to a server; tests/socket
-runs them.
+A block between fences that are marked `console` is run: a line that begins with `$ ` is a command,
+the lines under it are what it prints, and where it reads standard input, lines that begin with `> `
+are typed. A comment `<!-- dialogue: PATH -->` before a block names the stored dialogue that stands
+for the program, which `make examples` holds against the real one; so `--unproved` is left out. What
+is written into /tmp goes into a folder of the test's own. The blocks behind `<!-- server -->` speak
+to a server; tests/socket runs them.
 """
 import os
 import pathlib
@@ -26,7 +26,9 @@ def commands_of(block):
         first, *lines = piece.splitlines()
         typed = [line[2:] for line in lines if line.startswith("> ")]
         printed = [line for line in lines if not line.startswith("> ")]
-        yield first, "".join(line + "\n" for line in typed), "".join(line + "\n" for line in printed)
+        yield first, "".join(line + "\n" for line in typed), "".join(
+            line + "\n" for line in printed
+        )
 
 
 class Tutorial(unittest.TestCase):
@@ -40,7 +42,7 @@ class Tutorial(unittest.TestCase):
     def check(self, path, command, typed, printed):
         """Runs a command over a stored dialogue."""
         self.assertTrue(command.startswith(CLIENT), command)
-        words = shlex.split(command[len(CLIENT):].replace("/tmp/", f"{self.folder}/"))
+        words = shlex.split(command[len(CLIENT) :].replace("/tmp/", f"{self.folder}/"))
         words = [word for word in words if word != "--unproved"]
         ran = play_dialogue(ROOT / path, words, typed)
         self.assertEqual(ran.printed + ran.told, printed)
@@ -49,13 +51,15 @@ class Tutorial(unittest.TestCase):
         text = (ROOT / "docs" / "TUTORIAL.md").read_text()
         blocks = BLOCK.findall(text)
         served = len(re.findall(r"<!-- server -->\s*```console\n", text))
-        self.assertEqual(len(blocks) + served, text.count("```console"), "a block names no dialogue")
+        self.assertEqual(
+            len(blocks) + served, text.count("```console"), "a block names no dialogue"
+        )
         for path, block in blocks:
             for command, typed, printed in commands_of(block):
                 with self.subTest(command):
                     self.check(path, command, typed, printed)
         changes = read_vcd((self.folder / "abro.vcd").read_text().splitlines())
-        self.assertEqual(sorted(changes), ["A", "B", "O", "R"])
+        self.assertEqual(sorted(changes), ["A", "B", "O", "R", "tick"])
 
     def test_the_first_screen_shows_the_waves_of_abro(self):
         screen = (ROOT / "README.md").read_text().partition("## ")[0]

@@ -64,7 +64,9 @@ class Files(WhatGoesWrong):
 
     def test_a_vcd_file_that_cannot_be_written(self):
         path = self.folder / "none" / "abro.vcd"
-        ran = play_dialogue(EXAMPLES / "abro" / "abro.dialogue", run_words("abro", None, "--vcd", path))
+        ran = play_dialogue(
+            EXAMPLES / "abro" / "abro.dialogue", run_words("abro", None, "--vcd", path)
+        )
         self.is_one_line(ran, "abro.vcd cannot be written: No such file")
 
     def test_a_policy_that_is_none(self):
@@ -73,25 +75,28 @@ class Files(WhatGoesWrong):
 
     def test_an_empty_policy(self):
         ran = play_dialogue(DIALOGUES / "login", ["apply", self.file("p.toml", "")])
-        self.assertEqual((ran.status, ran.printed, ran.told), (0, "0 made, 0 there already, 0 refused\n", ""))
+        self.assertEqual(
+            (ran.status, ran.printed, ran.told), (0, "0 made, 0 there already, 0 refused\n", "")
+        )
 
 
 class Texts(WhatGoesWrong):
     def check_fault(self, dialogue, text, told):
         ran = play_dialogue(DIALOGUES / dialogue, ["run", self.file("m.strl", text)])
         self.assertEqual((ran.status, ran.printed), (1, ""))
-        self.assertEqual(ran.told, f"estserve.py: {self.folder}/m.strl: {told}\n")
+        self.assertEqual(ran.told, f"{self.folder}/m.strl:{told}\n")
 
     def test_a_fault_of_the_text_is_shown_at_its_place(self):
-        told = "Syntax: the text cannot go on so at line 3, column 8\n  emit end module\n       ^"
+        told = "3:8: Syntax: the text cannot go on so\n  emit end module\n       ^"
         self.check_fault("fault_of_a_text", "module M:\noutput O;\n  emit end module\n", told)
 
     def test_an_empty_text(self):
-        self.check_fault("empty_text", "", "Syntax: the text cannot go on so at line 1, column 1\n\n^")
+        self.check_fault("empty_text", "", "1:1: Syntax: the text cannot go on so\n\n^")
 
-    def test_a_fault_without_a_place_is_one_line(self):
+    def test_a_fault_that_names_no_place_is_shown_at_its_place_too(self):
         text = "module M: loop nothing end end module\n"
-        self.check_fault("instant_loop", text, "InstantLoop: a loop's body can end in the instant in which it begins")
+        told = "1:11: InstantLoop: a loop's body can end in the instant in which it begins: the loop stands in M"
+        self.check_fault("instant_loop", text, f"{told}\n{text}          ^")
 
     def test_a_module_that_is_not_there(self):
         words = [*run_words("abro"), "--main", "ABBA"]
@@ -103,7 +108,9 @@ class Texts(WhatGoesWrong):
 
     def test_a_text_that_fills_no_line(self):
         path = self.file("long.strl", "%" + "x" * 65_536 + "\nmodule M: pause end module\n")
-        self.fails(["run", path, "--program", "/bin/true"], "the text is too long: the command takes 65")
+        self.fails(
+            ["run", path, "--program", "/bin/true"], "the text is too long: the command takes 65"
+        )
 
     def test_a_name_that_is_no_text(self):
         words = [*run_words("abro"), "--program", "/bin/true", "--main", "A\udcff"]
@@ -112,7 +119,12 @@ class Texts(WhatGoesWrong):
 
 class Inputs(WhatGoesWrong):
     def test_an_input_that_the_module_has_not(self):
-        words = ["run", EXAMPLES / "abro" / "abro.strl", "--inputs", self.file("wrong", "% comment\nO\n")]
+        words = [
+            "run",
+            EXAMPLES / "abro" / "abro.strl",
+            "--inputs",
+            self.file("wrong", "% comment\nO\n"),
+        ]
         self.fails_over("only_loaded", words, "line 2 of the inputs: ABRO has no input O")
 
     def test_no_instants(self):
@@ -128,42 +140,65 @@ class Programs(WhatGoesWrong):
                 self.fails([*words, "--program", program], told)
 
     def test_one_that_cannot_be_started(self):
-        self.each_command_fails("/nowhere/estserve", "/nowhere/estserve cannot be started: No such file")
+        self.each_command_fails(
+            "/nowhere/estserve", "/nowhere/estserve cannot be started: No such file"
+        )
         self.each_command_fails(self.folder, "cannot be started: Permission denied")
         path = self.file("text", "no program")
         path.chmod(0o755)
         self.each_command_fails(path, "cannot be started: Exec format error")
 
     def test_none(self):
-        with tempfile.TemporaryDirectory() as folder, unittest.mock.patch.object(connection, "ROOT", pathlib.Path(folder)):
+        with tempfile.TemporaryDirectory() as folder, unittest.mock.patch.object(
+            connection, "ROOT", pathlib.Path(folder)
+        ):
             with unittest.mock.patch.dict(os.environ, {"PATH": folder, "ESTSERVE": ""}):
-                self.fails(run_words("abro"), "there is no program estserve: build it by `make build`")
+                self.fails(
+                    run_words("abro"), "there is no program estserve: build it by `make build`"
+                )
 
     def test_one_that_goes_away(self):
         self.each_command_fails("/bin/true", "the server has gone away")
-        self.each_command_fails(self.program(f"read line; printf '%s' '{LOGIN}'"), "the server has gone away")
+        self.each_command_fails(
+            self.program(f"read line; printf '%s' '{LOGIN}'"), "the server has gone away"
+        )
 
     def test_one_that_is_no_estserve(self):
-        self.each_command_fails(self.program("cat"), 'this is no answer of estserve: \'{"cmd":"login",')
+        self.each_command_fails(
+            self.program("cat"), 'this is no answer of estserve: \'{"cmd":"login",'
+        )
         for answer in ("5", "{}", "[" * 9_999, '{"ok":"logout"}', '{"code":1}', "\\377"):
-            self.each_command_fails(self.program(f"printf '{answer}\\n'; cat > /dev/null"), "this is no answer of estserve")
+            self.each_command_fails(
+                self.program(f"printf '{answer}\\n'; cat > /dev/null"),
+                "this is no answer of estserve",
+            )
 
     def test_one_that_does_not_end(self):
         path = self.program(f"read line; echo '{LOGIN}'; exec sleep 600")
-        with unittest.mock.patch.object(connection, "END_SECONDS", 0.1), estserve.start(path) as client:
+        with unittest.mock.patch.object(connection, "END_SECONDS", 0.1), estserve.start(
+            path
+        ) as client:
             self.assertEqual(client.login("root", ["root"])["session"], 1)
 
     def test_one_that_goes_away_in_the_middle(self):
         path = self.program(f"read line; echo '{LOGIN}'; read line")
         greeting = "session 1 of root, with root; help lists the commands\n"
-        self.fails(["shell", "--program", path], "the server has gone away", "step 0\nstep 0\n", greeting)
+        self.fails(
+            ["shell", "--program", path], "the server has gone away", "step 0\nstep 0\n", greeting
+        )
 
     def test_building_without_rt(self):
-        with unittest.mock.patch.dict(os.environ, {"PATH": str(self.folder)}):
-            self.fails([*run_words("abro"), "--unproved"], "rt cannot be started: No such file")
-        (self.folder / "rt").symlink_to("/bin/false")
-        with unittest.mock.patch.dict(os.environ, {"PATH": str(self.folder)}):
-            self.fails([*run_words("abro"), "--unproved"], "the program could not be built and run")
+        words = [*COMMAND, *map(str, run_words("abro")), "--unproved"]
+        variables = {**os.environ, "PATH": str(self.folder), "ESTSERVE": ""}
+        ran = subprocess.run(words, capture_output=True, text=True, env=variables, timeout=60)
+        self.assertEqual((ran.returncode, ran.stdout), (1, ""))
+        self.assertEqual(
+            ran.stderr.splitlines(),
+            [
+                "trial.py: rt cannot be started: No such file or directory",
+                "estserve.py: the program could not be built: try `make try`",
+            ],
+        )
 
 
 class Servers(WhatGoesWrong):
@@ -171,19 +206,34 @@ class Servers(WhatGoesWrong):
         left, text = self.folder / "left", self.file("text", "")
         with socket.socket(socket.AF_UNIX) as gone:
             gone.bind(str(left))
-        for path, told in ((self.folder / "none", "No such file"), (left, "refused"), (text, "refused"), ("x" * 200, "too long")):
+        for path, told in (
+            (self.folder / "none", "No such file"),
+            (left, "refused"),
+            (text, "refused"),
+            ("x" * 200, "too long"),
+        ):
             with self.subTest(path):
                 self.fails(["shell", "--socket", path], f"no server answers at {path}: ")
                 self.fails(["apply", EXAMPLES / "team" / "team.toml", "--socket", path], told)
 
     def test_a_user_that_is_denied(self):
-        self.fails_over("denied", ["shell", "--user", "nobody"], "UnknownUser: there is no user nobody")
-        self.fails_over("unknown_role", ["shell", "--role", "root", "none"], "UnknownRole: there is no role none")
-        self.fails_over("user_out_of_form", ["shell", "--user", "a.b"], "NotARequest: a.b is not a name")
+        self.fails_over(
+            "denied", ["shell", "--user", "nobody"], "UnknownUser: there is no user nobody"
+        )
+        self.fails_over(
+            "unknown_role",
+            ["shell", "--role", "root", "none"],
+            "UnknownRole: there is no role none",
+        )
+        self.fails_over(
+            "user_out_of_form", ["shell", "--user", "a.b"], "NotARequest: a.b is not a name"
+        )
 
     def test_a_user_that_is_no_text(self):
         path = self.program("cat > /dev/null")
-        self.fails(["shell", "--program", path, "--user", "\udcff"], "a word of the command is not UTF-8")
+        self.fails(
+            ["shell", "--program", path, "--user", "\udcff"], "a word of the command is not UTF-8"
+        )
 
 
 class Streams(WhatGoesWrong):
@@ -211,9 +261,21 @@ class Streams(WhatGoesWrong):
         self.ends(client, 1, "standard output cannot be written: No space left on device")
 
     def test_streams_that_are_closed(self):
-        words = ["sh", "-c", 'exec "$@" <&- >&-', "sh", *COMMAND, "run", str(EXAMPLES / "abro" / "abro.strl"), "--program", "/bin/true"]
+        words = [
+            "sh",
+            "-c",
+            'exec "$@" <&- >&-',
+            "sh",
+            *COMMAND,
+            "run",
+            str(EXAMPLES / "abro" / "abro.strl"),
+            "--program",
+            "/bin/true",
+        ]
         ran = subprocess.run(words, stderr=subprocess.PIPE, text=True, timeout=60)
-        self.assertEqual((ran.returncode, ran.stderr), (1, "estserve.py: the server has gone away\n"))
+        self.assertEqual(
+            (ran.returncode, ran.stderr), (1, "estserve.py: the server has gone away\n")
+        )
 
     def test_an_interrupt(self):
         client = self.client(["shell"], stdin=subprocess.PIPE, stdout=subprocess.PIPE)
@@ -226,15 +288,23 @@ class Streams(WhatGoesWrong):
     def test_a_line_that_is_no_text(self):
         path = self.program(f"read line; echo '{LOGIN}'; cat > /dev/null")
         typed = b"adduser \xff\nload 0 a\0b\nlook 0 \xc2\xb2\nstep " + b"9" * 5_000 + b"\n\xff\n"
-        ran = subprocess.run([*COMMAND, "shell", "--program", str(path)], input=typed, capture_output=True, timeout=60)
-        self.assertEqual((ran.returncode, ran.stderr), (0, b""))
-        self.assertEqual(ran.stdout.decode().splitlines()[1:], [
-            "a word of the command is not UTF-8",
-            "the module text a\0b cannot be read: embedded null byte",
-            "² is no number",
-            "9" * 5_000 + " is no number",
-            "there is no command \\udcff: help lists them",
-        ])
+        ran = subprocess.run(
+            [*COMMAND, "shell", "--program", str(path)],
+            input=typed,
+            capture_output=True,
+            timeout=60,
+        )
+        self.assertEqual((ran.returncode, ran.stderr), (1, b""))
+        self.assertEqual(
+            ran.stdout.decode().splitlines()[1:],
+            [
+                "line 1: a word of the command is not UTF-8",
+                "line 2: the module text a\0b cannot be read: embedded null byte",
+                "line 3: ² is no number",
+                "line 4: " + "9" * 5_000 + " is no number",
+                "line 5: there is no command \\udcff: help lists them",
+            ],
+        )
 
 
 class Interrupts(unittest.TestCase):
@@ -251,7 +321,9 @@ class Interrupts(unittest.TestCase):
             return read
 
     def test_its_answer_is_passed_over(self):
-        reader = self.Reader(b'{"ok":"st', None, b'ep","instant":7}\n{"ok":"check",', b'"allowed":true}\n')
+        reader = self.Reader(
+            b'{"ok":"st', None, b'ep","instant":7}\n{"ok":"check",', b'"allowed":true}\n'
+        )
         client = estserve.Client(reader, io.BytesIO(), lambda: None)
         with self.assertRaises(KeyboardInterrupt):
             client.step(0)

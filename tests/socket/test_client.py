@@ -93,14 +93,14 @@ class AtOneServer(unittest.TestCase):
                         cho.step(0)
                         self.assertEqual(bob.line(), "      2  A . .   O")
                     root.unload(0)
-                    self.assertEqual(bob.line(), "Empty: the slot is empty: load a module first")
+                    self.assertEqual(bob.line(), "line 2: Empty: the slot is empty: load a module first")
                     root.load(0, "TEAM", TEXT)
                     bob.type("watch 0")
                     self.assertEqual(bob.line(), "instant  inputs  outputs")
                     bob.interrupt()
                     self.assertEqual(bob.line(), "")
                     bob.type("quit")
-                    self.assertEqual(bob.status(), 0)
+                    self.assertEqual(bob.status(), 1)  # since line 2 was refused
 
     def test_one_who_does_not_know_the_module_sees_its_signals(self):
         with Server() as server:
@@ -135,7 +135,7 @@ class AtOneServer(unittest.TestCase):
                 bob.type("watch 0")
                 self.assertEqual([bob.line() for _ in range(4)][1:], ["instant  signals", "      1", "      2"])
                 root.ask_all([{"cmd": "unload", "slot": 0}, {"cmd": "load", "slot": 0, "main": "TEAM", "text": TEXT}])
-                self.assertIn(bob.line(), ("slot 0 was loaded anew", "Empty: the slot is empty: load a module first"))
+                self.assertIn(bob.line(), ("slot 0 was loaded anew", "line 1: Empty: the slot is empty: load a module first"))
 
     def test_a_server_that_is_killed(self):
         with Server() as server, Shell(server) as root:
@@ -176,10 +176,11 @@ class Policies(unittest.TestCase):
                 self.assertEqual(place, str(path))
                 self.assertIn(command.split()[-1], lines[int(number) - 1])
             status, printed, told = run(*words, "--user", "ann", "--role", "lead")
-            self.assertEqual((status, printed), (1, ["0 made, 0 there already, 22 refused"]))
-            self.assertEqual(told[-1], "estserve.py: 22 of 22 commands were refused")
-            self.assertEqual(told[0], f"{path}:3: addrole driver: Permission: needs administer on policy")
-            self.assertEqual(len(told), 23)
+            self.assertEqual((status, printed), (1, []))
+            self.assertEqual(told, [
+                f"{path}:3: addrole driver: Permission: needs administer on policy",
+                "estserve.py: a command was refused; 21 after it were not sent; 0 of 0 that were made are taken back",
+            ])
 
 
 class Library(unittest.TestCase):

@@ -42,7 +42,7 @@ class Tutorial(unittest.TestCase):
                 for piece in pieces:
                     self.check(piece.replace("/tmp/", f"{folder}/"))
             wires = re.findall(r"^\$var wire 1 \S+ (\w+) \$end$", (folder / "team.vcd").read_text(), re.MULTILINE)
-            self.assertEqual(wires, ["A", "O"])
+            self.assertEqual(wires, ["tick", "A", "O"])
 
 
 if __name__ == "__main__":

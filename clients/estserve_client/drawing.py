@@ -1,0 +1,99 @@
+"""How a run is drawn while its instants come, and at its end."""
+from __future__ import annotations
+
+import shutil
+import sys
+import time
+from typing import FrozenSet, List, Optional, TextIO
+
+from .pictures import Instant, Seen, Table, vcd_lines, wave_lines
+from .stage import Scenario
+from .texts import write_lines
+
+PATIENCE, RENEWED = 1.0, 0.2  # seconds until progress is shown, and between two of its lines
+
+
+def is_plain(stream: TextIO) -> bool:
+    """Whether the stream can't write the line over a pulse."""
+    try:
+        "‾".encode(stream.encoding or "ascii")
+    except (UnicodeEncodeError, LookupError):
+        return True
+    return False
+
+
+def waves_for(stream: TextIO, seen: Seen) -> List[str]:
+    """The lines of waves, as the stream can show them: within its columns, where it is a
+    terminal.
+    """
+    columns = shutil.get_terminal_size().columns if stream.isatty() else None
+    return wave_lines(seen, is_plain(stream), columns)
+
+
+def write_vcd(path: str, seen: Seen) -> None:
+    """Writes a VCD file of what was seen. Raises Failed."""
+    write_lines(path, vcd_lines(seen), "ascii")
+
+
+def table_for(seen: Seen, scenario: Scenario, hidden: FrozenSet[str] = frozenset()) -> Table:
+    """A table that has room for the inputs of all instants, of which some signals may not be
+    observed.
+    """
+    shown = [name for name in scenario.module.kinds() if name not in hidden]
+    table = Table(seen)
+    table.widen([instant_of(shown, offers.names) for offers in scenario.instants])
+    return table
+
+
+def instant_of(shown: List[str], present: List[str]) -> Instant:
+    """What would be observed of the inputs of an instant."""
+    return {name: name in present for name in shown}
+
+
+class Drawing:
+    """Draws the instants as they come into what is `seen`: a table at once, waves and a VCD file at
+    the end.
+    """
+
+    def __init__(self, seen: Seen, wave: bool = False, vcd: Optional[str] = None) -> None:
+        self.seen, self.wave, self.vcd = seen, wave, vcd
+        self.table: Optional[Table] = None
+
+    def begin(self, scenario: Scenario, hidden: FrozenSet[str] = frozenset()) -> None:
+        """Draws what stands before the first instant."""
+        if not (self.wave or self.vcd):
+            self.table = table_for(self.seen, scenario, hidden)
+            print(self.table.head(), flush=True)
+
+    def add(self, instant: Instant) -> None:
+        """Adds an instant."""
+        self.seen.instants.append(instant)
+        if self.table:
+            print(self.table.row(len(self.seen.instants), instant), flush=True)
+
+    def end(self) -> None:
+        """Draws what stands at the end. Raises Failed."""
+        if self.vcd:
+            write_vcd(self.vcd, self.seen)
+        elif self.wave:
+            print("\n".join(waves_for(sys.stdout, self.seen)), flush=True)
+
+
+class Progress:
+    """Tells a person at a terminal how far a long run is, where no table shows it."""
+
+    def __init__(self, total: int, is_shown: bool) -> None:
+        self.total, self.is_shown = total, is_shown and sys.stderr.isatty()
+        self.next = time.monotonic() + PATIENCE
+        self.has_told = False
+
+    def at(self, number: int) -> None:
+        """Tells that this many instants have come, from time to time."""
+        if self.is_shown and time.monotonic() >= self.next:
+            self.next, self.has_told = time.monotonic() + RENEWED, True
+            print(f"\r{number:,} of {self.total:,} instants", end="", file=sys.stderr, flush=True)
+
+    def end(self) -> None:
+        """Takes the line away."""
+        if self.has_told:
+            print("\r" + " " * 40 + "\r", end="", file=sys.stderr, flush=True)

@@ -1,0 +1,193 @@
+"""What of the full Esterel language is left out here: named where a text stops at it.
+
+estserve tells the first token that cannot go on. Where that token, with those before it, is the
+beginning of a construct of the full language, the construct is named, and what can be written in
+its place.
+"""
+from __future__ import annotations
+
+import dataclasses
+import re
+from typing import List, Optional
+
+from .syntax_tree import Token, tokens_of
+
+DELAYS = ("await", "when", "every", "each", "immediate", "watching", "upto")
+TESTED = (*DELAYS, "present")
+
+
+@dataclasses.dataclass
+class Spot:
+    """The tokens around a place: its own, up to three before it, the nearest first, and all after
+    it.
+    """
+
+    here: str
+    before: List[str]
+    after: List[str]
+
+    def comes(self, *words: str) -> str:
+        """The first of these words that comes after; empty where none does."""
+        return next((word for word in self.after if word in words), "")
+
+
+@dataclasses.dataclass(frozen=True)
+class LeftOut:
+    """A construct of the full language, and what can be written in its place."""
+
+    what: str
+    instead: str
+
+    def told(self) -> str:
+        return f"{self.what} is left out of this language: {self.instead}"
+
+
+COUNT = LeftOut("a count (`await 3 S`)", "write `await S; await S; await S`")
+CASE = LeftOut(
+    "a list of cases (`case S do`)", "wait for each in a branch of its own, inside a `trap`"
+)
+EXPRESSION = LeftOut("an expression over signals (`and`, `or`, `not`)", "nest `present` tests")
+PRE = LeftOut(
+    "`pre`, the status of the instant before,",
+    "keep it by a signal: `loop present S then pause; emit PRE_S else pause end end`",
+)
+VALUE = LeftOut("a signal's value (`?S`)", "signals are pure: present or absent")
+VALUED = LeftOut(
+    "a signal with a value (`S : integer`, `emit S(3)`)", "signals are pure: present or absent"
+)
+HANDLE = LeftOut(
+    "`handle`", "write what handles it after the `trap`, with a local signal for which exit it was"
+)
+REPEAT = LeftOut("`repeat`", "write its body as often as it is to run")
+TRAPS = LeftOut("a list of traps (`trap A, B in`)", "nest them: `trap A in trap B in .. end end`")
+UPTO = LeftOut("`do p upto S`", "write `abort p; halt when S`")
+WATCHING = LeftOut("`do p watching S`", "write `abort p when S`")
+DO = LeftOut("a `do` part of `await` or `abort`", "write what it does after the statement")
+INOUT = LeftOut("`inputoutput`", "declare an input and an output")
+RENAMED = LeftOut("a new name for a module that is run (`run M/N`)", "write `run N`")
+VARIABLE = LeftOut(
+    "a variable (`var`, `:=`, `if`)", "keep states by signals and by where the program stands"
+)
+HOST = LeftOut(
+    "a host declaration or call (`type`, `constant`, `function`, `procedure`, `call`, `exec`)",
+    "only pure signals come in and go out",
+)
+SENSOR = LeftOut("`sensor`", "declare an `input`")
+STOP = LeftOut("a full stop after a module", "leave it away")
+COPY = LeftOut("`copymodule`", "write `run`")
+EMITS = LeftOut("a list of emissions (`emit A, B`)", "write `emit A; emit B`")
+NUMBER = LeftOut("a number", "signals carry no values")
+WORDS = {
+    "repeat": REPEAT,
+    "positive": REPEAT,
+    "handle": HANDLE,
+    "case": CASE,
+    "var": VARIABLE,
+    "if": VARIABLE,
+    "type": HOST,
+    "constant": HOST,
+    "function": HOST,
+    "procedure": HOST,
+    "task": HOST,
+    "call": HOST,
+    "exec": HOST,
+    "return": HOST,
+    "sensor": SENSOR,
+    "copymodule": COPY,
+    "upto": UPTO,
+    "watching": WATCHING,
+    "pre": PRE,
+    "and": EXPRESSION,
+    "or": EXPRESSION,
+    "not": EXPRESSION,
+    "inputoutput": INOUT,
+}
+SYMBOLS = {"?": VALUE, ".": STOP, ":=": VARIABLE, "(": VALUED}
+
+
+def spot_at(text: str, line: int, column: int) -> Optional[Spot]:
+    """The tokens around a place of a text; None after the last one."""
+    tokens = tokens_of(text)
+    at = next((n for n, token in enumerate(tokens) if place_of(token) >= (line, column)), None)
+    if at is None:
+        return None
+    texts = [token.text for token in tokens]
+    return Spot(texts[at], texts[max(0, at - 3) : at][::-1] + [""] * 3, texts[at + 1 :])
+
+
+def place_of(token: Token) -> "tuple[int, int]":
+    """The place of a token's last byte: a place inside of a token is the
+    token's.
+    """
+    return token.line, token.column + len(token.text.encode(errors="surrogatepass")) - 1
+
+
+def of_number(spot: Spot) -> LeftOut:
+    """What a number is the beginning of, where one stands."""
+    if spot.before[0] in DELAYS:
+        return COUNT
+    if spot.before[0] in WORDS:
+        return WORDS[spot.before[0]]
+    return VALUED if spot.before[0] == "(" else declared(spot) or NUMBER
+
+
+def declared(spot: Spot) -> Optional[LeftOut]:
+    """What a word shortly before is the beginning of."""
+    return next((WORDS[word] for word in spot.before if word in WORDS), None)
+
+
+def of_symbol(spot: Spot) -> Optional[LeftOut]:
+    """What a symbol is the beginning of, where it cannot stand."""
+    here, first, second = spot.here, *spot.before[:2]
+    if here in ("(", "[") and first in TESTED:
+        return EXPRESSION
+    if first == "pre":
+        return PRE
+    if here == "," and second in ("trap", "emit"):
+        return TRAPS if second == "trap" else EMITS
+    if here == "/" and second == "run":
+        return RENAMED
+    if here == ":" and second in ("input", "output", "signal", ",", "trap"):
+        return VALUED
+    if here == "=" and first == ":":
+        return VARIABLE
+    return SYMBOLS.get(here) or declared(spot)
+
+
+def of_word(spot: Spot) -> Optional[LeftOut]:
+    """What a word is the beginning of, where it cannot stand."""
+    here, first, second, third = spot.here, *spot.before[:3]
+    if here == "do":
+        is_part = "when" in (second, third) or "await" in (second, third)
+        until = {"upto": UPTO, "watching": WATCHING}.get(spot.comes("upto", "watching"))
+        return CASE if first == "case" else DO if is_part else until
+    if first in (
+        "case",
+        "pre",
+        "handle",
+        "repeat",
+        "if",
+        "var",
+        "call",
+        "exec",
+        "sensor",
+        "copymodule",
+    ):
+        return WORDS[first]
+    return WORDS.get(here)
+
+
+def left_out(text: str, line: int, column: int) -> Optional[str]:
+    """What is said of the construct of the full language that a text stops at; None where it is
+    none that is known.
+    """
+    spot = spot_at(text, line, column)
+    if spot is None:
+        return None
+    if re.match("[0-9]", spot.here):
+        found: Optional[LeftOut] = of_number(spot)
+    elif re.match("[A-Za-z]", spot.here):
+        found = of_word(spot)
+    else:
+        found = of_symbol(spot)
+    return found.told() if found else None

@@ -1,0 +1,71 @@
+"""The modules that a module runs, as scopes of a VCD file: their names for the signals that can be
+observed.
+"""
+from __future__ import annotations
+
+import collections
+import dataclasses
+from typing import Dict, List, Tuple
+
+from .fault_places import scoped
+from .syntax_tree import ModuleTree, by_name, parse
+
+MOST = 64  # a library has no more scopes drawn than this
+
+
+@dataclasses.dataclass
+class Scope:
+    """One run of a module: a name of its own, pairs of a name of its and the main module's signal,
+    and the runs in it.
+    """
+
+    name: str
+    signals: List[Tuple[str, str]]
+    inner: List["Scope"]
+
+
+def runs_in(module: ModuleTree) -> List[Tuple[str, Dict[str, str], Tuple[str, ...]]]:
+    """The runs of a module: the name of what is run, the caller's names by its own, and the local
+    signals there.
+    """
+    found = []
+    for node, scope in scoped(module):
+        if node.kind == "run":
+            left = {renaming.right.text: renaming.left.text for renaming in node.renamings}
+            found.append((node.names[0].text, left, scope.signals))
+    return found
+
+
+def scopes_in(
+    module: ModuleTree, seen: Dict[str, str], known: Dict[str, ModuleTree], left: int
+) -> List[Scope]:
+    """The scopes of what a module runs, in which these of its names mean signals of the main
+    module.
+    """
+    runs = runs_in(module)[:left]
+    counts = collections.Counter(name for name, _, _ in runs)
+    numbers: Dict[str, int] = collections.Counter()
+    found = []
+    for name, renamed, hidden in runs:
+        numbers[name] += 1
+        target = known.get(name)
+        pairs = [(own, renamed.get(own, own)) for own in target.names()] if target else []
+        signals = [
+            (own, seen[outer]) for own, outer in pairs if outer in seen and outer not in hidden
+        ]
+        called = f"{name}_{numbers[name]}" if counts[name] > 1 else name
+        room = (left - 1) // max(1, len(runs))
+        inner = scopes_in(target, dict(signals), known, room) if target else []
+        found.append(Scope(called, signals, inner))
+    return found
+
+
+def scopes_of(text: str, main: str) -> List[Scope]:
+    """The scopes of what the main module of a text runs; none where the text is none that the
+    grammar reads.
+    """
+    known = by_name(parse(text) or [])
+    if main not in known:
+        return []
+    module = known[main]
+    return scopes_in(module, {name: name for name in module.names()}, known, MOST)

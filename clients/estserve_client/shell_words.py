@@ -1,0 +1,111 @@
+"""The words of the shell: its plain commands, their help, and how a line is cut."""
+from __future__ import annotations
+
+import dataclasses
+import re
+from typing import Any, Dict
+
+from .sentences import OPERATIONS
+
+NUMBERS = ("slot", "instant", "count")
+ROLES = ("role", "senior", "junior")
+COMMENT = re.compile(r"(^|\s)[%#].*")
+LEGEND = f"""  A B;: offers A and B in the slot of `use`, steps, and shows what came out
+  ;: makes an instant without inputs
+  SLOT may be left away: then it is the slot of `use`, 0 at the start. % and # begin comments
+  USER, ROLE, SENIOR, JUNIOR, NAME: 1 to 24 letters, digits, _ and -
+  OP: {' '.join(OPERATIONS)}
+  OBJECT: policy, a slot as 0, or a signal of a slot as 0.A"""
+
+
+class Usage(Exception):
+    """The words of a line don't fit the command."""
+
+
+@dataclasses.dataclass(frozen=True)
+class Plain:
+    """A command that is sent as it is written: its words in their order, what it does, and what is
+    so afterwards.
+    """
+
+    words: str
+    does: str
+    said: str
+
+
+PLAIN = {
+    "adduser": Plain("user", "adds the user, to whom no role is assigned", "{user} is a user"),
+    "deluser": Plain(
+        "user",
+        "deletes the user, takes its roles away and ends its sessions",
+        "{user} is deleted, and its sessions have ended",
+    ),
+    "addrole": Plain("role", "adds the role, which may do nothing yet", "{role} is a role"),
+    "delrole": Plain(
+        "role", "deletes the role, and ends the sessions in which it is active", "{role} is deleted"
+    ),
+    "assign": Plain("user role", "assigns the role to the user", "{user} has the role {role}"),
+    "deassign": Plain(
+        "user role",
+        "takes the role from the user, and ends the sessions that need it",
+        "{user} has no more the role {role}",
+    ),
+    "grant": Plain(
+        "role op object",
+        "lets the role do the operation on the object",
+        "{role} may {op} on {object}",
+    ),
+    "revoke": Plain(
+        "role op object",
+        "takes the permission from the role; it keeps what it has from roles below it",
+        "{role} has no more {op} on {object} itself",
+    ),
+    "inherit": Plain(
+        "senior junior",
+        "puts the senior above the junior: it has what the junior has",
+        "{senior} stands above {junior}",
+    ),
+    "disinherit": Plain(
+        "senior junior",
+        "takes the senior from right above the junior",
+        "{senior} stands no more right above {junior}",
+    ),
+    "undsd": Plain("name", "deletes the separation set", "the separation set {name} is deleted"),
+    "activate": Plain("role", "makes a role of yours active in this session", "{role} is active"),
+    "drop": Plain("role", "makes the role inactive in this session", "{role} is no more active"),
+    "offer": Plain(
+        "slot signal",
+        "puts the input into what is pending for the next instant",
+        "{signal} is pending",
+    ),
+    "discard": Plain(
+        "slot", "takes away what is pending for the next instant", "nothing is pending"
+    ),
+}
+
+
+def without_comment(line: str) -> str:
+    """A line without its comment, which begins with `%` or `#` at the line's start or after a
+    blank.
+    """
+    return COMMENT.sub("", line, count=1).strip()
+
+
+def number_of(word: str) -> int:
+    """The number that a word is. Raises Usage."""
+    if not (word.isascii() and word.isdigit() and len(word) <= 20):
+        raise Usage(f"{word} is no number")
+    return int(word)
+
+
+def keys_of(names: str, line: str, slot: int = 0) -> Dict[str, Any]:
+    """The keys of a command, from its words; where the slot is left away, it is this one. Raises
+    Usage.
+    """
+    wanted, words = names.split(), line.split()
+    if wanted[:1] == ["slot"] and len(words) == len(wanted) - 1:
+        words.insert(0, str(slot))
+    if len(words) != len(wanted):
+        raise Usage("expected: " + (" ".join(wanted).upper() or "nothing after the command"))
+    keys = dict(zip(wanted, words))
+    return {name: number_of(word) if name in NUMBERS else word for name, word in keys.items()}

@@ -1,0 +1,255 @@
+"""Modules that run through lists of inputs: on a program of their own, or in a slot of a server."""
+from __future__ import annotations
+
+import contextlib
+import dataclasses
+import signal
+import threading
+import types
+from typing import Any, Callable, Dict, Iterator, List, Optional, Set, Tuple
+
+from .connection import Answer, Client, Refusal, TooLong
+from .inputs import Offers
+from .library_text import LibraryText
+from .load_faults import load_fault
+from .module_text import Module
+from .pictures import Instant
+from .sentences import sentence
+from .stuck_chains import chain_lines
+from .texts import Failed
+
+GRANTS = 250  # about this many permissions are granted on one program
+ENTRIES = 65_000  # about this many entries a slot's journal has
+LOGIN = {"cmd": "login", "user": "root", "roles": ["root"]}
+
+
+@dataclasses.dataclass
+class Scenario:
+    """A module, the text that it stands in, and the inputs of its instants."""
+
+    library: LibraryText
+    module: Module
+    instants: List[Offers]
+
+    def entries(self) -> int:
+        """How many entries of a journal it takes."""
+        return 2 + sum(len(offers.names) + 1 for offers in self.instants)
+
+
+class Refused(Failed):
+    """An instant was refused: its number, and what is said of it in one line. More lines may
+    follow.
+    """
+
+    def __init__(self, number: int, told: str, more: List[str]) -> None:
+        self.told = f"instant {number}: {told}"
+        super().__init__("\n".join([self.told, *more]))
+
+
+def refused(refusal: Refusal, number: int, scenario: Scenario) -> Refused:
+    """What a run ends with at an instant that was refused."""
+    module = scenario.module
+    undecided = refusal.fields.get("undecided", ())
+    more = chain_lines(scenario.library, module.name, undecided) if undecided else []
+    return Refused(number, sentence(refusal, module.relations), more)
+
+
+def grants_of(module: Module, slot: int = 0) -> List[Answer]:
+    """What root needs to load the module, to offer its inputs, to step it and to see all of it:
+    commands of grants.
+    """
+    wanted = [("load", f"{slot}"), ("step", f"{slot}")]
+    wanted += [("offer", f"{slot}.{name}") for name in module.inputs()]
+    wanted += [("observe", f"{slot}.{name}") for name, _ in module.signals]
+    return [
+        {"cmd": "grant", "op": op, "object": object, "role": "root"}
+        for op, object in dict.fromkeys(wanted)
+    ]
+
+
+def fault_of_inputs(scenario: Scenario) -> Optional[str]:
+    """What is said of the first name that is no input of the module; None where each is one."""
+    kinds = scenario.module.kinds()
+    for offers in scenario.instants:
+        wrong = [name for name in offers.names if kinds.get(name) != "input"]
+        if wrong:
+            return (
+                f"line {offers.line} of the inputs: {scenario.module.name} has no input {wrong[0]}"
+            )
+    return None
+
+
+def commands_of(offers: Offers, number: int) -> List[Answer]:
+    """The commands of one instant: its offers, the step, and a look at it."""
+    offered = [{"cmd": "offer", "slot": 0, "signal": name} for name in offers.names]
+    return [*offered, {"cmd": "step", "slot": 0}, {"cmd": "look", "slot": 0, "instant": number}]
+
+
+def never() -> bool:
+    return False
+
+
+class Stage:
+    """A program of its own, as root, on which one module after the other runs in slot 0. Used with
+    `with`.
+    """
+
+    def __init__(self, begin: Callable[[], Client]) -> None:
+        """`begin` starts a program: it is called again where the one that runs has no room left."""
+        self.begin = begin
+        self.client: Optional[Client] = None
+        self.granted: Set[Tuple[str, str]] = set()
+        self.entries, self.is_loaded = 0, False
+
+    def __enter__(self) -> Stage:
+        return self
+
+    def __exit__(self, *_: object) -> None:
+        if self.client:
+            self.client.close()
+
+    def has_room(self, scenario: Scenario) -> bool:
+        wanted = {(grant["op"], grant["object"]) for grant in grants_of(scenario.module)}
+        fits = len(self.granted | wanted) <= GRANTS and self.entries + scenario.entries() <= ENTRIES
+        return self.client is not None and fits
+
+    def load(self, scenario: Scenario) -> None:
+        """Loads the module in place of the one that ran before. Raises Failed where it is
+        refused.
+        """
+        begins = not self.has_room(scenario)
+        if begins:
+            self.__exit__()
+            self.client, self.granted, self.entries, self.is_loaded = self.begin(), set(), 0, False
+        grants = [
+            grant
+            for grant in grants_of(scenario.module)
+            if (grant["op"], grant["object"]) not in self.granted
+        ]
+        self.granted |= {(grant["op"], grant["object"]) for grant in grants}
+        unload = [{"cmd": "unload", "slot": 0}] * self.is_loaded
+        load = {
+            "cmd": "load",
+            "slot": 0,
+            "main": scenario.module.name,
+            "text": scenario.library.text,
+        }
+        self.entries += scenario.entries()
+        self.is_loaded = False
+        self.check([LOGIN] * begins + grants + unload + [load], scenario)
+        self.is_loaded = True
+
+    def check(self, commands: List[Answer], scenario: Scenario) -> None:
+        """Asks for the commands up to the load. Raises Failed where the module was not loaded.
+
+        Of what is refused the load is told first, unless it was refused for want of what was asked
+        for before.
+        """
+        assert self.client is not None
+        try:
+            answers = self.client.ask_all(commands)
+        except TooLong as fault:
+            raise Failed(f"{scenario.library.paths[0]}: the text is too long: {fault}") from fault
+        refusals = [
+            Refusal(told, asked) for asked, told in zip(commands, answers) if "code" in told
+        ]
+        loads = [refusal for refusal in refusals if refusal.command["cmd"] == "load"]
+        if loads and loads[0].fault not in ("NoSession", "Permission"):
+            raise load_fault(loads[0], scenario.library, scenario.module.name)
+        if refusals:
+            raise Failed(f"root cannot load the module: {sentence(refusals[0])}")
+
+    def play(self, scenario: Scenario, stopped: Callable[[], bool] = never) -> Iterator[Instant]:
+        """The instants of the module that is loaded, as they come, until it is stopped. Raises
+        Failed.
+        """
+        assert self.client is not None
+        groups = (commands_of(offers, at) for at, offers in enumerate(scenario.instants, 1))
+        for number, answers in enumerate(self.client.ask_ahead(groups, stopped), 1):
+            asked = commands_of(scenario.instants[number - 1], number)
+            wrong = [
+                Refusal(told, command) for told, command in zip(answers, asked) if "code" in told
+            ]
+            if wrong:
+                raise refused(wrong[0], number, scenario)
+            yield dict(answers[-1]["signals"])
+
+
+class SharedSlot:
+    """A slot of a server, as the user who is logged in, in which a module runs. Used with `with`.
+
+    Nothing is granted, and each command is answered before the next one is sent, since others may
+    use the slot.
+    """
+
+    def __init__(self, client: Client, slot: int, loads: bool) -> None:
+        """`loads` says whether the module is loaded, and unloaded at the end; else it is there
+        already.
+        """
+        self.client, self.slot, self.loads = client, slot, loads
+        self.is_loaded = False
+
+    def __enter__(self) -> SharedSlot:
+        return self
+
+    def __exit__(self, *_: object) -> None:
+        if self.is_loaded:
+            self.is_loaded = False
+            self.client.unload(self.slot)
+
+    def load(self, scenario: Scenario) -> None:
+        """Loads the module where that is asked for. Raises Failed where its text is refused, and
+        Refusal.
+        """
+        try:
+            if self.loads:
+                self.client.load(self.slot, scenario.module.name, scenario.library.text)
+                self.is_loaded = True
+        except TooLong as fault:
+            raise Failed(f"{scenario.library.paths[0]}: the text is too long: {fault}") from fault
+        except Refusal as refusal:
+            if 70 <= refusal.code <= 80:
+                raise load_fault(refusal, scenario.library, scenario.module.name) from refusal
+            raise
+
+    def hidden(self, module: Module) -> Set[str]:
+        """The signals of the module that the user may not observe."""
+        objects = {name: f"{self.slot}.{name}" for name in module.kinds()}
+        asked = [{"cmd": "check", "op": "observe", "object": object} for object in objects.values()]
+        answers = self.client.ask_all(asked)
+        return {name for name, answer in zip(objects, answers) if not answer.get("allowed")}
+
+    def play(self, scenario: Scenario, stopped: Callable[[], bool] = never) -> Iterator[Instant]:
+        """The instants as they come, until it is stopped. Raises Failed where one is refused."""
+        for number, offers in enumerate(scenario.instants, 1):
+            if stopped():
+                return
+            try:
+                signals = self.client.instant(self.slot, offers.names).signals
+            except Refusal as refusal:
+                raise refused(refusal, number, scenario) from refusal
+            yield signals
+
+
+@contextlib.contextmanager
+def stopping() -> Iterator[Callable[[], bool]]:
+    """Lets the first Ctrl-C be seen by the function that it gives, and a second one interrupt.
+
+    Where interrupts are ignored, as for what runs in the background, they stay so.
+    """
+    seen: Dict[str, Any] = {}
+
+    def stop(_: int, __: Optional[types.FrameType]) -> None:
+        if seen:
+            raise KeyboardInterrupt
+        seen["stopped"] = True
+
+    before = signal.getsignal(signal.SIGINT)
+    if before == signal.SIG_IGN or threading.current_thread() is not threading.main_thread():
+        yield never
+        return
+    signal.signal(signal.SIGINT, stop)
+    try:
+        yield lambda: bool(seen)
+    finally:
+        signal.signal(signal.SIGINT, before)

@@ -1,0 +1,30 @@
+"""Messages of the client: on standard error, after the name that it was started by."""
+from __future__ import annotations
+
+import sys
+
+from .connection import Refusal
+from .sentences import sentence
+from .texts import Placed
+
+
+class Teller:
+    """Tells messages after a name."""
+
+    def __init__(self, name: str) -> None:
+        self.name = name
+
+    def tell(self, told: object, status: int = 1) -> int:
+        """Tells one message, and gives this status. One that begins with a place stands as it is,
+        for editors.
+        """
+        text = sentence(told) if isinstance(told, Refusal) else str(told)
+        print(
+            text if isinstance(told, Placed) else f"{self.name}: {text}",
+            file=sys.stderr,
+            flush=True,
+        )
+        return status
+
+
+TELLER = Teller("estserve.py")

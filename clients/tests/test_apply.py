@@ -1,0 +1,230 @@
+"""The command `apply` on the real program: what is tried, warned of, taken back and taken away;
+slots by their names.
+"""
+import os
+import pathlib
+import tempfile
+import unittest
+
+from support import needs_program, run_client, serve
+
+import estserve
+from estserve_client.policy_file import BadPolicy, read_file
+
+POLICY = """users = ["ann", "bob"]
+roles = ["driver", "chief"]
+[slots]
+door = 3
+[inherit]
+chief = ["driver"]
+[assign]
+ann = ["chief"]
+[permissions]
+driver = ["offer door.OPEN", "step door", "load 4"]
+"""
+DOOR = "module DOOR: input OPEN; output LAMP; every OPEN do emit LAMP end end module\n"
+
+
+class InAFolder(unittest.TestCase):
+    def setUp(self):
+        held = tempfile.TemporaryDirectory()
+        self.addCleanup(held.cleanup)
+        self.folder = pathlib.Path(held.name)
+        self.path = self.folder / "p.toml"
+        self.path.write_text(POLICY)
+
+    def apply(self, *more):
+        """Applies the policy: the status, the lines that are printed and told, without the file's
+        folder.
+        """
+        ran = run_client(["apply", self.path, *more])
+        lines = [
+            text.replace(f"{self.folder}/", "").splitlines() for text in (ran.printed, ran.told)
+        ]
+        return (ran.status, *lines)
+
+
+class Words(InAFolder):
+    def test_words_of_prune_alone(self):
+        told = "estserve.py: --before and --yes are for --prune"
+        for more in (["--yes"], ["--before", self.path]):
+            self.assertEqual(self.apply(*more), (1, [], [told]))
+
+
+class Slots(InAFolder):
+    def test_a_name_of_a_slot_stands_for_its_number(self):
+        grants = [
+            wish.command["object"]
+            for wish in read_file(POLICY).wishes
+            if wish.command["cmd"] == "grant"
+        ]
+        self.assertEqual(grants, ["3.OPEN", "3", "4"])
+        moved = read_file(POLICY.replace("door = 3", "door = 5")).wishes
+        self.assertEqual(
+            [wish.command["object"] for wish in moved if wish.command["cmd"] == "grant"],
+            ["5.OPEN", "5", "4"],
+        )
+
+    def test_what_is_no_slot_is_told_with_its_line(self):
+        wrong = {
+            "[slots]\ndoor = 16": 2,
+            '[slots]\ndoor = "3"': 2,
+            "[slots]\n3 = 3": 2,
+            "[slots]\npolicy = 3": 2,
+            '[permissions]\na = ["step dor"]': 2,
+            '[permissions]\na = ["step 16"]': 2,
+            '[modules]\ndoor = "a"': 2,
+            "[modules]\n0 = 5": 2,
+            '[modules]\n16 = "a"': 2,
+        }
+        for text, line in wrong.items():
+            with self.subTest(text), self.assertRaises(BadPolicy) as raised:
+                read_file(text)
+            self.assertEqual(raised.exception.line, line, text)
+
+
+@needs_program
+class OnTheProgram(InAFolder):
+    def test_a_dry_run_lists_the_commands_and_sends_nothing(self):
+        with serve() as server:
+            status, printed, told = self.apply("--dry-run", "--socket", server.path)
+            self.assertEqual((status, told), (0, []))
+            self.assertEqual(printed[0], "p.toml:2: addrole driver")
+            self.assertEqual(printed[-2], "p.toml:10: grant driver load 4")
+            self.assertEqual(
+                printed[-1], "9 commands, on a program of its own; nothing was sent to a server"
+            )
+            with server.root() as root:
+                root.adduser("ann")  # she isn't there
+        self.path.write_text(POLICY.replace('["chief"]', '["chef"]'))
+        status, printed, told = self.apply("--dry-run")
+        self.assertEqual(
+            (status, told[0]), (1, "p.toml:8: assign ann chef: UnknownRole: there is no role chef")
+        )
+
+    def test_a_refusal_takes_back_what_was_made(self):
+        with serve() as server, server.root() as root:
+            root.addrole("driver")
+            self.path.write_text(POLICY.replace('"step door"', '"fly door"'))
+            status, printed, told = self.apply("--socket", server.path)
+            self.assertEqual(
+                (status, printed),
+                (1, ["p.toml:2: addrole driver: RoleExists: the role driver is there already"]),
+            )
+            self.assertEqual(
+                told,
+                [
+                    "p.toml:10: grant driver fly 3: NotARequest: fly is not an operation: offer observe step load administer audit",
+                    "estserve.py: a command was refused; 1 after it were not sent; 6 of 6 that were made are taken back",
+                ],
+            )
+            for make in (
+                lambda: root.addrole("chief"),
+                lambda: root.adduser("ann"),
+                lambda: root.adduser("bob"),
+            ):
+                make()  # none of them is there
+            with self.assertRaisesRegex(estserve.Refusal, "RoleExists"):
+                root.addrole("driver")  # which was there before
+            with self.assertRaisesRegex(estserve.Refusal, "NotGranted"):
+                root.revoke("driver", "offer", "3.OPEN")
+
+    def test_what_cannot_be_taken_back_is_listed(self):
+        self.path.write_text(
+            'roles = ["boss"]\n[permissions]\nroot = ["audit policy"]\nboss = ["fly 0"]\n'
+        )
+
+        class Half(estserve.Client):
+            """A client that may not revoke."""
+
+            def ask(self, cmd, **keys):
+                if cmd == "revoke":
+                    raise estserve.Refusal(
+                        {"code": 10, "fault": "Permission", "object": "policy", "op": "administer"}
+                    )
+                return super().ask(cmd, **keys)
+
+        with serve() as server:
+            client = estserve.connect(server.path)
+            client.__class__ = Half
+            with client:
+                client.login("root", ["root"])
+                applied = client.apply(self.path)
+        self.assertEqual([wish.command["op"] for wish in applied.left], ["audit"])
+        self.assertEqual(
+            (len(applied.made), applied.refused.line, applied.refusal.fault), (2, 4, "NotARequest")
+        )
+
+    def test_a_permission_on_a_signal_that_the_module_does_not_have_is_warned_of(self):
+        (self.folder / "door.strl").write_text(DOOR)
+        permissions = (
+            '["offer door.OPEN", "offer door.OPNE", "observe 3.LAMP", "offer 3.LAMP", "offer 4.X"]'
+        )
+        text = POLICY.replace('["offer door.OPEN", "step door", "load 4"]', permissions)
+        self.path.write_text(text + '[modules]\ndoor = "door.strl"\n')
+        status, printed, told = self.apply()
+        self.assertEqual((status, printed[-1]), (0, "11 made, 0 there already, 0 refused"))
+        self.assertEqual(
+            told,
+            [
+                "p.toml:10: warning: grant driver offer 3.OPNE: DOOR of door.strl has no signal OPNE",
+                "p.toml:10: warning: grant driver offer 3.LAMP: DOOR of door.strl gives LAMP as an output, which nobody can offer",
+            ],
+        )
+        (self.folder / "door.strl").unlink()
+        self.assertIn("door.strl cannot be read", self.apply()[2][0])
+
+    def test_prune_takes_away_what_the_file_does_not_ask_for(self):
+        with serve() as server, server.root() as root:
+            words = ["--socket", server.path, "--prune"]
+            self.assertEqual(self.apply("--socket", server.path)[0], 0)
+            old = self.folder / "old.toml"
+            old.write_text(
+                'users = ["cho"]\nroles = ["guest"]\n[separate.apart]\nroles = ["guest", "chief"]\ncount = 2\n'
+            )
+            self.assertEqual(run_client(["apply", old, "--socket", server.path]).status, 0)
+            root.assign("bob", "driver")
+            root.grant("driver", "observe", "3.OPEN")
+            self.path.write_text(POLICY.replace("ann = ", "bob = ").replace(', "load 4"', ""))
+            status, printed, told = self.apply(*words)
+            self.assertEqual(
+                (status, told),
+                (1, ["estserve.py: --prune asks, and standard input is no terminal: say --yes"]),
+            )
+            status, printed, told = self.apply(*words, "--yes", "--before", old)
+            self.assertEqual((status, told), (0, []))
+            self.assertEqual(
+                sorted(printed[-8:-1]),
+                sorted(
+                    [
+                        "revoke driver observe 3.OPEN",
+                        "revoke driver load 4",
+                        "deassign ann chief",
+                        "deassign bob driver",
+                        "undsd apart",
+                        "deluser cho",
+                        "delrole guest",
+                    ]
+                ),
+            )
+            self.assertEqual(printed[-1], "7 taken away")
+            self.assertEqual(self.apply(*words, "--yes")[1][-1], "0 taken away")
+            root.adduser("cho")  # root may administer still
+
+
+class Library(InAFolder):
+    @needs_program
+    def test_a_policy_is_applied_by_the_library(self):
+        with estserve.start(os.environ["ESTSERVE"]) as client:
+            client.login("root", ["root"])
+            applied = client.apply(self.path)
+            self.assertEqual((len(applied.made), applied.refused, applied.left), (9, None, []))
+            again = client.apply(str(self.path))
+            self.assertEqual((len(again.made), len(again.there)), (0, 9))
+            self.path.write_text("hosts = []")
+            with self.assertRaises(estserve.BadPolicy):
+                client.apply(self.path)
+
+
+if __name__ == "__main__":
+    unittest.main()

@@ -1,0 +1,105 @@
+"""The colours for editors have each keyword of the language."""
+import json
+import re
+import shutil
+import subprocess
+import tempfile
+import unittest
+
+from support import EXAMPLES, ROOT
+
+from estserve_client.syntax_tree import KEYWORDS
+
+EDITORS = ROOT / "editors"
+VIM = EDITORS / "vim" / "syntax" / "esterel.vim"
+VSCODE = EDITORS / "vscode"
+SOURCE = ROOT / "crates" / "est_text" / "src" / "keyword.rt"
+
+
+def words_in_vim():
+    """The words that the syntax file for Vim has, each with its group."""
+    found = {}
+    for group, words in re.findall(
+        r"^syntax keyword (\w+) ([a-z ]+)$", VIM.read_text(), re.MULTILINE
+    ):
+        found.update(dict.fromkeys(words.split(), group))
+    return found
+
+
+class Grammar:
+    """The patterns of the TextMate grammar, as far as a line without comments needs them."""
+
+    def __init__(self):
+        self.whole = json.loads((VSCODE / "syntaxes" / "esterel.tmLanguage.json").read_text())
+        self.patterns = [
+            (re.compile(pattern["match"]), pattern)
+            for pattern in self.whole["patterns"]
+            if "match" in pattern
+        ]
+
+    def scope_of(self, word):
+        """The name that a word alone is given."""
+        found = next(pattern for match, pattern in self.patterns if match.fullmatch(word))
+        return found["name"]
+
+
+class Editors(unittest.TestCase):
+    def test_the_keywords_are_those_of_the_program(self):
+        told = re.findall(r'^\s+"(\w+)" => Some\(Keyword::', SOURCE.read_text(), re.MULTILINE)
+        self.assertEqual(set(told), KEYWORDS)
+
+    def test_vim_has_each_keyword(self):
+        words = words_in_vim()
+        self.assertEqual(KEYWORDS | {"tick"}, set(words))
+        linked = re.findall(r"^highlight default link (\w+)", VIM.read_text(), re.MULTILINE)
+        self.assertLessEqual(set(words.values()), set(linked))
+
+    def test_the_grammar_has_each_keyword(self):
+        grammar = Grammar()
+        for word in KEYWORDS:
+            self.assertRegex(grammar.scope_of(word), r"^(keyword|storage)\.", word)
+        for word in ("A", "emits", "in_", "tock"):
+            self.assertEqual(grammar.scope_of(word), "variable.other.esterel")
+        self.assertEqual(grammar.scope_of("tick"), "constant.language.esterel")
+
+    def test_the_extension_names_files_that_are_there(self):
+        package = json.loads((VSCODE / "package.json").read_text())["contributes"]
+        language, grammar = package["languages"][0], package["grammars"][0]
+        json.loads((VSCODE / language["configuration"]).read_text())
+        whole = json.loads((VSCODE / grammar["path"]).read_text())
+        self.assertEqual(whole["scopeName"], grammar["scopeName"])
+        self.assertEqual(["." + kind for kind in whole["fileTypes"]], language["extensions"])
+
+    @unittest.skipUnless(shutil.which("vim"), "vim is not installed")
+    def test_vim_reads_it(self):
+        with tempfile.NamedTemporaryFile("r", suffix=".txt") as written:
+            asked = 'synIDattr(synID({}, 1, 1), "name")'
+            script = "|".join(
+                [
+                    "syntax on",
+                    f"edit {EXAMPLES / 'abro' / 'abro.strl'}",
+                    f"let names = [&filetype, {asked.format(1)}, {asked.format(2)}, {asked.format(8)}]",
+                    f"call writefile(names, '{written.name}')",
+                    "qall!",
+                ]
+            )
+            words = [
+                "vim",
+                "-u",
+                "NONE",
+                "-N",
+                "-es",
+                "--cmd",
+                f"set runtimepath^={EDITORS / 'vim'}",
+                "-c",
+                script,
+            ]
+            subprocess.run(words, stdin=subprocess.DEVNULL, capture_output=True, timeout=60)
+            lines = written.read().split()
+        if not lines:
+            self.skipTest("this vim has no syntax")
+        self.assertEqual(lines, ["esterel", "esterelComment", "esterelStructure", "esterelRepeat"])
+
+
+if __name__ == "__main__":
+    unittest.main()
