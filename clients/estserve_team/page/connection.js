@@ -91,19 +91,31 @@ export class Connection {
 
   /** Comes in, with the token of a link or without: who this is. Raises Unknown. */
   async enter(link) {
-    if (link) {
-      const told = await this.persist(() => request("api/enter", {}, { link }));
-      localStorage.setItem(KEY, told.token);
-      return told;
+    const ways = [() => request("api/me", this.headers()), () => this.begin({})];
+    if (link) ways.unshift(() => this.begin({ link }));
+    let first = null;
+    for (const way of ways) {
+      try {
+        return await this.patiently(way);
+      } catch (fault) {
+        if (!(fault instanceof Unknown)) throw fault;
+        first ??= fault;
+      }
     }
-    try {
-      return await this.persist(() => request("api/me", this.headers()));
-    } catch (fault) {
-      if (!(fault instanceof Unknown)) throw fault;
-      const told = await request("api/enter", {}, {});
-      localStorage.setItem(KEY, told.token);
-      return told;
-    }
+    throw first;
+  }
+
+  /** Begins a visit, by a link or as whom a proxy names. */
+  async begin(body) {
+    const told = await request("api/enter", {}, body);
+    localStorage.setItem(KEY, told.token);
+    return told;
+  }
+
+  /** Ends the visit: this browser is known no more. */
+  async out() {
+    await request("api/out", this.headers(), {});
+    localStorage.removeItem(KEY);
   }
 
   /** Takes a seat as this user with these roles. Raises Refused, Unknown. */
@@ -167,6 +179,11 @@ export class Connection {
   ask(command) {
     const id = freshId();
     return this.post("ask", { id, command });
+  }
+
+  /** Sends something once: whether it was done is not known where no answer comes. */
+  once(name, body) {
+    return request(`api/${name}`, this.headers(), { ...body, seat: this.seat });
   }
 
   /** Sends something that may change things. */

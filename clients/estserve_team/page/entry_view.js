@@ -1,7 +1,7 @@
 /** Where one says as whom, and with which roles, one works. */
 
-import { field, fill, make, say } from "./dom.js";
-import { Refused } from "./connection.js";
+import { button, field, fill, make, say } from "./dom.js";
+import { Refused, Unknown } from "./connection.js";
 import { refusalPlace } from "./trying.js";
 
 const KEY = `estserve-roles ${location.pathname}`;
@@ -17,8 +17,10 @@ export class EntryView {
     this.title = make("h1", { tabindex: "-1" }, "Log in");
     this.person = make("p", { class: "quiet" });
     this.send = make("button", { type: "submit", class: "main", id: "entry" }, "Log in");
+    this.out = button("Forget this browser", () => this.leaveForGood(), { id: "out" });
     this.element = make(
-      "form", { class: "card entry" }, this.title, this.person, field("User", this.user), this.roles, this.send, this.told
+      "form", { class: "card entry" }, this.title, this.person, field("User", this.user), this.roles,
+      make("div", { class: "inline" }, this.send, this.out), this.told
     );
     this.user.addEventListener("change", () => this.showRoles());
     this.element.addEventListener("submit", (event) => {
@@ -59,14 +61,34 @@ export class EntryView {
     fill(this.roles, make("legend", {}, "Roles to be active"), ...(boxes.length ? boxes : [make("p", { class: "quiet" }, "none")]));
   }
 
-  async login() {
-    const user = this.user.value;
-    const roles = [...this.roles.querySelectorAll("input:checked")].map(({ value }) => value);
+  /** Ends the visit of this browser. */
+  async leaveForGood() {
+    this.forget();
+    await this.connection.out().catch(() => {});
+    this.connection.tell("out", new Unknown("This browser is known no more."));
+  }
+
+  /** A page that is opened anew in its tab goes on as it was. */
+  async again() {
+    const { user, roles } = JSON.parse(sessionStorage.getItem(KEY)) ?? {};
+    if (this.users.has(user)) await this.login(user, roles);
+  }
+
+  /** The page is left: it asks again. */
+  forget() {
+    sessionStorage.removeItem(KEY);
+  }
+
+  chosenRoles() {
+    return [...this.roles.querySelectorAll("input:checked")].map(({ value }) => value);
+  }
+
+  async login(user = this.user.value, roles = this.chosenRoles()) {
     this.send.disabled = true;
     say(this.told, "");
     try {
       const told = await this.connection.login(user, roles);
-      localStorage.setItem(KEY, JSON.stringify({ user, roles }));
+      for (const store of [localStorage, sessionStorage]) store.setItem(KEY, JSON.stringify({ user, roles }));
       this.entered(told);
     } catch (fault) {
       if (!(fault instanceof Refused)) this.connection.tell("out", fault);

@@ -41,6 +41,7 @@ class Page {
     try {
       this.me = await this.connection.enter(link);
       this.showEntry();
+      await this.entry.again();
     } catch (fault) {
       this.tell("out", fault);
     }
@@ -68,6 +69,7 @@ class Page {
   }
 
   async leave() {
+    this.entry.forget();
     await this.connection.leave().catch(() => {});
     await this.enter();
   }
@@ -110,10 +112,10 @@ class Page {
 
   hear(name, value) {
     if (name === "slots") {
-      for (const slot of value) this.slots.set(slot.slot, this.withText(slot));
+      for (const slot of value) this.slots.set(slot.slot, slot);
       if (this.seat && this.chosen === "slots") this.showSlots();
-    } else if (name === "policy") {
-      this.refreshLater();
+    } else if (name === "policy" || name === "record") {
+      this.refreshLater(name);
     } else if (name === "warnings") {
       this.warn(value);
     } else if (name === "ended") {
@@ -122,23 +124,18 @@ class Page {
     }
   }
 
-  /** A slot with the text that came earlier, where it is not sent again. */
-  withText(slot) {
-    const known = this.slots.get(slot.slot);
-    return slot.text === undefined && known?.load === slot.load ? { ...slot, text: known.text } : slot;
-  }
-
   warn(sentences) {
     this.record?.warn(sentences);
     fill(byId("warnings"), ...sentences.map((one) => make("p", {}, one)));
   }
 
-  /** Reads the policy anew where it is shown; many changes at once are read once. */
-  refreshLater() {
-    clearTimeout(this.refreshing);
-    this.refreshing = setTimeout(() => {
-      if (this.seat && this.chosen === "policy") this.policy.show(this.seat.roles);
-    }, 150);
+  /** Reads policy or record anew where it is shown; many changes at once are read once. */
+  refreshLater(name) {
+    if (this.chosen !== name) return;
+    this.refreshing ??= setTimeout(() => {
+      this.refreshing = null;
+      if (this.seat && this.chosen === name) this.view.show(this.seat.roles);
+    }, 400);
   }
 
   tell(state, fault) {
@@ -158,7 +155,7 @@ class Page {
       "section", { class: "card entry" }, make("h1", { tabindex: "-1" }, "Who are you?"),
       make("p", { class: "refusal", role: "alert" }, fault?.message ?? ""),
       make("p", {}, "Ask for a link in a terminal on the team's machine, and open it within five minutes:"),
-      make("pre", {}, make("code", {}, "estserve.py link --state DIR")), again
+      make("pre", {}, make("code", {}, "estserve.py team link --state DIR")), again
     ));
   }
 

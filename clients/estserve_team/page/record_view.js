@@ -5,7 +5,7 @@ import { refusalPlace, trying } from "./trying.js";
 
 const PAGE = 100; // entries that are shown at once
 
-const timeOf = (seconds) => new Date(seconds * 1000).toLocaleTimeString([], { hour12: false });
+const timeOf = (text) => new Date(text).toLocaleTimeString([], { hour12: false });
 
 export class RecordView {
   constructor(connection) {
@@ -53,7 +53,7 @@ export class RecordView {
     form.addEventListener("submit", async (event) => {
       event.preventDefault();
       const words = this.archived.value === "" ? {} : { slot: Number(this.archived.value) };
-      if (await trying(told, () => this.connection.post("archive", words))) say(note, "A new record has begun.");
+      if (await trying(told, () => this.connection.once("archive", words))) say(note, "A new record has begun.");
     });
     return form;
   }
@@ -61,7 +61,9 @@ export class RecordView {
   async show() {
     const who = await trying(this.told, () => this.connection.read("who"));
     if (!who) return;
-    const rows = who.holders.map((one) => [one.user, one.roles.join(" "), one.person, String(one.session), timeOf(one.since)]);
+    const rows = who.holders.map((one) => [
+      one.user, one.roles?.join(" ") ?? "", one.person, String(one.session ?? ""), timeOf(one.since),
+    ]);
     fill(this.who, table("Who is logged in", ["user", "roles", "person", "session", "since"], rows, "nobody"));
     this.entries = [];
     await this.older();

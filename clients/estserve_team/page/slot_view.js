@@ -85,14 +85,21 @@ export class SlotView {
   textCard(slot) {
     const unload = button("Unload", () => this.askToUnload(), { id: "unload", disabled: !slot.may.load });
     this.unloading = make("div", { class: "inline" }, unload);
+    this.text = make("div", {});
+    this.fetchText(slot.load);
     return make(
       "details", { class: "card text", open: true },
       make("summary", {}, "Text as it was loaded"),
-      sourceText(slot.text),
+      this.text,
       this.unloading,
       slot.may.load ? null : make("p", { class: "missing" }, needs("load", String(this.number))),
       this.told
     );
+  }
+
+  async fetchText(load) {
+    const told = await trying(this.told, () => this.connection.read("text", { slot: this.number }));
+    if (told?.load === load && load === this.load) fill(this.text, sourceText(told.text));
   }
 
   /** Asks once more: with the module its instants go. */

@@ -1,32 +1,35 @@
 /** The list of slots. */
 
-import { fill, make } from "./dom.js";
+import { fill, make, say } from "./dom.js";
 
 /** What a slot's line says of it. */
-function wordsOf(slot) {
-  if (!slot.visible) return "no permission";
-  if (!slot.loaded) return "empty";
-  return `${slot.main} · ${slot.instants}`;
-}
+const wordsOf = (slot) => (slot.loaded ? `${slot.main} · ${slot.instants}` : "empty");
 
 export class SlotsList {
   constructor() {
     this.list = make("ul", {});
-    this.element = make("nav", { class: "slots", "aria-label": "Slots" }, this.list);
+    this.others = make("p", { class: "missing" });
+    this.element = make("nav", { class: "slots", "aria-label": "Slots" }, this.list, this.others);
     this.links = new Map();
   }
 
-  /** Shows the slots, of which one may be chosen. */
+  /** Shows the slots that may be seen, of which one may be chosen, and names the others. */
   show(slots, chosen) {
-    const lines = slots.map((slot) => {
-      const kept = this.links.get(slot.slot) ?? this.buildLink(slot.slot);
-      kept.words.textContent = wordsOf(slot);
-      kept.link.className = slot.visible ? (slot.loaded ? "loaded" : "empty") : "off";
-      if (slot.slot === chosen) kept.link.setAttribute("aria-current", "page");
-      else kept.link.removeAttribute("aria-current");
-      return kept.line;
-    });
-    if (lines.some((line, at) => this.list.children[at] !== line)) fill(this.list, ...lines);
+    const lines = slots.filter(({ visible }) => visible).map((slot) => this.lineOf(slot, chosen));
+    if (lines.length !== this.list.children.length || lines.some((line, at) => this.list.children[at] !== line)) {
+      fill(this.list, ...lines);
+    }
+    const others = slots.filter(({ visible }) => !visible).map(({ slot }) => slot);
+    say(this.others, others.length ? `no permission on ${others.join(" ")}` : "");
+  }
+
+  lineOf(slot, chosen) {
+    const kept = this.links.get(slot.slot) ?? this.buildLink(slot.slot);
+    say(kept.words, wordsOf(slot));
+    kept.link.className = slot.loaded ? "loaded" : "empty";
+    if (slot.slot === chosen) kept.link.setAttribute("aria-current", "page");
+    else kept.link.removeAttribute("aria-current");
+    return kept.line;
   }
 
   buildLink(number) {
