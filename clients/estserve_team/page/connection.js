@@ -1,4 +1,4 @@
-/** The page's connection to the gateway: who is here, the seat that the page works with, requests, live events. */
+/** The page's connection to the gateway: who is here, its seat, requests, live events. */
 
 const PATIENCE = 20_000; // milliseconds until an attempt is given up
 const SILENCE = 25_000; // the events' stream tells of itself more often than that
@@ -31,7 +31,7 @@ function freshId() {
   return Array.from(bytes, (byte) => byte.toString(16).padStart(2, "0")).join("");
 }
 
-/** One request, and the value of its answer. Raises Refused, Unknown, NoSeat, Unreachable, Error. */
+/** One request, and the value of its answer. Raises Refused, Unknown, NoSeat, Unreachable. */
 async function request(path, headers, body) {
   const options = {
     method: body === undefined ? "GET" : "POST",
@@ -75,7 +75,8 @@ async function* linesOf(answer, heard) {
 }
 
 export class Connection {
-  /** `hear(name, value)` is called with each live event; `tell(state)` with `live`, `waiting`, `out`. */
+  /** `hear(name, value)` is called with each live event; `tell(state)` with `live`, `waiting`,
+   * `out`. */
   constructor(hear, tell) {
     this.hear = hear;
     this.tell = tell;
@@ -165,7 +166,8 @@ export class Connection {
 
   /** Takes the seat anew, once for all who ask. */
   async renew() {
-    this.renewing ??= this.login(this.wish.user, this.wish.roles).finally(() => { this.renewing = null; });
+    const { user, roles } = this.wish;
+    this.renewing ??= this.login(user, roles).finally(() => { this.renewing = null; });
     try {
       await this.renewing;
     } catch (fault) {
@@ -175,7 +177,7 @@ export class Connection {
     }
   }
 
-  /** Asks the program for a command. One that is sent again bears its first id, and is done once. */
+  /** Asks the program for a command. One that is sent again bears its first id: it is done once. */
   ask(command) {
     const id = freshId();
     return this.post("ask", { id, command });

@@ -28,7 +28,8 @@ export class Controls {
     const told = refusalPlace();
     const note = make("p", { class: "missing", id: `${cmd}-missing` });
     const control = button(label, () => this.act(cmd), {
-      id: cmd, class: cmd === "step" ? "main" : "", "aria-keyshortcuts": shortcut, "aria-describedby": `${cmd}-missing`,
+      id: cmd, class: cmd === "step" ? "main" : "",
+      "aria-keyshortcuts": shortcut, "aria-describedby": `${cmd}-missing`,
     });
     control.append(make("kbd", {}, key));
     return { control, note, told, element: make("div", { class: "act" }, control, note, told) };
@@ -45,7 +46,8 @@ export class Controls {
   async offer(name) {
     const toggle = this.toggles.get(name);
     if (toggle && !toggle.control.disabled) {
-      await trying(toggle.told, () => this.connection.ask({ cmd: "offer", slot: this.slot.slot, signal: name }));
+      const command = { cmd: "offer", slot: this.slot.slot, signal: name };
+      await trying(toggle.told, () => this.connection.ask(command));
     }
   }
 
@@ -53,10 +55,11 @@ export class Controls {
     const told = refusalPlace();
     const note = make("p", { class: "missing", id: `missing-${name}` });
     const control = button("", () => this.offer(name), {
-      class: "toggle", "data-signal": name, "aria-pressed": "false", "aria-describedby": `missing-${name}`,
-      "aria-keyshortcuts": digitOf(place),
+      class: "toggle", "data-signal": name, "aria-pressed": "false",
+      "aria-describedby": `missing-${name}`, "aria-keyshortcuts": digitOf(place),
     });
-    control.append(...(digitOf(place) ? [make("kbd", {}, digitOf(place))] : []), make("span", {}, name));
+    if (digitOf(place)) control.append(make("kbd", {}, digitOf(place)));
+    control.append(make("span", {}, name));
     return { control, note, told, element: make("li", {}, control, note, told) };
   }
 
@@ -76,21 +79,23 @@ export class Controls {
     for (const [name, toggle] of this.toggles) {
       const pending = slot.pending.includes(name);
       toggle.control.setAttribute("aria-pressed", String(pending));
-      allow(toggle.control, slot.may.offer[name], toggle.note, needs("offer", `${slot.slot}.${name}`));
+      const offerNeeds = needs("offer", `${slot.slot}.${name}`);
+      allow(toggle.control, slot.may.offer[name], toggle.note, offerNeeds);
       if (before?.pending.join(" ") !== slot.pending.join(" ")) say(toggle.told, "");
     }
     const stepNeeds = needs("step", String(slot.slot));
     allow(this.stepping.control, slot.may.step, this.stepping.note, stepNeeds);
     allow(this.discarding.control, slot.may.step, this.discarding.note, stepNeeds);
-    say(this.pending, slot.pending.length ? `Pending: ${slot.pending.join(" ")}` : "Nothing pending.");
+    const names = slot.pending.join(" ");
+    say(this.pending, names ? `Pending: ${names}` : "Nothing pending.");
   }
 
   /** Does what a key stands for. True where it stands for something. */
   pressed(key) {
-    const place = (Number(key) + DIGITS - 1) % DIGITS;
+    const name = [...this.toggles.keys()].find((_, place) => digitOf(place) === key);
     if (key === " ") this.act("step");
     else if (key === "Backspace") this.act("discard");
-    else if (/^[0-9]$/.test(key) && place < this.toggles.size) this.offer([...this.toggles.keys()][place]);
+    else if (name) this.offer(name);
     else return false;
     return true;
   }

@@ -2,13 +2,13 @@
 
 const SVG = "http://www.w3.org/2000/svg";
 
-/** Sets attributes: `class`, `text`, listeners as functions, properties that are true or false, and others as they are. */
+/** Sets attributes: `text`, listeners as functions, those that are there or not, and words. */
 function setAttributes(element, attributes) {
   for (const [name, value] of Object.entries(attributes)) {
     if (name === "text") element.textContent = value;
     else if (typeof value === "function") element.addEventListener(name, value);
     else if (value === true) element.setAttribute(name, "");
-    else if (value !== false && value !== null && value !== undefined) element.setAttribute(name, value);
+    else if (value !== false && (value ?? null) !== null) element.setAttribute(name, value);
   }
   return element;
 }
@@ -40,7 +40,7 @@ export function say(element, text) {
   if (element.textContent !== text) element.textContent = text;
 }
 
-/** A button that does something. A pointer's click leaves the focus with the page, so that the space bar steps. */
+/** A button. A pointer's click leaves the focus with the page, so that the space bar steps. */
 export function button(text, act, attributes = {}) {
   const made = make("button", { type: "button", ...attributes }, text);
   made.addEventListener("click", (event) => {

@@ -19,7 +19,8 @@ export class EntryView {
     this.send = make("button", { type: "submit", class: "main", id: "entry" }, "Log in");
     this.out = button("Forget this browser", () => this.leaveForGood(), { id: "out" });
     this.element = make(
-      "form", { class: "card entry" }, this.title, this.person, field("User", this.user), this.roles,
+      "form", { class: "card entry" },
+      this.title, this.person, field("User", this.user), this.roles,
       make("div", { class: "inline" }, this.send, this.out), this.told
     );
     this.user.addEventListener("change", () => this.showRoles());
@@ -33,7 +34,8 @@ export class EntryView {
   show(me, reason = "") {
     this.users = new Map(me.users.map((one) => [one.user, one]));
     say(this.person, `You are ${me.person}.`);
-    say(this.told, me.users.length ? reason : `Nobody has let ${me.person} be a user of this team's policy.`);
+    const nobody = `Nobody has let ${me.person} be a user of this team's policy.`;
+    say(this.told, me.users.length ? reason : nobody);
     fill(this.user, ...me.users.map(({ user }) => make("option", {}, user)));
     this.send.disabled = !me.users.length;
     const last = this.lastChoice();
@@ -49,16 +51,22 @@ export class EntryView {
     }
   }
 
-  /** The roles that the user may activate; those of the last login, or the one that is assigned, are chosen. */
+  /** The roles that the user may activate. Those of the last login, or the only one, are chosen. */
   showRoles() {
     const { assigned = [], authorized = [] } = this.users.get(this.user.value) ?? {};
     const last = this.lastChoice();
-    const chosen = last.user === this.user.value ? last.roles : assigned.length === 1 ? assigned : [];
+    const first = assigned.length === 1 ? assigned : [];
+    const chosen = last.user === this.user.value ? last.roles : first;
     const boxes = authorized.map((role) => make(
-      "label", {}, make("input", { type: "checkbox", value: role, checked: chosen.includes(role) }), ` ${role}`,
+      "label", {}, make(
+        "input", { type: "checkbox", value: role, checked: chosen.includes(role) }
+      ), ` ${role}`,
       assigned.includes(role) ? null : make("small", {}, " below an assigned one")
     ));
-    fill(this.roles, make("legend", {}, "Roles to be active"), ...(boxes.length ? boxes : [make("p", { class: "quiet" }, "none")]));
+    fill(
+      this.roles, make("legend", {}, "Roles to be active"),
+      ...(boxes.length ? boxes : [make("p", { class: "quiet" }, "none")])
+    );
   }
 
   /** Ends the visit of this browser. */
@@ -88,7 +96,9 @@ export class EntryView {
     say(this.told, "");
     try {
       const told = await this.connection.login(user, roles);
-      for (const store of [localStorage, sessionStorage]) store.setItem(KEY, JSON.stringify({ user, roles }));
+      for (const store of [localStorage, sessionStorage]) store.setItem(
+        KEY, JSON.stringify({ user, roles })
+      );
       this.entered(told);
     } catch (fault) {
       if (!(fault instanceof Refused)) this.connection.tell("out", fault);

@@ -5,16 +5,27 @@ import { lettersBefore, sourceText } from "./source_text.js";
 import { Refused } from "./connection.js";
 import { refusalPlace } from "./trying.js";
 
-const EXAMPLE = "module ABRO:\ninput A, B, R;\noutput O;\nloop\n  [ await A || await B ];\n  emit O\neach R\nend module\n";
+const EXAMPLE = `module ABRO:
+input A, B, R;
+output O;
+loop
+  [ await A || await B ];
+  emit O
+each R
+end module
+`;
 
 export class LoadForm {
   constructor(connection, slot) {
     this.connection = connection;
     this.slot = slot;
     this.text = make("textarea", {
-      id: "load-text", rows: "14", spellcheck: "false", autocapitalize: "off", wrap: "off", placeholder: EXAMPLE,
+      id: "load-text", rows: "14", wrap: "off", spellcheck: "false", autocapitalize: "off",
+      placeholder: EXAMPLE,
     });
-    this.main = make("input", { id: "load-main", placeholder: "the first that no other runs", maxlength: "48" });
+    this.main = make(
+      "input", { id: "load-main", placeholder: "the first that no other runs", maxlength: "48" }
+    );
     this.file = make("input", { type: "file", id: "load-file", accept: ".strl,.txt,text/plain" });
     this.file.addEventListener("change", () => this.readFile());
     this.told = refusalPlace();
@@ -27,7 +38,9 @@ export class LoadForm {
     const form = make(
       "form", { class: "card load", "aria-label": "Load a module" },
       make("h2", {}, "Load a module"),
-      field("Module text", this.text), field("From a file", this.file), field("Main module", this.main),
+      field("Module text", this.text),
+      field("From a file", this.file),
+      field("Main module", this.main),
       this.send, this.told, this.fault
     );
     form.addEventListener("submit", (event) => {

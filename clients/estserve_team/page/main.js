@@ -13,7 +13,9 @@ const THEMES = ["system", "light", "dark"];
 
 class Page {
   constructor() {
-    this.connection = new Connection((name, value) => this.hear(name, value), (state, fault) => this.tell(state, fault));
+    this.connection = new Connection(
+      (name, value) => this.hear(name, value), (state, fault) => this.tell(state, fault)
+    );
     this.entry = new EntryView(this.connection, (told) => this.entered(told));
     this.slots = new Map();
     this.slotViews = new Map();
@@ -94,15 +96,21 @@ class Page {
     view.show(this.seat.roles);
   }
 
-  /** Shows the list of slots, and the one that is chosen: the first that is loaded, where none is. */
+  /** Shows the list of slots, and the one that is chosen: at first one that is loaded. */
   showSlots() {
     const slots = [...this.slots.values()].sort((one, other) => one.slot - other.slot);
     if (!slots.length) return;
-    this.number ??= (slots.find(({ loaded }) => loaded) ?? slots.find(({ visible }) => visible) ?? slots[0]).slot;
+    this.number ??= (
+      slots.find(({ loaded }) => loaded) ?? slots.find(({ visible }) => visible) ?? slots[0]
+    ).slot;
     this.list.show(slots, this.number);
-    if (!this.slotViews.has(this.number)) this.slotViews.set(this.number, new SlotView(this.connection, this.number));
+    if (!this.slotViews.has(this.number)) this.slotViews.set(
+      this.number, new SlotView(this.connection, this.number)
+    );
     this.view = this.slotViews.get(this.number);
-    if (byId("main").firstChild !== this.list.element || byId("main").lastChild !== this.view.element) {
+    if (
+      byId("main").firstChild !== this.list.element || byId("main").lastChild !== this.view.element
+    ) {
       fill(byId("main"), this.list.element, this.view.element);
     }
     if (this.slots.has(this.number)) this.view.update(this.slots.get(this.number));
@@ -154,7 +162,10 @@ class Page {
     fill(byId("main"), make(
       "section", { class: "card entry" }, make("h1", { tabindex: "-1" }, "Who are you?"),
       make("p", { class: "refusal", role: "alert" }, fault?.message ?? ""),
-      make("p", {}, "Ask for a link in a terminal on the team's machine, and open it within five minutes:"),
+      make(
+        "p", {},
+        "Ask for a link in a terminal on the team's machine, and open it within five minutes:"
+      ),
       make("pre", {}, make("code", {}, "estserve.py team link --state DIR")), again
     ));
   }

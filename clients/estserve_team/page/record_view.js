@@ -16,11 +16,19 @@ export class RecordView {
     this.more = button("Older", () => this.older(), { id: "log-older", hidden: true });
     this.warnings = make("ul", { class: "warnings" });
     this.element = make(
-      "div", {}, make("header", {}, make("h1", { tabindex: "-1" }, "Record")), this.told, this.warnings,
+      "div", {}, make(
+        "header", {}, make("h1", { tabindex: "-1" }, "Record")
+      ), this.told, this.warnings,
       make(
         "div", { class: "parts" },
-        make("section", { class: "card", "aria-label": "Who is logged in" }, make("h2", {}, "Who is logged in"), this.who),
-        make("section", { class: "card wide", "aria-label": "Log" }, make("h2", {}, "Log"), this.buildFilter(), this.log, this.more),
+        make(
+          "section", { class: "card", "aria-label": "Who is logged in" },
+          make("h2", {}, "Who is logged in"), this.who
+        ),
+        make(
+          "section", { class: "card wide", "aria-label": "Log" }, make("h2", {}, "Log"),
+          this.buildFilter(), this.log, this.more
+        ),
         this.buildArchive()
       )
     );
@@ -47,13 +55,21 @@ export class RecordView {
     const [told, note] = [refusalPlace(), make("p", { class: "quiet" })];
     const form = make(
       "form", { class: "card", "aria-label": "Archive" }, make("h2", {}, "Archive"),
-      make("p", {}, "Begins a new record: everyone is logged out, and the old record is kept. A slot that is named is empty afterwards."),
-      field("Empty slot", this.archived), make("button", { type: "submit", id: "archive" }, "Archive"), told, note
+      make(
+        "p", {},
+        "Begins a new record: everyone is logged out, and the old record is kept. ",
+        "A slot that is named is empty afterwards."
+      ),
+      field("Empty slot", this.archived), make(
+        "button", { type: "submit", id: "archive" }, "Archive"
+      ), told, note
     );
     form.addEventListener("submit", async (event) => {
       event.preventDefault();
       const words = this.archived.value === "" ? {} : { slot: Number(this.archived.value) };
-      if (await trying(told, () => this.connection.once("archive", words))) say(note, "A new record has begun.");
+      if (await trying(told, () => this.connection.once("archive", words))) say(
+        note, "A new record has begun."
+      );
     });
     return form;
   }
@@ -62,9 +78,13 @@ export class RecordView {
     const who = await trying(this.told, () => this.connection.read("who"));
     if (!who) return;
     const rows = who.holders.map((one) => [
-      one.user, one.roles?.join(" ") ?? "", one.person, String(one.session ?? ""), timeOf(one.since),
+      one.user, one.roles?.join(" ") ?? "", one.person, String(one.session ?? ""),
+      timeOf(one.since),
     ]);
-    fill(this.who, table("Who is logged in", ["user", "roles", "person", "session", "since"], rows, "nobody"));
+    fill(
+      this.who,
+      table("Who is logged in", ["user", "roles", "person", "session", "since"], rows, "nobody")
+    );
     this.entries = [];
     await this.older();
   }
@@ -83,7 +103,10 @@ export class RecordView {
       timeOf(one.time), one.user, one.told, one.slot === null ? "policy" : `slot ${one.slot}`,
       String(one.place), one.instant ? String(one.instant) : "",
     ]);
-    fill(this.log, table("Log", ["time", "user", "command", "of", "place", "instant"], rows, "no entries"));
+    fill(
+      this.log,
+      table("Log", ["time", "user", "command", "of", "place", "instant"], rows, "no entries")
+    );
   }
 
   warn(sentences) {

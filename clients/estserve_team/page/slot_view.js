@@ -9,7 +9,8 @@ import { WaveView } from "./wave_view.js";
 
 const JOURNAL = 65_536; // entries that a slot's journal may have
 
-/** Whether a key was pressed for something else: a text that is written, a control that has the focus. */
+/** Whether a key was pressed for something else: a text that is written, a control that has the
+ * focus. */
 function isMeantElsewhere(event) {
   const focused = event.target.closest?.("input, textarea, select, button, a, summary, dialog");
   return event.ctrlKey || event.altKey || event.metaKey || event.repeat || Boolean(focused);
@@ -25,12 +26,15 @@ export class SlotView {
     this.facts = make("p", { class: "facts", id: "facts" });
     this.parts = make("div", { class: "parts" });
     this.told = refusalPlace();
-    this.element = make("div", { class: "slot" }, make("header", {}, this.title, this.facts), this.parts);
+    this.element = make(
+      "div", { class: "slot" }, make("header", {}, this.title, this.facts), this.parts
+    );
     this.load = null;
     this.loadForm = new LoadForm(connection, number);
   }
 
-  /** The rows of some instants. Those of another load than the one that is shown are not for this wave. */
+  /** The rows of some instants. Those of another load than the one that is shown are not for this
+   * wave. */
   async fetchRows(first, last) {
     const { load } = this;
     const told = await this.connection.read("looks", { slot: this.number, from: first, to: last });
@@ -42,7 +46,10 @@ export class SlotView {
     const before = this.slot;
     this.slot = slot;
     const load = slot.visible && slot.loaded ? slot.load : null;
-    if (!before || load !== this.load || slot.visible !== before.visible || slot.may.load !== before.may.load) {
+    if (
+      !before || load !== this.load
+      || slot.visible !== before.visible || slot.may.load !== before.may.load
+    ) {
       this.load = load;
       this.rebuild(slot);
     } else if (load !== null) {
@@ -59,7 +66,10 @@ export class SlotView {
   }
 
   rebuild(slot) {
-    say(this.title, slot.loaded && slot.visible ? `Slot ${this.number} · ${slot.main}` : `Slot ${this.number}`);
+    say(
+      this.title,
+      slot.loaded && slot.visible ? `Slot ${this.number} · ${slot.main}` : `Slot ${this.number}`
+    );
     if (!slot.visible) {
       const missing = `needs some permission on ${this.number}, or on a signal of it`;
       fill(this.parts, make("p", { class: "card missing" }, missing));
@@ -72,7 +82,10 @@ export class SlotView {
 
   emptyPart(slot) {
     if (slot.may.load) return this.loadForm.element;
-    return make("p", { class: "card" }, "The slot is empty. ", make("span", { class: "missing" }, needs("load", String(this.number))));
+    return make(
+      "p", { class: "card" }, "The slot is empty. ",
+      make("span", { class: "missing" }, needs("load", String(this.number)))
+    );
   }
 
   showLoad(slot) {
@@ -83,7 +96,9 @@ export class SlotView {
   }
 
   textCard(slot) {
-    const unload = button("Unload", () => this.askToUnload(), { id: "unload", disabled: !slot.may.load });
+    const unload = button(
+      "Unload", () => this.askToUnload(), { id: "unload", disabled: !slot.may.load }
+    );
     this.unloading = make("div", { class: "inline" }, unload);
     this.text = make("div", {});
     this.fetchText(slot.load);
@@ -104,8 +119,12 @@ export class SlotView {
 
   /** Asks once more: with the module its instants go. */
   askToUnload() {
-    const back = () => fill(this.unloading, button("Unload", () => this.askToUnload(), { id: "unload" }));
-    const act = () => trying(this.told, () => this.connection.ask({ cmd: "unload", slot: this.number }));
+    const back = () => fill(
+      this.unloading, button("Unload", () => this.askToUnload(), { id: "unload" })
+    );
+    const act = () => trying(
+      this.told, () => this.connection.ask({ cmd: "unload", slot: this.number })
+    );
     fill(
       this.unloading, make("span", {}, "With the module, its instants and pending inputs go. "),
       button("Unload it", act, { id: "unload-surely", class: "grave" }), button("Keep it", back)

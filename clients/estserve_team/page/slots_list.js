@@ -16,7 +16,11 @@ export class SlotsList {
   /** Shows the slots that may be seen, of which one may be chosen, and names the others. */
   show(slots, chosen) {
     const lines = slots.filter(({ visible }) => visible).map((slot) => this.lineOf(slot, chosen));
-    if (lines.length !== this.list.children.length || lines.some((line, at) => this.list.children[at] !== line)) {
+    if (
+      lines.length !== this.list.children.length || lines.some(
+        (line, at) => this.list.children[at] !== line
+      )
+    ) {
       fill(this.list, ...lines);
     }
     const others = slots.filter(({ visible }) => !visible).map(({ slot }) => slot);

@@ -34,7 +34,9 @@ const leftOf = (view, instant) => view.names + (instant - 1) * view.cell - view.
 /** How far apart the numbers over the instants stand. */
 function numberStep(view) {
   const room = 10 + 8 * String(view.instants).length;
-  return [1, 2, 5, 10, 20, 50, 100, 200, 500, 1000, 2000, 5000].find((step) => step * view.cell >= room) ?? 10000;
+  return [1, 2, 5, 10, 20, 50, 100, 200, 500, 1000, 2000, 5000].find(
+    (step) => step * view.cell >= room
+  ) ?? 10000;
 }
 
 function drawRuler(pen, view, colours, [first, last]) {
@@ -52,10 +54,13 @@ function drawCursor(pen, view, colours) {
   pen.fillRect(leftOf(view, view.cursor), 0, Math.max(2, view.cell), view.height);
 }
 
-/** The line of one signal: up where it is present, down where it is absent, dots where it may not be observed. */
+/** The line of one signal: up where it is present, down where it is absent, dots where it may not
+ * be observed. */
 function traceRow(view, rows, signal, y, [first, last]) {
   const solid = new Path2D(), dotted = new Path2D(), filled = new Path2D();
-  const [high, low, slope] = [y + 6, y + ROW - 6, view.cell >= PULSES ? Math.min(4, view.cell / 5) : 0];
+  const [high, low, slope] = [
+    y + 6, y + ROW - 6, view.cell >= PULSES ? Math.min(4, view.cell / 5) : 0,
+  ];
   let joined = false;
   for (let instant = first; instant <= last; instant += 1) {
     const [status, x] = [rows.status(instant, signal.place), leftOf(view, instant)];
@@ -131,8 +136,9 @@ function drawLines(pen, view, colours, [first, last]) {
   pen.stroke();
 }
 
-/** Draws what a view shows of the rows. A view has `width`, `height`, `left`, `top` (how far it is scrolled), `cell` (the width of
- * an instant), `names` (the width of the names), `signals`, `instants`, `cursor`, `scale` (of the screen). */
+/** Draws what a view shows of the rows. A view has `width`, `height`, `left`, `top` (how far it is
+ * scrolled), `cell` (the width of an instant), `names` (the width of the names), `signals`,
+ * `instants`, `cursor`, `scale` (of the screen). */
 export function drawWave(pen, view, rows, colours) {
   pen.setTransform(view.scale, 0, 0, view.scale, 0, 0);
   pen.fillStyle = colours.ground;

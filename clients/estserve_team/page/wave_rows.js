@@ -6,7 +6,8 @@ const ASKED_AT_ONCE = 3;
 const CODES = { 0: ABSENT, 1: PRESENT, ".": HIDDEN };
 
 export class WaveRows {
-  /** `ask(first, last)` promises the rows of these instants, each a string with a letter a signal; `changed` is called with news. */
+  /** `ask(first, last)` promises the rows of these instants, each a string with a letter a signal;
+   * `changed` is called with news. */
   constructor(ask, changed) {
     this.ask = ask;
     this.changed = changed;
@@ -28,14 +29,15 @@ export class WaveRows {
     this.newest = Math.max(this.newest, newest);
   }
 
-  /** The status of a signal, by its place in the declaration, in an instant, which counts from 1. */
+  /** The status of a signal, by its place in the declaration, in an instant, from 1. */
   status(instant, signal) {
     const at = (instant - 1) % CHUNK;
     const chunk = this.chunks.get((instant - 1 - at) / CHUNK);
     return chunk && at < chunk.filled ? chunk.bytes[at * this.signals + signal] : UNKNOWN;
   }
 
-  /** These instants are looked at: what is not known of them is asked for, and what was wanted before is not. */
+  /** These instants are looked at: what is not known of them is asked for, and what was wanted
+   * before is not. */
   want(first, last) {
     this.wanted = [];
     const [from, to] = [Math.max(1, first), Math.min(last, this.newest)];
@@ -47,7 +49,9 @@ export class WaveRows {
 
   chunkOf(number) {
     if (!this.chunks.has(number)) {
-      this.chunks.set(number, { bytes: new Uint8Array(CHUNK * this.signals), filled: 0, asking: false });
+      this.chunks.set(
+        number, { bytes: new Uint8Array(CHUNK * this.signals), filled: 0, asking: false }
+      );
     }
     return this.chunks.get(number);
   }

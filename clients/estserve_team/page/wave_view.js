@@ -1,4 +1,5 @@
-/** The wave of a slot: a canvas that shows the part which is scrolled to, and what one needs around it. */
+/** The wave of a slot: a canvas that shows the part which is scrolled to, and what one needs around
+ * it. */
 
 import { button, fill, make, say } from "./dom.js";
 import { coloursOf, drawWave, ROW, RULER, shownInstants } from "./wave_canvas.js";
@@ -27,28 +28,40 @@ export class WaveView {
     this.canvas = make("canvas", { "aria-hidden": "true" });
     this.sizer = make("div", { class: "wave-sizer" }, this.canvas);
     this.box = make(
-      "div", { class: "wave-box", tabindex: "0", role: "group", "aria-describedby": "wave-told" }, this.sizer
+      "div", {
+        class: "wave-box", tabindex: "0", role: "group", "aria-describedby": "wave-told",
+      }, this.sizer
     );
     this.box.addEventListener("scroll", () => this.scrolled(), { passive: true });
     this.box.addEventListener("keydown", (event) => this.pressed(event));
     this.canvas.addEventListener("click", (event) => this.pointed(event));
-    this.readout = make("p", { class: "readout", id: "wave-told", role: "status", "aria-live": "polite" });
+    this.readout = make(
+      "p", { class: "readout", id: "wave-told", role: "status", "aria-live": "polite" }
+    );
     this.told = make("div", { class: "unseen" });
     return make(
-      "section", { class: "card wave", "aria-label": "Wave" }, this.buildTools(), this.box, this.readout, this.told
+      "section", {
+        class: "card wave", "aria-label": "Wave",
+      }, this.buildTools(), this.box, this.readout, this.told
     );
   }
 
   buildTools() {
     this.number = make("input", {
-      type: "number", min: "1", inputmode: "numeric", id: "wave-instant", "aria-label": "instant to jump to", placeholder: "instant",
+      type: "number", min: "1", inputmode: "numeric", id: "wave-instant",
+      "aria-label": "instant to jump to", placeholder: "instant",
     });
-    const jump = make("form", { class: "inline" }, this.number, make("button", { type: "submit", id: "wave-jump" }, "Jump"));
+    const jump = make(
+      "form", { class: "inline" }, this.number,
+      make("button", { type: "submit", id: "wave-jump" }, "Jump")
+    );
     jump.addEventListener("submit", (event) => {
       event.preventDefault();
       this.jump(Number(this.number.value));
     });
-    this.newest = button("Newest", () => this.followNewest(), { id: "wave-newest", "aria-pressed": "true" });
+    this.newest = button(
+      "Newest", () => this.followNewest(), { id: "wave-newest", "aria-pressed": "true" }
+    );
     this.picks = make("div", { class: "picks" });
     return make(
       "div", { class: "tools" },
@@ -73,7 +86,8 @@ export class WaveView {
 
   // What is shown.
 
-  /** Another load, or other permissions: nothing of before holds. Signals are pairs of a name and its kind. */
+  /** Another load, or other permissions: nothing of before holds. Signals are pairs of a name and
+   * its kind. */
   show(signals, instants) {
     this.all = signals.map(([name, kind], place) => ({ name, kind, place }));
     this.rows.reset(signals.length);
@@ -175,7 +189,10 @@ export class WaveView {
   /** Shows an instant, in the middle where there is room. */
   jump(instant) {
     if (!Number.isInteger(instant) || instant < 1 || instant > this.instants) {
-      say(this.readout, `NoInstant: there was no such instant since the load: they are 1 to ${this.instants}`);
+      say(
+        this.readout,
+        `NoInstant: there was no such instant since the load: they are 1 to ${this.instants}`
+      );
       return;
     }
     this.setFollowing(false);
@@ -191,20 +208,25 @@ export class WaveView {
   }
 
   pointed(event) {
-    const x = event.clientX - this.canvas.getBoundingClientRect().left - this.names() + this.box.scrollLeft;
-    const instant = Math.floor(x / this.cell) + 1;
-    if (x - this.box.scrollLeft >= 0 && instant <= this.instants) {
+    const { left } = this.canvas.getBoundingClientRect();
+    const x = event.clientX - left - this.names();
+    const instant = Math.floor((x + this.box.scrollLeft) / this.cell) + 1;
+    if (x >= 0 && instant <= this.instants) {
       this.cursor = instant;
       this.redraw();
     }
   }
 
   pressed(event) {
-    const moves = { ArrowLeft: -1, ArrowRight: 1, PageUp: -10, PageDown: 10, Home: -Infinity, End: Infinity };
+    const moves = {
+      ArrowLeft: -1, ArrowRight: 1, PageUp: -10, PageDown: 10, Home: -Infinity, End: Infinity,
+    };
     if (!(event.key in moves) || event.target !== this.box || !this.instants) return;
     event.preventDefault();
     if (event.key === "End") this.followNewest();
-    else this.jump(Math.max(1, Math.min(this.instants, (this.cursor || this.instants) + moves[event.key])));
+    else this.jump(
+      Math.max(1, Math.min(this.instants, (this.cursor || this.instants) + moves[event.key]))
+    );
   }
 
   // Drawing, once a frame.
@@ -220,10 +242,14 @@ export class WaveView {
     const { scrollLeft: left, scrollTop: top, clientWidth: width, clientHeight: height } = this.box;
     const scale = devicePixelRatio || 1;
     const { cell, instants, cursor } = this;
-    return { left, top, width, height, scale, cell, instants, cursor, names: this.names(), signals: this.signals() };
+    return {
+      left, top, width, height, scale, cell, instants, cursor, names: this.names(),
+      signals: this.signals(),
+    };
   }
 
   drawNow() {
+    if (!this.element.isConnected) return;
     const view = this.view();
     this.fitCanvas(view);
     this.colours ??= coloursOf(this.element);
@@ -246,8 +272,12 @@ export class WaveView {
 
   /** What an instant had, in words. */
   words(instant) {
-    const of = (status) => this.signals().filter(({ place }) => this.rows.status(instant, place) === status);
-    if (this.all.length && this.rows.status(instant, 0) === UNKNOWN) return `instant ${instant}: ..`;
+    const of = (status) => this.signals().filter(
+      ({ place }) => this.rows.status(instant, place) === status
+    );
+    if (
+      this.all.length && this.rows.status(instant, 0) === UNKNOWN
+    ) return `instant ${instant}: ..`;
     const names = of(PRESENT).map(({ name }) => name).join(" ") || "nothing present";
     const hidden = of(HIDDEN).map(({ name }) => name).join(" ");
     return `instant ${instant}: ${names}${hidden ? `; may not be observed: ${hidden}` : ""}`;
@@ -262,7 +292,9 @@ export class WaveView {
   /** The last of the instants that are seen, as a table for screen readers. */
   tellTable(view) {
     const last = Math.min(this.instants, shownInstants(view)[1]);
-    const seen = Array.from({ length: TOLD }, (_, at) => last - TOLD + 1 + at).filter((one) => one > 0);
+    const seen = Array.from(
+      { length: TOLD }, (_, at) => last - TOLD + 1 + at
+    ).filter((one) => one > 0);
     const letters = ["absent", "present", ". (may not be observed)", "not known yet"];
     const rows = this.signals().map(({ name, kind, place }) => make(
       "tr", {}, make("th", { scope: "row" }, `${name}, ${kind}`),
@@ -270,7 +302,10 @@ export class WaveView {
     ));
     fill(this.told, make(
       "table", { id: "wave-table" }, make("caption", {}, "The wave, in words"),
-      make("tr", {}, make("th", { scope: "col" }, "signal"), ...seen.map((one) => make("th", { scope: "col" }, String(one)))),
+      make(
+        "tr", {}, make("th", { scope: "col" }, "signal"),
+        ...seen.map((one) => make("th", { scope: "col" }, String(one)))
+      ),
       ...rows
     ));
   }

@@ -11,7 +11,9 @@ from .visits import LINK_SECONDS
 NO_HTTP = 1020  # the code of the refusal of a link where the gateway serves no HTTP
 HERE = "127.0.0.1:8710"  # where `--http` serves that names no other place
 
-_sites: "weakref.WeakKeyDictionary[Any, Any]" = weakref.WeakKeyDictionary()  # the site of each gateway that has one
+_sites: "weakref.WeakKeyDictionary[Any, Any]" = (
+    weakref.WeakKeyDictionary()
+)  # the site of each gateway that has one
 
 
 async def link(context: Context, keys: Dict[str, Any]) -> Dict[str, Any]:
@@ -29,14 +31,28 @@ def add_options(parser: argparse.ArgumentParser) -> None:
     """Adds the options of HTTP to the command line."""
     group = parser.add_argument_group("the page, over HTTP")
     group.add_argument(
-        "--http", nargs="?", const=HERE, metavar="HOST:PORT", help=f"serve the page there ({HERE}); loopback only, unless --origin is given"
+        "--http",
+        nargs="?",
+        const=HERE,
+        metavar="HOST:PORT",
+        help=f"serve the page there ({HERE}); loopback only, unless --origin is given",
     )
-    group.add_argument("--http-socket", metavar="PATH", help="serve the page on a Unix socket, for a reverse proxy")
-    group.add_argument("--origin", metavar="URL", help="where browsers find the page, as https://team.example.org")
     group.add_argument(
-        "--user-header", metavar="NAME", help="the header in which the proxy says who the person is, as X-Remote-User; on the Unix socket alone"
+        "--http-socket", metavar="PATH", help="serve the page on a Unix socket, for a reverse proxy"
     )
-    group.add_argument("--proxy-user", metavar="USER", help="the Unix user of the proxy, who alone may use the Unix socket then")
+    group.add_argument(
+        "--origin", metavar="URL", help="where browsers find the page, as https://team.example.org"
+    )
+    group.add_argument(
+        "--user-header",
+        metavar="NAME",
+        help="the header in which the proxy says who the person is, as X-Remote-User; on the Unix socket alone",
+    )
+    group.add_argument(
+        "--proxy-user",
+        metavar="USER",
+        help="the Unix user of the proxy, who alone may use the Unix socket then",
+    )
 
 
 async def start(gateway: Any, options: argparse.Namespace) -> Any:

@@ -18,6 +18,9 @@ SHARED = ("login", "logout", "activate", "drop")
 LOG_ENTRIES = 200  # so many entries of the log are told at once
 IDENTIFIERS = range(1, 65)  # letters that a request's id may have
 
+# The keys of a request in the order in which they are told.
+IN_WORDS = "user senior junior role op object name count roles main signal".split()
+
 Told = Dict[str, Any]
 
 
@@ -27,7 +30,9 @@ def roles_of(gateway: Any, user: str) -> Told:
     if user not in model.users:
         return {"known": False, "assigned": [], "authorized": []}
     assigned = [role for one, role in model.assigned if one == user]
-    below = [role for role in model.roles if role in model.authorized(user) and role not in assigned]
+    below = [
+        role for role in model.roles if role in model.authorized(user) and role not in assigned
+    ]
     return {"known": True, "assigned": assigned, "authorized": assigned + below}
 
 
@@ -51,7 +56,11 @@ def completed(command: Told) -> Told:
 async def ask(seat: Seat, body: Told) -> Told:
     """One command of the program. One that bears an id which was recorded is answered from the record. Raises Refused."""
     command, identifier = body.get("command"), body.get("id")
-    if not isinstance(command, dict) or not isinstance(identifier, str) or len(identifier) not in IDENTIFIERS:
+    if (
+        not isinstance(command, dict)
+        or not isinstance(identifier, str)
+        or len(identifier) not in IDENTIFIERS
+    ):
         raise Refused(3, "NotARequest")
     command = completed(command)
     if command.get("cmd") in SHARED:
@@ -105,14 +114,19 @@ async def text(seat: Seat, query: Mapping[str, str]) -> Told:
 
 async def looks(seat: Seat, query: Mapping[str, str]) -> Told:
     """Instants for the wave. Raises ValueError, Refused."""
-    return await rows_of(seat, slot_of(query), max(1, int(query.get("from", ""))), int(query.get("to", "")))
+    return await rows_of(
+        seat, slot_of(query), max(1, int(query.get("from", ""))), int(query.get("to", ""))
+    )
 
 
 async def policy(seat: Seat, query: Mapping[str, str]) -> Told:
     """The policy, as far as the session may read it. Raises Refused."""
     read = await words.act_on(seat.context, {"word": "policy"})
     may = await seat.share.ask_answer({"cmd": "check", "op": "administer", "object": "policy"})
-    users = [{"user": user, "roles": [role for one, role in read["assigned"] if one == user]} for user in read["users"]]
+    users = [
+        {"user": user, "roles": [role for one, role in read["assigned"] if one == user]}
+        for user in read["users"]
+    ]
     roles = [
         {
             "role": role,
@@ -136,23 +150,31 @@ def way_in_words(user: str, way: Told, operation: str, thing: str) -> str:
 async def why(seat: Seat, query: Mapping[str, str]) -> Told:
     """Through which role and edges somebody may do something, in sentences. Raises Refused."""
     user, operation, thing = (query.get(name, "") for name in ("user", "operation", "object"))
-    told = await words.act_on(seat.context, {"word": "why", "user": user, "op": operation, "object": thing})
+    told = await words.act_on(
+        seat.context, {"word": "why", "user": user, "op": operation, "object": thing}
+    )
     lines = [way_in_words(user, way, operation, thing) for way in told["ways"]]
     if not lines:
-        lines = [f"No role of {user} has {operation} on {thing}." if told["known"] else f"There is no user {user}."]
+        lines = [
+            f"No role of {user} has {operation} on {thing}."
+            if told["known"]
+            else f"There is no user {user}."
+        ]
     if "allowed" in told:
-        lines.append(f"This login {'may' if told['allowed'] else 'may not'}, with the roles that are active in it.")
+        lines.append(
+            f"This login {'may' if told['allowed'] else 'may not'}, with the roles that are active in it."
+        )
     return {"lines": lines}
 
 
 def request_in_words(request: Told) -> str:
-    """A recorded request in words; a module's text by its length."""
-    words_of = [str(request.get("cmd"))]
-    for name, value in request.items():
-        if name == "text":
-            words_of.append(f"({value} bytes)")
-        elif name not in ("cmd", "slot"):
-            words_of.append(" ".join(value) if isinstance(value, list) else str(value))
+    """A recorded request in words, in the order of the client's; a module's text by its length."""
+    words_of = [str(request["cmd"])]
+    for name in (name for name in IN_WORDS if name in request):
+        value = request[name]
+        words_of.append(" ".join(value) if isinstance(value, list) else str(value))
+    if "text" in request:
+        words_of.append(f"({request['text']} bytes)")
     return " ".join(words_of)
 
 
@@ -160,17 +182,31 @@ def log_line(entry: Told) -> Told:
     """An entry of the log for the page."""
     names = ("number", "time", "user", "person", "session", "place", "version")
     told = {name: entry[name] for name in names}
-    return {**told, "slot": entry.get("slot"), "instant": entry.get("instant"), "told": request_in_words(entry["request"])}
+    return {
+        **told,
+        "slot": entry.get("slot"),
+        "instant": entry.get("instant"),
+        "told": request_in_words(entry["request"]),
+    }
 
 
 async def log(seat: Seat, query: Mapping[str, str]) -> Told:
     """Entries of the record, the newest first. Raises ValueError, Refused."""
-    asked: Told = {"word": "log", "last": max(1, min(LOG_ENTRIES, int(query.get("limit", LOG_ENTRIES))))}
-    asked.update({name: int(query[name]) for name in ("slot", "before", "instant") if name in query})
+    asked: Told = {
+        "word": "log",
+        "last": max(1, min(LOG_ENTRIES, int(query.get("limit", LOG_ENTRIES)))),
+    }
+    asked.update(
+        {name: int(query[name]) for name in ("slot", "before", "instant") if name in query}
+    )
     if "user" in query:
         asked["user"] = query["user"]
     told = await words.act_on(seat.context, asked)
-    return {"entries": [log_line(entry) for entry in reversed(told["entries"])], "more": told["older"], "whole": told["whole"]}
+    return {
+        "entries": [log_line(entry) for entry in reversed(told["entries"])],
+        "more": told["older"],
+        "whole": told["whole"],
+    }
 
 
 async def who(seat: Seat, query: Mapping[str, str]) -> Told:

@@ -21,11 +21,14 @@ def row_of(names: List[str], answer: Dict[str, Any]) -> Optional[str]:
 async def rows_of(seat: Seat, slot: int, first: int, last: int) -> Dict[str, Any]:
     """The rows of these instants, up to the first that can't be looked at, and the load that they are of.
 
-    `load` is None where the module was changed meanwhile: then the rows may be of two loads. Raises Refused."""
+    `load` is None where the module was changed meanwhile: then the rows may be of two loads. Raises Refused.
+    """
     before = await seen_slot(seat, slot)
     names = [name for name, _ in before["signals"]]
     last = min(last, before["instants"], first + AT_ONCE - 1)
-    asked = ({"cmd": "look", "slot": slot, "instant": instant} for instant in range(first, last + 1))
+    asked = (
+        {"cmd": "look", "slot": slot, "instant": instant} for instant in range(first, last + 1)
+    )
     answers = await asyncio.gather(*(seat.share.ask_answer(one) for one in asked))
     rows = []
     for answer in answers:

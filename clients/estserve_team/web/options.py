@@ -18,7 +18,8 @@ class Options(NamedTuple):
     """What is served: `place` is the host and the port, `socket` the path of a Unix socket, each or both.
 
     `origin` is where browsers find the page (None: at the place), `prefix` its path, without a slash at the end.
-    `header` names the person on the Unix socket, whose peers then have to be the Unix user `proxy`."""
+    `header` names the person on the Unix socket, whose peers then have to be the Unix user `proxy`.
+    """
 
     place: Optional[Tuple[str, int]]
     socket: Optional[str]
@@ -41,7 +42,9 @@ def read_place(text: Optional[str], has_origin: bool) -> Optional[Tuple[str, int
     except ValueError:
         is_loopback = False
     if not is_loopback and not has_origin:
-        raise Bad(f"--http {text}: whoever reaches the machine could reach it there; --origin has to say where browsers find it")
+        raise Bad(
+            f"--http {text}: whoever reaches the machine could reach it there; --origin has to say where browsers find it"
+        )
     return host, int(match[2])
 
 
@@ -50,8 +53,16 @@ def read_origin(text: Optional[str]) -> Tuple[Optional[str], str]:
     if text is None:
         return None, ""
     parts = urlsplit(text)
-    if parts.scheme not in ("http", "https") or not parts.netloc or parts.query or parts.fragment or "@" in parts.netloc:
-        raise Bad(f"--origin {text}: an address is expected, as https://team.example.org or https://example.org/team")
+    if (
+        parts.scheme not in ("http", "https")
+        or not parts.netloc
+        or parts.query
+        or parts.fragment
+        or "@" in parts.netloc
+    ):
+        raise Bad(
+            f"--origin {text}: an address is expected, as https://team.example.org or https://example.org/team"
+        )
     return f"{parts.scheme}://{parts.netloc}".lower(), parts.path.rstrip("/")
 
 
@@ -60,7 +71,9 @@ def read_proxy(options: argparse.Namespace) -> Optional[int]:
     if options.user_header and not HEADER.fullmatch(options.user_header):
         raise Bad(f"--user-header {options.user_header}: this is no header's name")
     if options.user_header and not (options.http_socket and options.proxy_user):
-        raise Bad("--user-header counts on a Unix socket of the proxy's alone: --http-socket and --proxy-user are needed")
+        raise Bad(
+            "--user-header counts on a Unix socket of the proxy's alone: --http-socket and --proxy-user are needed"
+        )
     if not options.proxy_user:
         return None
     if not options.http_socket:
@@ -76,7 +89,9 @@ def read_options(options: argparse.Namespace) -> Optional[Options]:
     proxy = read_proxy(options)
     if options.http is None and not options.http_socket:
         if options.origin:
-            raise Bad("--origin says where browsers find the page: --http or --http-socket is needed")
+            raise Bad(
+                "--origin says where browsers find the page: --http or --http-socket is needed"
+            )
         return None
     origin, prefix = read_origin(options.origin)
     if options.http_socket and origin is None:

@@ -28,7 +28,9 @@ async def may_of(rights: Rights, granted: set, number: int, signals: List[Any]) 
     return {
         "load": await may("load", own),
         "step": await may("step", own),
-        "offer": {name: await may("offer", f"{own}.{name}") for name, kind in signals if kind == "input"},
+        "offer": {
+            name: await may("offer", f"{own}.{name}") for name, kind in signals if kind == "input"
+        },
         "observe": {name: await may("observe", f"{own}.{name}") for name, _ in signals},
     }
 
@@ -58,7 +60,11 @@ async def look_at(seat: Seat, number: int) -> Dict[str, Any]:
         rights, signals, granted = rights_of(seat), slot.signals, set(state.policy.pairs())
         may = await may_of(rights, granted, number, signals)
         is_seen = await sees_slot(rights, state.policy, number)
-        if changes == seat.changes.count and slot is state.slots[number] and signals == slot.signals:
+        if (
+            changes == seat.changes.count
+            and slot is state.slots[number]
+            and signals == slot.signals
+        ):
             return shown(slot, may) if is_seen else {"slot": number, "visible": False, "may": may}
     raise failed("permissions change too fast to be shown")
 
@@ -68,7 +74,14 @@ async def page_slot(seat: Seat, number: int) -> Dict[str, Any]:
     told = await look_at(seat, number)
     if not told["visible"]:
         may = {"load": told["may"]["load"], "step": told["may"]["step"], "offer": {}, "observe": {}}
-        told = {"slot": number, "visible": False, "loaded": False, "load": None, "pending": [], "may": may}
+        told = {
+            "slot": number,
+            "visible": False,
+            "loaded": False,
+            "load": None,
+            "pending": [],
+            "may": may,
+        }
     return told
 
 
@@ -84,7 +97,10 @@ async def text_of(seat: Seat, number: int) -> Dict[str, Any]:
     """The text that was loaded, and the load. Raises Refused."""
     told = await seen_slot(seat, number)
     slot = seat.context.gateway.reads.slots[number]
-    return {"load": told["load"], "text": slot.text if slot.loaded == told["load"] and slot.is_loaded else ""}
+    return {
+        "load": told["load"],
+        "text": slot.text if slot.loaded == told["load"] and slot.is_loaded else "",
+    }
 
 
 async def relations_of(seat: Seat, number: Any) -> List[str]:

@@ -21,7 +21,9 @@ SENTENCES = {
 }
 
 
-def sentence_of(answer: Dict[str, Any], command: Dict[str, Any], relations: Sequence[str] = ()) -> str:
+def sentence_of(
+    answer: Dict[str, Any], command: Dict[str, Any], relations: Sequence[str] = ()
+) -> str:
     """The sentence of a refusal, be it the program's or the gateway's own."""
     if answer.get("fault") not in SENTENCES:
         return sentence(Refusal(answer, command), relations)
@@ -34,6 +36,8 @@ def sentence_of(answer: Dict[str, Any], command: Dict[str, Any], relations: Sequ
         return str(answer["fault"])
 
 
-def refusal_of(answer: Dict[str, Any], command: Dict[str, Any], relations: Sequence[str] = ()) -> Dict[str, Any]:
+def refusal_of(
+    answer: Dict[str, Any], command: Dict[str, Any], relations: Sequence[str] = ()
+) -> Dict[str, Any]:
     """What the page is told of a refusal."""
     return {"refusal": answer, "sentence": sentence_of(answer, command, relations)}

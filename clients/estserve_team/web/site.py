@@ -20,7 +20,12 @@ from .stream import Watcher, changes_permissions
 from .visits import Links, Visit, Visits
 
 PAGE = pathlib.Path(__file__).resolve().parents[1] / "page"
-KINDS = {".html": "text/html", ".css": "text/css", ".js": "text/javascript", ".svg": "image/svg+xml"}
+KINDS = {
+    ".html": "text/html",
+    ".css": "text/css",
+    ".js": "text/javascript",
+    ".svg": "image/svg+xml",
+}
 BODY_BYTES = 512 * 1024  # a line of 65,536 bytes may take six times as many in a page's JSON
 AWAY = (1004, 1005)  # refusals after which the same request may be sent again
 Handler = Callable[[web.Request], Awaitable[web.StreamResponse]]
@@ -156,11 +161,13 @@ class Site:
     async def _get(self, request: web.Request) -> web.StreamResponse:
         """A file of the page, or what the page reads."""
         if request.path.startswith("/api/"):
-            return await self._read(request, request.path[len("/api/"):])
+            return await self._read(request, request.path[len("/api/") :])
         if request.path not in self._files:
             raise web.HTTPNotFound(text="There is no such page.")
         kind, content = self._files[request.path]
-        return web.Response(body=content, content_type=kind, charset="utf-8", headers={"Cache-Control": "no-cache"})
+        return web.Response(
+            body=content, content_type=kind, charset="utf-8", headers={"Cache-Control": "no-cache"}
+        )
 
     async def _read(self, request: web.Request, name: str) -> web.StreamResponse:
         visit, person = self._visit_of(request)
@@ -216,14 +223,22 @@ class Site:
         if name is None and isinstance(body.get("link"), str):
             name = self._links.use(body["link"])
             if name is None:
-                return told(401, "This link was used already, or its five minutes are over: ask for another one.")
+                return told(
+                    401,
+                    "This link was used already, or its five minutes are over: ask for another one.",
+                )
         if name is None:
             return told(401, "A link is needed.")
         person = self._person(name)
         cookie, token = self._visits.begin(person.name)
         answer = web.json_response({**asking.me(self._gateway, person), "token": token})
         answer.set_cookie(
-            self._cookie, cookie, path=f"{self._options.prefix}/", httponly=True, samesite="Strict", secure=self._guard.is_secure
+            self._cookie,
+            cookie,
+            path=f"{self._options.prefix}/",
+            httponly=True,
+            samesite="Strict",
+            secure=self._guard.is_secure,
         )
         return answer
 
@@ -252,19 +267,30 @@ class Site:
     async def _login(self, visit: Visit, person: Person, body: Dict[str, Any]) -> web.Response:
         """Takes a seat. Raises Refused."""
         user, roles = body.get("user"), body.get("roles")
-        if not isinstance(user, str) or not isinstance(roles, list) or not all(isinstance(role, str) for role in roles):
+        if (
+            not isinstance(user, str)
+            or not isinstance(roles, list)
+            or not all(isinstance(role, str) for role in roles)
+        ):
             raise web.HTTPBadRequest(text="A user and a list of roles are expected.")
         share = await self._gateway.share(person, user, roles)
         seat = Seat(visit.cookie, Context(self._gateway, person, share), self._changes)
         self._seats.add(seat)
         return web.json_response(
-            {"seat": seat.name, "user": share.user, "roles": list(share.roles), "session": share.number}
+            {
+                "seat": seat.name,
+                "user": share.user,
+                "roles": list(share.roles),
+                "session": share.number,
+            }
         )
 
     # Live events.
 
     async def _stream(self, request: web.Request, seat: Seat) -> web.StreamResponse:
-        answer = web.StreamResponse(headers={**HEADERS, "Cache-Control": "no-store", "X-Accel-Buffering": "no"})
+        answer = web.StreamResponse(
+            headers={**HEADERS, "Cache-Control": "no-store", "X-Accel-Buffering": "no"}
+        )
         answer.content_type = "text/event-stream"
         await answer.prepare(request)
         watcher = Watcher(self._gateway, seat)

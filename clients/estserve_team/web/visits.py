@@ -83,14 +83,18 @@ class Visits:
 
     def _drop_old(self) -> None:
         oldest = self._clock() - VISIT_SECONDS
-        self._visits = {cookie: visit for cookie, visit in self._visits.items() if visit.used >= oldest}
+        self._visits = {
+            cookie: visit for cookie, visit in self._visits.items() if visit.used >= oldest
+        }
         while len(self._visits) > VISITS:
             del self._visits[min(self._visits.values(), key=lambda visit: visit.used).cookie]
 
     def begin(self, person: str) -> Tuple[str, str]:
         """The cookie and the token of a new visit of this person."""
         cookie, token = secrets.token_urlsafe(32), secrets.token_urlsafe(32)
-        self._visits[digest_of(cookie)] = Visit(digest_of(cookie), digest_of(token), person, self._clock())
+        self._visits[digest_of(cookie)] = Visit(
+            digest_of(cookie), digest_of(token), person, self._clock()
+        )
         self._drop_old()
         self.keep()
         return cookie, token
