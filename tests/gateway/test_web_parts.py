@@ -1,4 +1,5 @@
-"""Parts of the page's server that need neither a gateway nor aiohttp: options, links, visits, sentences."""
+"""Parts of the page's server that need neither a gateway nor aiohttp: options, links, visits,
+sentences."""
 import argparse
 import os
 import pathlib

@@ -1,4 +1,5 @@
-"""The gateway over HTTP: the page, and what it asks. This module imports no aiohttp; `start` does, where HTTP is asked for."""
+"""The gateway over HTTP: the page, and what it asks. This module imports no aiohttp; `start`
+does, where HTTP is asked for."""
 import argparse
 import weakref
 from typing import Any, Dict
@@ -46,7 +47,8 @@ def add_options(parser: argparse.ArgumentParser) -> None:
     group.add_argument(
         "--user-header",
         metavar="NAME",
-        help="the header in which the proxy says who the person is, as X-Remote-User; on the Unix socket alone",
+        help="the header by which the proxy names the person, as X-Remote-User; "
+        "on the Unix socket alone",
     )
     group.add_argument(
         "--proxy-user",
@@ -56,7 +58,8 @@ def add_options(parser: argparse.ArgumentParser) -> None:
 
 
 async def start(gateway: Any, options: argparse.Namespace) -> Any:
-    """Begins to serve HTTP. None where the options ask for none; raises Failed where it can't be served."""
+    """Begins to serve HTTP. None where the options ask for none; raises Failed where it can't be
+    served."""
     from estserve_client.running import Failed
 
     try:

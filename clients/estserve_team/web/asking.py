@@ -46,7 +46,8 @@ def me(gateway: Any, person: Person) -> Told:
 
 
 def completed(command: Told) -> Told:
-    """A command as the program has it: a load that names no main module takes the first that no other runs."""
+    """A command as the program has it: a load that names no main module takes the first that no
+    other runs."""
     text = command.get("text")
     if command.get("cmd") == "load" and "main" not in command and isinstance(text, str):
         return {**command, "main": main_of(text).name}
@@ -54,7 +55,8 @@ def completed(command: Told) -> Told:
 
 
 async def ask(seat: Seat, body: Told) -> Told:
-    """One command of the program. One that bears an id which was recorded is answered from the record. Raises Refused."""
+    """One command of the program. One that bears an id which was recorded is answered from the
+    record. Raises Refused."""
     command, identifier = body.get("command"), body.get("id")
     if (
         not isinstance(command, dict)
@@ -144,7 +146,9 @@ def way_in_words(user: str, way: Told, operation: str, thing: str) -> str:
     first, *below = way["roles"]
     chain = "".join(f", above {role}" for role in below)
     last = way["roles"][-1]
-    return f"{user} has {first} (version {way['assigned']['version']}){chain}; {last} may {operation} on {thing} (version {way['granted']['version']})"
+    assigned, granted = (way[name]["version"] for name in ("assigned", "granted"))
+    had = f"{user} has {first} (version {assigned}){chain}"
+    return f"{had}; {last} may {operation} on {thing} (version {granted})"
 
 
 async def why(seat: Seat, query: Mapping[str, str]) -> Told:
@@ -161,9 +165,8 @@ async def why(seat: Seat, query: Mapping[str, str]) -> Told:
             else f"There is no user {user}."
         ]
     if "allowed" in told:
-        lines.append(
-            f"This login {'may' if told['allowed'] else 'may not'}, with the roles that are active in it."
-        )
+        may = "may" if told["allowed"] else "may not"
+        lines.append(f"This login {may}, with the roles that are active in it.")
     return {"lines": lines}
 
 

@@ -10,7 +10,8 @@ from .options import Options
 TOKEN = "X-Estserve-Token"
 HEADERS = {
     "Content-Security-Policy": (
-        "default-src 'self'; base-uri 'none'; form-action 'self'; frame-ancestors 'none'; object-src 'none'"
+        "default-src 'self'; base-uri 'none'; form-action 'self'; "
+        "frame-ancestors 'none'; object-src 'none'"
     ),
     "X-Content-Type-Options": "nosniff",
     "X-Frame-Options": "DENY",
@@ -26,7 +27,8 @@ def told(status: int, sentence: str) -> web.Response:
 
 
 class Guard:
-    """The rules of who may ask: by the host, the origin, the peer of the Unix socket, and the proxy's header."""
+    """The rules of who may ask: by the host, the origin, the peer of the Unix socket, and the
+    proxy's header."""
 
     def __init__(self, options: Options, port: Optional[int]) -> None:
         self._options = options
@@ -64,7 +66,8 @@ class Guard:
         return self._fault_of_origin(request) if "/api/" in request.path else None
 
     def _fault_of_origin(self, request: web.Request) -> Optional[web.Response]:
-        """A request of a page of another origin, and one that changes something without an origin."""
+        """A request of a page of another origin, and one that changes something without an
+        origin."""
         origins = request.headers.getall("Origin", [])
         if len(origins) > 1 or any(origin.lower() not in self.origins for origin in origins):
             return told(403, "This origin is not the page's.")
@@ -80,7 +83,8 @@ class Guard:
         return isinstance(request.transport.get_extra_info("sockname"), str)
 
     def named_person(self, request: web.Request) -> Optional[str]:
-        """The person whom the proxy names; None where the proxy is not asked. Raises HTTPForbidden where none or two are named."""
+        """The person whom the proxy names; None where the proxy is not asked. Raises
+        HTTPForbidden where none or two are named."""
         if not self._options.header or not self.is_of_proxy(request):
             return None
         names = request.headers.getall(self._options.header, [])

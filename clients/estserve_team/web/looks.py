@@ -11,7 +11,8 @@ HIDDEN = "."
 
 
 def row_of(names: List[str], answer: Dict[str, Any]) -> Optional[str]:
-    """The letters of an instant, one a signal in order of declaration; None where the look was refused."""
+    """The letters of an instant, one a signal in order of declaration; None where the look was
+    refused."""
     if "signals" not in answer:
         return None
     present = dict(answer["signals"])
@@ -19,10 +20,11 @@ def row_of(names: List[str], answer: Dict[str, Any]) -> Optional[str]:
 
 
 async def rows_of(seat: Seat, slot: int, first: int, last: int) -> Dict[str, Any]:
-    """The rows of these instants, up to the first that can't be looked at, and the load that they are of.
+    """The rows of these instants, up to the first that can't be looked at, and the load that they
+    are of.
 
-    `load` is None where the module was changed meanwhile: then the rows may be of two loads. Raises Refused.
-    """
+    `load` is None where the module was changed meanwhile: then the rows may be of two loads. Raises
+    Refused."""
     before = await seen_slot(seat, slot)
     names = [name for name, _ in before["signals"]]
     last = min(last, before["instants"], first + AT_ONCE - 1)

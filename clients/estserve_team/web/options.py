@@ -15,11 +15,12 @@ class Bad(Exception):
 
 
 class Options(NamedTuple):
-    """What is served: `place` is the host and the port, `socket` the path of a Unix socket, each or both.
+    """What is served: `place` is the host and the port, `socket` the path of a Unix socket, each or
+    both.
 
-    `origin` is where browsers find the page (None: at the place), `prefix` its path, without a slash at the end.
-    `header` names the person on the Unix socket, whose peers then have to be the Unix user `proxy`.
-    """
+    `origin` is where browsers find the page (None: at the place), `prefix` its path, without a
+    slash at the end. `header` names the person on the Unix socket, whose peers then have to be the
+    Unix user `proxy`."""
 
     place: Optional[Tuple[str, int]]
     socket: Optional[str]
@@ -43,7 +44,8 @@ def read_place(text: Optional[str], has_origin: bool) -> Optional[Tuple[str, int
         is_loopback = False
     if not is_loopback and not has_origin:
         raise Bad(
-            f"--http {text}: whoever reaches the machine could reach it there; --origin has to say where browsers find it"
+            f"--http {text}: others than this machine could reach it there; "
+            "--origin has to say where browsers find it"
         )
     return host, int(match[2])
 
@@ -61,7 +63,8 @@ def read_origin(text: Optional[str]) -> Tuple[Optional[str], str]:
         or "@" in parts.netloc
     ):
         raise Bad(
-            f"--origin {text}: an address is expected, as https://team.example.org or https://example.org/team"
+            f"--origin {text}: an address is expected, "
+            "as https://team.example.org or https://example.org/team"
         )
     return f"{parts.scheme}://{parts.netloc}".lower(), parts.path.rstrip("/")
 
@@ -72,7 +75,8 @@ def read_proxy(options: argparse.Namespace) -> Optional[int]:
         raise Bad(f"--user-header {options.user_header}: this is no header's name")
     if options.user_header and not (options.http_socket and options.proxy_user):
         raise Bad(
-            "--user-header counts on a Unix socket of the proxy's alone: --http-socket and --proxy-user are needed"
+            "--user-header counts on a Unix socket of the proxy's alone: "
+            "--http-socket and --proxy-user are needed"
         )
     if not options.proxy_user:
         return None

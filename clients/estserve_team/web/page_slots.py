@@ -1,4 +1,5 @@
-"""A slot as the page shows it: what its session may see and do there, each asked of the program by `check`."""
+"""A slot as the page shows it: what its session may see and do there, each asked of the program
+by `check`."""
 from typing import Any, Dict, List
 
 from estserve_client.module_text import main_of
@@ -19,7 +20,8 @@ def rights_of(seat: Seat) -> Rights:
 
 
 async def may_of(rights: Rights, granted: set, number: int, signals: List[Any]) -> Dict[str, Any]:
-    """What the session may do on a slot and on its signals. What nobody was granted needs no question."""
+    """What the session may do on a slot and on its signals. What nobody was granted needs no
+    question."""
 
     async def may(operation: str, object: str) -> bool:
         return (operation, object) in granted and await rights.may(operation, object)
@@ -53,7 +55,8 @@ def shown(slot: Any, may: Dict[str, Any]) -> Dict[str, Any]:
 
 
 async def look_at(seat: Seat, number: int) -> Dict[str, Any]:
-    """The slot by what the session may do now; asked again where permissions or the module change meanwhile."""
+    """The slot by what the session may do now; asked again where permissions or the module
+    change meanwhile."""
     state = seat.context.gateway.reads
     for _ in range(TRIES):
         changes, slot = seat.changes.count, state.slots[number]
@@ -70,7 +73,8 @@ async def look_at(seat: Seat, number: int) -> Dict[str, Any]:
 
 
 async def page_slot(seat: Seat, number: int) -> Dict[str, Any]:
-    """What the page is told of a slot. Of one that may not be seen, that it is so. Raises Refused."""
+    """What the page is told of a slot. Of one that may not be seen, that it is so. Raises
+    Refused."""
     told = await look_at(seat, number)
     if not told["visible"]:
         may = {"load": told["may"]["load"], "step": told["may"]["step"], "offer": {}, "observe": {}}

@@ -1,8 +1,8 @@
 """Seats: each page that is logged in has one, with its share of a login.
 
-Pages of one person with the same user and roles share the login. A seat whose page is silent for a while is given up, so that its
-login, one of sixteen, is free again; a page that comes back takes a new one by itself.
-"""
+Pages of one person with the same user and roles share the login. A seat whose page is silent for a
+while is given up, so that its login, one of sixteen, is free again; a page that comes back takes a
+new one by itself."""
 import asyncio
 import secrets
 import time

@@ -86,7 +86,8 @@ class Site:
         self._gateway.log(f"the page is at {self.address}")
 
     def _bind(self) -> List[socket.socket]:
-        """The sockets that are asked for; the Unix socket is open to its user and group alone. Raises OSError."""
+        """The sockets that are asked for; the Unix socket is open to its user and group alone.
+        Raises OSError."""
         found = []
         if self._options.place:
             host, port = self._options.place
@@ -225,7 +226,7 @@ class Site:
             if name is None:
                 return told(
                     401,
-                    "This link was used already, or its five minutes are over: ask for another one.",
+                    "This link was used, or its five minutes are over: ask for another.",
                 )
         if name is None:
             return told(401, "A link is needed.")
@@ -250,7 +251,8 @@ class Site:
             raise web.HTTPUnauthorized(text="This person is not known on the machine.") from None
 
     def _visit_of(self, request: web.Request) -> "tuple[Visit, Person]":
-        """The visit of a request, by its cookie and its token, and the person. Raises HTTPUnauthorized."""
+        """The visit of a request, by its cookie and its token, and the person. Raises
+        HTTPUnauthorized."""
         visit = self._visits.find(request.cookies.get(self._cookie), request.headers.get(TOKEN))
         name = self._guard.named_person(request)
         if visit is None or (name is not None and name != visit.person):

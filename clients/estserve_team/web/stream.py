@@ -1,8 +1,8 @@
 """Live events of a page: what has changed, as its own session may see it.
 
-An entry says only which slot to look at again. What the page is told is asked anew on the page's own session. Changes that come
-together are told once, and the more a telling costs, the longer the next one waits.
-"""
+An entry says only which slot to look at again. What the page is told is asked anew on the page's
+own session. Changes that come together are told once, and the more a telling costs, the longer the
+next one waits."""
 import asyncio
 import json
 from typing import Any, AsyncIterator, List, Set, Tuple
@@ -62,7 +62,8 @@ class Watcher:
         self._wake.set()
 
     async def events(self) -> AsyncIterator[bytes]:
-        """What the stream has, as it comes, until the seat is over; nothing, now and then, to see whether the page is there."""
+        """What the stream has, as it comes, until the seat is over; nothing, now and then, to
+        see whether the page is there."""
         loop, turns = asyncio.get_running_loop(), 0
         while not self._seat.is_over:
             try:
@@ -92,7 +93,8 @@ class Watcher:
         return news + self._new_warnings()
 
     async def _has_ended(self) -> bool:
-        """Whether the session was ended by the policy: there is no slot 16, and it is said so only to a session that lives."""
+        """Whether the session was ended by the policy: there is no slot 16, and it is said so
+        only to a session that lives."""
         asked = {"cmd": "look", "slot": SLOTS, "instant": 1}
         if (await self._seat.share.ask_answer(asked)).get("code") != NO_SESSION:
             return False

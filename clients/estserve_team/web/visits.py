@@ -1,9 +1,9 @@
 """Who has come in by HTTP: links that are used once, and visits, each of one browser.
 
-A visit has two secrets: a cookie, which no script reads, and a token, which the page sends with each request and which no other
-origin has. Either alone opens nothing. Only their digests are kept, in a file that only the gateway's user may read, so that a
-visit goes on when the gateway is started anew.
-"""
+A visit has two secrets: a cookie, which no script reads, and a token, which the page sends with
+each request and which no other origin has. Either alone opens nothing. Only their digests are kept,
+in a file that only the gateway's user may read, so that a visit goes on when the gateway is started
+anew."""
 import hashlib
 import json
 import os
@@ -48,7 +48,8 @@ class Links:
         return secret
 
     def use(self, secret: str) -> Optional[str]:
-        """The person of a link, which is spent by that; None where there is none, or its time is over."""
+        """The person of a link, which is spent by that; None where there is none, or its time is
+        over."""
         person, end = self._links.pop(digest_of(secret), ("", 0.0))
         return person if person and self._clock() < end else None
 
