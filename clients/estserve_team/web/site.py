@@ -145,9 +145,10 @@ class Site:
         """Refuses what may not be looked at, and adds the headers that each answer has."""
         answer: web.StreamResponse
         try:
-            answer = self._guard.fault_of(request) or await handler(request)
-        except web.HTTPException as fault:
-            answer = told(fault.status, fault.text or fault.reason)
+            fault = self._guard.fault_of(request)
+            answer = await handler(request) if fault is None else fault
+        except web.HTTPException as raised:
+            answer = told(raised.status, raised.text or raised.reason)
         except Refused as refused:
             answer = self._refused(refused)
         if not answer.prepared:
