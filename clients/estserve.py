@@ -26,6 +26,7 @@ from estserve_client.connection import (
 from estserve_client.running import Failed, run
 from estserve_client.sentences import sentence
 from estserve_client.shell import shell
+from estserve_team import command as team
 
 __all__ = [
     "CannotBeSent", "Client", "Disconnected", "NotText", "Refusal", "TooLong", "connect", "sentence", "start",
@@ -64,6 +65,7 @@ def make_parser():
     applying.add_argument("file", metavar="POLICY", help="the policy, in TOML")
     add_server(applying, 1)
     applying.set_defaults(act=apply)
+    team.add_parser(commands)
     return parser
 
 

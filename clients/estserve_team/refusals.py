@@ -61,3 +61,22 @@ def needs_login() -> Refused:
 def failed(why: str) -> Refused:
     """The word was understood and allowed, and could not be carried out."""
     return Refused(1013, "Failed", why=why)
+
+
+def on_shared(cmd: str) -> Refused:
+    """A shared session's login is the same for all who share it: these commands would change it."""
+    return Refused(1014, "OnShared", cmd=cmd)
+
+
+def id_taken(request_id: str) -> Refused:
+    """Another request has this id, or it is out of form."""
+    return Refused(1015, "IdTaken", id=request_id)
+
+
+class ProgramRefused(Refused):
+    """A refusal of the program's: its own line, as it came."""
+
+    def __init__(self, line: bytes) -> None:
+        answer = json.loads(line)
+        super().__init__(**answer)
+        self.answer, self.line = answer, line

@@ -50,3 +50,16 @@ async def act_on(context: Context, asked: Dict[str, Any]) -> Dict[str, Any]:
     if word.needs_session and context.session is None:
         raise needs_login()
     return {"ok": name, **await word.act(context, keys)}
+
+
+async def ping(context: Context, keys: Dict[str, Any]) -> Dict[str, Any]:
+    """Who the gateway takes the caller for, and the policy users that it may name."""
+    return {"person": context.person.name, "team": context.gateway.name, "users": list(context.person.users)}
+
+
+WORDS = {"ping": Word(ping, needs_session=False)}
+# a connection of gateway.sock carries these out itself
+LOGINS = {
+    "login": Word(ping, required={"user": str}, optional={"roles": list}),
+    "logout": Word(ping),
+}
