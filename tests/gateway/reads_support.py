@@ -8,12 +8,23 @@ import importlib.util
 import json
 import pathlib
 import sqlite3
-import sys
 import tempfile
 import time
 
-ROOT = pathlib.Path(__file__).resolve().parents[2]
-sys.path.insert(0, str(ROOT / "clients"))
+from teams import ROOT, program_file, programs
+
+from estserve_client.connection import line_of
+from estserve_team import reads
+from estserve_team.people import Person
+from estserve_team.reads.policy_model import POLICY_COMMANDS
+from estserve_team.reads.slot_model import SLOT_COMMANDS
+from estserve_team.record import SCHEMA, Entry
+from estserve_team.sessions import Holder
+from estserve_team.words import Context, act_on
+
+__all__ = ["ABRO", "Desk", "ROOT", "load_module", "program_file"]
+INSERT = f"INSERT INTO entries VALUES ({', '.join('?' * len(Entry._fields))})"
+ABRO = (ROOT / "examples" / "abro" / "abro.strl").read_text()
 
 
 def load_module(path, name):
@@ -22,21 +33,6 @@ def load_module(path, name):
     module = importlib.util.module_from_spec(spec)
     spec.loader.exec_module(module)
     return module
-
-
-socket_running = load_module(ROOT / "tests" / "socket" / "running.py", "socket_running")
-
-from estserve_client.connection import line_of  # noqa: E402
-from estserve_team import reads  # noqa: E402
-from estserve_team.people import Person  # noqa: E402
-from estserve_team.reads.policy_model import POLICY_COMMANDS  # noqa: E402
-from estserve_team.reads.slot_model import SLOT_COMMANDS  # noqa: E402
-from estserve_team.record import SCHEMA, Entry  # noqa: E402
-from estserve_team.sessions import Holder  # noqa: E402
-from estserve_team.words import Context, act_on  # noqa: E402
-
-INSERT = f"INSERT INTO entries VALUES ({', '.join('?' * len(Entry._fields))})"
-ABRO = (ROOT / "examples" / "abro" / "abro.strl").read_text()
 
 
 def written(answer):
@@ -115,7 +111,7 @@ class Desk:
         self._held = tempfile.TemporaryDirectory(prefix="estserve-reads-")
         self.folder = pathlib.Path(self._held.name)
         self.record_path = self.folder / "record.sqlite"
-        self._server = socket_running.Server("--workers", "16")
+        self._server = programs.Server("--workers", "16")
         self._count = seats
         self.told, self._listeners, self._old = [], [], []
         self.entries_written = 0

@@ -2,6 +2,7 @@
 from typing import Dict
 
 from ..words import Word
+from .archive import archive
 from .filling import warnings
 from .record_log import log
 from .state import ReadState
@@ -19,6 +20,7 @@ WORDS: Dict[str, Word] = {
         optional={"slot": int, "user": str, "instant": int, "last": int, "before": int},
         needs_session=False,
     ),
+    "archive": Word(archive, optional={"slot": int}),
 }
 
 

@@ -7,7 +7,7 @@ from typing import Any, Dict, List, NamedTuple, Optional, Tuple
 from estserve_client.sentences import out_of_form
 
 from ..record import POLICY, Entry, open_reader
-from ..refusals import not_a_word
+from ..refusals import failed, not_a_word
 from ..words import Context
 from .rights import Rights, refuse_others
 from .slot_model import SLOTS
@@ -108,9 +108,8 @@ async def log(context: Context, keys: Dict[str, Any]) -> Dict[str, Any]:
 
     `before` asks for those under a number of the log; `older` tells whether there may be more."""
     wanted, count = wanted_of(keys)
-    gateway = context.gateway
-    present, written = gateway.record_path, gateway.entries_written
-    old_records = list(gateway.old_records())
+    gateway, loop = context.gateway, asyncio.get_running_loop()
+    records, written = (list(gateway.old_records()), gateway.record_path), gateway.entries_written
     oversees = await Rights(context.session).oversees()
     if not oversees:
         if wanted.user is not None and not context.person.may_be(wanted.user):
@@ -118,9 +117,11 @@ async def log(context: Context, keys: Dict[str, Any]) -> Dict[str, Any]:
         wanted = wanted._replace(person=context.person.name)
 
     def read() -> List[Dict[str, Any]]:
-        parts = parts_of(old_records, present, written)
+        parts = parts_of(*records, written)
         below = min(keys.get("before", parts[-1].last + 1), parts[-1].last + 1)
         return read_log(parts, wanted, below, count)
 
-    entries = await asyncio.get_running_loop().run_in_executor(None, read)
+    entries = await loop.run_in_executor(None, read)
+    if list(gateway.old_records()) != records[0]:
+        raise failed("the record was archived meanwhile; ask again")
     return {"entries": entries, "older": len(entries) == count, "whole": oversees}

@@ -3,13 +3,11 @@ import json
 import pathlib
 from typing import Iterable, Iterator
 
-from ..record import POLICY, Entry, open_reader
+from ..record import POLICY, Entry, in_order, open_reader
 from .filling import FillingWatch
 from .policy_model import PolicyModel
 from .slot_model import SlotsModel
 
-COLUMNS = ", ".join(Entry._fields)
-IN_ORDER = f"SELECT {COLUMNS} FROM entries ORDER BY version, slot, place"
 WITHOUT_KEYS = {command: {"cmd": command} for command in ("step", "discard", "unload")}
 
 
@@ -41,8 +39,7 @@ class Models:
 def entries_of(path: pathlib.Path) -> Iterator[Entry]:
     """The entries of a record, in an order in which each follows all that it may have seen."""
     with open_reader(path) as database:
-        for row in database.execute(IN_ORDER):
-            yield Entry._make(row)
+        yield from in_order(database)
 
 
 def models_of(path: pathlib.Path) -> Models:
