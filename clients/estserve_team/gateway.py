@@ -19,13 +19,15 @@ from .people import People, Person
 from .places import Failed, Places
 from .record import POLICY, Connection, Entry, GivenUp, RecordWriter
 from .refusals import ProgramRefused, Refused, all_taken, failed, interrupted, not_you, stopping
+from .server import Lost
 from .sessions import LOGOUT, MOST_SENDS, SEATS, Holder, Session, SharedSession, ask_later, login_request
-from .starting import replace_record, restore_record, start_server
+from .starting import Begun, replace_record, restore_record, start_server
 
 STARTING, SERVING, BEGINNING, ARCHIVING, STOPPING = "starting", "serving", "beginning anew", "archiving", "stopping"
 WATCH_SECONDS = 1.0
 UNUSED_SECONDS = 5.0  # a shared login for which nobody has waited is logged out after so many
 AGAIN_SECONDS = 0.05  # a logout for which there was no memory is asked again after so many
+MOST_STARTS = 5  # of servers that are lost while they are begun
 STOP_SECONDS = 60  # logouts are answered in so many, or the gateway ends without
 
 
@@ -265,7 +267,7 @@ class Gateway:
 
     async def _begin(self) -> None:
         """A server that has what the record says, with nobody logged in. Raises Failed."""
-        begun = await start_server(self.places, self.program, self._note_server)
+        begun = await self._start_server()
         self._writer, self.order = begun.writer, Order(*begun.extent)
         self.entries_written, connections = begun.writer.last_numbers()
         self._connections = max(self._connections, connections)
@@ -275,6 +277,18 @@ class Gateway:
         if self.phase != STOPPING:
             self.phase = SERVING
             self._serving.set()
+
+    async def _start_server(self) -> Begun:
+        """A server that has what the record says; another one, where it is lost meanwhile. Raises Failed."""
+        for left in reversed(range(MOST_STARTS)):
+            try:
+                return await start_server(self.places, self.program, self._note_server)
+            except Lost as fault:
+                self._server.end()
+                if not left or self.phase == STOPPING:
+                    raise
+                self.log(f"{fault}; it is begun anew once more")
+        raise AssertionError("there is a last start")
 
     def _note_server(self, server: Any) -> None:
         self._server = server
@@ -308,8 +322,8 @@ class Gateway:
         try:
             self._writer.close()
             await self._begin()
-        except (Failed, sqlite3.Error) as fault:
-            self.stop_failed(str(fault))
+        except Exception as fault:  # whatever it is, there is no server
+            self.stop_failed(str(fault) if isinstance(fault, Failed) else repr(fault))
             return
         self._tell_restart()
 

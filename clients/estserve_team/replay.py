@@ -8,7 +8,8 @@ import socket
 from typing import Dict, Iterator, List, NamedTuple, Optional, Tuple
 
 from .places import Failed
-from .record import POLICY, Aside, Entry, GivenUp, in_order, open_reader
+from .record import POLICY, Aside, Entry, in_order, open_reader
+from .server import Lost
 
 AHEAD_LINES = 300  # are sent before their answers are read
 AHEAD_BYTES = 40_000
@@ -39,7 +40,7 @@ class Talker:
             self._socket.connect(str(path))
         except OSError as fault:
             self._socket.close()
-            raise Failed(f"the server does not take a connection: {fault}") from fault
+            raise Lost(f"the server does not take a connection: {fault}") from fault
 
     def ask(self, line: bytes) -> bytes:
         """The answer to a line, both without LF. Raises Failed, where none comes."""
@@ -71,15 +72,15 @@ class Talker:
         try:
             self._socket.sendall(text)
         except OSError as fault:
-            raise Failed(f"the server takes no line: {fault}") from fault
+            raise Lost(f"the server takes no line: {fault}") from fault
 
     def _receive(self) -> bytes:
         try:
             more = self._socket.recv(RECEIVED)
         except OSError as fault:
-            raise Failed(f"the server does not answer: {fault}") from fault
+            raise Lost(f"the server does not answer: {fault}") from fault
         if not more:
-            raise Failed("the server ends a connection before its answer")
+            raise Lost("the server ends a connection before its answer")
         return more
 
     def close(self) -> None:
@@ -170,6 +171,8 @@ class Replay:
         first, last = entries[0], entries[-1]
         if first.command == "login":
             self.live[first.connection] = Live(Talker(self._server), first)
+        if first.connection not in self.live:
+            raise Failed(f"the record's entry {Aside(first.slot, first.place)} is on a connection that is not open")
         answers = self.live[first.connection].talker.ask_part([entry.request for entry in entries])
         for entry, answer in zip(entries, answers):
             if answer != entry.reply:
@@ -177,8 +180,3 @@ class Replay:
         self.count += len(entries)
         if last.command == "logout":
             self.live.pop(last.connection).talker.close()
-
-
-def given_up(live: Live, version: int, time: float) -> GivenUp:
-    """That a connection was closed when its session had ended."""
-    return GivenUp(live.login.connection, version, time)

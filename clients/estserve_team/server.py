@@ -12,6 +12,10 @@ START_SECONDS = 30  # the program listens in so many, or it is given up
 POLL_SECONDS = 0.002
 
 
+class Lost(Failed):
+    """The server has gone away, or gives no answer."""
+
+
 class Server:
     """`estserve serve --workers 16` at a socket. Used with `with`, it is started, and ended at the end.
 
@@ -32,8 +36,9 @@ class Server:
         end = time.monotonic() + START_SECONDS
         while not self._listens():
             if not self.is_running or time.monotonic() > end:
+                was_killed = self.is_running or self._process.returncode < 0
                 self.end()
-                raise Failed(f"{self.program} does not serve")
+                raise (Lost if was_killed else Failed)(f"{self.program} does not serve")
             time.sleep(POLL_SECONDS)
 
     def _listens(self) -> bool:

@@ -184,8 +184,10 @@ class Team:
             return database.execute(sql).fetchall()
 
     def server(self):
-        """The id of the server's process."""
-        return next(process for process in processes_of(self.state) if b"serve\0--socket" in command_of(process))
+        """The id of the server's process, once one runs, also where it is just being begun anew."""
+        return wait_for(
+            lambda: next((process for process in processes_of(self.state) if b"serve\0--socket" in command_of(process)), None)
+        )
 
 
 def command_of(process):

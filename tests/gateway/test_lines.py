@@ -1,4 +1,5 @@
 """What the gateway understands of a line, and that no line is answered otherwise than by the program alone."""
+import concurrent.futures
 import json
 import unittest
 
@@ -86,9 +87,11 @@ class MutatedLines(unittest.TestCase):
         with Team(people=people) as team, team.talker() as ours, program_alone() as alone:
             self.assertEqual(ours.ask_all(FIRST), alone.ask_all(FIRST))
             lines = list(self.lines())
+            beside = concurrent.futures.ThreadPoolExecutor(1)
             for first in range(0, LINES, AT_ONCE):
                 part = lines[first:first + AT_ONCE]
-                for line, told, said in zip(part, ours.ask_all(part), alone.ask_all(part)):
+                answers = beside.submit(alone.ask_all, part)
+                for line, told, said in zip(part, ours.ask_all(part), answers.result()):
                     if told.startswith(b'{"code":1001,'):
                         self.assertNotIn(json.loads(told)["user"], ("root", "ann"))
                         self.assertIn(json.loads(said)["code"], (5, 25))
