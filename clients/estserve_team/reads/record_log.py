@@ -27,11 +27,14 @@ class Wanted(NamedTuple):
 
 
 class Part(NamedTuple):
-    """A record as a part of the whole log: its entries have the numbers from `first` + 1 to `last`."""
+    """A record as a part of the whole log: its entries have the numbers from `first` + 1 to `last`.
+
+    `kept` is the name of a kept record's file, None of the present one."""
 
     path: pathlib.Path
     first: int
     last: int
+    kept: Optional[str]
 
 
 def parts_of(old_records: List[pathlib.Path], present: pathlib.Path, written: int) -> List[Part]:
@@ -40,9 +43,9 @@ def parts_of(old_records: List[pathlib.Path], present: pathlib.Path, written: in
     for path in old_records:
         with open_reader(path) as database:
             last = database.execute("SELECT COALESCE(MAX(number), 0) FROM entries").fetchone()[0]
-        parts.append(Part(path, first, first + last))
+        parts.append(Part(path, first, first + last, path.name))
         first += last
-    return [*parts, Part(present, first, first + written)]
+    return [*parts, Part(present, first, first + written, None)]
 
 
 def query_of(wanted: Wanted, below: int, count: int) -> Tuple[str, List[Any]]:
@@ -60,12 +63,14 @@ def entries_below(part: Part, wanted: Wanted, below: int, count: int) -> List[Di
     sql, values = query_of(wanted, min(below - 1, part.last) - part.first, count)
     with open_reader(part.path) as database:
         rows = database.execute(sql, values).fetchall()
-    return [entry_dict(Entry._make(row), part.first) for row in rows]
+    return [entry_dict(Entry._make(row), part) for row in rows]
 
 
-def entry_dict(entry: Entry, first: int) -> Dict[str, Any]:
+def entry_dict(entry: Entry, part: Part) -> Dict[str, Any]:
     """What is told of an entry. The text of a load is told by its length alone."""
-    told: Dict[str, Any] = {"number": first + entry.number, "time": time_text(entry.time)}
+    told: Dict[str, Any] = {"number": part.first + entry.number, "time": time_text(entry.time)}
+    if part.kept is not None:
+        told["kept"] = part.kept
     told.update(person=entry.person, user=entry.user, session=entry.session)
     told.update(place=entry.place, version=entry.version)
     request = json.loads(entry.request)
