@@ -1,7 +1,8 @@
 """Which answer may go out when, and which entry may be written when. Nothing here reads or writes.
 
 Answers of two connections overtake each other. An entry is written after all that it may have seen: policy entry v after v - 1; the
-entry of place p of a slot after p - 1, and after the policy entry whose version it bears. An answer goes out when its own entry is
+entry of place p of a slot after p - 1, and after the policy entry whose version it bears; and each after those that its own connection
+made before. An answer goes out when its own entry is
 written; one without an entry when all is written, or known to add nothing, that it may have seen: the policy up to the version that it
 tells, or else each policy command that was under way when it came; and each command on its slot that was under way when it came.
 """
@@ -24,7 +25,7 @@ class Asked:
 
     __slots__ = (
         "request", "session", "done", "context", "request_id", "number", "time", "reply", "fields",
-        "place", "version", "policy_mark", "slot_mark", "is_written",
+        "place", "version", "policy_mark", "slot_mark", "before", "after", "is_ready", "is_written",
     )
 
     def __init__(self, request: Request, session: Any, done: Any, context: Any = None, request_id: Optional[str] = None) -> None:
@@ -37,7 +38,9 @@ class Asked:
         self.version = 0  # that the answer tells
         self.policy_mark = 0
         self.slot_mark = 0
-        self.is_written = False
+        self.before: Optional[Asked] = None  # the entry before it on its connection, and the one after it
+        self.after: Optional[Asked] = None
+        self.is_ready = self.is_written = False
 
     def lose(self) -> None:
         """Tells the sender that no answer comes."""
@@ -76,6 +79,8 @@ class Order:
     def __init__(self, version: int, places: List[int]) -> None:
         """What is written already: the version of the policy, and how many entries each slot has."""
         self._domains = {slot: Domain(places[slot]) for slot in range(SLOTS)}
+        self._slots = list(self._domains.values())
+        self._last: Dict[Any, Asked] = {}  # the last entry of each session
         self._policy = self._domains[POLICY] = Domain(version)
         self._ready: List[Asked] = []
 
@@ -116,7 +121,7 @@ class Order:
             asked.version = fields["version"]
             asked.place = asked.version if name == POLICY else fields["place"]
             self._hold(asked, self._domains[name])
-            self._collect(name)
+            self._collect(asked)
 
     def _mark(self, asked: Asked, name: Optional[int]) -> None:
         """Notes what an answer without an entry may have seen."""
@@ -131,33 +136,45 @@ class Order:
         if slot is not None and slot < SLOTS:
             asked.slot_mark = self._domains[slot].sent
 
-    @staticmethod
-    def _hold(asked: Asked, domain: Domain) -> None:
+    def _hold(self, asked: Asked, domain: Domain) -> None:
         """Keeps an entry until it is ready. Raises Inconsistent, where its place is taken."""
         if asked.place <= domain.ready or asked.place in domain.held:
             raise Inconsistent(f"place {asked.place} is given twice")
         domain.held[asked.place] = asked
+        before = self._last.get(asked.session)
+        self._last[asked.session] = asked
+        if before is not None and not before.is_ready:
+            asked.before, before.after = before, asked
 
-    def _collect(self, name: int) -> None:
-        """Makes ready what became so by an answer in this domain."""
-        if name != POLICY:
-            self._collect_slot(self._domains[name])
-            return
-        policy = self._policy
-        while policy.ready + 1 in policy.held:
-            policy.ready += 1
-            self._ready.append(policy.held.pop(policy.ready))
-        for slot in range(SLOTS):
-            self._collect_slot(self._domains[slot])
+    def _collect(self, asked: Asked) -> None:
+        """Makes ready what became so by an answer."""
+        waiting: List[Optional[Asked]] = [asked]
+        while waiting:
+            found = waiting.pop()
+            if found is not None and not found.is_ready and self._is_next(found):
+                domain = self._domain_of(found)
+                found.is_ready = True
+                domain.ready = found.place
+                del domain.held[found.place]
+                self._ready.append(found)
+                waiting += [found.after, domain.held.get(domain.ready + 1)]
+                if domain is self._policy:
+                    waiting += [slot.held.get(slot.ready + 1) for slot in self._slots if slot.held]
 
-    def _collect_slot(self, domain: Domain) -> None:
-        """Makes ready the next entries of a slot, as far as their versions are."""
-        while domain.held:
-            asked = domain.held.get(domain.ready + 1)
-            if asked is None or asked.version > self._policy.ready:
-                return
-            domain.ready += 1
-            self._ready.append(domain.held.pop(domain.ready))
+    def _domain_of(self, asked: Asked) -> Domain:
+        slot = asked.request.slot
+        return self._policy if slot is None else self._domains[slot]
+
+    def _is_next(self, asked: Asked) -> bool:
+        """Whether all that an entry comes after is ready."""
+        domain = self._domain_of(asked)
+        if asked.place != domain.ready + 1 or (asked.before is not None and not asked.before.is_ready):
+            return False
+        return domain is self._policy or asked.version <= self._policy.ready
+
+    def leave(self, session: Any) -> None:
+        """Notes that a session is closed: it adds nothing any more."""
+        self._last.pop(session, None)
 
     def take_ready(self) -> List[Asked]:
         """The entries that are to be written next, in an order that keeps the rules, all in one transaction."""
@@ -172,6 +189,7 @@ class Order:
             domain.written = asked.place
             del domain.open[asked.number]
             asked.is_written = True
+            asked.before = None
 
     def may_go(self, asked: Asked) -> bool:
         """Whether the answer of a request may go out."""

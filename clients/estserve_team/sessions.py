@@ -144,6 +144,7 @@ class Session(asyncio.Protocol):
             self.gateway.sessions.pop(self.number, None)
         for asked in self.flight:  # without a login nothing that was asked has an entry
             self.gateway.order.forget(asked)
+        self.gateway.order.leave(self)
         self._lose_all()
 
     def abandon(self) -> None:

@@ -15,6 +15,10 @@ CHECK = request_of({"cmd": "check", "object": "0", "op": "step"})
 ADD = request_of({"cmd": "addrole", "role": "r"})
 
 
+class Noted(Asked):
+    """A request of which is noted when it was done."""
+
+
 class Server:
     """A server of which is known only how many entries its policy and its slots have. `seen` is what each answer was made of."""
 
@@ -50,12 +54,13 @@ class Run:
         self.told = [[] for _ in range(SESSIONS)]
         self.waiting = []
         self.version, self.places = 4, [0] * 16  # that are written
-        self.gone = 0
+        self.gone = self.done = 0
+        self.last = [0] * SESSIONS  # of each session's entries that are written
 
     def send(self):
         slot = self.numbers.choice([0, 0, 0, 1, 1, 16])
         request = self.numbers.choice([STEP[slot], STEP[slot], LOOK[slot], AUDIT[slot], CHECK, ADD])
-        asked = Asked(request, self.numbers.randrange(SESSIONS), None)
+        asked = Noted(request, self.numbers.randrange(SESSIONS), None)
         self.order.sent(asked)
         self.sent[asked.session].append(asked)
 
@@ -63,6 +68,8 @@ class Run:
         queue = self.numbers.choice(self.sent)
         if queue:
             asked = queue.pop(0)
+            self.done += 1
+            asked.number_done = self.done
             asked.context = self.server.answer(asked, self.numbers.random() < 0.2)
             self.told[asked.session].append(asked)
 
@@ -77,6 +84,8 @@ class Run:
         ready = self.order.take_ready()
         for asked in ready:
             slot = asked.request.slot
+            assert asked.number_done > self.last[asked.session], "entries of one connection are not in its order"
+            self.last[asked.session] = asked.number_done
             if slot is None:
                 assert asked.place == self.version + 1
                 self.version += 1
@@ -119,7 +128,7 @@ class Simulated(unittest.TestCase):
 
 class ByHand(unittest.TestCase):
     def answered(self, order, request, **fields):
-        asked = Asked(request, None, None)
+        asked = Asked(request, object(), None)
         order.sent(asked)
         asked.fields = fields
         return asked
@@ -148,7 +157,7 @@ class ByHand(unittest.TestCase):
 
     def test_a_refusal_waits_for_what_is_under_way_and_only_for_that(self):
         order = Order(4, [0] * 16)
-        add, step = Asked(ADD, None, None), Asked(STEP[3], None, None)
+        add, step = Asked(ADD, 1, None), Asked(STEP[3], 2, None)
         order.sent(add)
         order.sent(step)
         refused, elsewhere = (self.answered(order, STEP[slot], code=10) for slot in (3, 4))
