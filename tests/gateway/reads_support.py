@@ -144,6 +144,11 @@ class Desk:
             for listener in self._listeners:
                 listener([entry])
 
+    def reads_entry(self):
+        """The newest entry of the record once more, which follows nothing."""
+        row = self._database.execute("SELECT * FROM entries ORDER BY number DESC LIMIT 1").fetchone()
+        return Entry._make(row)
+
     def root(self):
         """The first connection, logged in as root."""
         self.seats[0].need("login", user="root", roles=["root"])

@@ -1,9 +1,10 @@
 """The models of a record: the policy and the slots, as its entries say, followed as new ones come."""
 import json
 import pathlib
-from typing import Iterable, Iterator
+from typing import Iterable, Iterator, List, Optional, Set
 
 from ..record import POLICY, Entry, in_order, open_reader
+from ..refusals import failed
 from .filling import FillingWatch
 from .policy_model import PolicyModel
 from .slot_model import SlotsModel
@@ -55,8 +56,16 @@ class ReadState:
     def __init__(self, gateway) -> None:
         self._gateway = gateway
         self._watch = FillingWatch(gateway.log)
-        self.models = Models()
-        self._unlisten = gateway.listen(self.follow)
+        self._models = Models()
+        self._fault: Optional[Exception] = None
+        gateway.listen(self.follow)
+
+    @property
+    def models(self) -> Models:
+        """The models of the record. Raises Refused, where an entry came that they could not follow."""
+        if self._fault is not None:
+            raise failed(f"the record can't be read: {self._fault}")
+        return self._models
 
     @property
     def policy(self) -> PolicyModel:
@@ -70,20 +79,23 @@ class ReadState:
 
     def begin(self) -> None:
         """Builds the models from the whole record, and tells what is nearly full."""
-        self.models = models_of(self._gateway.record_path)
+        self._models, self._fault = models_of(self._gateway.record_path), None
         self._watch = FillingWatch(self._gateway.log)
         self._watch.tell(self.policy.fillings() + self.slots.fillings())
 
-    def follow(self, entries: Iterable[Entry]) -> None:
-        """Adds new entries, and tells what is nearly full by them."""
-        touched = set()
-        for entry in entries:
-            self.models.add(entry)
-            touched.add(entry.slot)
+    def follow(self, entries: List[Entry]) -> None:
+        """Adds new entries, and tells what is nearly full by them. It never raises: the gateway goes on."""
+        if self._fault is not None:
+            return
+        try:
+            self._models.add_all(entries)
+            self._tell({entry.slot for entry in entries})
+        except Exception as fault:
+            self._fault = fault
+            self._gateway.log(f"reads are refused until the next start: {fault!r}")
+
+    def _tell(self, touched: Set[int]) -> None:
+        """Tells what is nearly full of these slots, or of the policy."""
         for slot in touched:
             is_policy = slot == POLICY
             self._watch.tell(self.policy.fillings() if is_policy else [self.slots[slot].filling()])
-
-    def stop(self) -> None:
-        """Follows no more."""
-        self._unlisten()
