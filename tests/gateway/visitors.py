@@ -8,7 +8,9 @@ import socket
 import teams
 
 HAS_AIOHTTP = importlib.util.find_spec("aiohttp") is not None
-NO_AIOHTTP = "aiohttp is not there for this Python: scripts/install_debian.sh installs it for Debian's"
+NO_AIOHTTP = (
+    "aiohttp is not there for this Python: scripts/install_debian.sh installs it for Debian's"
+)
 USERS = ("root", "ann", "bob", "cho")
 PEOPLE = "[people]\n" + "".join(f'{user} = ["{teams.ME}"]\n' for user in USERS)
 SECONDS = 30
@@ -70,13 +72,19 @@ class Visitor:
         if own and self.cookie:
             all_of.update({"Cookie": self.cookie, "X-Estserve-Token": self.token})
         all_of.update(dict(headers))
-        connection = UnixConnection(self.path) if self.path else http.client.HTTPConnection(self.host, timeout=SECONDS)
+        connection = (
+            UnixConnection(self.path)
+            if self.path
+            else http.client.HTTPConnection(self.host, timeout=SECONDS)
+        )
         connection.putrequest(method, path, skip_host=True, skip_accept_encoding=True)
         for name, value in all_of.items():
             for one in value if isinstance(value, list) else [value]:
                 if one is not None:
                     connection.putheader(name, one)
-        payload = body if isinstance(body, bytes) else b"" if body is None else json.dumps(body).encode()
+        payload = (
+            body if isinstance(body, bytes) else b"" if body is None else json.dumps(body).encode()
+        )
         connection.putheader("Content-Length", str(len(payload)))
         connection.endheaders(payload)
         response = connection.getresponse()
@@ -112,7 +120,9 @@ class Visitor:
 
     def ask(self, request_id, cmd, **keys):
         """Asks for a command, under an id."""
-        return self.post("ask", {"seat": self.seat, "id": request_id, "command": {"cmd": cmd, **keys}}).told
+        return self.post(
+            "ask", {"seat": self.seat, "id": request_id, "command": {"cmd": cmd, **keys}}
+        ).told
 
     def page(self):
         """Another page of the same browser."""
@@ -125,7 +135,10 @@ class Visitor:
         response = self.send("GET", f"/api/events?seat={self.seat}")
         name = ""
         while True:
-            line = response.readline().decode().rstrip("\n")
+            line = response.readline().decode()
+            if not line:
+                return
+            line = line.rstrip("\n")
             if line.startswith("event: "):
                 name = line[7:]
             elif line.startswith("data: "):

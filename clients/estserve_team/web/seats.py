@@ -4,10 +4,12 @@ Pages of one person with the same user and roles share the login. A seat whose p
 while is given up, so that its login, one of sixteen, is free again; a page that comes back takes a
 new one by itself."""
 import asyncio
+import contextlib
 import secrets
 import time
 from typing import Any, Dict, Optional
 
+from ..refusals import Refused
 from ..words import Context
 
 SILENT_SECONDS = 30  # a page that follows no events and asks for nothing is gone after so long
@@ -45,10 +47,11 @@ class Seat:
         return not self.streams and time.monotonic() - self.used > SILENT_SECONDS
 
     async def leave(self) -> None:
-        """Gives the share up, once."""
+        """Gives the share up, once. A login that is over by then needs no logout."""
         if not self.is_left:
             self.is_left = True
-            await self.share.leave()
+            with contextlib.suppress(Refused):
+                await self.share.leave()
 
 
 class Seats:

@@ -83,7 +83,9 @@ class Site:
         self._unlisten = self._gateway.listen(self._note)
         self._gateway.on_restart(self._wake_all)
         self._dropping = asyncio.get_running_loop().create_task(self._seats.drop_silent())
-        self._gateway.log(f"the page is at {self.address}")
+        places = [f"{self._options.place[0]}:{self.port}"] if self._options.place else []
+        places += [self._options.socket] if self._options.socket else []
+        self._gateway.log(f"the page is at {self.address}, served on {' and '.join(places)}")
 
     def _bind(self) -> List[socket.socket]:
         """The sockets that are asked for; the Unix socket is open to its user and group alone.

@@ -5,7 +5,7 @@ own session. Changes that come together are told once, and the more a telling co
 next one waits."""
 import asyncio
 import json
-from typing import Any, AsyncIterator, List, Set, Tuple
+from typing import Any, AsyncIterator, List, Optional, Set, Tuple
 
 from ..record import POLICY, Entry
 from ..refusals import Refused
@@ -83,8 +83,9 @@ class Watcher:
         policy, self._policy = self._policy, False
         record, self._record = self._record, False
         try:
-            if policy and await self._has_ended():
-                return [("ended", sentence_of({"fault": "NoSession"}, {}))]
+            ended = await self._end_of_session() if policy else None
+            if ended:
+                return [("ended", ended)]
             told = [await page_slot(self._seat, number) for number in slots]
         except Refused:
             return []
@@ -92,14 +93,16 @@ class Watcher:
         news += [("policy", {})] * policy + [("record", {})] * record
         return news + self._new_warnings()
 
-    async def _has_ended(self) -> bool:
-        """Whether the session was ended by the policy: there is no slot 16, and it is said so
-        only to a session that lives."""
+    async def _end_of_session(self) -> Optional[str]:
+        """The sentence of a session that the policy has ended; None of one that lives.
+
+        There is no slot 16, which is told only to a session that lives."""
         asked = {"cmd": "look", "slot": SLOTS, "instant": 1}
-        if (await self._seat.share.ask_answer(asked)).get("code") != NO_SESSION:
-            return False
+        answer = await self._seat.share.ask_answer(asked)
+        if answer.get("code") != NO_SESSION:
+            return None
         await self._seat.leave()
-        return True
+        return sentence_of(answer, asked)
 
     def _new_warnings(self) -> List[Event]:
         """The warnings, where they are others than before."""
