@@ -63,6 +63,19 @@ class Ended(unittest.TestCase):
             self.assertEqual({entry.session for entry in entries.values() if entry.command == "logout"}, {1, 2, 3, 4})
             self.assertEqual(entries[max(entries)].command, "logout")
 
+    def test_a_server_that_is_killed_just_before_leaves_no_logout_out(self):
+        numbers = teams.random_of("ends")
+        for _ in range(6):
+            with Team() as team, team.root() as client, team.talker() as talker:
+                client.addrole("driver")
+                os.kill(team.server(), signal.SIGKILL)
+                time.sleep(numbers.choice([0, 0.001, 0.01, 0.05]))
+                talker._socket.sendall(login_line() + b"\n")
+                time.sleep(numbers.choice([0, 0.001, 0.01]))
+                self.assertEqual(team.end(), 0, team.told())
+                commands = [entry.command for entry in team.entries()]
+                self.assertIn(commands, (["login", "addrole", "logout"], ["login", "addrole", "logout", "login", "logout"]))
+
     def test_a_start_that_is_ended(self):
         with Team() as team:
             with team.root() as client:
