@@ -85,6 +85,8 @@ def talk_of(arguments: argparse.Namespace) -> Iterator[GatewayTalk]:
         elif arguments.role:
             raise Failed("--role needs --as USER")
         yield talk
+        if arguments.login_user is not None:
+            talk.ask("logout")  # it is recorded when the answer comes
     finally:
         talk.close()
 

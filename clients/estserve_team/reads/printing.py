@@ -35,7 +35,8 @@ def slots_lines(answer: Answer) -> Iterator[str]:
 
 def slot_lines(slot: Answer) -> Iterator[str]:
     """One slot: its module, its interface, what is pending, its last instant and its text."""
-    what = f"{slot['main']}, {slot['instants']} instants" if slot["main"] else "empty"
+    count = slot["instants"]
+    what = f"{slot['main']}, {count} instant{'' if count == 1 else 's'}" if slot["main"] else "empty"
     yield f"slot {slot['slot']}: {what}"
     pending = set(slot["pending"])
     rows = [[" ", kind, name, "pending" if name in pending else ""] for name, kind in slot["signals"]]
@@ -92,9 +93,9 @@ def why_lines(answer: Answer) -> Iterator[str]:
     if not answer["known"]:
         yield f"there is no user {user}"
     elif not answer["ways"]:
-        yield f"{user} has not {what}: no role of {user}, and no role below one, has it"
+        yield f"{user} may not {what}: no role of {user}, and no role below one, has that permission"
     else:
-        yield f"{user} has {what}:"
+        yield f"{user} may {what}:"
         yield from map(way_line, answer["ways"])
         sessions = " ".join(map(str, answer["sessions"])) or "none"
         yield f"living sessions in which such a role is active: {sessions}"

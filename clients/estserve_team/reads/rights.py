@@ -1,5 +1,5 @@
 """What a caller may see: each permission is asked of the program, by `check` on the caller's own session."""
-from typing import Any, Awaitable, Callable, Dict, Iterable, List, Optional, Tuple
+from typing import Any, Awaitable, Callable, Dict, Iterable, List, Tuple
 
 from ..refusals import failed, not_allowed
 from ..words import Context
@@ -61,10 +61,7 @@ def refuse_others(what: str) -> Exception:
 
 
 def own_users(context: Context) -> List[str]:
-    """The policy users whose policy a person sees without any permission: those that it may be."""
-    return list(context.person.users)
+    """The policy users whose part of the policy is the caller's own: the one of its session.
 
-
-def number_of(session) -> Optional[int]:
-    """The program's number of a session; None without one."""
-    return None if session is None else session.number
+    Without a session these are all that the person may be."""
+    return list(context.person.users) if context.session is None else [context.session.user]
