@@ -135,27 +135,32 @@ class Gateway:
         request = login_request(user, roles)
         if request is None:
             raise ProgramRefused(b'{"code":3,"fault":"NotARequest"}')
-        await self.until_serving()
-        if instead is None and len(self.sessions) >= SEATS:
-            raise all_taken([[holder.user, holder.person] for holder in self.holders()])
-        self._connections += 1
-        session = Session(self, self._connections, person, user, roles)
-        if instead is not None:
-            self.sessions.pop(instead.number, None)
-        self.sessions[session.number] = session
-        try:
-            await session.connect(self.places.inner_socket)
-        except OSError as fault:
-            self.fail(f"the server takes no connection: {fault}")
-            raise interrupted() from fault
-        if session.is_over:
-            raise interrupted()
+        session = await self._connect(person, user, roles, instead)
         reply = await ask_later(session, request)
         answer(reply)
         if not session.session:
             session.end()
             raise ProgramRefused(reply)
         return session
+
+    async def _connect(self, person: Person, user: str, roles: List[str], instead: Optional[Session]) -> Session:
+        """A connection to the server with a seat, on which nothing is asked yet. Raises Refused."""
+        for _ in range(MOST_STARTS):
+            await self.until_serving()
+            if instead is not None:
+                self.sessions.pop(instead.number, None)
+            elif len(self.sessions) >= SEATS:
+                raise all_taken([[holder.user, holder.person] for holder in self.holders()])
+            self._connections += 1
+            session = Session(self, self._connections, person, user, roles)
+            self.sessions[session.number] = session
+            try:
+                await session.connect(self.places.inner_socket)
+            except OSError as fault:
+                self.fail(f"the server takes no connection: {fault}")
+            if not session.is_over:
+                return session
+        raise interrupted()
 
     async def close_session(self, session: Session) -> bool:
         """Logs a session out, which is recorded, and closes it. Answers whether it lived until then."""
