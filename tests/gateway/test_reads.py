@@ -1,16 +1,20 @@
 """The reads one by one: who may see what, what is told of a full journal, the log over several records, what is printed."""
 import json
 import shutil
+import threading
 import unittest
 
 from reads_support import ABRO, Desk, Session
-from teams import Team
+from teams import ROOT, Team, random_of
 
+from estserve_client.module_text import main_of
 from estserve_client.policy_file import read_policy
 from estserve_team.reads.filling import FillingWatch, sentence_of, warnings
 from estserve_team.reads.policy_model import Filling, OutOfOrder, PolicyModel
 from estserve_team.reads.printing import PRINTERS
 from estserve_team.reads.slot_model import SlotsModel
+from estserve_team.reads.state import models_of
+from estserve_team.reads.who import policy_dict
 from estserve_team.refusals import Refused
 
 
@@ -286,6 +290,23 @@ class Models(Case):
             with self.assertRaises(OutOfOrder):
                 slots.add({"cmd": "step", "slot": 0}, reply)
 
+    def test_interfaces_stand_in_the_order_of_looks(self):
+        texts = sorted((ROOT / "examples").glob("*/*.strl"))
+        self.assertGreater(len(texts), 5)
+        self.grant("root", "load", "1")
+        self.grant("root", "step", "1")
+        for path in texts:
+            text = path.read_text()
+            self.root.need("load", slot=1, main=main_of(text).name, text=text)
+            signals = self.desk.reads.slots[1].signals
+            for name, _ in signals:
+                self.root.give("grant", role="root", op="observe", object=f"1.{name}")
+            self.root.need("step", slot=1)
+            shown = self.root.client.look(1, 1)["signals"]
+            self.assertEqual([name for name, _ in shown], [name for name, _ in signals])
+            self.root.need("unload", slot=1)
+        self.assertEqual(self.desk.reads.slots[1].entries, 3 * len(texts))
+
     def test_reads_are_refused_where_the_record_can_not_be_followed(self):
         self.desk.reads.follow([self.desk.reads_entry()])
         self.assertIn("reads are refused until the next start", self.desk.told[0])
@@ -318,6 +339,41 @@ class Printed(Case):
 
 class OverTheGateway(unittest.TestCase):
     """The words over gateway.sock, and an archive of a gateway that runs."""
+
+    def test_reads_follow_four_clients_at_a_time(self):
+        with Team() as team:
+            root = team.root()
+            for number in range(4):
+                root.addrole(f"r{number}")
+            for op, object in (("load", "0"), ("step", "0"), ("offer", "0.A"), ("audit", "policy")):
+                root.grant("root", op, object)
+            root.load(0, "ABRO", ABRO)
+            threads = [threading.Thread(target=self.give, args=(team, number)) for number in range(4)]
+            for thread in threads:
+                thread.start()
+            for thread in threads:
+                thread.join()
+            with team.words() as words:
+                words.word("login", user="root", roles=["root"])
+                policy, (slot,) = words.word("policy"), words.word("slots")["slots"]
+                again = models_of(team.record)
+                whole = policy_dict(again.policy, set(again.policy.users), set(again.policy.roles), is_whole=True)
+                self.assertEqual({key: policy[key] for key in whole}, json.loads(json.dumps(whole)))
+                self.assertEqual(slot["instants"], len(again.slots[0].instants))
+                self.assertEqual(slot["pending"], list(again.slots[0].pending))
+                self.assertEqual(root.audit(0)["instants"], slot["instants"])
+                self.assertGreater(min(slot["instants"], policy["version"]), 100)
+            root.close()
+
+    def give(self, team, number):
+        """Gives many commands on a connection of its own, in an order of its own."""
+        chance = random_of(f"reads {number}")
+        role = {"role": f"r{number}"}
+        pair = {"op": "observe", "object": f"1.S{number}"}
+        with team.root() as client:
+            wanted = [{"cmd": "step", "slot": 0}, {"cmd": "offer", "slot": 0, "signal": "A"}, {"cmd": "discard", "slot": 0}]
+            wanted += [{"cmd": "grant", **role, **pair}, {"cmd": "revoke", **role, **pair}]
+            client.ask_all(chance.choices(wanted, [3, 3, 1, 2, 2], k=200))
 
     def test_an_archive_logs_out_and_goes_on(self):
         with Team() as team:
