@@ -5,6 +5,8 @@ TEXTS := crates/text_bench/out/text_bench
 LOADS := crates/load_bench/out/load_bench
 POLICIES := crates/policy_bench/out/policy_bench
 ECHO := crates/echo_bench/out/echo_bench
+# rt ci proves as many crates side by side as RT_JOBS says, each by one job: a second job at one crate costs more than it saves.
+CORES := $(shell nproc)
 
 .PHONY: help try run build abro examples client socket documents test bench faults times
 
@@ -18,7 +20,7 @@ help:
 	@echo 'make client    the tests of the client and of the tutorial, on the program built WITHOUT proof'
 	@echo 'make socket    the tests of the server over its socket, on the program built WITHOUT proof'
 	@echo 'make abro      the waves of ABRO, by the client, on the program built WITHOUT proof: about a minute'
-	@echo 'make documents write the tables of docs/PROOFS.md anew from the sources'
+	@echo 'make documents write the lists of docs/generated anew from the sources'
 	@echo 'make bench     prove and build, and then time commands, instants, texts, policies and the socket, and see how loads take memory'
 	@echo 'make faults    refuse each allocation of two tests in turn; no part of make test'
 	@echo 'make times     the proofs, wrong bodies and tests of make test, and a table of the time that each crate takes'
@@ -57,7 +59,7 @@ test:
 	python3 scripts/trial.py sh -c 'clients/tests/run && tests/socket/run'
 	python3 tests/journals/run
 	python3 tests/must-not-compile/run
-	rt ci
+	RT_JOBS=$(CORES) rt ci
 
 bench: build
 	python3 bench/commands.py $(PROGRAM)
@@ -79,4 +81,4 @@ faults:
 	python3 tests/faults/run
 
 times:
-	python3 scripts/times.py
+	RT_JOBS=$(CORES) python3 scripts/times.py

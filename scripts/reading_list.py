@@ -1,5 +1,5 @@
 #!/usr/bin/env python3
-"""Writes the reading list of docs/PROOFS.md: each file with a definition or a type that the program's theorem speaks of.
+"""Writes the list of docs/generated/READING.md: each file with a definition or a type that the program's theorem speaks of.
 
 usage: reading_list.py
 
@@ -16,7 +16,7 @@ import sys
 sys.path.insert(0, str(pathlib.Path(__file__).resolve().parent))
 from wrong_bodies import ROOT, crates  # noqa: E402
 
-DOCUMENT = ROOT / "docs/PROOFS.md"
+DOCUMENT = ROOT / "docs/generated/READING.md"
 BEGIN = "<!-- reading list, written by scripts/reading_list.py -->\n"
 END = "<!-- end of the reading list -->\n"
 ROOTS = [
@@ -211,7 +211,7 @@ def written(text):
     front, _, rest = text.partition(BEGIN)
     _, end, back = rest.partition(END)
     if not end:
-        sys.exit("docs/PROOFS.md lacks the comments round the reading list")
+        sys.exit(f"{DOCUMENT} lacks the comments around the reading list")
     return front + BEGIN + table() + END + back
 
 

@@ -1,5 +1,5 @@
 #!/usr/bin/env python3
-"""Writes the table of wrong bodies in docs/PROOFS.md from the edits, crates/*/must-fail/*.edit.
+"""Writes the table of docs/generated/WRONG_BODIES.md from the edits, crates/*/must-fail/*.edit.
 
 usage: wrong_bodies.py
 
@@ -11,7 +11,7 @@ import re
 import sys
 
 ROOT = pathlib.Path(__file__).resolve().parent.parent
-DOCUMENT = ROOT / "docs/PROOFS.md"
+DOCUMENT = ROOT / "docs/generated/WRONG_BODIES.md"
 BEGIN = "<!-- wrong bodies, written by scripts/wrong_bodies.py from the edits -->\n"
 END = "<!-- end of the wrong bodies -->\n"
 
@@ -55,7 +55,7 @@ def written(text):
     front, _, rest = text.partition(BEGIN)
     _, end, back = rest.partition(END)
     if not end:
-        sys.exit("docs/PROOFS.md lacks the comments round the table of wrong bodies")
+        sys.exit(f"{DOCUMENT} lacks the comments around the table")
     return front + BEGIN + table() + END + back
 
 

@@ -1,9 +1,8 @@
 #!/usr/bin/env python3
 """Checks that the documents keep up with the repository.
 
-The reading list and the table of wrong bodies in docs/PROOFS.md are those that scripts/reading_list.py and
-scripts/wrong_bodies.py write, and each wrong body says why it is wrong; each crate stands in README.md and
-docs/ARCHITECTURE.md; each function of the walk there stands in its file; each script of examples/scripts has its
+The lists of docs/generated are those that scripts/reading_list.py and scripts/wrong_bodies.py write, and each wrong
+body says why it is wrong; README.md has at most 100 lines; each crate stands in docs/ARCHITECTURE.md; each function of the walk there stands in its file; each script of examples/scripts has its
 answers and its row in examples/README.md, and the opening one is the stored run; each link to a file leads to one.
 Ends with status 1 after naming what differs.
 """
@@ -19,14 +18,23 @@ import reading_list  # noqa: E402
 import wrong_bodies  # noqa: E402
 
 
+README_LINES = 100  # at most
+
+
 def differing_tables():
-    """A line for each table of docs/PROOFS.md that its script would write otherwise."""
-    text = wrong_bodies.DOCUMENT.read_text()
-    return [
-        f"docs/PROOFS.md is out of step: run scripts/{script.__name__}.py"
-        for script in [reading_list, wrong_bodies]
-        if script.written(text) != text
-    ]
+    """A line for each list of docs/generated that its script would write otherwise."""
+    faults = []
+    for script in [reading_list, wrong_bodies]:
+        text = script.DOCUMENT.read_text()
+        if script.written(text) != text:
+            faults.append(f"{script.DOCUMENT.relative_to(ROOT)} is out of step: run scripts/{script.__name__}.py")
+    return faults
+
+
+def long_readme():
+    """A line if README.md is too long to be read at once."""
+    lines = len((ROOT / "README.md").read_text().splitlines())
+    return [f"README.md has {lines} lines: at most {README_LINES}"] if lines > README_LINES else []
 
 
 def missing_sentences():
@@ -81,9 +89,8 @@ def broken_links(document):
 
 def main():
     faults = differing_tables() + missing_sentences() + missing_functions() + faulty_examples()
-    for document in ["README.md", "docs/ARCHITECTURE.md"]:
-        faults += missing_crates(document)
-    for document in [*ROOT.glob("*.md"), *ROOT.glob("docs/*.md"), *ROOT.glob("examples/*.md")]:
+    faults += long_readme() + missing_crates("docs/ARCHITECTURE.md")
+    for document in [*ROOT.glob("*.md"), *ROOT.glob("docs/**/*.md"), *ROOT.glob("examples/*.md")]:
         faults += broken_links(document)
     print("\n".join(faults) if faults else "documents: in step with the repository")
     return 1 if faults else 0

@@ -14,6 +14,7 @@ from . import web
 from .gateway import Gateway
 from .people import People, read_people
 from .places import Failed, Places, bind_socket
+from .reads.client import add_words
 from .record import place_of
 from .sessions import MOST_SENDS
 from .starting import put_aside
@@ -21,9 +22,9 @@ from .unix_clients import LineClient, TeamClient, WordClient
 
 
 def add_parser(subparsers: Any) -> None:
-    """Adds `team` to the commands of the client."""
+    """Adds `team` to the commands of the client: by itself it serves, with a word it asks a gateway that runs."""
     parser = subparsers.add_parser("team", help="serve a team: who speaks is known, and nothing that was answered is lost")
-    parser.add_argument("--state", required=True, metavar="DIR", type=pathlib.Path, help="the team's folder")
+    parser.add_argument("--state", metavar="DIR", type=pathlib.Path, help="the team's folder")
     parser.add_argument("--people", metavar="FILE", type=pathlib.Path, help="who may log in as whom: the table [people] of a TOML file")
     parser.add_argument("--program", metavar="PATH", help="the program to serve with, in place of the one that `make run` builds")
     parser.add_argument("--group", metavar="NAME", help="the Unix group of the team (the folder's own)")
@@ -31,6 +32,7 @@ def add_parser(subparsers: Any) -> None:
     parser.add_argument("--most-sends", type=int, default=MOST_SENDS, help=argparse.SUPPRESS)
     web.add_options(parser)
     parser.set_defaults(act=serve_team)
+    add_words(parser.add_subparsers(metavar="WORD", help="ask the gateway that runs on DIR; without a word, be it"))
 
 
 def people_of(path: pathlib.Path) -> People:
@@ -45,6 +47,8 @@ def people_of(path: pathlib.Path) -> People:
 
 def serve_team(arguments: argparse.Namespace) -> None:
     """Serves the team until SIGTERM or SIGINT. Raises Failed."""
+    if arguments.state is None:
+        raise Failed("the team's folder is missing: --state DIR")
     people, program = people_of(arguments.people), str(find_program(arguments.program))
     with Places(arguments.state, arguments.group) as places:
         if arguments.until is not None:
