@@ -1,4 +1,4 @@
-"""Each command of docs/GATEWAY-READS.md prints what stands there; times differ, and kim is who runs the test."""
+"""Each command of docs/GATEWAY-READS.md prints what stands there, but for times and persons."""
 import re
 import shlex
 import subprocess
@@ -15,8 +15,12 @@ PEOPLE = "[people]\n" + "".join(f'{user} = ["{ME}"]\n' for user in ("root", "ann
 
 
 def words_of(text):
-    """The lines of a text as lists of words, without their times, and with kim for who runs the test."""
-    plain = re.sub(rf'\({ME}\)|(?<="person":"){ME}(?=")', lambda found: found[0].replace(ME, "kim"), TIME.sub("TIME", text))
+    """The lines of a text as lists of words, without times, with kim for who runs the test."""
+    plain = re.sub(
+        rf'\({ME}\)|(?<="person":"){ME}(?=")',
+        lambda found: found[0].replace(ME, "kim"),
+        TIME.sub("TIME", text),
+    )
     return [line.split() for line in plain.splitlines()]
 
 
@@ -30,13 +34,18 @@ class Document(unittest.TestCase):
         ran = subprocess.run(words, cwd=ROOT, input=typed, capture_output=True, text=True)
         told = words_of(ran.stdout + ran.stderr)
         if " who " in command:
-            told = [[word if at != 1 or word != ME else "kim" for at, word in enumerate(line)] for line in told]
+            told = [
+                [word if at != 1 or word != ME else "kim" for at, word in enumerate(line)]
+                for line in told
+            ]
         with self.subTest(command):
             self.assertTrue(command.startswith("python3 clients/estserve.py "))
             self.assertEqual(told, words_of(printed))
 
     def test_each_command_prints_what_is_told(self):
-        pieces = re.split(r"^\$ ", "".join(BLOCK.findall(DOCUMENT.read_text())), flags=re.MULTILINE)[1:]
+        pieces = re.split(
+            r"^\$ ", "".join(BLOCK.findall(DOCUMENT.read_text())), flags=re.MULTILINE
+        )[1:]
         self.assertGreater(len(pieces), 15)
         with Team(people=PEOPLE) as team:
             for piece in pieces:
@@ -48,7 +57,9 @@ class Document(unittest.TestCase):
         table = DOCUMENT.read_text().partition("## Answers on")[2].splitlines()
         rows = [line.split("|")[1:3] for line in table if line.startswith("| `")]
         told = {word.strip(" `"): set(re.findall(r"`(\w+)`", keys)) for word, keys in rows}
-        self.assertEqual(told, {name: {*word.required, *word.optional} for name, word in WORDS.items()})
+        self.assertEqual(
+            told, {name: {*word.required, *word.optional} for name, word in WORDS.items()}
+        )
 
 
 if __name__ == "__main__":
