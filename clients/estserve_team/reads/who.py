@@ -38,13 +38,15 @@ async def who(context: Context, keys: Dict[str, Any]) -> Dict[str, Any]:
 
 
 def holder_dict(holder, policy: PolicyModel, is_whole: bool) -> Dict[str, Any]:
-    """What is told of one who holds a login; `ended` where its session has ended."""
+    """What is told of one who holds a login; `ended` where its session has ended.
+
+    A login that is not yet answered has the session 0."""
     told = {"person": holder.person, "since": time_text(holder.since), "user": holder.user}
     if is_whole:
         session = policy.sessions.get(holder.session)
         told["session"] = holder.session
         told["roles"] = session.active if session else []
-        told["ended"] = session is None
+        told["ended"] = holder.session != 0 and session is None
     return told
 
 
