@@ -32,7 +32,7 @@ def add_parser(subparsers: Any) -> None:
     parser.add_argument("--most-sends", type=int, default=MOST_SENDS, help=argparse.SUPPRESS)
     web.add_options(parser)
     parser.set_defaults(act=serve_team)
-    add_words(parser.add_subparsers(metavar="WORD", help="ask the gateway that runs on DIR; without a word, be it"))
+    add_words(parser.add_subparsers(metavar="WORD", help="a question to the gateway that runs on DIR; without one, serve the team"))
 
 
 def people_of(path: pathlib.Path) -> People:

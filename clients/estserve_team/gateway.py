@@ -53,7 +53,8 @@ class Gateway:
         self._server: Any = None
         self._connections = 0
         self._givenup: List[Asked] = []  # logouts of sessions that had ended
-        self._is_commit_due = False
+        self._is_commit_due = self._is_lost = self._is_closed = False
+        self._beginning: "Optional[asyncio.Future[None]]" = None
         self._listeners: List[Callable[[List[Entry]], None]] = []
         self._restart_listeners: List[Callable[[], None]] = []
         self.answerer = Answerer(program, places.children, self.stop_failed)
@@ -135,27 +136,32 @@ class Gateway:
         request = login_request(user, roles)
         if request is None:
             raise ProgramRefused(b'{"code":3,"fault":"NotARequest"}')
-        await self.until_serving()
-        if instead is None and len(self.sessions) >= SEATS:
-            raise all_taken([[holder.user, holder.person] for holder in self.holders()])
-        self._connections += 1
-        session = Session(self, self._connections, person, user, roles)
-        if instead is not None:
-            self.sessions.pop(instead.number, None)
-        self.sessions[session.number] = session
-        try:
-            await session.connect(self.places.inner_socket)
-        except OSError as fault:
-            self.fail(f"the server takes no connection: {fault}")
-            raise interrupted() from fault
-        if session.is_over:
-            raise interrupted()
+        session = await self._connect(person, user, roles, instead)
         reply = await ask_later(session, request)
         answer(reply)
         if not session.session:
             session.end()
             raise ProgramRefused(reply)
         return session
+
+    async def _connect(self, person: Person, user: str, roles: List[str], instead: Optional[Session]) -> Session:
+        """A connection to the server with a seat, on which nothing is asked yet. Raises Refused."""
+        for _ in range(MOST_STARTS):
+            await self.until_serving()
+            if instead is not None:
+                self.sessions.pop(instead.number, None)
+            elif len(self.sessions) >= SEATS:
+                raise all_taken([[holder.user, holder.person] for holder in self.holders()])
+            self._connections += 1
+            session = Session(self, self._connections, person, user, roles)
+            self.sessions[session.number] = session
+            try:
+                await session.connect(self.places.inner_socket)
+            except OSError as fault:
+                self.fail(f"the server takes no connection: {fault}")
+            if not session.is_over:
+                return session
+        raise interrupted()
 
     async def close_session(self, session: Session) -> bool:
         """Logs a session out, which is recorded, and closes it. Answers whether it lived until then."""
@@ -245,8 +251,11 @@ class Gateway:
         Where its session had ended, it is first recorded that the connection is given up."""
         code = asked.fields.get("code")
         if code == 4 and session.session:
-            self._givenup.append(asked)
-            self._commit_soon()
+            if all(other.session is not session for other in self._givenup):
+                self._givenup.append(asked)
+                self._commit_soon()
+                return False
+            asked.lose()
             return False
         if code is None:
             session.end()
@@ -268,6 +277,7 @@ class Gateway:
     async def _begin(self) -> None:
         """A server that has what the record says, with nobody logged in. Raises Failed."""
         begun = await self._start_server()
+        self._is_lost = False
         self._writer, self.order = begun.writer, Order(*begun.extent)
         self.entries_written, connections = begun.writer.last_numbers()
         self._connections = max(self._connections, connections)
@@ -285,7 +295,7 @@ class Gateway:
                 return await start_server(self.places, self.program, self._note_server)
             except Lost as fault:
                 self._server.end()
-                if not left or self.phase == STOPPING:
+                if not left or self._is_closed:
                     raise
                 self.log(f"{fault}; it is begun anew once more")
         raise AssertionError("there is a last start")
@@ -295,16 +305,18 @@ class Gateway:
 
     def fail(self, why: str, is_record_good: bool = True) -> None:
         """Ends the server, and begins anew from the record: an answer is lost, or an entry can't be written."""
-        if self.phase not in (SERVING, ARCHIVING):
+        if self.phase not in (SERVING, ARCHIVING, STOPPING) or self._is_lost:
             return
         self.log(f"{why}; the server is begun anew from the record")
-        self.phase = BEGINNING
-        self._serving.clear()
+        self._is_lost = True
+        if self.phase != STOPPING:
+            self.phase = BEGINNING
+            self._serving.clear()
         self._server.end()
         if is_record_good:
             self._commit()
         self._drop_sessions()
-        asyncio.ensure_future(self._begin_anew())
+        self._beginning = asyncio.ensure_future(self._begin_anew())
 
     def _drop_sessions(self) -> None:
         """Gives up all sessions: whoever waits for an answer gets none."""
@@ -358,6 +370,8 @@ class Gateway:
         try:
             if was == SERVING:
                 await asyncio.wait_for(self._log_all_out(), STOP_SECONDS)
+            if self._is_lost and self._beginning is not None:
+                await self._beginning  # which records the logouts
         except asyncio.TimeoutError:
             raise Failed("the logouts are not answered") from None
         finally:
@@ -365,6 +379,7 @@ class Gateway:
 
     def close(self) -> None:
         """Ends the children, and closes the record."""
+        self._is_closed = True
         self.answerer.close()
         if self._server is not None:
             self._server.end()

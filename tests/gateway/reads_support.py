@@ -1,7 +1,8 @@
-"""What the tests of the gateway's reads share: the real program with some connections, its entries, and a gateway in memory.
+"""What the tests of the gateway's reads share: the real program, and a desk in the gateway's place.
 
-`Desk` stands where the gateway stands: it sends commands, one after the other, and writes each accepted one into a
-record of the gateway's schema. It decides nothing, so what the reads say can be compared with what the program answers.
+`Desk` sends commands, one after the other, and writes each accepted one into a record of the
+gateway's schema. It decides nothing, so what the reads say can be compared with what the program
+answers.
 """
 import asyncio
 import importlib.util
@@ -49,8 +50,21 @@ def entry_of(number, connection, person, command, answer):
     slot, place = (-1, answer["version"]) if of_policy else (command["slot"], answer["place"])
     session, user = connection.session, connection.user
     return Entry(
-        number, slot, place, answer["version"], connection.number, session, user, person, time.time(),
-        answer.get("instant"), cmd, line_of(command)[:-1], written(answer), None, 1,
+        number,
+        slot,
+        place,
+        answer["version"],
+        connection.number,
+        session,
+        user,
+        person,
+        time.time(),
+        answer.get("instant"),
+        cmd,
+        line_of(command)[:-1],
+        written(answer),
+        None,
+        1,
     )
 
 
@@ -62,11 +76,15 @@ class Seat:
         self.user, self.session, self.roles, self.person = None, None, (), None
 
     def give(self, cmd, **keys):
-        """Gives a command, and writes its entry where it is accepted. The answer, be it a refusal."""
+        """The answer to a command, be it a refusal. Its entry is written where it is accepted."""
         command = {"cmd": cmd, **keys}
         answer = self.client.ask_all([command])[0]
         if cmd == "login" and "ok" in answer:
-            self.user, self.session, self.roles = keys["user"], answer["session"], tuple(keys["roles"])
+            self.user, self.session, self.roles = (
+                keys["user"],
+                answer["session"],
+                tuple(keys["roles"]),
+            )
             self.person = self.desk.person_of(self.user)
         self.desk.write(self, command, answer)
         if cmd == "logout":
@@ -104,7 +122,9 @@ class Session:
 
 
 class Desk:
-    """A server of the real program, with connections, a record of what they did, and the gateway's calls that reads use."""
+    """A server of the real program, with connections and a record of what they did.
+
+    It has the calls of a gateway that reads use."""
 
     def __init__(self, seats=4, people=None):
         self._people = people or {}
@@ -118,7 +138,9 @@ class Desk:
 
     def __enter__(self):
         self._server.__enter__()
-        self.seats = [Seat(self, number, self._server.client()) for number in range(1, self._count + 1)]
+        self.seats = [
+            Seat(self, number, self._server.client()) for number in range(1, self._count + 1)
+        ]
         self._database = sqlite3.connect(self.record_path, isolation_level=None)
         self._database.executescript("PRAGMA synchronous = OFF;" + SCHEMA)
         reads.on_start(self)
@@ -146,7 +168,9 @@ class Desk:
 
     def reads_entry(self):
         """The newest entry of the record once more, which follows nothing."""
-        row = self._database.execute("SELECT * FROM entries ORDER BY number DESC LIMIT 1").fetchone()
+        row = self._database.execute(
+            "SELECT * FROM entries ORDER BY number DESC LIMIT 1"
+        ).fetchone()
         return Entry._make(row)
 
     def root(self):

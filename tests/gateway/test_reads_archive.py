@@ -16,7 +16,9 @@ from estserve_team.refusals import Refused
 from estserve_team.replay import Replay
 from estserve_team.server import Server
 
-RELATED = "module M: input I, J; output O, P; relation I # J; emit P; every I do emit O end end module"
+RELATED = (
+    "module M: input I, J; output O, P; relation I # J; emit P; every I do emit O end end module"
+)
 CALLER = Caller("kim", "root", ["root"])
 
 
@@ -27,13 +29,17 @@ def facts_of(models):
 
 def allow(root, slot, *names):
     """Root may load and step the slot, and offer these inputs."""
-    pairs = [("load", f"{slot}"), ("step", f"{slot}"), *(("offer", f"{slot}.{name}") for name in names)]
+    pairs = [
+        ("load", f"{slot}"),
+        ("step", f"{slot}"),
+        *(("offer", f"{slot}.{name}") for name in names),
+    ]
     for op, object in pairs:
         root.give("grant", role="root", op=op, object=object)
 
 
 def fill(desk):
-    """A policy with a past, and three slots: one stepped and pending, one loaded twice, one empty again."""
+    """A policy with a past, and three slots: one in use, one loaded twice, one empty again."""
     root = desk.root()
     for role in ("driver", "judge", "chief", "gone"):
         root.need("addrole", role=role)
@@ -92,7 +98,7 @@ class Case(unittest.TestCase):
         return models_of(self.new), models_of(desk.record_path)
 
     def build_filled(self, emptied=None):
-        """The models of the new and the old record of a desk that was filled, everyone logged out."""
+        """The models of the new and the old record of a desk that was filled."""
         desk = self.desk()
         fill(desk).need("logout")
         return self.build(desk, emptied)
@@ -105,7 +111,10 @@ class Archives(Case):
         new, old = self.build_filled()
         self.assertEqual(facts_of(new), facts_of(old))
         self.assertEqual(list(new.policy.sets), ["s2", "s1"])
-        self.assertEqual(new.slots[0].instants, [(), ("A",), ("B",), ("A", "B"), ("R",), ("A", "B"), ("A", "B", "R")])
+        self.assertEqual(
+            new.slots[0].instants,
+            [(), ("A",), ("B",), ("A", "B"), ("R",), ("A", "B"), ("A", "B", "R")],
+        )
         self.assertEqual(list(new.slots[0].pending), ["R", "A"])
         self.assertEqual((new.slots[1].main, new.slots[1].instants), ("M", [("J",), ("I",)]))
         self.assertEqual((new.slots[2].entries, old.slots[2].entries), (0, 3))
@@ -121,7 +130,9 @@ class Archives(Case):
 
     def test_the_new_record_is_replayed_byte_for_byte(self):
         self.build_filled()
-        with Server(program_file(), self.folder / "again") as server, Replay(self.new, server.path) as replay:
+        with Server(program_file(), self.folder / "again") as server, Replay(
+            self.new, server.path
+        ) as replay:
             replay.run()
             self.assertGreater(replay.count, 50)
         with open_reader(self.new) as database:
@@ -155,7 +166,10 @@ class Archives(Case):
         root.need("revoke", role="root", op="administer", object="policy")
         root.need("deassign", user="root", role="root")
         new, old = self.build(desk, caller=Caller("root", "root", ["admin"]))
-        self.assertEqual((new.policy.assigned.keys(), new.policy.granted.keys()), (old.policy.assigned.keys(), old.policy.granted.keys()))
+        self.assertEqual(
+            (new.policy.assigned.keys(), new.policy.granted.keys()),
+            (old.policy.assigned.keys(), old.policy.granted.keys()),
+        )
 
     def test_a_set_that_the_role_root_would_violate(self):
         desk = self.desk()
@@ -212,7 +226,9 @@ class Differences(Case):
         change(models)
         witness.compare_facts(models[0].policy, models[1].policy)
         witness.compare_slots(models[0], models[1], emptied)
-        return witness.compare_shown((desk.record_path, self.new), models, emptied, program_file(), self.folder)
+        return witness.compare_shown(
+            (desk.record_path, self.new), models, emptied, program_file(), self.folder
+        )
 
     def differs(self, pattern, change):
         """A change that has to be found."""
@@ -227,7 +243,10 @@ class Differences(Case):
             models[1].policy.granted.popitem()
 
         def exchange_sets(models):
-            models[1].policy.sets["s2"], models[1].policy.sets["s1"] = models[1].policy.sets["s1"], models[1].policy.sets["s2"]
+            models[1].policy.sets["s2"], models[1].policy.sets["s1"] = (
+                models[1].policy.sets["s1"],
+                models[1].policy.sets["s2"],
+            )
 
         def another_instant(models):
             models[1].slots[0].instants[1] = ("B",)
@@ -236,7 +255,10 @@ class Differences(Case):
             models[1].slots[0].pending.popitem()
 
         for pattern, change in (
-            ("policies differ", drop_a_grant), ("fact", exchange_sets), ("instants", another_instant), ("pending", nothing_pending),
+            ("policies differ", drop_a_grant),
+            ("fact", exchange_sets),
+            ("instants", another_instant),
+            ("pending", nothing_pending),
         ):
             with self.subTest(pattern):
                 self.new.unlink(missing_ok=True)
@@ -245,9 +267,15 @@ class Differences(Case):
     def test_another_line_in_a_record(self):
         def exchange_inputs(models):
             database = sqlite3.connect(self.new)
-            at = database.execute("SELECT number, request FROM entries WHERE command = 'offer' AND slot = 0").fetchall()
-            database.execute("UPDATE entries SET request = ? WHERE number = ?", (at[1][1], at[0][0]))
-            database.execute("UPDATE entries SET request = ? WHERE number = ?", (at[0][1], at[1][0]))
+            at = database.execute(
+                "SELECT number, request FROM entries WHERE command = 'offer' AND slot = 0"
+            ).fetchall()
+            database.execute(
+                "UPDATE entries SET request = ? WHERE number = ?", (at[1][1], at[0][0])
+            )
+            database.execute(
+                "UPDATE entries SET request = ? WHERE number = ?", (at[0][1], at[1][0])
+            )
             database.commit()
             database.close()
             self.assertNotEqual(json.loads(at[0][1]), json.loads(at[1][1]))
@@ -275,7 +303,9 @@ class TheWord(unittest.TestCase):
                 with self.assertRaises(Refused) as refused:
                     desk.read(root, "archive", **keys)
                 self.assertEqual(refused.exception.code, code)
-        self.assertEqual([(build.args[0].user, build.args[1]) for build in asked], [("root", None), ("root", 0)])
+        self.assertEqual(
+            [(build.args[0].user, build.args[1]) for build in asked], [("root", None), ("root", 0)]
+        )
 
     @staticmethod
     def keeping(asked):

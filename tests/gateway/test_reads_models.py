@@ -17,16 +17,36 @@ PLACES = ["0", "1", "2"]
 NAMES = ["A", "B", "R", "O", "P", "I"]
 TEXTS = {
     "ABRO": ABRO,
-    "M": "module M: input I, A; output P, O; relation I # A; emit P; every I do emit O end end module",
+    "M": "module M: input I, A; output P, O; relation I # A;"
+    " emit P; every I do emit O end end module",
     "TWO": "module TWO: output O; input A, B; relation A => B; every A do emit O end end module"
     " module ONE: input X; nothing end module",
 }
 OBJECTS = ["policy", *PLACES, *(f"{place}.{name}" for place in PLACES for name in NAMES)]
 ADMINISTRATION = {
-    "adduser": 2, "deluser": 1, "addrole": 3, "delrole": 1, "assign": 10, "deassign": 3, "grant": 40, "revoke": 9,
-    "inherit": 8, "disinherit": 3, "dsd": 3, "undsd": 2,
+    "adduser": 2,
+    "deluser": 1,
+    "addrole": 3,
+    "delrole": 1,
+    "assign": 10,
+    "deassign": 3,
+    "grant": 40,
+    "revoke": 9,
+    "inherit": 8,
+    "disinherit": 3,
+    "dsd": 3,
+    "undsd": 2,
 }
-DRIVING = {"load": 6, "unload": 1, "offer": 30, "discard": 3, "step": 20, "activate": 8, "drop": 4, "logout": 3}
+DRIVING = {
+    "load": 6,
+    "unload": 1,
+    "offer": 30,
+    "discard": 3,
+    "step": 20,
+    "activate": 8,
+    "drop": 4,
+    "logout": 3,
+}
 
 
 def keys_of(chance, command):
@@ -38,13 +58,31 @@ def keys_of(chance, command):
         main = chance.choice(list(TEXTS))
         return {"slot": chance.randrange(3), "main": main, "text": TEXTS[main]}
     words = {
-        "user": USERS[1:], "role": ROLES[1:] if command != "grant" else ROLES, "senior": ROLES, "junior": ROLES[1:],
-        "op": OPERATIONS, "object": OBJECTS, "slot": range(3), "signal": NAMES, "name": ["s1", "s2", "s3"],
+        "user": USERS[1:],
+        "role": ROLES[1:] if command != "grant" else ROLES,
+        "senior": ROLES,
+        "junior": ROLES[1:],
+        "op": OPERATIONS,
+        "object": OBJECTS,
+        "slot": range(3),
+        "signal": NAMES,
+        "name": ["s1", "s2", "s3"],
     }
     wanted = {
-        "adduser": "user", "deluser": "user", "addrole": "role", "delrole": "role", "assign": "user role",
-        "deassign": "user role", "grant": "role op object", "revoke": "role op object", "inherit": "senior junior",
-        "disinherit": "senior junior", "undsd": "name", "offer": "slot signal", "activate": "role", "drop": "role",
+        "adduser": "user",
+        "deluser": "user",
+        "addrole": "role",
+        "delrole": "role",
+        "assign": "user role",
+        "deassign": "user role",
+        "grant": "role op object",
+        "revoke": "role op object",
+        "inherit": "senior junior",
+        "disinherit": "senior junior",
+        "undsd": "name",
+        "offer": "slot signal",
+        "activate": "role",
+        "drop": "role",
         "logout": "",
     }
     return {key: chance.choice(words[key]) for key in wanted.get(command, "slot").split()}
@@ -98,7 +136,7 @@ class RandomCommands(unittest.TestCase):
 
     @classmethod
     def enter(cls):
-        """Begins and ends the desk with the class, where unittest has no call for that (before 3.11)."""
+        """Begins and ends the desk with the class, for a unittest without a call for that."""
         cls.desk.__enter__()
         cls.addClassCleanup(cls.desk.__exit__)
 
@@ -109,7 +147,7 @@ class RandomCommands(unittest.TestCase):
         return seats
 
     def allowed(self, seat):
-        """The pairs that the program's `check` allows a connection, of all that random commands name."""
+        """The pairs that `check` allows a connection, of all that random commands name."""
         pairs = [(op, object) for op in OPERATIONS for object in OBJECTS]
         checks = [{"cmd": "check", "object": object, "op": op} for op, object in pairs]
         answers = seat.client.ask_all(checks)
@@ -125,7 +163,12 @@ class RandomCommands(unittest.TestCase):
     def test_may_is_check(self):
         policy, some = self.desk.reads.policy, 0
         for seat in self.live():
-            said = {(op, object) for op in OPERATIONS for object in OBJECTS if policy.may(seat.session, op, object)}
+            said = {
+                (op, object)
+                for op in OPERATIONS
+                for object in OBJECTS
+                if policy.may(seat.session, op, object)
+            }
             self.assertEqual(said, self.allowed(seat))
             some += len(said)
         self.assertGreater(some, 50)
@@ -158,7 +201,10 @@ class RandomCommands(unittest.TestCase):
         self.assertEqual((list(other.sets), other.sets), (list(sets), sets))
         self.assertEqual(
             {number: (session.user, session.active) for number, session in other.sessions.items()},
-            {number: (session.user, set(session.active)) for number, session in mine.sessions.items()},
+            {
+                number: (session.user, set(session.active))
+                for number, session in mine.sessions.items()
+            },
         )
 
     def test_slots_are_as_looks_and_audits_show_them(self):
@@ -169,7 +215,9 @@ class RandomCommands(unittest.TestCase):
             for name in NAMES:
                 root.give("grant", role="root", op="observe", object=f"{slot.number}.{name}")
             audit = root.client.audit(slot.number)
-            self.assertEqual((audit["entries"], audit["instants"]), (slot.entries, len(slot.instants)))
+            self.assertEqual(
+                (audit["entries"], audit["instants"]), (slot.entries, len(slot.instants))
+            )
             numbers = range(1, len(slot.instants) + 1)
             looks = [{"cmd": "look", "instant": number, "slot": slot.number} for number in numbers]
             for inputs, look in zip(slot.instants, root.client.ask_all(looks)):
@@ -192,11 +240,18 @@ class RandomCommands(unittest.TestCase):
             for number, one in told.items():
                 slot = self.desk.reads.slots[number]
                 self.assertEqual((one["main"], one["text"]), (slot.main, slot.text))
-                pairs = {name: {("offer", f"{number}.{name}"), ("observe", f"{number}.{name}")} for name in slot.pending}
-                self.assertEqual(one["pending"], [name for name in slot.pending if pairs[name] & allowed])
+                pairs = {
+                    name: {("offer", f"{number}.{name}"), ("observe", f"{number}.{name}")}
+                    for name in slot.pending
+                }
+                self.assertEqual(
+                    one["pending"], [name for name in slot.pending if pairs[name] & allowed]
+                )
                 told_some += 1
                 if slot.instants:
-                    self.assertEqual(one["last"], seat.client.look(number, len(slot.instants))["signals"])
+                    self.assertEqual(
+                        one["last"], seat.client.look(number, len(slot.instants))["signals"]
+                    )
         self.assertGreater(min(told_some, hidden_some), 2)
 
     def test_policy_and_log_of_others_are_for_who_may_administer_or_audit(self):
@@ -215,8 +270,11 @@ class RandomCommands(unittest.TestCase):
         self.assertEqual(seen, {True, False})
 
     def read_of_another(self, seat, other, whole):
-        """The reads that name a user are refused exactly where it is another's and the session oversees nothing."""
-        for word, keys in (("log", {"user": other}), ("why", {"user": other, "op": "step", "object": "0"})):
+        """What names another user is refused without oversight, and only then."""
+        for word, keys in (
+            ("log", {"user": other}),
+            ("why", {"user": other, "op": "step", "object": "0"}),
+        ):
             if whole or other == seat.user:
                 self.assertEqual(self.desk.read(seat, word, **keys)["ok"], word)
             else:

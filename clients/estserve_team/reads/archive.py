@@ -4,14 +4,19 @@ import pathlib
 from typing import Any, Dict, List, NamedTuple, Optional
 
 from ..record import RecordWriter
-from ..refusals import failed, not_a_word, not_allowed
+from ..refusals import failed, needs_login, not_a_word, not_allowed
 from ..server import Server
 from ..words import Context
 from .policy_model import PolicyModel
 from .rebuilding import (
-    ArchiveFailed, NewRecord, RecordedLogin, make_policy, make_slot, undo_commands,
+    ArchiveFailed,
+    NewRecord,
+    RecordedLogin,
+    make_policy,
+    make_slot,
+    undo_commands,
 )
-from .rights import Rights, read_at_one_version
+from .rights import Rights, read_by_one_policy
 from .slot_model import SLOTS
 from .state import Models, models_of
 from .witness import compare_facts, compare_shown, compare_slots
@@ -38,23 +43,35 @@ async def archive(context: Context, keys: Dict[str, Any]) -> Dict[str, Any]:
     if emptied is not None and not 0 <= emptied < SLOTS:
         raise not_a_word("slots are 0 to 15")
     gateway, session = context.gateway, context.session
+    roles = await agreed_roles(context, emptied)
+    caller = Caller(context.person.name, session.user, roles)
+    await gateway.archive(functools.partial(build, caller, emptied))
+    kept = [path.name for path in gateway.old_records()]
+    return {"kept": kept[-1] if kept else None, "version": gateway.reads.policy.version}
+
+
+async def agreed_roles(context: Context, emptied: Optional[int]) -> List[str]:
+    """The active roles of a caller who may archive, once model and server agree on its permissions.
+
+    Raises Refused."""
+    number = context.session.number
 
     async def compose(rights: Rights) -> Dict[str, Any]:
         loads = [("load", object) for object in load_objects(emptied)]
         if not (await rights.may("administer", "policy") and await rights.may_any(loads)):
             what = "a slot" if emptied is None else f"slot {emptied}"
             raise not_allowed(f"archive needs administer on policy, and load on {what}")
-        model = gateway.reads.policy
-        wrong = [pair for pair in model.pairs() if await rights.may(*pair) != model.may(session.number, *pair)]
-        if wrong:
-            raise failed(f"the record's policy is not the server's: {wrong[0]}")
-        return {"roles": list(model.sessions[session.number].active)}
+        model = context.gateway.reads.policy
+        answers = {pair: await rights.may(*pair) for pair in model.pairs()}
+        if number not in model.sessions:
+            raise needs_login()
+        wrong = [pair for pair, answer in answers.items() if answer != model.may(number, *pair)]
+        return {"roles": list(model.sessions[number].active), "wrong": wrong}
 
-    roles = (await read_at_one_version(context, compose))["roles"]
-    caller = Caller(context.person.name, session.user, roles)
-    await gateway.archive(functools.partial(build, caller, emptied))
-    kept = [path.name for path in gateway.old_records()]
-    return {"kept": kept[-1] if kept else None, "version": gateway.reads.policy.version}
+    found = await read_by_one_policy(context, compose)
+    if found["wrong"]:
+        raise failed(f"the record's policy is not the server's: {found['wrong'][0]}")
+    return found["roles"]
 
 
 def build(
@@ -65,11 +82,15 @@ def build(
     program: str,
     folder: pathlib.Path,
 ) -> None:
-    """Makes the new record of the old one in a new server, and compares both. Raises ArchiveFailed."""
+    """Makes the new record of the old one in a new server, and compares both.
+
+    Raises ArchiveFailed."""
     models = models_of(old)
     check_caller(models.policy, caller, emptied)
-    with Server(program, folder / "archive") as _, RecordWriter.make(new, program, old.name) as writer:
-        make_record(NewRecord(writer, folder / "archive", caller.person), caller, models, emptied)
+    with Server(program, folder / "new.sock") as _, RecordWriter.make(
+        new, program, old.name
+    ) as writer:
+        make_record(NewRecord(writer, folder / "new.sock", caller.person), caller, models, emptied)
     made = models_of(new)
     compare_facts(models.policy, made.policy)
     compare_slots(models, made, emptied)
@@ -87,7 +108,7 @@ def check_caller(policy: PolicyModel, caller: Caller, emptied: Optional[int]) ->
 
 
 def make_record(record: NewRecord, caller: Caller, old: Models, emptied: Optional[int]) -> None:
-    """Makes slots and policy as root, and what is left to undo as the caller. Raises ArchiveFailed."""
+    """Makes slots and policy as root, and undoes the rest as the caller. Raises ArchiveFailed."""
     with record.login("root", ["root"]) as root:
         for slot in old.slots.slots:
             if slot.is_loaded and slot.number != emptied:
@@ -99,7 +120,7 @@ def make_record(record: NewRecord, caller: Caller, old: Models, emptied: Optiona
 
 
 def check_allowed(login: RecordedLogin, policy: PolicyModel, caller: Caller) -> None:
-    """Raises ArchiveFailed where the new server allows the caller another pair than the old policy."""
+    """Raises ArchiveFailed where the new server allows the caller other pairs than before."""
     roles, pairs = policy.below(caller.roles), policy.pairs()
     asked = [{"cmd": "check", "object": object, "op": operation} for operation, object in pairs]
     for pair, answer in zip(pairs, login.ask(asked)):

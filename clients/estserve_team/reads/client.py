@@ -1,6 +1,7 @@
-"""The client's words for a team: `estserve.py team who --state DIR`, and `slots`, `policy`, `why`, `log`, `archive`, `link`.
+"""The client's words for a team: `estserve.py team who --state DIR`, and so on.
 
-Each asks the gateway over DIR/gateway.sock and prints the answer for people, or as it came with `--json`.
+Each asks the gateway over DIR/gateway.sock, and prints the answer for people, or as it came with
+`--json`.
 """
 import argparse
 import contextlib
@@ -75,7 +76,9 @@ def refusal_text(answer: Dict[str, Any]) -> str:
 
 @contextlib.contextmanager
 def talk_of(arguments: argparse.Namespace) -> Iterator[GatewayTalk]:
-    """A connection to the gateway, logged in where the arguments name a user. Raises Failed, Disconnected."""
+    """A connection to the gateway, logged in where the arguments name a user.
+
+    Raises Failed, Disconnected."""
     if arguments.state is None:
         raise Failed("the team's folder is missing: --state DIR")
     talk = GatewayTalk(arguments.state)
@@ -85,6 +88,8 @@ def talk_of(arguments: argparse.Namespace) -> Iterator[GatewayTalk]:
         elif arguments.role:
             raise Failed("--role needs --as USER")
         yield talk
+        if arguments.login_user is not None:
+            talk.ask("logout")  # it is recorded when the answer comes
     finally:
         talk.close()
 
@@ -110,13 +115,23 @@ def add_word(subparsers: Any, word: str, help: str) -> Any:
     """Adds one word to the command line, with what each has."""
     parser = subparsers.add_parser(word, help=help, description=help)
     parser.add_argument(
-        "--state", default=argparse.SUPPRESS, metavar="DIR", type=pathlib.Path, help="the team's folder"
+        "--state",
+        default=argparse.SUPPRESS,
+        metavar="DIR",
+        type=pathlib.Path,
+        help="the team's folder",
     )
     parser.add_argument(
-        "--as", dest="login_user", metavar="USER", help="log in as this policy user for the question"
+        "--as",
+        dest="login_user",
+        metavar="USER",
+        help="log in as this policy user for the question",
     )
     parser.add_argument(
-        "--role", action="append", metavar="ROLE", help="a role to activate; may stand more than once"
+        "--role",
+        action="append",
+        metavar="ROLE",
+        help="a role to activate; may stand more than once",
     )
     parser.add_argument("--json", action="store_true", help="print the answer as it came")
     parser.set_defaults(act=ask_word, word=word, keys=())

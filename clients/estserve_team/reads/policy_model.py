@@ -52,7 +52,7 @@ class Separation:
 
 @dataclasses.dataclass
 class Session:
-    """A session that lives: its number, its user, its active roles, and the version of its login."""
+    """A session that lives: its number, user and active roles, and the version of its login."""
 
     number: int
     user: str
@@ -104,11 +104,12 @@ def reach(roles: Iterable[str], steps: Dict[str, List[str]]) -> Dict[str, Tuple[
 class PolicyModel:
     """Users, roles and what was given to them, each with its origin, in order of creation.
 
-    `version` counts the entries, the four opening ones included; `logins` counts the sessions that
-    were made. `sessions` has those that live, by number."""
+    `version` counts the entries, the four opening ones included; `revision` those that may change
+    what a session may do: all but logins and logouts. `logins` counts the sessions that were made;
+    `sessions` has those that live, by number."""
 
     def __init__(self) -> None:
-        self.version = OPENING
+        self.version = self.revision = OPENING
         self.logins = 0
         self.users: Dict[str, Origin] = {"root": Origin(1)}
         self.roles: Dict[str, Origin] = {"root": Origin(2)}
@@ -134,6 +135,7 @@ class PolicyModel:
         self.version += 1
         origin = Origin(self.version, session)
         cmd = request["cmd"]
+        self.revision += cmd not in ("login", "logout")
         if cmd == "login":
             self._login(request, reply["session"])
         else:
@@ -246,8 +248,10 @@ class PolicyModel:
         return self._owners[session - 1]
 
     def why(self, user: str, operation: str, object: str) -> List[Way]:
-        """The ways by which the user has the permission: for each role that is assigned to the user,
-        and each role at or below it that the permission is granted to, the shortest chain."""
+        """The ways by which the user has the permission.
+
+        There is one for each role that is assigned to the user and each role at or below it that
+        the permission is granted to, by the shortest chain."""
         ways = []
         for role in self.assigned_to(user):
             chains = reach([role], self.juniors())

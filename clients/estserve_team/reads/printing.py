@@ -20,7 +20,9 @@ def who_lines(answer: Answer) -> Iterator[str]:
     for holder in answer["holders"]:
         row = [holder["user"], holder["person"], holder["since"]]
         ended = " (ended)" if holder.get("ended") else ""
-        rows.append([*row, f"{holder.get('session', '')}{ended}", " ".join(holder.get("roles", ()))])
+        rows.append(
+            [*row, f"{holder.get('session', '')}{ended}", " ".join(holder.get("roles", ()))]
+        )
     yield from columns(rows)
     yield f"{len(answer['holders'])} of {answer['most']} logins are held"
 
@@ -35,10 +37,15 @@ def slots_lines(answer: Answer) -> Iterator[str]:
 
 def slot_lines(slot: Answer) -> Iterator[str]:
     """One slot: its module, its interface, what is pending, its last instant and its text."""
-    what = f"{slot['main']}, {slot['instants']} instants" if slot["main"] else "empty"
+    count = slot["instants"]
+    what = (
+        f"{slot['main']}, {count} instant{'' if count == 1 else 's'}" if slot["main"] else "empty"
+    )
     yield f"slot {slot['slot']}: {what}"
     pending = set(slot["pending"])
-    rows = [[" ", kind, name, "pending" if name in pending else ""] for name, kind in slot["signals"]]
+    rows = [
+        [" ", kind, name, "pending" if name in pending else ""] for name, kind in slot["signals"]
+    ]
     yield from columns(rows)
     if slot.get("last"):
         told = [name + ("" if present else "=0") for name, present in slot["last"]]
@@ -59,7 +66,7 @@ def quoted(names: Iterable[str]) -> str:
 
 
 def grouped(pairs: Iterable[Sequence[str]]) -> Iterator[str]:
-    """Pairs as the lines of a table of a policy file: each first word with the list of its seconds."""
+    """Pairs as the lines of a table of a policy file: each first word with its second ones."""
     lists: Dict[str, List[str]] = {}
     for key, value in pairs:
         lists.setdefault(key, []).append(value)
@@ -68,7 +75,8 @@ def grouped(pairs: Iterable[Sequence[str]]) -> Iterator[str]:
 
 def policy_lines(answer: Answer) -> Iterator[str]:
     """The policy in the form that `apply` reads, what it has not as comments."""
-    yield f"# {'the whole policy' if answer['whole'] else 'your part of the policy'} at version {answer['version']}"
+    what = "the whole policy" if answer["whole"] else "your part of the policy"
+    yield f"# {what} at version {answer['version']}"
     yield f"users = {quoted(answer['users'])}"
     yield f"roles = {quoted(answer['roles'])}"
     grants = [(role, f"{op} {object}") for role, op, object in answer["granted"]]
@@ -77,13 +85,19 @@ def policy_lines(answer: Answer) -> Iterator[str]:
         if pairs:
             yield from ("", f"[{name}]", *grouped(pairs))
     for one in answer["sets"]:
-        yield from ("", f"[separate.{one['name']}]", f"roles = {quoted(one['roles'])}", f"count = {one['count']}")
+        yield from (
+            "",
+            f"[separate.{one['name']}]",
+            f"roles = {quoted(one['roles'])}",
+            f"count = {one['count']}",
+        )
     yield ""
     for session in answer["sessions"]:
         roles = " ".join(session["roles"]) or "no role"
         yield f"# session {session['session']} of {session['user']}, with {roles}"
     for filling in answer.get("filling", ()):
-        yield f"# {filling['what']}: {filling['percent']} % full, {filling['used']} of {filling['limit']}"
+        count = f"{filling['used']} of {filling['limit']}"
+        yield f"# {filling['what']}: {filling['percent']} % full, {count}"
 
 
 def why_lines(answer: Answer) -> Iterator[str]:
@@ -92,9 +106,10 @@ def why_lines(answer: Answer) -> Iterator[str]:
     if not answer["known"]:
         yield f"there is no user {user}"
     elif not answer["ways"]:
-        yield f"{user} has not {what}: no role of {user}, and no role below one, has it"
+        why = f"no role of {user}, and no role below one, has that permission"
+        yield f"{user} may not {what}: {why}"
     else:
-        yield f"{user} has {what}:"
+        yield f"{user} may {what}:"
         yield from map(way_line, answer["ways"])
         sessions = " ".join(map(str, answer["sessions"])) or "none"
         yield f"living sessions in which such a role is active: {sessions}"
@@ -153,7 +168,8 @@ def request_text(entry: Answer) -> str:
 
 def archive_lines(answer: Answer) -> Iterator[str]:
     """What an archive has done."""
-    yield f"a new record begins at version {answer['version']}; the old one is kept as {answer['kept']}"
+    kept = f"the old one is kept as {answer['kept']}"
+    yield f"a new record begins at version {answer['version']}; {kept}"
     yield "everyone is logged out"
 
 

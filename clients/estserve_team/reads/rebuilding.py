@@ -1,6 +1,7 @@
-"""Making a record anew: the policy in order of creation, and each slot from its load on, in a server that has nothing yet.
+"""Making a record anew: the policy in order of creation, and each slot from its load on.
 
-Each command that is given here is recorded as any other: what the new record holds is what this server has answered.
+It is made in a server that has nothing yet. Each command that is given here is recorded as any
+other: what the new record holds is what this server has answered.
 """
 import json
 import pathlib
@@ -41,7 +42,9 @@ class NewRecord:
         self._connections += 1
         return RecordedLogin(self, self._connections, Talker(self._socket), user, list(roles))
 
-    def write(self, login: "RecordedLogin", commands: Sequence[Command], replies: List[dict]) -> None:
+    def write(
+        self, login: "RecordedLogin", commands: Sequence[Command], replies: List[dict]
+    ) -> None:
         """Writes the entries of accepted commands, those of a login's connection."""
         entries = [
             self._entry_of(login, command, reply)
@@ -62,8 +65,20 @@ class NewRecord:
         request = line_of(command)[:-1]
         answer = json.dumps(reply, separators=(",", ":"), sort_keys=True).encode()
         return Entry(
-            self._entries, slot, place, reply["version"], login.number, login.session, login.user,
-            self._person, time.time(), reply.get("instant"), command["cmd"], request, answer, None,
+            self._entries,
+            slot,
+            place,
+            reply["version"],
+            login.number,
+            login.session,
+            login.user,
+            self._person,
+            time.time(),
+            reply.get("instant"),
+            command["cmd"],
+            request,
+            answer,
+            None,
             self._writer.program,
         )
 
@@ -118,7 +133,9 @@ class RecordedLogin:
 
 
 def make_slot(login: RecordedLogin, slot: Slot) -> None:
-    """Loads and steps a slot again, and offers what is pending, by permissions that are then taken away."""
+    """Loads and steps a slot again, and offers what is pending.
+
+    The permissions for this are granted before, and revoked afterwards."""
     names = {name for inputs in slot.instants for name in inputs} | set(slot.pending)
     pairs = [("load", f"{slot.number}"), ("step", f"{slot.number}")]
     pairs += [("offer", f"{slot.number}.{name}") for name in sorted(names)]
@@ -155,7 +172,7 @@ def helper_name(policy: PolicyModel) -> str:
 
 
 def make_policy(login: RecordedLogin, policy: PolicyModel) -> Optional[str]:
-    """Makes the facts of a policy in order of creation. Answers the role that helped, if one had to.
+    """Makes the facts of a policy in order of creation. Answers the role that helped, if one did.
 
     A set that the role root would violate is made in a session that holds a helping role alone."""
     helper = helper_name(policy) if needs_helper(policy) else None

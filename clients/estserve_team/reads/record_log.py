@@ -38,7 +38,8 @@ class Part(NamedTuple):
 
 
 def parts_of(old_records: List[pathlib.Path], present: pathlib.Path, written: int) -> List[Part]:
-    """The records as parts of one log, the oldest first. Of the present one `written` entries count."""
+    """The records as parts of one log, the oldest first. Of the present one `written` entries
+    count."""
     parts, first = [], 0
     for path in old_records:
         with open_reader(path) as database:
@@ -53,8 +54,11 @@ def query_of(wanted: Wanted, below: int, count: int) -> Tuple[str, List[Any]]:
     columns = [(f"{name} = ?", value) for name, value in wanted._asdict().items()]
     conditions = [("number <= ?", below), *(pair for pair in columns if pair[1] is not None)]
     where = " AND ".join(condition for condition, _ in conditions)
-    order = "number" if wanted.slot is None else "place"  # along a slot both agree; places are indexed
-    sql = f"SELECT {', '.join(Entry._fields)} FROM entries WHERE {where} ORDER BY {order} DESC LIMIT ?"
+    order = (
+        "number" if wanted.slot is None else "place"
+    )  # along a slot both agree; places are indexed
+    sql = f"SELECT {', '.join(Entry._fields)} FROM entries WHERE {where}"
+    sql += f" ORDER BY {order} DESC LIMIT ?"
     return sql, [value for _, value in conditions] + [count]
 
 

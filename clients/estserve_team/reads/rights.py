@@ -1,5 +1,5 @@
-"""What a caller may see: each permission is asked of the program, by `check` on the caller's own session."""
-from typing import Any, Awaitable, Callable, Dict, Iterable, List, Optional, Tuple
+"""What a caller may see: each permission is asked of the program, by `check` on the own session."""
+from typing import Any, Awaitable, Callable, Dict, Iterable, List, Tuple
 
 from ..refusals import failed, not_allowed
 from ..words import Context
@@ -40,17 +40,17 @@ class Rights:
         return await self.may_any(OVERSIGHT)
 
 
-async def read_at_one_version(
+async def read_by_one_policy(
     context: Context, compose: Callable[[Rights], Awaitable[Dict[str, Any]]]
 ) -> Dict[str, Any]:
-    """What `compose` answers, asked and composed while the policy stayed at one version.
+    """What `compose` answers, asked and composed while nobody's permissions were changed.
 
     So nothing is shown by a permission that was gone by then. Raises Refused."""
     state = context.gateway.reads
     for _ in range(TRIES):
-        models, version = state.models, state.policy.version
+        models, revision = state.models, state.policy.revision
         answer = await compose(Rights(context.session))
-        if models is state.models and state.policy.version == version:
+        if models is state.models and state.policy.revision == revision:
             return answer
     raise failed("the policy changes too fast to be read; ask again")
 
@@ -61,10 +61,7 @@ def refuse_others(what: str) -> Exception:
 
 
 def own_users(context: Context) -> List[str]:
-    """The policy users whose policy a person sees without any permission: those that it may be."""
-    return list(context.person.users)
+    """The policy users whose part of the policy is the caller's own: the one of its session.
 
-
-def number_of(session) -> Optional[int]:
-    """The program's number of a session; None without one."""
-    return None if session is None else session.number
+    Without a session these are all that the person may be."""
+    return list(context.person.users) if context.session is None else [context.session.user]

@@ -1,7 +1,7 @@
 """The slots as a model, built from the accepted commands on slots and their replies in order.
 
-It knows which module is loaded, its interface, its pending inputs and the inputs of each instant since
-the load. What an instant's outputs are it doesn't know: a `look` tells that.
+It knows which module is loaded, its interface, its pending inputs and the inputs of each instant
+since the load. What an instant's outputs are it doesn't know: a `look` tells that.
 """
 from typing import Dict, List, Optional, Tuple
 

@@ -1,4 +1,4 @@
-"""The models of a record: the policy and the slots, as its entries say, followed as new ones come."""
+"""The models of a record: policy and slots, as its entries say, followed as new ones come."""
 import json
 import pathlib
 from typing import Iterable, Iterator, List, Optional, Set
@@ -62,7 +62,7 @@ class ReadState:
 
     @property
     def models(self) -> Models:
-        """The models of the record. Raises Refused, where an entry came that they could not follow."""
+        """The models of the record. Raises Refused, where they could not follow an entry."""
         if self._fault is not None:
             raise failed(f"the record can't be read: {self._fault}")
         return self._models
@@ -84,7 +84,7 @@ class ReadState:
         self._watch.tell(self.policy.fillings() + self.slots.fillings())
 
     def follow(self, entries: List[Entry]) -> None:
-        """Adds new entries, and tells what is nearly full by them. It never raises: the gateway goes on."""
+        """Adds new entries, and tells what is nearly full by them. It never raises."""
         if self._fault is not None:
             return
         try:

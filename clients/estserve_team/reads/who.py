@@ -7,7 +7,7 @@ from estserve_client.sentences import out_of_form
 from ..refusals import not_a_word
 from ..words import Context
 from .policy_model import Origin, PolicyModel, Way
-from .rights import Rights, own_users, read_at_one_version, refuse_others
+from .rights import Rights, own_users, read_by_one_policy, refuse_others
 from .slot_model import SLOTS, Slot
 
 SEATS = 16  # logins that are held at a time
@@ -23,7 +23,7 @@ def time_text(seconds: float) -> str:
 
 
 async def who(context: Context, keys: Dict[str, Any]) -> Dict[str, Any]:
-    """Who holds the sixteen logins. Roles and session numbers of others: `administer` or `audit`."""
+    """Who holds the sixteen logins; roles and sessions of others for `administer` or `audit`."""
 
     async def compose(rights: Rights) -> Dict[str, Any]:
         oversees = await rights.oversees()
@@ -34,17 +34,19 @@ async def who(context: Context, keys: Dict[str, Any]) -> Dict[str, Any]:
         ]
         return {"holders": holders, "most": SEATS, "whole": oversees}
 
-    return await read_at_one_version(context, compose)
+    return await read_by_one_policy(context, compose)
 
 
 def holder_dict(holder, policy: PolicyModel, is_whole: bool) -> Dict[str, Any]:
-    """What is told of one who holds a login; `ended` where its session has ended."""
+    """What is told of one who holds a login; `ended` where its session has ended.
+
+    A login that is not yet answered has the session 0."""
     told = {"person": holder.person, "since": time_text(holder.since), "user": holder.user}
     if is_whole:
         session = policy.sessions.get(holder.session)
         told["session"] = holder.session
         told["roles"] = session.active if session else []
-        told["ended"] = session is None
+        told["ended"] = holder.session != 0 and session is None
     return told
 
 
@@ -65,7 +67,7 @@ async def slots(context: Context, keys: Dict[str, Any]) -> Dict[str, Any]:
         told = [slot_dict(state.slots[number], signals[number], keys) for number in sorted(seen)]
         return {"slots": told, "version": state.policy.version}
 
-    answer = await read_at_one_version(context, compose)
+    answer = await read_by_one_policy(context, compose)
     for told in answer["slots"]:
         if told["instants"]:
             told["last"] = await look_of(context.session, told["slot"], told["instants"])
@@ -113,7 +115,7 @@ async def look_of(session, slot: int, instant: int) -> Optional[List[list]]:
 
 
 async def policy(context: Context, keys: Dict[str, Any]) -> Dict[str, Any]:
-    """The whole policy for who may `administer` or `audit`; of the others each sees its own part."""
+    """The whole policy for whoever may `administer` or `audit`, and else the own part of it."""
 
     async def compose(rights: Rights) -> Dict[str, Any]:
         oversees = await rights.oversees()
@@ -123,7 +125,7 @@ async def policy(context: Context, keys: Dict[str, Any]) -> Dict[str, Any]:
         told = policy_dict(model, set(model.users), set(model.roles), is_whole=True)
         return {**told, "filling": [filling.as_dict() for filling in model.fillings()]}
 
-    return await read_at_one_version(context, compose)
+    return await read_by_one_policy(context, compose)
 
 
 def own_part(model: PolicyModel, users: List[str]):
@@ -133,7 +135,7 @@ def own_part(model: PolicyModel, users: List[str]):
 
 
 def policy_dict(model: PolicyModel, users: Set[str], roles: Set[str], is_whole: bool) -> Dict:
-    """The part of the policy that is about these users and roles, each list in order of creation."""
+    """What the policy says of these users and roles, each list in order of creation."""
     edges = [list(edge) for edge in model.edges if roles.issuperset(edge)]
     sessions = [session for session in model.sessions.values() if session.user in users]
     return {
@@ -181,7 +183,7 @@ async def why(context: Context, keys: Dict[str, Any]) -> Dict[str, Any]:
         told = await own_answer(context, rights, user, operation, object)
         return {**why_dict(context.gateway.reads.policy, keys, oversees), **told}
 
-    return await read_at_one_version(context, compose)
+    return await read_by_one_policy(context, compose)
 
 
 async def own_answer(context: Context, rights: Rights, user: str, operation: str, object: str):

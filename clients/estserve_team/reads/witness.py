@@ -1,7 +1,8 @@
-"""Comparing an old record with the new one that was made of it: what the models say, and what two servers show.
+"""Comparing an old record with the new one that was made of it: the models, and what servers show.
 
-Each record's slots are run again from their last load on, line by line as they stand in it, each record's in a server of its own that
-is ended afterwards. There all signals may be observed, whoever may observe them in the team: nothing of it is told to anyone.
+Each record's slots are run again from their last load on, line by line as they stand in it, each
+record's in a server of its own that is ended afterwards. There all signals may be observed, whoever
+may observe them in the team: nothing of it is told to anyone.
 """
 import json
 import pathlib
@@ -24,11 +25,13 @@ SINCE_LOAD = "SELECT request, instant FROM entries WHERE slot = ? AND place >= ?
 
 
 def compare_facts(old: PolicyModel, new: PolicyModel) -> None:
-    """Raises ArchiveFailed where the facts differ: all in order of creation, the opening ones as a set."""
+    """Raises ArchiveFailed where the facts or their order differ; opening ones have no order."""
     facts = [[fact.command for fact in policy.facts()] for policy in (old, new)]
     for at, (was, now) in enumerate(zip(*map(later_facts, facts))):
         if was != now:
-            raise ArchiveFailed(f"fact {at + 1} is {was} in the old record, and {now} in the new one")
+            raise ArchiveFailed(
+                f"fact {at + 1} is {was} in the old record, and {now} in the new one"
+            )
     counts = [len(later_facts(commands)) for commands in facts]
     opening = [[fact in commands for fact in OPENING_FACTS] for commands in facts]
     if counts[0] != counts[1] or opening[0] != opening[1]:
@@ -57,7 +60,7 @@ def compare_slots(old: Models, new: Models, emptied: Optional[int]) -> None:
 
 
 class Witness:
-    """A server in which a record's slots are run again. Used with `with`, it is ended at the end."""
+    """A server in which a record's slots are run again. It is used with `with`."""
 
     def __init__(self, record: pathlib.Path, program: str, socket: pathlib.Path) -> None:
         self._record, self._socket = record, socket
@@ -83,11 +86,13 @@ class Witness:
         replies = self._talker.ask_all(lines)
         for line, reply in zip(lines, replies):
             if b'"ok":' not in reply:
-                raise ArchiveFailed(f"a second run of {self._record.name}: {line!r} is answered {reply!r}")
+                raise ArchiveFailed(
+                    f"a second run of {self._record.name}: {line!r} is answered {reply!r}"
+                )
         return replies
 
     def run(self, slot: Slot) -> None:
-        """Runs a slot from its last load on, as the record has it, so that all of it may be observed."""
+        """Runs a slot from its last load on, as the record has it; all of it may be observed."""
         keys = self._permissions(slot)
         self._accepted([{"cmd": "grant", **permission} for permission in keys])
         with open_reader(self._record) as database:
@@ -149,12 +154,14 @@ def compare_shown(
     program: str,
     folder: pathlib.Path,
 ) -> int:
-    """Compares what both records' slots show in each instant, and what is pending. Answers how many instants.
+    """Compares what both records' slots show in each instant, and what is pending.
 
-    Raises ArchiveFailed where they differ."""
+    Answers how many instants there are. Raises ArchiveFailed where they differ."""
     numbers = [n for n in range(SLOTS) if n != emptied and models[0].slots[n].is_loaded]
-    paths = folder / "old-witness", folder / "new-witness"
-    with Witness(records[0], program, paths[0]) as was, Witness(records[1], program, paths[1]) as now:
+    paths = folder / "was.sock", folder / "now.sock"
+    with Witness(records[0], program, paths[0]) as was, Witness(
+        records[1], program, paths[1]
+    ) as now:
         return sum(
             compare_slot((was, now), (models[0].slots[number], models[1].slots[number]))
             for number in numbers
@@ -169,7 +176,9 @@ def compare_slot(witnesses: Tuple[Witness, Witness], slots: Tuple[Slot, Slot]) -
     for looks, others in zip(was.looks(slots[0]), now.looks(slots[1])):
         if looks != others:
             different = next(pair for pair in zip(looks, others) if pair[0] != pair[1])
-            raise ArchiveFailed(f"slot {slots[0].number} shows {different[1]!r}, and not {different[0]!r}")
+            raise ArchiveFailed(
+                f"slot {slots[0].number} shows {different[1]!r}, and not {different[0]!r}"
+            )
     pending = was.pending(slots[0]), now.pending(slots[1])
     if pending[0] != pending[1] or pending[0] != set(slots[0].pending):
         raise ArchiveFailed(f"slot {slots[0].number} differs in its pending inputs: {pending}")
