@@ -3,6 +3,7 @@
 export const ABSENT = 0, PRESENT = 1, HIDDEN = 2, UNKNOWN = 3;
 export const CHUNK = 128; // instants that are asked for at once
 const ASKED_AT_ONCE = 3;
+const AGAIN = 500; // milliseconds after which instants that did not come are asked for again
 const CODES = { 0: ABSENT, 1: PRESENT, ".": HIDDEN };
 
 export class WaveRows {
@@ -74,20 +75,15 @@ export class WaveRows {
     const [chunk, life] = [this.chunkOf(number), this.life];
     chunk.asking = true;
     this.asked += 1;
-    try {
-      const first = number * CHUNK + chunk.filled + 1;
-      const rows = await this.ask(first, Math.min(this.newest, (number + 1) * CHUNK));
-      if (life === this.life) this.keep(chunk, rows);
-    } finally {
-      if (life === this.life) {
-        chunk.asking = false;
-        this.asked -= 1;
-      }
-    }
-    if (life === this.life) {
-      this.changed();
-      this.askNext();
-    }
+    const first = number * CHUNK + chunk.filled + 1;
+    const last = Math.min(this.newest, (number + 1) * CHUNK);
+    const rows = await this.ask(first, last).catch(() => []);
+    if (life !== this.life) return;
+    chunk.asking = false;
+    this.asked -= 1;
+    this.keep(chunk, rows);
+    if (rows.length) this.changed();
+    else setTimeout(() => this.changed(), AGAIN);
   }
 
   keep(chunk, rows) {

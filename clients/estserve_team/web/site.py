@@ -155,6 +155,9 @@ class Site:
             answer = told(raised.status, raised.text or raised.reason)
         except Refused as refused:
             answer = self._refused(refused)
+        except Exception as fault:  # a fault of the gateway's own: it is told, and others go on
+            self._gateway.log(f"the page's request {request.path} failed: {fault!r}")
+            answer = told(500, "The gateway failed at this request.")
         if not answer.prepared:
             answer.headers.update(HEADERS)
             answer.headers.setdefault("Cache-Control", "no-store")
@@ -311,6 +314,8 @@ class Site:
                     await answer.write(event)
         except (ConnectionError, asyncio.CancelledError):
             pass
+        except Exception as fault:  # the page asks for another stream
+            self._gateway.log(f"a page's live events failed: {fault!r}")
         finally:
             self._watchers.discard(watcher)
             seat.streams -= 1

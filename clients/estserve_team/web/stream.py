@@ -79,15 +79,17 @@ class Watcher:
 
     async def _news(self) -> List[Event]:
         """What there is to tell now."""
-        slots, self._slots = sorted(self._slots), set()
-        policy, self._policy = self._policy, False
-        record, self._record = self._record, False
+        slots, policy, record = sorted(self._slots), self._policy, self._record
+        self._slots, self._policy, self._record = set(), False, False
         try:
             ended = await self._end_of_session() if policy else None
             if ended:
                 return [("ended", ended)]
             told = [await page_slot(self._seat, number) for number in slots]
-        except Refused:
+        except Refused:  # it is told with the next news, if the seat isn't over
+            self._slots.update(slots)
+            self._policy, self._record = self._policy or policy, self._record or record
+            self._wake.set()
             return []
         news: List[Event] = [("slots", told)] if told else []
         news += [("policy", {})] * policy + [("record", {})] * record
