@@ -378,7 +378,28 @@ class Filled(Case):
 
 
 class Models(Case):
-    """What a model refuses, and what becomes of the reads then."""
+    """What ends a session, what a model refuses, and what becomes of the reads then."""
+
+    def test_what_ends_a_session(self):
+        self.root.need("inherit", senior="anns", junior="chos")
+        self.root.need("inherit", senior="bobs", junior="chos")
+        self.root.need("assign", user="cho", role="bobs")
+        ended = [
+            ({"cmd": "deassign", "user": "cho", "role": "chos"}, []),
+            ({"cmd": "disinherit", "senior": "anns", "junior": "chos"}, []),
+            ({"cmd": "disinherit", "senior": "bobs", "junior": "chos"}, ["cho"]),
+            ({"cmd": "delrole", "role": "anns"}, ["ann"]),
+            ({"cmd": "deassign", "user": "bob", "role": "bobs"}, ["bob"]),
+            ({"cmd": "deluser", "user": "dan"}, ["dan"]),
+        ]
+        gone = []
+        for command, users in ended:
+            self.root.need(**command)
+            gone += users
+            for user in ("ann", "bob", "cho", "dan"):
+                lives = self.seats[user].give("drop", role="nobody").get("code") != 4
+                self.assertEqual(lives, user not in gone, command)
+                self.assertEqual(lives, self.seats[user].session in self.desk.reads.policy.sessions)
 
     def test_an_entry_out_of_order(self):
         model = PolicyModel()
