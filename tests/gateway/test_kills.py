@@ -15,7 +15,7 @@ import unittest
 import teams
 from teams import Team, line_of, login_line, random_of
 
-KILLS = int(os.environ.get("GATEWAY_KILLS", "200"))
+KILLS = int(os.environ.get("GATEWAY_KILLS", "40"))
 TEAMS = 3  # run beside each other
 KILLS_OF_A_RECORD = 12
 CLIENTS = 4

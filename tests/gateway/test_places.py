@@ -23,8 +23,11 @@ import os, socket, sys
 os.setgid(int(sys.argv[1])), os.setuid(int(sys.argv[2]))
 connection = socket.socket(socket.AF_UNIX)
 connection.connect(sys.argv[3])
-connection.sendall(sys.stdin.buffer.read())
-connection.shutdown(socket.SHUT_WR)
+try:
+    connection.sendall(sys.stdin.buffer.read())
+    connection.shutdown(socket.SHUT_WR)
+except BrokenPipeError:
+    pass  # a stranger's connection is ended at once
 while True:
     more = connection.recv(65536)
     if not more:
