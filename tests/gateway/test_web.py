@@ -152,7 +152,7 @@ class EntryTest(SharedTest):
         self.assertEqual(visitor.get("here").status, 200)
 
     def test_a_visit_that_was_left_is_over(self):
-        visitor = visitor_of(self.team, "root", "root")
+        visitor = visitor_of(self.team, "bob", "watcher")
         self.assertEqual(visitor.post("out", {}).status, 200)
         self.assertEqual(visitor.get("me").status, 401)
         login = next(entry for entry in reversed(self.team.entries()) if entry.command == "login")
@@ -422,7 +422,8 @@ class ReadsTest(OwnTest):
         why = self.root.get("why", user="ann", operation="offer", object="0.A").told["lines"]
         self.assertRegex(
             why[0],
-            r"^ann has lead \(version \d+\), above driver; driver may offer on 0\.A \(version \d+\)$",
+            r"^ann has lead \(version \d+\), above driver; "
+            r"driver may offer on 0\.A \(version \d+\)$",
         )
         self.cho.ask("a", "step", slot=0)
         log = self.root.get("log", limit=1).told
@@ -509,7 +510,8 @@ class ProxyTest(unittest.TestCase):
     def test_another_user_at_the_socket_is_refused(self):
         self.begin("root")
         os.chmod(self.path, 0o666)
-        request = f"GET / HTTP/1.1\r\nHost: team.example.org\r\nX-Remote-User: {teams.ME}\r\nConnection: close\r\n\r\n"
+        lines = ["GET / HTTP/1.1", "Host: team.example.org", f"X-Remote-User: {teams.ME}"]
+        request = "\r\n".join([*lines, "Connection: close", "", ""])
         script = (
             "import socket, sys\ns = socket.socket(socket.AF_UNIX)\ns.connect(sys.argv[1])\n"
             "s.sendall(sys.argv[2].encode())\nprint(s.recv(1000).decode())"

@@ -65,7 +65,7 @@ class Visitor:
         self.cookie = self.token = self.seat = None
 
     def send(self, method, path, body=None, headers=(), own=True):
-        """One request, with the visitor's own headers, which `headers` replace; None takes one away."""
+        """One request, with the visitor's own headers; `headers` replace them, None takes one away."""
         all_of = {"Host": self.host}
         if method == "POST":
             all_of.update({"Origin": self.origin, "Content-Type": "application/json"})

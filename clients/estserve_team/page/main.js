@@ -43,7 +43,7 @@ class Page {
     try {
       this.me = await this.connection.enter(link);
       this.showEntry();
-      await this.entry.again();
+      if (!link) await this.entry.again();
     } catch (fault) {
       this.tell("out", fault);
     }

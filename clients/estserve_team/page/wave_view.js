@@ -3,6 +3,7 @@
 
 import { button, fill, make, say } from "./dom.js";
 import { coloursOf, drawWave, ROW, RULER, shownInstants } from "./wave_canvas.js";
+import { refusalPlace } from "./trying.js";
 import { HIDDEN, PRESENT, UNKNOWN, WaveRows } from "./wave_rows.js";
 
 const CELLS = [2, 4, 8, 16, 28, 44]; // widths of an instant that one can choose
@@ -39,10 +40,10 @@ export class WaveView {
       "p", { class: "readout", id: "wave-told", role: "status", "aria-live": "polite" }
     );
     this.told = make("div", { class: "unseen" });
+    this.refused = refusalPlace();
     return make(
-      "section", {
-        class: "card wave", "aria-label": "Wave",
-      }, this.buildTools(), this.box, this.readout, this.told
+      "section", { class: "card wave", "aria-label": "Wave" },
+      this.buildTools(), this.refused, this.box, this.readout, this.told
     );
   }
 
@@ -52,12 +53,13 @@ export class WaveView {
       "aria-label": "instant to jump to", placeholder: "instant",
     });
     const jump = make(
-      "form", { class: "inline" }, this.number,
+      "form", { class: "inline", novalidate: true }, this.number,
       make("button", { type: "submit", id: "wave-jump" }, "Jump")
     );
     jump.addEventListener("submit", (event) => {
       event.preventDefault();
       this.jump(Number(this.number.value));
+      this.number.select();
     });
     this.newest = button(
       "Newest", () => this.followNewest(), { id: "wave-newest", "aria-pressed": "true" }
@@ -188,11 +190,9 @@ export class WaveView {
 
   /** Shows an instant, in the middle where there is room. */
   jump(instant) {
+    say(this.refused, "");
     if (!Number.isInteger(instant) || instant < 1 || instant > this.instants) {
-      say(
-        this.readout,
-        `NoInstant: there was no such instant since the load: they are 1 to ${this.instants}`
-      );
+      say(this.refused, `NoInstant: since the load there were the instants 1 to ${this.instants}`);
       return;
     }
     this.setFollowing(false);

@@ -88,7 +88,7 @@ class Site:
         self._gateway.log(f"the page is at {self.address}, served on {' and '.join(places)}")
 
     def _bind(self) -> List[socket.socket]:
-        """The sockets that are asked for; the Unix socket is open to its user and group alone.
+        """The sockets that are asked for; the Unix socket is for its user and its folder's group.
         Raises OSError."""
         found = []
         if self._options.place:
@@ -104,6 +104,8 @@ class Site:
             before = os.umask(0o117)
             try:
                 one.bind(self._options.socket)
+                folder = pathlib.Path(self._options.socket).absolute().parent
+                os.chown(self._options.socket, -1, folder.stat().st_gid)
             finally:
                 os.umask(before)
             found.append(one)
