@@ -9,7 +9,7 @@ HAS_BROWSER = bool(CHROMIUM and DRIVER and importlib.util.find_spec("selenium"))
 NO_BROWSER = (
     "Chromium, its driver or selenium is not there: scripts/install_debian.sh installs them"
 )
-SECONDS = 20
+SECONDS = 60  # whatever a test waits for comes in so many, or not at all
 WORDS = (
     "--headless=new", "--disable-gpu", "--disable-dev-shm-usage", "--hide-scrollbars",
     "--disable-background-networking", "--disable-component-update", "--no-first-run",
@@ -22,7 +22,7 @@ def start(width=1200, height=900):
     from selenium.webdriver.chrome.service import Service
     from selenium.webdriver.remote.remote_connection import RemoteConnection
 
-    RemoteConnection.set_timeout(3 * SECONDS)
+    RemoteConnection.set_timeout(2 * SECONDS)
     options = webdriver.ChromeOptions()
     options.binary_location = CHROMIUM
     for word in (*WORDS, f"--window-size={width},{height}"):
@@ -95,7 +95,7 @@ class Page:
         """Opens a link, and logs in."""
         self.browser.get("about:blank")
         self.browser.get(link)
-        self.wait(lambda: self.find(f"#entry-user option"), "the entry form")
+        self.wait(lambda: self.find("#entry-user option"), "the entry form")
         choose = (
             "const [user, roles] = arguments;"
             "const select = document.getElementById('entry-user');"

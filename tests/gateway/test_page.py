@@ -8,31 +8,19 @@ import unittest
 import browsers
 import teams
 import visitors
-from visitors import PEOPLE
 
 SHOT = os.environ.get("GATEWAY_SHOTS")  # a folder for pictures of the page, where one is wanted
-WIDE = """module WIDE:
-input {inputs};
-output {outputs};
-{relation}
-[ {body} ]
-end module
-"""
 SIGNALS, INSTANTS = 64, 10_000
 FRAME = 1000 / 30  # milliseconds: a frame that is drawn in less looks smooth
 
 
 def wide_module():
-    """A module of 32 inputs, and 32 outputs that tell of them."""
-    names = [(f"I{number}", f"O{number}") for number in range(SIGNALS // 2)]
-    body = " || ".join(f"every immediate {i} do emit {o} end" for i, o in names)
-    text = WIDE.format(
-        inputs=", ".join(i for i, _ in names),
-        outputs=", ".join(o for _, o in names),
-        relation="",
-        body=body,
-    )
-    return text, [name for pair in zip(*names) for name in pair]
+    """The text of a module of 32 inputs and 32 outputs, of which two do something, and the names."""
+    inputs = [f"I{number}" for number in range(SIGNALS // 2)]
+    outputs = [f"O{number}" for number in range(SIGNALS // 2)]
+    declared = f"input {', '.join(inputs)}; output {', '.join(outputs)};"
+    body = "every immediate I0 do emit O0 end || every immediate I1 do emit O1 end"
+    return f"module WIDE: {declared} {body} end module", inputs + outputs
 
 
 @unittest.skipUnless(visitors.HAS_AIOHTTP, visitors.NO_AIOHTTP)
@@ -42,7 +30,7 @@ class PageTest(unittest.TestCase):
 
     @classmethod
     def setUpClass(cls):
-        cls.team = teams.Team("--http", "127.0.0.1:0", people=PEOPLE)
+        cls.team = visitors.Team("--http", "127.0.0.1:0")
         cls.team.__enter__()
         cls.addClassCleanup(cls.team.__exit__)
         visitors.set_up(cls.team)
@@ -73,11 +61,7 @@ class PageTest(unittest.TestCase):
             self.assertEqual(faults, [], "the browser complains")
 
     def come_in(self, page, user, *roles):
-        talker = self.team.words()
-        try:
-            page.come_in(talker.word("link")["link"], user, *roles)
-        finally:
-            talker.close()
+        page.come_in(visitors.address_of_link(self.team), user, *roles)
 
     def drive_and_step(self):
         """Ann drives in the first browser, Cho steps in the second."""
@@ -134,7 +118,9 @@ class PageTest(unittest.TestCase):
         self.one.wait_text("#facts", "301 instants")
         self.one.wait_text("#wave-told", "instant 17:")
         self.one.type("#wave-instant", "0\n")
-        self.one.wait_text(".wave .refusal", "NoInstant: since the load there were the instants 1 to")
+        self.one.wait_text(
+            ".wave .refusal", "NoInstant: since the load there were the instants 1 to"
+        )
         self.one.click("#wave-newest")
         self.one.wait_text("#wave-told", "instant 301:")
         self.one.click("#wave-pick summary")
@@ -265,35 +251,7 @@ class PageTest(unittest.TestCase):
         ]
         self.assertEqual(len({entry.request_id for entry in offers}), len(offers))
 
-    # How it looks and feels.
-
-    def test_a_large_wave_scrolls_smoothly(self):
-        text, names = wide_module()
-        with self.team.root() as root:
-            root.unload(0)
-            for name in names:
-                if name not in ("A", "O"):
-                    root.grant("watcher", "observe", f"0.{name}")
-            root.load(0, "WIDE", text)
-            for name in names[: SIGNALS // 2]:
-                root.grant("driver", "offer", f"0.{name}")
-            root.logout()
-        with self.team.client() as ann, self.team.client() as cho:
-            ann.login("ann", ["lead"])
-            cho.login("cho", ["stepper"])
-            for at in range(0, INSTANTS, 500):
-                ann.offer(0, names[at // 500])
-                cho.ask_all([{"cmd": "step", "slot": 0}] * 500)
-        self.come_in(self.one, "ann", "lead")
-        self.one.wait_text("#facts", f"{INSTANTS} instants")
-        self.one.wait_text("#wave-told", f"instant {INSTANTS}: nothing present")
-        script = pathlib.Path(__file__).with_name("scrolling.js").read_text()
-        told = self.one.browser.execute_async_script(script)
-        self.assertGreater(told["unlike"], 100, "the pictures differ")
-        self.assertLess(told["median"], FRAME, told)
-        self.one.type("#wave-instant", "5001\n")
-        self.one.wait_text("#wave-told", f"instant 5001: {names[10]} {names[10 + SIGNALS // 2]}")
-        print(f"a frame of a wave of {INSTANTS} instants of {SIGNALS} signals: {told}")
+    # How it looks.
 
     def test_it_fits_small_screens_dark_and_light(self):
         self.drive_and_step()
@@ -328,6 +286,47 @@ class PageTest(unittest.TestCase):
         """Keeps a picture, where pictures are wanted."""
         if SHOT:
             page.browser.save_screenshot(str(pathlib.Path(SHOT) / f"{name}.png"))
+
+
+@unittest.skipUnless(visitors.HAS_AIOHTTP, visitors.NO_AIOHTTP)
+@unittest.skipUnless(browsers.HAS_BROWSER, browsers.NO_BROWSER)
+class LargeWaveTest(unittest.TestCase):
+    """A wave as large as it gets, at a gateway of its own."""
+
+    def setUp(self):
+        self.team = visitors.Team("--http", "127.0.0.1:0")
+        self.team.__enter__()
+        self.addCleanup(self.team.__exit__)
+        visitors.set_up(self.team)
+        self.one = browsers.Page()
+        self.addCleanup(self.one.close)
+
+    def test_a_large_wave_scrolls_smoothly(self):
+        text, names = wide_module()
+        with self.team.root() as root:
+            root.unload(0)
+            for name in names:
+                root.grant("watcher", "observe", f"0.{name}")
+            root.load(0, "WIDE", text)
+            for name in ("I0", "I1"):
+                root.grant("driver", "offer", f"0.{name}")
+            root.logout()
+        with self.team.client() as ann, self.team.client() as cho:
+            ann.login("ann", ["lead"])
+            cho.login("cho", ["stepper"])
+            for at in range(0, INSTANTS, 500):
+                ann.offer(0, f"I{at // 500 % 2}")
+                cho.ask_all([{"cmd": "step", "slot": 0}] * 500)
+        self.one.come_in(visitors.address_of_link(self.team), "ann", "lead")
+        self.one.wait_text("#facts", f"{INSTANTS} instants")
+        self.one.wait_text("#wave-told", f"instant {INSTANTS}: nothing present")
+        script = pathlib.Path(__file__).with_name("scrolling.js").read_text()
+        told = self.one.browser.execute_async_script(script)
+        self.assertGreater(told["unlike"], 100, "the pictures differ")
+        self.assertLess(told["median"], FRAME, told)
+        self.one.type("#wave-instant", "5501\n")
+        self.one.wait_text("#wave-told", "instant 5501: I1 O1")
+        print(f"a frame of a wave of {INSTANTS} instants of {SIGNALS} signals: {told}")
 
 
 if __name__ == "__main__":

@@ -11,7 +11,7 @@ import unittest
 
 import teams
 import visitors
-from visitors import PEOPLE, Visitor, link_of, visitor_of
+from visitors import Visitor, link_of, visitor_of
 
 PAGE = teams.ROOT / "clients" / "estserve_team" / "page"
 READS = ("me", "here", "text", "looks", "policy", "why", "log", "who", "events")
@@ -42,7 +42,7 @@ class SharedTest(unittest.TestCase):
 
     @classmethod
     def setUpClass(cls):
-        cls.team = teams.Team("--http", "127.0.0.1:0", people=PEOPLE)
+        cls.team = visitors.Team("--http", "127.0.0.1:0")
         cls.team.__enter__()
         cls.addClassCleanup(cls.team.__exit__)
         visitors.set_up(cls.team)
@@ -53,7 +53,7 @@ class OwnTest(unittest.TestCase):
     """One gateway for each test, with the team of the examples."""
 
     def setUp(self):
-        self.team = teams.Team("--http", "127.0.0.1:0", people=PEOPLE)
+        self.team = visitors.Team("--http", "127.0.0.1:0")
         self.team.__enter__()
         self.addCleanup(self.team.__exit__)
         visitors.set_up(self.team)
@@ -458,7 +458,7 @@ class ProxyTest(unittest.TestCase):
             "https://team.example.org/blue",
         ]
         words += ["--user-header", "X-Remote-User", "--proxy-user", proxy]
-        self.team = teams.Team(*words, people=PEOPLE)
+        self.team = visitors.Team(*words)
         self.team.__enter__()
         self.addCleanup(self.team.__exit__)
         visitor = Visitor("team.example.org", self.path)
@@ -529,15 +529,15 @@ class ProxyTest(unittest.TestCase):
 @unittest.skipUnless(visitors.HAS_AIOHTTP, visitors.NO_AIOHTTP)
 class WithoutTest(unittest.TestCase):
     def test_without_http_there_is_no_link(self):
-        with teams.Team(people=PEOPLE) as team:
+        with visitors.Team() as team:
             talker = team.words()
             self.assertEqual(talker.word("link")["fault"], "NoHttp")
             talker.close()
 
     def test_a_place_that_is_taken_is_told(self):
-        with teams.Team("--http", "127.0.0.1:0", people=PEOPLE) as team:
+        with visitors.Team("--http", "127.0.0.1:0") as team:
             place = visitors.address_of(team)
-            other = teams.Team("--http", place, people=PEOPLE)
+            other = visitors.Team("--http", place)
             with self.assertRaisesRegex(
                 AssertionError, "HTTP cannot be served: Address already in use"
             ):

@@ -2,8 +2,11 @@
 import http.client
 import importlib.util
 import json
+import os
+import pathlib
 import re
 import socket
+import tempfile
 
 import teams
 
@@ -14,6 +17,7 @@ NO_AIOHTTP = (
 USERS = ("root", "ann", "bob", "cho")
 PEOPLE = "[people]\n" + "".join(f'{user} = ["{teams.ME}"]\n' for user in USERS)
 SECONDS = 30
+MEMORY = "/dev/shm" if os.access("/dev/shm", os.W_OK) else None  # a folder that is no disk's
 
 
 def address_of(team):
@@ -21,13 +25,31 @@ def address_of(team):
     return re.findall(r"the page is at http://(127\.0\.0\.1:\d+)/", team.told())[-1]
 
 
-def link_of(team):
-    """The secret of a new link, asked over gateway.sock."""
+def address_of_link(team):
+    """A new link, asked over gateway.sock."""
     talker = team.words()
     try:
-        return talker.word("link")["link"].partition("#link=")[2]
+        return talker.word("link")["link"]
     finally:
         talker.close()
+
+
+def link_of(team):
+    """The secret of a new link."""
+    return address_of_link(team).partition("#link=")[2]
+
+
+class Team(teams.Team):
+    """A gateway whose people may all be the one who runs the tests. Its folder is in memory where
+    that can be: these tests are about answers, not about disks."""
+
+    def __init__(self, *words):
+        self._memory = tempfile.TemporaryDirectory(prefix="gateway-", dir=MEMORY)
+        super().__init__(*words, people=PEOPLE, state=pathlib.Path(self._memory.name) / "team")
+
+    def __exit__(self, *fault):
+        super().__exit__(*fault)
+        self._memory.cleanup()
 
 
 class UnixConnection(http.client.HTTPConnection):
