@@ -1,14 +1,17 @@
 #!/usr/bin/env python3
-"""What the team's gateway costs: a step through it beside one without, and accepted commands a second over four connections.
+"""What the team's gateway costs: a step through it beside one without, and accepted commands a
+second over four connections.
 
 usage: gateway.py PROGRAM
 
-Clients are processes of their own; each steps a slot of its own. Processor time is that of the gateway's process; the record is synced to
-the disk before each answer, so that the clock says as much about the disk.
-"""
+Clients are processes of their own; each steps a slot of its own. Processor time is that of the
+gateway's process; the record is synced to the disk before each answer, so that the clock says as
+much about the disk."""
 import sys
 
-sys.path[0] += "/../tests/gateway"  # where this file stands, a file has the name of a module that is taken
+sys.path[
+    0
+] += "/../tests/gateway"  # where this file stands, a file has the name of a module that is taken
 sys.dont_write_bytecode = True
 
 import multiprocessing
@@ -54,14 +57,19 @@ def step(path, slot, steps, ahead, begin):
 def timed(path, process, clients, ahead, steps=STEPS):
     """Seconds by the clock, and of a process, for a step of so many clients."""
     begin = multiprocessing.Barrier(clients + 1)
-    running = [multiprocessing.Process(target=step, args=(path, slot, steps, ahead, begin)) for slot in range(clients)]
+    running = [
+        multiprocessing.Process(target=step, args=(path, slot, steps, ahead, begin))
+        for slot in range(clients)
+    ]
     for client in running:
         client.start()
     begin.wait()
     began, before = time.monotonic(), cpu_of(process)
     for client in running:
         client.join()
-    return (time.monotonic() - began) / steps / clients, (cpu_of(process) - before) / steps / clients
+    return (time.monotonic() - began) / steps / clients, (
+        cpu_of(process) - before
+    ) / steps / clients
 
 
 def tell(name, seconds, spent):
@@ -69,19 +77,27 @@ def tell(name, seconds, spent):
 
 
 def main():
-    os.environ["ESTSERVE"] = os.path.abspath(sys.argv[1])  # `teams` reads it when the program is first needed
+    os.environ["ESTSERVE"] = os.path.abspath(
+        sys.argv[1]
+    )  # `teams` reads it when the program is first needed
     print(f"{'':56} {'us a step':>9} {'a second':>9} {'us cpu':>9}")
     with tempfile.TemporaryDirectory(prefix="gateway-") as folder:
         with teams.Server(teams.program_file(), pathlib.Path(folder) / "socket") as server:
             with teams.Talker(server.path) as talker:
                 set_up(talker)
             for clients, ahead in [(1, 1), (1, 50), (CLIENTS, 1), (CLIENTS, 50)]:
-                tell(f"the server alone, {clients} clients, {ahead} ahead", *timed(server.path, server.process, clients, ahead))
+                tell(
+                    f"the server alone, {clients} clients, {ahead} ahead",
+                    *timed(server.path, server.process, clients, ahead),
+                )
     with teams.Team() as team:
         with team.talker() as talker:
             set_up(talker)
         for clients, ahead in [(1, 1), (1, 50), (CLIENTS, 1), (CLIENTS, 50)]:
-            tell(f"the gateway, {clients} clients, {ahead} ahead", *timed(team.path, team.process.pid, clients, ahead))
+            tell(
+                f"the gateway, {clients} clients, {ahead} ahead",
+                *timed(team.path, team.process.pid, clients, ahead),
+            )
         print(f"{len(team.entries())} entries recorded")
 
 

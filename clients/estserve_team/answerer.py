@@ -1,7 +1,8 @@
-"""The second child, `estserve script`: it answers what was not understood, and what comes before a login. It shares nothing.
+"""The second child, `estserve script`: it answers what was not understood, and what comes before a
+login. It shares nothing.
 
-No login is ever made in it. Should it accept one, the program has read a line otherwise than the gateway: the child is ended, nothing
-was done, and the client is told so.
+No login is ever made in it. Should it accept one, the program has read a line otherwise than the
+gateway: the child is ended, nothing was done, and the client is told so.
 """
 import asyncio
 import socket

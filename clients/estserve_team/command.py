@@ -22,17 +22,40 @@ from .unix_clients import LineClient, TeamClient, WordClient
 
 
 def add_parser(subparsers: Any) -> None:
-    """Adds `team` to the commands of the client: by itself it serves, with a word it asks a gateway that runs."""
-    parser = subparsers.add_parser("team", help="serve a team: who speaks is known, and nothing that was answered is lost")
+    """Adds `team` to the commands of the client: by itself it serves, with a word it asks a gateway
+    that runs."""
+    parser = subparsers.add_parser(
+        "team", help="serve a team: who speaks is known, and nothing that was answered is lost"
+    )
     parser.add_argument("--state", metavar="DIR", type=pathlib.Path, help="the team's folder")
-    parser.add_argument("--people", metavar="FILE", type=pathlib.Path, help="who may log in as whom: the table [people] of a TOML file")
-    parser.add_argument("--program", metavar="PATH", help="the program to serve with, in place of the one that `make run` builds")
-    parser.add_argument("--group", metavar="NAME", help="the Unix group of the team (the folder's own)")
-    parser.add_argument("--until", metavar="PLACE", help="start before this place of the record, policy:17 or 3:45, and keep the rest aside")
+    parser.add_argument(
+        "--people",
+        metavar="FILE",
+        type=pathlib.Path,
+        help="who may log in as whom: the table [people] of a TOML file",
+    )
+    parser.add_argument(
+        "--program",
+        metavar="PATH",
+        help="the program to serve with, in place of the one that `make run` builds",
+    )
+    parser.add_argument(
+        "--group", metavar="NAME", help="the Unix group of the team (the folder's own)"
+    )
+    parser.add_argument(
+        "--until",
+        metavar="PLACE",
+        help="start before this place of the record, policy:17 or 3:45, and keep the rest aside",
+    )
     parser.add_argument("--most-sends", type=int, default=MOST_SENDS, help=argparse.SUPPRESS)
     web.add_options(parser)
     parser.set_defaults(act=serve_team)
-    add_words(parser.add_subparsers(metavar="WORD", help="a question to the gateway that runs on DIR; without one, serve the team"))
+    add_words(
+        parser.add_subparsers(
+            metavar="WORD",
+            help="a question to the gateway that runs on DIR; without one, serve the team",
+        )
+    )
 
 
 def people_of(path: pathlib.Path) -> People:
@@ -61,7 +84,9 @@ def tell_aside(places: Places, text: str) -> None:
     try:
         place = place_of(text)
     except ValueError:
-        raise Failed(f"{text} is no place of the record: policy:17, or 3:45 for place 45 of slot 3") from None
+        raise Failed(
+            f"{text} is no place of the record: policy:17, or 3:45 for place 45 of slot 3"
+        ) from None
     count = put_aside(places, place)
     print(f"{count} entries are kept aside, from {place} on", flush=True)
 
@@ -76,17 +101,23 @@ async def run(places: Places, people: People, program: str, arguments: argparse.
     for number in (signal.SIGTERM, signal.SIGINT):
         loop.add_signal_handler(number, lambda: told_to_end.done() or told_to_end.set_result(None))
     starting = asyncio.ensure_future(gateway.start())
-    await asyncio.wait({starting, told_to_end, gateway.finished}, return_when=asyncio.FIRST_COMPLETED)
+    await asyncio.wait(
+        {starting, told_to_end, gateway.finished}, return_when=asyncio.FIRST_COMPLETED
+    )
     if not starting.done() or starting.exception():
         gateway.close()
         (result,) = await asyncio.gather(starting, return_exceptions=True)
         if told_to_end.done() and not gateway.finished.done():
             return
-        raise result if isinstance(result, Exception) else Failed("the gateway was ended while it started")
+        raise result if isinstance(result, Exception) else Failed(
+            "the gateway was ended while it started"
+        )
     await serve(gateway, told_to_end, arguments)
 
 
-async def serve(gateway: Gateway, told_to_end: "asyncio.Future[None]", arguments: argparse.Namespace) -> None:
+async def serve(
+    gateway: Gateway, told_to_end: "asyncio.Future[None]", arguments: argparse.Namespace
+) -> None:
     """Takes clients until the gateway is told to end, or has a fault. Raises Failed."""
     loop = asyncio.get_running_loop()
     clients: Set[LineClient] = set()
@@ -95,7 +126,11 @@ async def serve(gateway: Gateway, told_to_end: "asyncio.Future[None]", arguments
     try:
         for path, kind in paths:
             listening = bind_socket(path)
-            servers.append(await loop.create_unix_server(lambda kind=kind: kind(gateway, clients), sock=listening))
+            servers.append(
+                await loop.create_unix_server(
+                    lambda kind=kind: kind(gateway, clients), sock=listening
+                )
+            )
         running = await web.start(gateway, arguments)
         tell_ready(gateway)
         await asyncio.wait({told_to_end, gateway.finished}, return_when=asyncio.FIRST_COMPLETED)

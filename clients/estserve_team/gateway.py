@@ -1,8 +1,11 @@
-"""The gateway: the server, the record, the sixteen logins and who listens to new entries, on one asyncio loop.
+"""The gateway: the server, the record, the sixteen logins and who listens to new entries, on one
+asyncio loop.
 
-What comes from clients goes to the server by `Session.ask`; what comes from the server goes to `Order`, which says what may be written
-and what may go out. Entries that are ready are written in one transaction by `_commit`, and answers that may go out then go out in
-`_release`. Whatever goes wrong between server and record ends in `fail`: the server is ended, and begun anew from the record.
+What comes from clients goes to the server by `Session.ask`; what comes from the server goes to
+`Order`, which says what may be written and what may go out. Entries that are ready are written
+in one transaction by `_commit`, and answers that may go out then go out in `_release`. Whatever
+goes wrong between server and record ends in `fail`: the server is ended, and begun anew from the
+record.
 """
 import asyncio
 import sqlite3
@@ -20,10 +23,25 @@ from .places import Failed, Places
 from .record import POLICY, Connection, Entry, GivenUp, RecordWriter
 from .refusals import ProgramRefused, Refused, all_taken, failed, interrupted, not_you, stopping
 from .server import Lost
-from .sessions import LOGOUT, MOST_SENDS, SEATS, Holder, Session, SharedSession, ask_later, login_request
+from .sessions import (
+    LOGOUT,
+    MOST_SENDS,
+    SEATS,
+    Holder,
+    Session,
+    SharedSession,
+    ask_later,
+    login_request,
+)
 from .starting import Begun, replace_record, restore_record, start_server
 
-STARTING, SERVING, BEGINNING, ARCHIVING, STOPPING = "starting", "serving", "beginning anew", "archiving", "stopping"
+STARTING, SERVING, BEGINNING, ARCHIVING, STOPPING = (
+    "starting",
+    "serving",
+    "beginning anew",
+    "archiving",
+    "stopping",
+)
 WATCH_SECONDS = 1.0
 UNUSED_SECONDS = 5.0  # a shared login for which nobody has waited is logged out after so many
 AGAIN_SECONDS = 0.05  # a logout for which there was no memory is asked again after so many
@@ -34,8 +52,15 @@ STOP_SECONDS = 60  # logouts are answered in so many, or the gateway ends withou
 class Gateway:
     """One team's gateway."""
 
-    def __init__(self, places: Places, people: People, program: str, most_sends: int = MOST_SENDS) -> None:
-        self.places, self.people, self.program, self.most_sends = places, people, program, most_sends
+    def __init__(
+        self, places: Places, people: People, program: str, most_sends: int = MOST_SENDS
+    ) -> None:
+        self.places, self.people, self.program, self.most_sends = (
+            places,
+            people,
+            program,
+            most_sends,
+        )
         self.state, self.private, self.record_path = places.state, places.private, places.record
         self.name = self.state.name
         self.reader = Reader()
@@ -66,12 +91,14 @@ class Gateway:
         print(f"estserve.py team: {text}", file=sys.stderr, flush=True)
 
     def listen(self, callback: Callable[[List[Entry]], None]) -> Callable[[], None]:
-        """Calls back with new entries after they were recorded; the answer takes the listener away again."""
+        """Calls back with new entries after they were recorded; the answer takes the listener away
+        again."""
         self._listeners.append(callback)
         return lambda: self._listeners.remove(callback)
 
     def on_restart(self, callback: Callable[[], None]) -> None:
-        """Calls back after the server was begun anew, or the record archived: all sessions are over."""
+        """Calls back after the server was begun anew, or the record archived: all sessions are
+        over."""
         self._restart_listeners.append(callback)
 
     def holders(self) -> List[Holder]:
@@ -87,11 +114,16 @@ class Gateway:
         return self._writer.answer_to(person, request_id)
 
     async def share(self, person: Person, user: str, roles: List[str]) -> SharedSession:
-        """A share of the login of this person as this user in these roles, which is made if there is none. Raises Refused."""
+        """A share of the login of this person as this user in these roles, which is made if there
+        is none. Raises Refused."""
         key = (person.name, user, tuple(sorted(roles)))
         held = self.shared.get(key)
-        if held is None or (held.done() and not held.cancelled() and not held.exception() and held.result().is_over):
-            held = self.shared[key] = asyncio.ensure_future(self._share_first(key, person, user, roles))
+        if held is None or (
+            held.done() and not held.cancelled() and not held.exception() and held.result().is_over
+        ):
+            held = self.shared[key] = asyncio.ensure_future(
+                self._share_first(key, person, user, roles)
+            )
         try:
             shared = await asyncio.shield(held)
         except Refused:
@@ -125,10 +157,15 @@ class Gateway:
             await self._serving.wait()
 
     async def open_session(
-        self, person: Person, user: str, roles: List[str], instead: Optional[Session] = None,
+        self,
+        person: Person,
+        user: str,
+        roles: List[str],
+        instead: Optional[Session] = None,
         answer: Callable[[bytes], None] = lambda reply: None,
     ) -> Session:
-        """A session of this login, on a connection of its own; it takes the seat of another, where one is given.
+        """A session of this login, on a connection of its own; it takes the seat of another, where
+        one is given.
 
         `answer` is called with the program's answer. Raises Refused."""
         if not person.may_be(user):
@@ -144,7 +181,9 @@ class Gateway:
             raise ProgramRefused(reply)
         return session
 
-    async def _connect(self, person: Person, user: str, roles: List[str], instead: Optional[Session]) -> Session:
+    async def _connect(
+        self, person: Person, user: str, roles: List[str], instead: Optional[Session]
+    ) -> Session:
         """A connection to the server with a seat, on which nothing is asked yet. Raises Refused."""
         for _ in range(MOST_STARTS):
             await self.until_serving()
@@ -164,7 +203,8 @@ class Gateway:
         raise interrupted()
 
     async def close_session(self, session: Session) -> bool:
-        """Logs a session out, which is recorded, and closes it. Answers whether it lived until then."""
+        """Logs a session out, which is recorded, and closes it. Answers whether it lived until
+        then."""
         while not session.is_over:
             if session.is_connected:
                 try:
@@ -177,7 +217,8 @@ class Gateway:
         return False
 
     async def renew(self, session: Session) -> Session:
-        """The same login on another connection, in the roles that are active. Raises Refused, where its session had ended."""
+        """The same login on another connection, in the roles that are active. Raises Refused, where
+        its session had ended."""
         session.keeps_seat = True
         try:
             if await self.close_session(session):
@@ -189,7 +230,8 @@ class Gateway:
     # ---- answers and entries
 
     def after_answers(self) -> None:
-        """Does what answers of the server make possible: entries are written soon, in one transaction; other answers go out."""
+        """Does what answers of the server make possible: entries are written soon, in one
+        transaction; other answers go out."""
         if self.order.has_ready:
             self._commit_soon()
         self.release()
@@ -204,8 +246,21 @@ class Gateway:
         session, request = asked.session, asked.request
         slot = POLICY if request.slot is None else request.slot
         return Entry(
-            number, slot, asked.place, asked.version, session.number, session.session, session.user, session.person.name,
-            asked.time, asked.fields.get("instant"), request.cmd, request.line, asked.reply, asked.request_id, self._writer.program,
+            number,
+            slot,
+            asked.place,
+            asked.version,
+            session.number,
+            session.session,
+            session.user,
+            session.person.name,
+            asked.time,
+            asked.fields.get("instant"),
+            request.cmd,
+            request.line,
+            asked.reply,
+            asked.request_id,
+            self._writer.program,
         )
 
     def _commit(self) -> None:
@@ -215,13 +270,23 @@ class Gateway:
         self._givenup = []
         if not ready and not givenup:
             return
-        entries = [self._entry_of(asked, self.entries_written + at) for at, asked in enumerate(ready, 1)]
+        entries = [
+            self._entry_of(asked, self.entries_written + at) for at, asked in enumerate(ready, 1)
+        ]
         logins = [asked.session for asked in ready if asked.request.cmd == "login"]
-        connections = [Connection(s.number, s.session, s.user, s.person.name, s.login_roles) for s in logins]
-        version = max([self.order.version, *(asked.place for asked in ready if asked.request.slot is None)])
+        connections = [
+            Connection(s.number, s.session, s.user, s.person.name, s.login_roles) for s in logins
+        ]
+        version = max(
+            [self.order.version, *(asked.place for asked in ready if asked.request.slot is None)]
+        )
         now = time.time()
         try:
-            self._writer.append(entries, connections, [GivenUp(asked.session.number, version, now) for asked in givenup])
+            self._writer.append(
+                entries,
+                connections,
+                [GivenUp(asked.session.number, version, now) for asked in givenup],
+            )
         except sqlite3.Error as fault:
             self.fail(f"the record cannot be written: {fault}", is_record_good=False)
             return
@@ -289,7 +354,8 @@ class Gateway:
             self._serving.set()
 
     async def _start_server(self) -> Begun:
-        """A server that has what the record says; another one, where it is lost meanwhile. Raises Failed."""
+        """A server that has what the record says; another one, where it is lost meanwhile. Raises
+        Failed."""
         for left in reversed(range(MOST_STARTS)):
             try:
                 return await start_server(self.places, self.program, self._note_server)
@@ -304,7 +370,8 @@ class Gateway:
         self._server = server
 
     def fail(self, why: str, is_record_good: bool = True) -> None:
-        """Ends the server, and begins anew from the record: an answer is lost, or an entry can't be written."""
+        """Ends the server, and begins anew from the record: an answer is lost, or an entry can't be
+        written."""
         if self.phase not in (SERVING, ARCHIVING, STOPPING) or self._is_lost:
             return
         self.log(f"{why}; the server is begun anew from the record")
@@ -387,7 +454,8 @@ class Gateway:
             self._writer.close()
 
     async def archive(self, build: Callable[[Path, Path, str, Path], None]) -> None:
-        """Logs everyone out, has `build` make a new record of the old one, and begins anew from it. Raises Refused."""
+        """Logs everyone out, has `build` make a new record of the old one, and begins anew from it.
+        Raises Refused."""
         if self.phase != SERVING:
             raise stopping()
         self.phase = ARCHIVING
@@ -407,12 +475,15 @@ class Gateway:
             raise failed(str(fault)) from fault
 
     async def _follow_record(self, build: Callable[[Path, Path, str, Path], None]) -> None:
-        """Has a new record made, puts it in the place of the old one, and begins anew from it. Raises Failed, and what `build` raises."""
+        """Has a new record made, puts it in the place of the old one, and begins anew from it.
+        Raises Failed, and what `build` raises."""
         if self.phase != ARCHIVING:
             raise Failed("the server has ended meanwhile")
         loop = asyncio.get_running_loop()
         self.places.next_record.unlink(missing_ok=True)
-        await loop.run_in_executor(None, build, self.record_path, self.places.next_record, self.program, self.private)
+        await loop.run_in_executor(
+            None, build, self.record_path, self.places.next_record, self.program, self.private
+        )
         self._server.end()
         self._writer.close()
         await loop.run_in_executor(None, replace_record, self.places)

@@ -1,9 +1,11 @@
 """What a line asks for, as the gateway understands it, and the line that it sends in its place.
 
-Two readers of JSON may differ, so no byte of a client goes on to the server: a line that is understood here is written anew, and each
-other one goes to a child that shares nothing. What is understood is no more than docs/PROTOCOL.md's commands, as `serde_json` reads
-them: of a key that stands twice the last counts; a float, `-0` or a number over 18446744073709551615 is no number; NaN, a surrogate
-that stands alone, bytes that aren't UTF-8 and values nested over 127 deep are no JSON.
+Two readers of JSON may differ, so no byte of a client goes on to the server: a line that is
+understood here is written anew, and each other one goes to a child that shares nothing. What is
+understood is no more than docs/PROTOCOL.md's commands, as `serde_json` reads them: of a key that
+stands twice the last counts; a float, `-0` or a number over 18446744073709551615 is no number;
+NaN, a surrogate that stands alone, bytes that aren't UTF-8 and values nested over 127 deep are
+no JSON.
 """
 import json
 import re
@@ -54,7 +56,8 @@ WITHOUT_ENTRY = {"look", "audit", "check"}
 
 
 class Request:
-    """A command that was understood: its `cmd`, its keys, its slot if it has one, and its line written anew, without LF."""
+    """A command that was understood: its `cmd`, its keys, its slot if it has one, and its line
+    written anew, without LF."""
 
     __slots__ = ("cmd", "keys", "slot", "line", "adds_entry")
 
@@ -86,7 +89,8 @@ def read_whole(text: str) -> Any:
 
 
 def read_float(text: str) -> Any:
-    """A number with fraction or exponent. Where it could be out of a float's range, the program is to say so."""
+    """A number with fraction or exponent. Where it could be out of a float's range, the program is
+    to say so."""
     if len(text) > LONGEST_NUMBER or abs(float(text)) > LARGEST_FLOAT:
         raise NotUnderstood(text)
     return NoNumber
@@ -98,7 +102,10 @@ def refuse_constant(text: str) -> Any:
 
 
 DECODER = json.JSONDecoder(
-    object_pairs_hook=Pairs, parse_int=read_whole, parse_float=read_float, parse_constant=refuse_constant
+    object_pairs_hook=Pairs,
+    parse_int=read_whole,
+    parse_float=read_float,
+    parse_constant=refuse_constant,
 )
 
 
@@ -151,7 +158,8 @@ KINDS = {
 
 
 def request_of(keys: Dict[str, Any]) -> Optional[Request]:
-    """The request that an object is, with its line written anew; None where it is no command of the protocol."""
+    """The request that an object is, with its line written anew; None where it is no command of the
+    protocol."""
     cmd = keys.get("cmd")
     form = FORMS.get(cmd) if isinstance(cmd, str) else None
     if form is None or len(keys) != len(form) + 1:
@@ -167,7 +175,8 @@ def request_of(keys: Dict[str, Any]) -> Optional[Request]:
 
 
 def read_object(line: bytes) -> Optional[Dict[str, Any]]:
-    """The object that a line is, of each key the last value; None where it is none, or not surely one for `serde_json`."""
+    """The object that a line is, of each key the last value; None where it is none, or not surely
+    one for `serde_json`."""
     try:
         pairs = DECODER.decode(line.decode())
         if type(pairs) is not Pairs or (b"\\u" in line and not is_text(pairs)):

@@ -1,10 +1,12 @@
 """Which answer may go out when, and which entry may be written when. Nothing here reads or writes.
 
-Answers of two connections overtake each other. An entry is written after all that it may have seen: policy entry v after v - 1; the
-entry of place p of a slot after p - 1, and after the policy entry whose version it bears; and each after those that its own connection
-made before. An answer goes out when its own entry is
-written; one without an entry when all is written, or known to add nothing, that it may have seen: the policy up to the version that it
-tells, or else each policy command that was under way when it came; and each command on its slot that was under way when it came.
+Answers of two connections overtake each other. An entry is written after all that it may have
+seen: policy entry v after v - 1; the entry of place p of a slot after p - 1, and after the
+policy entry whose version it bears; and each after those that its own connection made before. An
+answer goes out when its own entry is written; one without an entry when all is written, or known
+to add nothing, that it may have seen: the policy up to the version that it tells, or else each
+policy command that was under way when it came; and each command on its slot that was under way
+when it came.
 """
 from typing import Any, Dict, List, Optional
 
@@ -24,12 +26,40 @@ class Asked:
     `done(asked)` is called when its answer may go out. `context` is the sender's own."""
 
     __slots__ = (
-        "request", "session", "done", "context", "request_id", "number", "time", "reply", "fields",
-        "place", "version", "policy_mark", "slot_mark", "before", "after", "is_ready", "is_written",
+        "request",
+        "session",
+        "done",
+        "context",
+        "request_id",
+        "number",
+        "time",
+        "reply",
+        "fields",
+        "place",
+        "version",
+        "policy_mark",
+        "slot_mark",
+        "before",
+        "after",
+        "is_ready",
+        "is_written",
     )
 
-    def __init__(self, request: Request, session: Any, done: Any, context: Any = None, request_id: Optional[str] = None) -> None:
-        self.request, self.session, self.done, self.context, self.request_id = request, session, done, context, request_id
+    def __init__(
+        self,
+        request: Request,
+        session: Any,
+        done: Any,
+        context: Any = None,
+        request_id: Optional[str] = None,
+    ) -> None:
+        self.request, self.session, self.done, self.context, self.request_id = (
+            request,
+            session,
+            done,
+            context,
+            request_id,
+        )
         self.number = 0  # among the commands of its domain
         self.time = 0.0
         self.reply = b""
@@ -38,7 +68,9 @@ class Asked:
         self.version = 0  # that the answer tells
         self.policy_mark = 0
         self.slot_mark = 0
-        self.before: Optional[Asked] = None  # the entry before it on its connection, and the one after it
+        self.before: Optional[
+            Asked
+        ] = None  # the entry before it on its connection, and the one after it
         self.after: Optional[Asked] = None
         self.is_ready = self.is_written = False
 
@@ -49,7 +81,8 @@ class Asked:
 
 
 def domain_of(request: Request) -> Optional[int]:
-    """Which list the request may add an entry to: a slot's number, or -1 for the policy. None where it adds to none."""
+    """Which list the request may add an entry to: a slot's number, or -1 for the policy. None where
+    it adds to none."""
     if not request.adds_entry:
         return None
     if request.slot is None:
@@ -58,13 +91,16 @@ def domain_of(request: Request) -> Optional[int]:
 
 
 class Domain:
-    """The policy, or one slot: commands that are under way, entries that wait, and how far all is ready and written."""
+    """The policy, or one slot: commands that are under way, entries that wait, and how far all is
+    ready and written."""
 
     __slots__ = ("sent", "open", "held", "ready", "written")
 
     def __init__(self, written: int) -> None:
         self.sent = 0
-        self.open: Dict[int, Asked] = {}  # by number, the oldest first: not yet written, nor known to add nothing
+        self.open: Dict[
+            int, Asked
+        ] = {}  # by number, the oldest first: not yet written, nor known to add nothing
         self.held: Dict[int, Asked] = {}  # by place: answered, but not ready
         self.ready = self.written = written
 
@@ -77,7 +113,8 @@ class Order:
     """All answers of one server."""
 
     def __init__(self, version: int, places: List[int]) -> None:
-        """What is written already: the version of the policy, and how many entries each slot has."""
+        """What is written already: the version of the policy, and how many entries each slot
+        has."""
         self._domains = {slot: Domain(places[slot]) for slot in range(SLOTS)}
         self._slots = list(self._domains.values())
         self._last: Dict[Any, Asked] = {}  # the last entry of each session
@@ -168,7 +205,9 @@ class Order:
     def _is_next(self, asked: Asked) -> bool:
         """Whether all that an entry comes after is ready."""
         domain = self._domain_of(asked)
-        if asked.place != domain.ready + 1 or (asked.before is not None and not asked.before.is_ready):
+        if asked.place != domain.ready + 1 or (
+            asked.before is not None and not asked.before.is_ready
+        ):
             return False
         return domain is self._policy or asked.version <= self._policy.ready
 
@@ -177,7 +216,8 @@ class Order:
         self._last.pop(session, None)
 
     def take_ready(self) -> List[Asked]:
-        """The entries that are to be written next, in an order that keeps the rules, all in one transaction."""
+        """The entries that are to be written next, in an order that keeps the rules, all in one
+        transaction."""
         ready, self._ready = self._ready, []
         return ready
 

@@ -24,7 +24,8 @@ class Person(NamedTuple):
 
 
 def read_people(text: str) -> Dict[str, List[str]]:
-    """The table `[people]` of a TOML file: from each policy user to its Unix users. Raises BadPolicy."""
+    """The table `[people]` of a TOML file: from each policy user to its Unix users. Raises
+    BadPolicy."""
     tables = tables_of(text)
     from estserve_client.policy_file import BadPolicy
 
@@ -48,8 +49,11 @@ def peer_uid(connection: socket.socket) -> int:
 class People:
     """All persons: by the table of a file, or each as the policy user of its own name."""
 
-    def __init__(self, table: Optional[Dict[str, List[str]]] = None, owner: Optional[int] = None) -> None:
-        """`owner` is the user who may be root where there is no table: who started the gateway, unless it is said."""
+    def __init__(
+        self, table: Optional[Dict[str, List[str]]] = None, owner: Optional[int] = None
+    ) -> None:
+        """`owner` is the user who may be root where there is no table: who started the gateway,
+        unless it is said."""
         self._table = table
         self._owner = os.geteuid() if owner is None else owner
 

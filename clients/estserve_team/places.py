@@ -46,7 +46,8 @@ def digest_of(program: str) -> str:
 
 
 def make_folder(path: pathlib.Path, mode: int, group: Optional[str] = None) -> None:
-    """Makes a folder with this mode, or sees that one that is there is ours and has no wider one. Raises Failed."""
+    """Makes a folder with this mode, or sees that one that is there is ours and has no wider one.
+    Raises Failed."""
     try:
         path.mkdir(mode=mode, parents=False, exist_ok=True)
         found = path.stat()
@@ -66,7 +67,8 @@ def check_socket_path(path: pathlib.Path) -> None:
 
 
 def bind_socket(path: pathlib.Path) -> socket.socket:
-    """A socket that listens at the path, for the owner and the group of its folder. What stood there is taken away. Raises Failed."""
+    """A socket that listens at the path, for the owner and the group of its folder. What stood
+    there is taken away. Raises Failed."""
     check_socket_path(path)
     listening = socket.socket(socket.AF_UNIX, socket.SOCK_STREAM)
     before = os.umask(0o117)
@@ -85,16 +87,23 @@ def bind_socket(path: pathlib.Path) -> socket.socket:
 
 
 def start_time_of(process: int) -> Optional[str]:
-    """When a process was started, in the system's ticks. None where there is none, or it has ended."""
+    """When a process was started, in the system's ticks. None where there is none, or it has
+    ended."""
     try:
-        fields = pathlib.Path(f"/proc/{process}/stat").read_text(errors="replace").rpartition(")")[2].split()
+        fields = (
+            pathlib.Path(f"/proc/{process}/stat")
+            .read_text(errors="replace")
+            .rpartition(")")[2]
+            .split()
+        )
     except OSError:
         return None
     return None if fields[0] in "ZX" else fields[19]
 
 
 def end_process(process: int, start: str) -> None:
-    """Kills the process that has this id and start time, and waits until it is gone. Raises Failed."""
+    """Kills the process that has this id and start time, and waits until it is gone. Raises
+    Failed."""
     end = time.monotonic() + END_SECONDS
     while start_time_of(process) == start:
         try:
@@ -102,14 +111,17 @@ def end_process(process: int, start: str) -> None:
         except ProcessLookupError:
             return
         except OSError as fault:
-            raise Failed(f"the process {process} of an earlier gateway cannot be ended: {fault.strerror}") from fault
+            raise Failed(
+                f"the process {process} of an earlier gateway cannot be ended: {fault.strerror}"
+            ) from fault
         if time.monotonic() > end:
             raise Failed(f"the process {process} of an earlier gateway does not end")
         time.sleep(0.005)
 
 
 def die_with(parent: int) -> Callable[[], None]:
-    """What a child does before it becomes the program: it asks to be killed when the parent ends, and ends if it has already."""
+    """What a child does before it becomes the program: it asks to be killed when the parent ends,
+    and ends if it has already."""
 
     def prepare() -> None:
         C_LIBRARY.prctl(SET_PARENT_DEATH_SIGNAL, int(signal.SIGKILL), 0, 0, 0)
@@ -122,7 +134,9 @@ def die_with(parent: int) -> Callable[[], None]:
 def start_child(command: Sequence[str], **streams: Any) -> subprocess.Popen:
     """Starts a process that dies with the thread that calls this. Raises Failed."""
     try:
-        return subprocess.Popen(command, start_new_session=True, preexec_fn=die_with(os.getpid()), **streams)
+        return subprocess.Popen(
+            command, start_new_session=True, preexec_fn=die_with(os.getpid()), **streams
+        )
     except (OSError, ValueError, subprocess.SubprocessError) as fault:
         raise Failed(f"{command[0]} cannot be started: {fault}") from fault
 
@@ -135,7 +149,8 @@ def end_child(child: subprocess.Popen) -> None:
 
 
 class Children:
-    """The processes that this gateway has started, kept in a file so that the next one ends what was left over."""
+    """The processes that this gateway has started, kept in a file so that the next one ends what
+    was left over."""
 
     def __init__(self, folder: pathlib.Path) -> None:
         self._path = folder / LIST_NAME
@@ -144,7 +159,9 @@ class Children:
     def end_orphans(self) -> List[int]:
         """Ends what an earlier gateway has left over. Answers their ids. Raises Failed."""
         try:
-            listed = {int(process): start for process, start in json.loads(self._path.read_text()).items()}
+            listed = {
+                int(process): start for process, start in json.loads(self._path.read_text()).items()
+            }
         except FileNotFoundError:
             return []
         except (ValueError, AttributeError) as fault:
@@ -175,7 +192,8 @@ class Children:
 
 
 class Places:
-    """The files of one team, under the lock. Used with `with`, the lock is given back at the end."""
+    """The files of one team, under the lock. Used with `with`, the lock is given back at the
+    end."""
 
     def __init__(self, state: pathlib.Path, group: Optional[str] = None) -> None:
         self.state = state.absolute()
@@ -190,7 +208,8 @@ class Places:
         self.children = Children(self.private)
 
     def __enter__(self) -> "Places":
-        """Makes what is missing, takes the lock, and ends what an earlier gateway left over. Raises Failed."""
+        """Makes what is missing, takes the lock, and ends what an earlier gateway left over. Raises
+        Failed."""
         make_folder(self.state, 0o750, self.group)
         make_folder(self.private, 0o700)
         make_folder(self.old_records, 0o700)

@@ -1,7 +1,8 @@
 """The start: a server is given the record, and has to answer each line as it did before.
 
-Each recorded connection is one of its own, opened at its login and closed where it was closed, so that at most sixteen are open. The
-order is that of `record.in_order`. One connection is sent ahead; before another is used, all its answers have come.
+Each recorded connection is one of its own, opened at its login and closed where it was closed,
+so that at most sixteen are open. The order is that of `record.in_order`. One connection is sent
+ahead; before another is used, all its answers have come.
 """
 import pathlib
 import socket
@@ -18,18 +19,21 @@ RECEIVED = 1 << 18
 
 
 class Difference(Failed):
-    """The server answers an entry of the record otherwise than it did: the place, and both answers."""
+    """The server answers an entry of the record otherwise than it did: the place, and both
+    answers."""
 
     def __init__(self, place: Aside, recorded: bytes, now: bytes) -> None:
         self.place = place
         was, told = (text[:300].decode(errors="replace") for text in (recorded, now))
         super().__init__(
-            f"the record's entry {place} was answered {was}, and is answered {told} now; `--until {place}` starts before it"
+            f"the record's entry {place} was answered {was}, and is answered {told} now; "
+            f"`--until {place}` starts before it"
         )
 
 
 class Talker:
-    """One connection to a server, which is asked and waited for. Used with `with`, it is closed at the end."""
+    """One connection to a server, which is asked and waited for. Used with `with`, it is closed at
+    the end."""
 
     def __init__(self, path: pathlib.Path) -> None:
         """Raises Failed, where no server answers there."""
@@ -116,7 +120,8 @@ class Live(NamedTuple):
 
 
 class Replay:
-    """One replay of a record on a server. Used with `with`, its connections are closed at the end."""
+    """One replay of a record on a server. Used with `with`, its connections are closed at the
+    end."""
 
     def __init__(self, record: pathlib.Path, server: pathlib.Path) -> None:
         self._record, self._server = record, server
@@ -133,7 +138,9 @@ class Replay:
     def run(self) -> None:
         """Asks for each entry of the record. Raises Difference, and Failed."""
         with open_reader(self._record) as database:
-            closings = database.execute("SELECT connection, version FROM givenup ORDER BY version").fetchall()
+            closings = database.execute(
+                "SELECT connection, version FROM givenup ORDER BY version"
+            ).fetchall()
             waiting: List[Entry] = []
             size = 0
             for entry in in_order(database):
@@ -159,8 +166,11 @@ class Replay:
             and waiting[-1].command != "logout"
         )
 
-    def _close_before(self, version: Optional[int], closings: List[Tuple[int, int]]) -> List[Tuple[int, int]]:
-        """Closes the connections that were given up before this version, and answers the later ones."""
+    def _close_before(
+        self, version: Optional[int], closings: List[Tuple[int, int]]
+    ) -> List[Tuple[int, int]]:
+        """Closes the connections that were given up before this version, and answers the later
+        ones."""
         for connection, at in closings:
             if version is None or at < version:
                 self.live.pop(connection).talker.close()
@@ -172,7 +182,10 @@ class Replay:
         if first.command == "login":
             self.live[first.connection] = Live(Talker(self._server), first)
         if first.connection not in self.live:
-            raise Failed(f"the record's entry {Aside(first.slot, first.place)} is on a connection that is not open")
+            raise Failed(
+                f"the record's entry {Aside(first.slot, first.place)} "
+                "is on a connection that is not open"
+            )
         answers = self.live[first.connection].talker.ask_part([entry.request for entry in entries])
         for entry, answer in zip(entries, answers):
             if answer != entry.reply:

@@ -17,11 +17,14 @@ class Lost(Failed):
 
 
 class Server:
-    """`estserve serve --workers 16` at a socket. Used with `with`, it is started, and ended at the end.
+    """`estserve serve --workers 16` at a socket. Used with `with`, it is started, and ended at the
+    end.
 
     It dies with the thread that starts it, and is listed among `children` where these are given."""
 
-    def __init__(self, program: str, path: pathlib.Path, children: Optional[Children] = None) -> None:
+    def __init__(
+        self, program: str, path: pathlib.Path, children: Optional[Children] = None
+    ) -> None:
         self.program, self.path = program, path
         self._children = children
         self._process: Optional[subprocess.Popen] = None
@@ -30,7 +33,14 @@ class Server:
         """Starts it, and waits until it listens. Raises Failed."""
         check_socket_path(self.path)
         self.path.unlink(missing_ok=True)
-        command = [str(self.program), "serve", "--socket", str(self.path), "--workers", str(WORKERS)]
+        command = [
+            str(self.program),
+            "serve",
+            "--socket",
+            str(self.path),
+            "--workers",
+            str(WORKERS),
+        ]
         start = self._children.start if self._children else start_child
         self._process = start(command, stdin=subprocess.DEVNULL, stdout=subprocess.DEVNULL)
         end = time.monotonic() + START_SECONDS

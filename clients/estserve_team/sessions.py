@@ -1,4 +1,5 @@
-"""The sixteen logins: each has a connection of its own to the server, from its login to the answer of its logout."""
+"""The sixteen logins: each has a connection of its own to the server, from its login to the answer
+of its logout."""
 import asyncio
 import json
 import pathlib
@@ -39,7 +40,9 @@ class Holder(NamedTuple):
 class Session(asyncio.Protocol):
     """A connection to the server, for one login."""
 
-    def __init__(self, gateway: "Gateway", number: int, person: Person, user: str, roles: List[str]) -> None:
+    def __init__(
+        self, gateway: "Gateway", number: int, person: Person, user: str, roles: List[str]
+    ) -> None:
         self.gateway, self.number, self.person, self.user = gateway, number, person, user
         self.login_roles = json.dumps(roles)
         self.roles = list(roles)  # that are active
@@ -50,7 +53,9 @@ class Session(asyncio.Protocol):
         self.sends = 0
         self.is_over = False  # lost with the server, or logged out
         self.keeps_seat = False
-        self.on_close: Optional[Callable[[], None]] = None  # whoever holds it is told that it is lost, or logged out by the gateway
+        self.on_close: Optional[
+            Callable[[], None]
+        ] = None  # whoever holds it is told that it is lost, or logged out by the gateway
         self._lines: List[bytes] = []
         self._held = b""
         self._transport: Any = None
@@ -74,7 +79,9 @@ class Session(asyncio.Protocol):
 
     def holder(self) -> Holder:
         """Who holds it."""
-        return Holder(self.user, self.person.name, tuple(self.roles), self.session, self.since, self.number)
+        return Holder(
+            self.user, self.person.name, tuple(self.roles), self.session, self.since, self.number
+        )
 
     def ask(self, asked: Asked) -> None:
         """Sends a request with the next `flush`."""
@@ -108,7 +115,9 @@ class Session(asyncio.Protocol):
         """Takes the answer to the oldest request."""
         asked = self.flight.popleft()
         asked.reply, asked.fields = line, json.loads(line)
-        if asked.fields.get("ok", asked.request.cmd) != asked.request.cmd or ("ok" in asked.fields) == ("code" in asked.fields):
+        if asked.fields.get("ok", asked.request.cmd) != asked.request.cmd or (
+            "ok" in asked.fields
+        ) == ("code" in asked.fields):
             raise ValueError(line)
         asked.time = time.time()
         self._follow(asked)
@@ -148,7 +157,8 @@ class Session(asyncio.Protocol):
         self._lose_all()
 
     def abandon(self) -> None:
-        """Gives up the connection with the server: what was not answered, or may not go out, is lost."""
+        """Gives up the connection with the server: what was not answered, or may not go out, is
+        lost."""
         self.is_over = True
         if self._transport is not None:
             self._transport.abort()
@@ -166,7 +176,8 @@ class Session(asyncio.Protocol):
 
 
 def set_result(asked: Asked) -> None:
-    """Gives an answer to the future that waits for it: `done` of what is asked with a future as its context."""
+    """Gives an answer to the future that waits for it: `done` of what is asked with a future as its
+    context."""
     future = asked.context
     if future.done():
         return
@@ -177,7 +188,9 @@ def set_result(asked: Asked) -> None:
         future.exception()  # it is no fault where nobody waits any more
 
 
-def ask_later(session: Session, request: Request, request_id: Optional[str] = None) -> "asyncio.Future[bytes]":
+def ask_later(
+    session: Session, request: Request, request_id: Optional[str] = None
+) -> "asyncio.Future[bytes]":
     """Sends a request, and gives the future of its answer."""
     future: "asyncio.Future[bytes]" = asyncio.get_running_loop().create_future()
     session.ask(Asked(request, session, set_result, future, request_id))
@@ -193,7 +206,9 @@ def login_request(user: str, roles: List[str]) -> Optional[Request]:
 class SharedSession:
     """One login that all who came with the same person, user and roles share."""
 
-    def __init__(self, gateway: "Gateway", key: Tuple[str, str, Tuple[str, ...]], session: Session) -> None:
+    def __init__(
+        self, gateway: "Gateway", key: Tuple[str, str, Tuple[str, ...]], session: Session
+    ) -> None:
         self._gateway, self.key, self._session = gateway, key, session
         self.person, self.user, self.roles = session.person, session.user, tuple(session.roles)
         self.count = 0
@@ -213,8 +228,9 @@ class SharedSession:
     async def ask(self, command: Dict[str, Any], request_id: Optional[str] = None) -> bytes:
         """Asks one command; the answer line without LF, once it may go out.
 
-        One with an id that is recorded is answered from the record; one that is under way is joined. Raises Refused: 1004 where no
-        answer came, 1014 for what changes the login itself, 1015 where the id is another request's."""
+        One with an id that is recorded is answered from the record; one that is under way is
+        joined. Raises Refused: 1004 where no answer came, 1014 for what changes the login
+        itself, 1015 where the id is another request's."""
         request = request_of(command)
         if request is None:
             return NOT_A_REQUEST
@@ -224,13 +240,17 @@ class SharedSession:
             return await self._send(request, None)
         return await self._ask_once(request, request_id)
 
-    async def ask_answer(self, command: Dict[str, Any], request_id: Optional[str] = None) -> Dict[str, Any]:
+    async def ask_answer(
+        self, command: Dict[str, Any], request_id: Optional[str] = None
+    ) -> Dict[str, Any]:
         """As `ask`, with the answer as an object."""
         return json.loads(await self.ask(command, request_id))
 
     async def _ask_once(self, request: Request, request_id: str) -> bytes:
         """Asks a request with an id, which is carried out once."""
-        if not (0 < len(request_id) <= LONGEST_ID and request_id.isascii() and request_id.isprintable()):
+        if not (
+            0 < len(request_id) <= LONGEST_ID and request_id.isascii() and request_id.isprintable()
+        ):
             raise id_taken(request_id[:LONGEST_ID])
         key = (self.person.name, request_id)
         under_way = self._gateway.under_way.get(key)

@@ -1,4 +1,5 @@
-"""How a start comes from the record to a server with nobody logged in, and how one record follows another."""
+"""How a start comes from the record to a server with nobody logged in, and how one record follows
+another."""
 import asyncio
 import os
 import pathlib
@@ -14,7 +15,8 @@ from .sessions import LOGOUT
 
 
 class Begun(NamedTuple):
-    """A server that has what the record says: the record, how far it goes, what was replayed and who was logged out."""
+    """A server that has what the record says: the record, how far it goes, what was replayed and
+    who was logged out."""
 
     writer: RecordWriter
     extent: Tuple[int, List[int]]
@@ -40,7 +42,8 @@ def put_aside(places: Places, place: Aside) -> int:
 
 
 def settle_records(places: Places) -> None:
-    """Finishes what an archiving left that was broken off: the present record is none of the old ones, and there is no next one."""
+    """Finishes what an archiving left that was broken off: the present record is none of the old
+    ones, and there is no next one."""
     places.next_record.unlink(missing_ok=True)
     for old in sorted(places.old_records.glob("[0-9]*.sqlite")):
         if places.record.exists() and old.samefile(places.record):
@@ -81,7 +84,8 @@ def sync_folder(path: pathlib.Path) -> None:
 
 
 async def start_server(places: Places, program: str, note: Callable[[Server], None]) -> Begun:
-    """A server that has what the record says. `note` is told of each server that is started, before it is asked. Raises Failed."""
+    """A server that has what the record says. `note` is told of each server that is started, before
+    it is asked. Raises Failed."""
     loop = asyncio.get_running_loop()
     writer = open_record(places, program)
     try:
@@ -99,14 +103,19 @@ async def start_server(places: Places, program: str, note: Callable[[Server], No
 
 
 async def try_program(places: Places, program: str, note: Callable[[Server], None]) -> None:
-    """Replays the record on a server that is ended afterwards: the program is another one than made it. Raises Failed."""
+    """Replays the record on a server that is ended afterwards: the program is another one than made
+    it. Raises Failed."""
     server = Server(program, places.private / "trial.sock", places.children)
     note(server)
     server.start()
     try:
-        await asyncio.get_running_loop().run_in_executor(None, replay_alone, places.record, server.path)
+        await asyncio.get_running_loop().run_in_executor(
+            None, replay_alone, places.record, server.path
+        )
     except Failed as fault:
-        raise Failed(f"this program is another one than made the record, and in a trial {fault}") from fault
+        raise Failed(
+            f"this program is another one than made the record, and in a trial {fault}"
+        ) from fault
     finally:
         server.end()
 
@@ -118,7 +127,8 @@ def replay_alone(record: pathlib.Path, server: pathlib.Path) -> None:
 
 
 def replay_and_log_out(writer: RecordWriter, server: Server) -> Tuple[int, int]:
-    """Replays the record, and logs out each session that lives still, which is recorded. Answers how many entries and sessions. Raises Failed."""
+    """Replays the record, and logs out each session that lives still, which is recorded. Answers
+    how many entries and sessions. Raises Failed."""
     with Replay(writer.path, server.path) as replay:
         replay.run()
         entries: List[Entry] = []
@@ -140,7 +150,8 @@ def replay_and_log_out(writer: RecordWriter, server: Server) -> Tuple[int, int]:
 
 
 def log_out(live: Live, number: int, version: int, program: int) -> Optional[Entry]:
-    """The logout of a session, as an entry with this number and version. None where it had ended. Raises Failed."""
+    """The logout of a session, as an entry with this number and version. None where it had ended.
+    Raises Failed."""
     reply = live.talker.ask(LOGOUT.line)
     if reply.startswith(b'{"code":4,'):
         return None
@@ -148,6 +159,19 @@ def log_out(live: Live, number: int, version: int, program: int) -> Optional[Ent
         raise Failed(f"the logout at the start is answered {reply[:200]!r}")
     login = live.login
     return Entry(
-        number, POLICY, version, version, login.connection, login.session, login.user, login.person, time.time(), None, "logout",
-        LOGOUT.line, reply, None, program,
+        number,
+        POLICY,
+        version,
+        version,
+        login.connection,
+        login.session,
+        login.user,
+        login.person,
+        time.time(),
+        None,
+        "logout",
+        LOGOUT.line,
+        reply,
+        None,
+        program,
     )

@@ -1,4 +1,5 @@
-"""The clients at the two Unix sockets: team.sock speaks the program's lines, gateway.sock the gateway's own words."""
+"""The clients at the two Unix sockets: team.sock speaks the program's lines, gateway.sock the
+gateway's own words."""
 import asyncio
 import json
 from collections import deque
@@ -32,7 +33,9 @@ class LineClient(asyncio.Protocol):
 
     def __init__(self, gateway: Gateway, clients: "set[LineClient]") -> None:
         self.gateway, self.clients = gateway, clients
-        self.lines: Deque[Optional[bytes]] = deque()  # None stands for a line that is too long; after it nothing counts
+        self.lines: Deque[
+            Optional[bytes]
+        ] = deque()  # None stands for a line that is too long; after it nothing counts
         self.person: Person = None  # type: ignore[assignment]
         self.is_gone = self.is_at_end = False
         self._held = b""
@@ -109,7 +112,8 @@ class LineClient(asyncio.Protocol):
 
 
 class TeamClient(LineClient):
-    """A client of team.sock: it has the answers of the program, and those of the gateway where it refuses a login."""
+    """A client of team.sock: it has the answers of the program, and those of the gateway where it
+    refuses a login."""
 
     def __init__(self, gateway: Gateway, clients: "set[LineClient]") -> None:
         super().__init__(gateway, clients)
@@ -161,7 +165,8 @@ class TeamClient(LineClient):
         self.gateway.dirty.add(self)
 
     def _have(self, asked: Asked) -> None:
-        """Has an answer of the session, which may go out; or none comes, and the connection ends."""
+        """Has an answer of the session, which may go out; or none comes, and the connection
+        ends."""
         if not asked.reply:
             self.lose()
             return
@@ -176,7 +181,10 @@ class TeamClient(LineClient):
         """Makes a session by a login, or has its refusal."""
         try:
             session = await self.gateway.open_session(
-                self.person, request.keys["user"], request.keys["roles"], answer=lambda reply: self._put(item, reply)
+                self.person,
+                request.keys["user"],
+                request.keys["roles"],
+                answer=lambda reply: self._put(item, reply),
             )
         except Refused as refused:
             session = None
@@ -198,7 +206,8 @@ class TeamClient(LineClient):
         self.pump()
 
     async def _renew(self, line: bytes) -> None:
-        """Changes the connection to the server, and takes the line again. Where that can't be, the client's connection ends."""
+        """Changes the connection to the server, and takes the line again. Where that can't be, the
+        client's connection ends."""
         session, self.session = self.session, None
         assert session is not None
         session.on_close = None
@@ -245,7 +254,8 @@ class TeamClient(LineClient):
 
 
 class WordClient(LineClient):
-    """A client of gateway.sock: it asks one word after the other, in a shared session that it logs in to."""
+    """A client of gateway.sock: it asks one word after the other, in a shared session that it logs
+    in to."""
 
     def __init__(self, gateway: Gateway, clients: "set[LineClient]") -> None:
         super().__init__(gateway, clients)
@@ -274,7 +284,9 @@ class WordClient(LineClient):
             self.gateway.log(f"a word failed: {fault!r}")
             answer = failed("the gateway has a fault").answer
         if not self._transport.is_closing():
-            self._transport.write(json.dumps(answer, separators=(",", ":"), sort_keys=True).encode() + b"\n")
+            self._transport.write(
+                json.dumps(answer, separators=(",", ":"), sort_keys=True).encode() + b"\n"
+            )
 
     async def _act(self, line: Optional[bytes]) -> Dict[str, Any]:
         """Carries out the word of a line. Raises Refused."""

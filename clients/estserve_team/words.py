@@ -1,4 +1,5 @@
-"""The gateway's own words, which gateway.sock and the page speak: what each needs, and who carries it out."""
+"""The gateway's own words, which gateway.sock and the page speak: what each needs, and who carries
+it out."""
 from typing import TYPE_CHECKING, Any, Awaitable, Callable, Dict, NamedTuple, Optional
 
 from .people import Person
@@ -10,7 +11,8 @@ if TYPE_CHECKING:
 
 
 class Context(NamedTuple):
-    """Who asks a word: the gateway that is asked, the person, and the session that it shares, if it has one."""
+    """Who asks a word: the gateway that is asked, the person, and the session that it shares, if it
+    has one."""
 
     gateway: "Gateway"
     person: Person
@@ -18,7 +20,8 @@ class Context(NamedTuple):
 
 
 class Word(NamedTuple):
-    """A word: what carries it out and gives the answer's further keys, its keys with their types, whether it needs a session."""
+    """A word: what carries it out and gives the answer's further keys, its keys with their types,
+    whether it needs a session."""
 
     act: Callable[[Context, Dict[str, Any]], Awaitable[Dict[str, Any]]]
     required: Dict[str, type] = {}
@@ -54,7 +57,11 @@ async def act_on(context: Context, asked: Dict[str, Any]) -> Dict[str, Any]:
 
 async def ping(context: Context, keys: Dict[str, Any]) -> Dict[str, Any]:
     """Who the gateway takes the caller for, and the policy users that it may name."""
-    return {"person": context.person.name, "team": context.gateway.name, "users": list(context.person.users)}
+    return {
+        "person": context.person.name,
+        "team": context.gateway.name,
+        "users": list(context.person.users),
+    }
 
 
 WORDS = {"ping": Word(ping, needs_session=False)}

@@ -1,6 +1,7 @@
 """The gateway as a process of its own, on a folder of its own, for the tests of this folder.
 
-The program is the one that the variable ESTSERVE names, or one that `rt try` builds WITHOUT proof, once.
+The program is the one that the variable ESTSERVE names, or one that `rt try` builds WITHOUT
+proof, once.
 """
 import contextlib
 import json
@@ -61,7 +62,9 @@ def login_line(user="root", roles=("root",)):
 def processes_of(state):
     """The processes that a team's gateway has listed, by id."""
     try:
-        return [int(process) for process in json.loads((state / "private" / "children").read_text())]
+        return [
+            int(process) for process in json.loads((state / "private" / "children").read_text())
+        ]
     except FileNotFoundError:
         return []
 
@@ -75,9 +78,11 @@ class WordTalker(Talker):
 
 
 class Team:
-    """A gateway process. Used with `with`, it is started, and killed at the end if it runs still; its folder is then gone.
+    """A gateway process. Used with `with`, it is started, and killed at the end if it runs still;
+    its folder is then gone.
 
-    `people` is the text of a file of people; `state` is a folder that is there already, and stays."""
+    `people` is the text of a file of people; `state` is a folder that is there already, and
+    stays."""
 
     def __init__(self, *words, people=None, state=None, program=None, python=None):
         self._held = tempfile.TemporaryDirectory(prefix="gateway-")
@@ -96,7 +101,14 @@ class Team:
 
     def command(self):
         """The words that start the gateway."""
-        words = [self._python, "-B", str(ROOT / "clients" / "estserve.py"), "team", "--state", str(self.state)]
+        words = [
+            self._python,
+            "-B",
+            str(ROOT / "clients" / "estserve.py"),
+            "team",
+            "--state",
+            str(self.state),
+        ]
         words += ["--program", self._program or program_file(), *self._words]
         if self._people is not None:
             path = pathlib.Path(self._held.name) / "people.toml"
@@ -108,7 +120,11 @@ class Team:
         """Starts the gateway, and doesn't wait."""
         self._told = open(pathlib.Path(self._held.name) / "told", "ab")
         self.process = subprocess.Popen(
-            self.command(), stdin=subprocess.DEVNULL, stdout=subprocess.PIPE, stderr=self._told, text=True
+            self.command(),
+            stdin=subprocess.DEVNULL,
+            stdout=subprocess.PIPE,
+            stderr=self._told,
+            text=True,
         )
 
     def start(self):
@@ -186,7 +202,14 @@ class Team:
     def server(self):
         """The id of the server's process, once one runs, also where it is just being begun anew."""
         return wait_for(
-            lambda: next((process for process in processes_of(self.state) if b"serve\0--socket" in command_of(process)), None)
+            lambda: next(
+                (
+                    process
+                    for process in processes_of(self.state)
+                    if b"serve\0--socket" in command_of(process)
+                ),
+                None,
+            )
         )
 
 
@@ -201,7 +224,10 @@ def command_of(process):
 def is_running(process):
     """Whether a process runs."""
     try:
-        return pathlib.Path(f"/proc/{process}/stat").read_text().rpartition(")")[2].split()[0] not in "ZX"
+        return (
+            pathlib.Path(f"/proc/{process}/stat").read_text().rpartition(")")[2].split()[0]
+            not in "ZX"
+        )
     except OSError:
         return False
 
@@ -215,5 +241,7 @@ def wait_for(what, seconds=WAIT_SECONDS):
 def program_alone():
     """A connection to a server without a gateway, for plain lines."""
     with tempfile.TemporaryDirectory(prefix="gateway-") as folder:
-        with Server(program_file(), pathlib.Path(folder) / "socket") as server, Talker(server.path) as talker:
+        with Server(program_file(), pathlib.Path(folder) / "socket") as server, Talker(
+            server.path
+        ) as talker:
             yield talker

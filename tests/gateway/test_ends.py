@@ -24,7 +24,9 @@ class Ended(unittest.TestCase):
             self.assertEqual(words.word("login", user="root", roles=["root"])["session"], 5)
             children = teams.processes_of(team.state)
             self.assertEqual(team.end(number), 0)
-            self.assertEqual([entry.command for entry in team.entries()], ["login"] * 5 + ["logout"] * 5)
+            self.assertEqual(
+                [entry.command for entry in team.entries()], ["login"] * 5 + ["logout"] * 5
+            )
             self.assertEqual({path.name for path in team.state.iterdir()}, {"private"})
             self.assertFalse(any(map(teams.is_running, children)))
             for talker in (*talkers, words):
@@ -50,7 +52,10 @@ class Ended(unittest.TestCase):
                 except Disconnected:
                     pass
 
-            threads = [threading.Thread(target=load, args=(f"{at}.S", answers)) for at, answers in enumerate(told)]
+            threads = [
+                threading.Thread(target=load, args=(f"{at}.S", answers))
+                for at, answers in enumerate(told)
+            ]
             for thread in threads:
                 thread.start()
             teams.wait_for(lambda: all(len(answers) > 5 for answers in told))
@@ -60,7 +65,10 @@ class Ended(unittest.TestCase):
             entries = {entry.version: entry for entry in team.entries()}
             for answer in (answer for answers in told for answer in answers):
                 self.assertEqual(json.loads(entries[answer["version"]].reply), answer)
-            self.assertEqual({entry.session for entry in entries.values() if entry.command == "logout"}, {1, 2, 3, 4})
+            self.assertEqual(
+                {entry.session for entry in entries.values() if entry.command == "logout"},
+                {1, 2, 3, 4},
+            )
             self.assertEqual(entries[max(entries)].command, "logout")
 
     def test_a_server_that_is_killed_just_before_leaves_no_logout_out(self):
@@ -74,7 +82,13 @@ class Ended(unittest.TestCase):
                 time.sleep(numbers.choice([0, 0.001, 0.01]))
                 self.assertEqual(team.end(), 0, team.told())
                 commands = [entry.command for entry in team.entries()]
-                self.assertIn(commands, (["login", "addrole", "logout"], ["login", "addrole", "logout", "login", "logout"]))
+                self.assertIn(
+                    commands,
+                    (
+                        ["login", "addrole", "logout"],
+                        ["login", "addrole", "logout", "login", "logout"],
+                    ),
+                )
 
     def test_a_start_that_is_ended(self):
         with Team() as team:
@@ -87,7 +101,9 @@ class Ended(unittest.TestCase):
             self.assertIn(again.end(), (0, -signal.SIGTERM))
             again._held.cleanup()
             with Team(state=team.state):
-                self.assertEqual([entry.command for entry in team.entries()], ["login", "addrole", "logout"])
+                self.assertEqual(
+                    [entry.command for entry in team.entries()], ["login", "addrole", "logout"]
+                )
 
 
 class ServerLost(unittest.TestCase):
@@ -104,8 +120,10 @@ class ServerLost(unittest.TestCase):
             self.assertEqual(json.loads(idle.ask(login_line("root", ["driver"])))["code"], 21)
             self.assertEqual(json.loads(idle.ask(login_line()))["version"], 10)
             self.assertEqual(words.word("ping")["person"], teams.ME)
-            self.assertEqual([entry.command for entry in team.entries()], [
-                "login", "login", "addrole", "logout", "logout", "login"])
+            self.assertEqual(
+                [entry.command for entry in team.entries()],
+                ["login", "login", "addrole", "logout", "logout", "login"],
+            )
 
     def test_with_nobody_logged_in_it_is_noticed_too(self):
         with Team() as team, team.talker() as talker:
@@ -119,7 +137,11 @@ class ServerLost(unittest.TestCase):
         with Team() as team, team.talker() as talker:
             talker.ask(b"x")
             for _ in range(5):
-                second = next(process for process in teams.processes_of(team.state) if process != team.server())
+                second = next(
+                    process
+                    for process in teams.processes_of(team.state)
+                    if process != team.server()
+                )
                 os.kill(second, signal.SIGKILL)
                 self.assertEqual(talker.ask(b"x"), b'{"code":2,"fault":"NotJson"}')
             self.assertEqual(json.loads(talker.ask(login_line()))["session"], 1)
@@ -158,7 +180,9 @@ class Slow(unittest.TestCase):
             sent = 0
             try:
                 while sent < 60_000:
-                    slow._socket.sendall((line_of(cmd="check", object="0", op="step") + b"\n") * 500)
+                    slow._socket.sendall(
+                        (line_of(cmd="check", object="0", op="step") + b"\n") * 500
+                    )
                     sent += 500
             except OSError:
                 pass

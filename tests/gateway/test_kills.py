@@ -1,8 +1,11 @@
-"""The gateway, the server, or both are killed at random moments under load: nothing that was answered is lost.
+"""The gateway, the server, or both are killed at random moments under load: nothing that was
+answered is lost.
 
-Four clients of each team send commands, some ahead of their answers, and note what they sent and what came. Afterwards the record has
-to have each accepted answer, in the order of its connection; and beyond these no more than what was sent and not answered, each at most
-once; and each look that was answered shows the instant that the record gives. The variable GATEWAY_KILLS says how often is killed.
+Four clients of each team send commands, some ahead of their answers, and note what they sent and
+what came. Afterwards the record has to have each accepted answer, in the order of its
+connection; and beyond these no more than what was sent and not answered, each at most once; and
+each look that was answered shows the instant that the record gives. The variable GATEWAY_KILLS
+says how often is killed.
 """
 import json
 import os
@@ -20,11 +23,22 @@ TEAMS = 3  # run beside each other
 KILLS_OF_A_RECORD = 12
 CLIENTS = 4
 MODULE = "module M: input A; output O; loop present A then emit O end; pause end end module"
-SETUP = [login_line(), *(
-    line_of(cmd="grant", object=f"{slot}{name}", op=op, role="root")
-    for slot in (0, 1)
-    for name, op in (("", "load"), ("", "step"), (".A", "offer"), (".A", "observe"), (".O", "observe"))
-), *(line_of(cmd="load", main="M", slot=slot, text=MODULE) for slot in (0, 1)), line_of(cmd="logout")]
+SETUP = [
+    login_line(),
+    *(
+        line_of(cmd="grant", object=f"{slot}{name}", op=op, role="root")
+        for slot in (0, 1)
+        for name, op in (
+            ("", "load"),
+            ("", "step"),
+            (".A", "offer"),
+            (".A", "observe"),
+            (".O", "observe"),
+        )
+    ),
+    *(line_of(cmd="load", main="M", slot=slot, text=MODULE) for slot in (0, 1)),
+    line_of(cmd="logout"),
+]
 
 
 class Connection:
@@ -58,7 +72,11 @@ class Client(threading.Thread):
         self.connections.append(seen)
         self.ask(connection, seen, [login_line()])
         while not self.is_over:
-            self.ask(connection, seen, [self.command() for _ in range(self.numbers.choice([1, 1, 4, 16]))])
+            self.ask(
+                connection,
+                seen,
+                [self.command() for _ in range(self.numbers.choice([1, 1, 4, 16]))],
+            )
 
     @staticmethod
     def ask(connection, seen, lines):
@@ -75,7 +93,8 @@ class Client(threading.Thread):
             left -= len(told)
 
     def command(self):
-        """A command on a slot that another client uses too, or on a permission that is this client's own."""
+        """A command on a slot that another client uses too, or on a permission that is this
+        client's own."""
         numbers, slot = self.numbers, self.number % 2
         kind = numbers.randrange(10)
         if kind < 4:
@@ -83,8 +102,17 @@ class Client(threading.Thread):
         if kind < 6:
             return line_of(cmd="offer", signal="A", slot=slot)
         if kind < 9:
-            return line_of(cmd="look", instant=numbers.randrange(1, 2_000) if kind == 8 else numbers.randrange(1, 60), slot=slot)
-        return line_of(cmd=numbers.choice(["grant", "revoke"]), object=f"{self.number}.X", op="offer", role="root")
+            return line_of(
+                cmd="look",
+                instant=numbers.randrange(1, 2_000) if kind == 8 else numbers.randrange(1, 60),
+                slot=slot,
+            )
+        return line_of(
+            cmd=numbers.choice(["grant", "revoke"]),
+            object=f"{self.number}.X",
+            op="offer",
+            role="root",
+        )
 
 
 def answers_of(clients):
@@ -93,7 +121,8 @@ def answers_of(clients):
 
 
 def wait_for_load(clients, numbers):
-    """Waits for some answers, and a moment more; now and then for none, so that a start is killed too."""
+    """Waits for some answers, and a moment more; now and then for none, so that a start is killed
+    too."""
     if numbers.randrange(8):
         enough = answers_of(clients) + numbers.randrange(10, 150)
         teams.wait_for(lambda: answers_of(clients) >= enough)
@@ -101,7 +130,8 @@ def wait_for_load(clients, numbers):
 
 
 def kill(team, numbers, clients):
-    """Kills the gateway, the server or both at some moment, and waits until clients may come again."""
+    """Kills the gateway, the server or both at some moment, and waits until clients may come
+    again."""
     wait_for_load(clients, numbers)
     what, server = numbers.choice(["gateway", "server", "both"]), team.server()
     if what == "gateway":
@@ -151,9 +181,13 @@ class Judged:
         for line, answer in zip(seen.sent, answers):
             if answer.get("ok") == "look":
                 self.look(json.loads(line), answer)
-        with_entry = [(line, told) for line, told, answer in zip(seen.sent, seen.told, answers) if answer.get("ok", "look") != "look"]
+        with_entry = [
+            (line, told)
+            for line, told, answer in zip(seen.sent, seen.told, answers)
+            if answer.get("ok", "look") != "look"
+        ]
         self.accepted += len(with_entry)
-        unanswered = seen.sent[len(seen.told):]
+        unanswered = seen.sent[len(seen.told) :]
         self.unanswered += len(unanswered)
         if with_entry:
             session = answers[0]["session"]
@@ -162,10 +196,11 @@ class Judged:
             self.compare(self.by_session.get(session, []), with_entry, unanswered)
 
     def compare(self, entries, with_entry, unanswered):
-        """The entries of one session: those that were answered, then some of the unanswered, each once; then a logout at the next start."""
-        told = [(entry.request, entry.reply) for entry in entries[:len(with_entry)]]
+        """The entries of one session: those that were answered, then some of the unanswered, each
+        once; then a logout at the next start."""
+        told = [(entry.request, entry.reply) for entry in entries[: len(with_entry)]]
         self.test.assertEqual(told, with_entry)
-        left = [entry.request for entry in entries[len(with_entry):]]
+        left = [entry.request for entry in entries[len(with_entry) :]]
         if left and left[-1] == line_of(cmd="logout"):
             left.pop()
         self.undone += len(left)
@@ -189,7 +224,9 @@ class Killed(unittest.TestCase):
         with Team() as team:
             with team.talker() as talker:
                 talker.ask_all(SETUP)
-            clients = [Client(team.path, at, random_of(f"client {number} {at}")) for at in range(CLIENTS)]
+            clients = [
+                Client(team.path, at, random_of(f"client {number} {at}")) for at in range(CLIENTS)
+            ]
             for client in clients:
                 client.start()
             for _ in range(kills):
@@ -212,7 +249,9 @@ class Killed(unittest.TestCase):
         share = KILLS // TEAMS + (first < KILLS % TEAMS)
         try:
             while len(sums) < share:
-                judged = self.one_record(f"{first} {len(sums)}", min(KILLS_OF_A_RECORD, share - len(sums)), numbers, sums)
+                judged = self.one_record(
+                    f"{first} {len(sums)}", min(KILLS_OF_A_RECORD, share - len(sums)), numbers, sums
+                )
                 found.append((judged, None))
             found.append((None, sums))
         except BaseException as fault:
@@ -231,8 +270,12 @@ class Killed(unittest.TestCase):
         judged = [one for one, sums in found if sums is None]
         kills = [kind for _, sums in found if sums is not None for kind in sums]
         self.assertEqual(len(kills), KILLS)
-        told = {name: sum(getattr(one, name) for one in judged) for name in ("accepted", "looks", "unanswered", "undone")}
-        print(f"{len(kills)} kills ({', '.join(f'{kinds} {kills.count(kinds)}' for kinds in sorted(set(kills)))}): {told}")
+        told = {
+            name: sum(getattr(one, name) for one in judged)
+            for name in ("accepted", "looks", "unanswered", "undone")
+        }
+        kinds = ", ".join(f"{kind} {kills.count(kind)}" for kind in sorted(set(kills)))
+        print(f"{len(kills)} kills ({kinds}): {told}")
         self.assertGreater(told["accepted"], 5 * KILLS)
         self.assertGreater(told["looks"], KILLS)
         self.assertGreater(told["unanswered"], KILLS)

@@ -1,4 +1,5 @@
-"""Which entry is written when, and which answer goes out when: a server is simulated, whose answers overtake each other."""
+"""Which entry is written when, and which answer goes out when: a server is simulated, whose answers
+overtake each other."""
 import unittest
 
 import teams
@@ -20,7 +21,8 @@ class Noted(Asked):
 
 
 class Server:
-    """A server of which is known only how many entries its policy and its slots have. `seen` is what each answer was made of."""
+    """A server of which is known only how many entries its policy and its slots have. `seen` is
+    what each answer was made of."""
 
     def __init__(self):
         self.version = 4
@@ -45,7 +47,8 @@ class Server:
 
 
 class Run:
-    """One run: requests that are sent, done by the server, read and written, in any order that can be."""
+    """One run: requests that are sent, done by the server, read and written, in any order that can
+    be."""
 
     def __init__(self, numbers):
         self.numbers = numbers
@@ -84,7 +87,9 @@ class Run:
         ready = self.order.take_ready()
         for asked in ready:
             slot = asked.request.slot
-            assert asked.number_done > self.last[asked.session], "entries of one connection are not in its order"
+            assert (
+                asked.number_done > self.last[asked.session]
+            ), "entries of one connection are not in its order"
             self.last[asked.session] = asked.number_done
             if slot is None:
                 assert asked.place == self.version + 1
@@ -98,12 +103,23 @@ class Run:
         for asked in [asked for asked in self.waiting if self.order.may_go(asked)]:
             version, seen = asked.context
             assert version <= self.version, "a policy entry that was seen is not written"
-            assert seen is None or seen[1] <= self.places[seen[0]], "a slot's entry that was seen is not written"
+            assert (
+                seen is None or seen[1] <= self.places[seen[0]]
+            ), "a slot's entry that was seen is not written"
             self.waiting.remove(asked)
             self.gone += 1
 
     def all(self):
-        kinds = [self.send, self.send, self.do, self.do, self.read, self.read, self.write, self.release]
+        kinds = [
+            self.send,
+            self.send,
+            self.do,
+            self.do,
+            self.read,
+            self.read,
+            self.write,
+            self.release,
+        ]
         for _ in range(STEPS):
             self.numbers.choice(kinds)()
         while any(self.sent) or any(self.told):
@@ -135,7 +151,9 @@ class ByHand(unittest.TestCase):
 
     def test_a_policy_entry_waits_for_the_one_before(self):
         order = Order(4, [0] * 16)
-        first, second = (self.answered(order, ADD, ok="addrole", version=version) for version in (5, 6))
+        first, second = (
+            self.answered(order, ADD, ok="addrole", version=version) for version in (5, 6)
+        )
         order.answered(second)
         self.assertEqual(order.take_ready(), [])
         order.answered(first)
@@ -174,7 +192,9 @@ class ByHand(unittest.TestCase):
 
     def test_a_place_that_is_given_twice_is_told(self):
         order = Order(4, [0] * 16)
-        first, second = (self.answered(order, STEP[3], ok="step", version=4, place=1) for _ in range(2))
+        first, second = (
+            self.answered(order, STEP[3], ok="step", version=4, place=1) for _ in range(2)
+        )
         order.answered(first)
         with self.assertRaises(Inconsistent):
             order.answered(second)

@@ -1,4 +1,5 @@
-"""Places, persons, children: the modes of folder and sockets, the lock, orphans, and what a login may name."""
+"""Places, persons, children: the modes of folder and sockets, the lock, orphans, and what a login
+may name."""
 import json
 import os
 import pathlib
@@ -41,10 +42,13 @@ def mode_of(path):
 
 
 def asked_by(user, path, lines):
-    """The answers that another Unix user's process gets at a socket, which its group has to be able to reach."""
+    """The answers that another Unix user's process gets at a socket, which its group has to be able
+    to reach."""
     ran = subprocess.run(
-        [sys.executable, "-c", AS_USER, str(os.getegid()), str(user), str(path)], input=b"".join(line + b"\n" for line in lines),
-        capture_output=True, timeout=teams.WAIT_SECONDS,
+        [sys.executable, "-c", AS_USER, str(os.getegid()), str(user), str(path)],
+        input=b"".join(line + b"\n" for line in lines),
+        capture_output=True,
+        timeout=teams.WAIT_SECONDS,
     )
     if ran.returncode:
         raise AssertionError(ran.stderr.decode())
@@ -54,7 +58,12 @@ def asked_by(user, path, lines):
 class TheFolder(unittest.TestCase):
     def test_modes_and_what_is_gone_at_the_end(self):
         with Team() as team:
-            for path, mode in [(".", 0o750), ("private", 0o700), ("team.sock", 0o660), ("gateway.sock", 0o660)]:
+            for path, mode in [
+                (".", 0o750),
+                ("private", 0o700),
+                ("team.sock", 0o660),
+                ("gateway.sock", 0o660),
+            ]:
                 self.assertEqual(mode_of(team.state / path), mode, path)
             server = team.server()
             self.assertEqual(team.end(), 0)
@@ -80,7 +89,9 @@ class TheFolder(unittest.TestCase):
 class TheLock(unittest.TestCase):
     def test_a_second_gateway_is_refused_and_the_first_goes_on(self):
         with Team() as team:
-            ran = subprocess.run(team.command(), capture_output=True, text=True, timeout=teams.WAIT_SECONDS)
+            ran = subprocess.run(
+                team.command(), capture_output=True, text=True, timeout=teams.WAIT_SECONDS
+            )
             self.assertEqual(ran.returncode, 1)
             self.assertIn("another gateway runs", ran.stderr)
             with team.root() as client:
@@ -131,7 +142,13 @@ class Persons(unittest.TestCase):
             self.assertEqual(held.exception.code, 1003)
 
     def test_what_is_no_file_of_people_is_told_with_its_line(self):
-        for text, line in [("", 1), ("users = []", 1), ("[people]\nann = 3", 2), ("[people]\n[assign]", 2), ("[people]\nann = [", 2)]:
+        for text, line in [
+            ("", 1),
+            ("users = []", 1),
+            ("[people]\nann = 3", 2),
+            ("[people]\n[assign]", 2),
+            ("[people]\nann = [", 2),
+        ]:
             with self.assertRaises(BadPolicy) as held:
                 read_people(text)
             self.assertEqual(held.exception.line, line, text)
@@ -144,14 +161,19 @@ class Persons(unittest.TestCase):
 
 class Logins(unittest.TestCase):
     def test_one_as_somebody_else_never_reaches_the_program(self):
-        with Team(people=f'[people]\nann = ["nobody"]\nroot = ["{teams.ME}"]\n') as team, team.talker() as talker:
+        with Team(
+            people=f'[people]\nann = ["nobody"]\nroot = ["{teams.ME}"]\n'
+        ) as team, team.talker() as talker:
             refused = b'{"code":1001,"fault":"NotYou","user":"ann"}'
             self.assertEqual(talker.ask(login_line("ann", [])), refused)
             self.assertEqual(talker.ask(login_line()), b'{"ok":"login","session":1,"version":5}')
             self.assertEqual(talker.ask(login_line("ann", [])), refused)
             self.assertEqual(talker.ask(login_line()), b'{"code":5,"fault":"AlreadyLoggedIn"}')
             with team.words() as words:
-                self.assertEqual(words.word("ping"), {"ok": "ping", "person": teams.ME, "team": "team", "users": ["root"]})
+                self.assertEqual(
+                    words.word("ping"),
+                    {"ok": "ping", "person": teams.ME, "team": "team", "users": ["root"]},
+                )
                 self.assertEqual(words.word("login", user="ann")["code"], 1001)
 
     @unittest.skipUnless(os.geteuid() == 0, "only root can be another Unix user")
@@ -164,12 +186,17 @@ class Logins(unittest.TestCase):
             told = asked_by(NOBODY, team.path, logins)
             self.assertEqual(told[0], b'{"code":1001,"fault":"NotYou","user":"root"}')
             self.assertEqual(json.loads(told[1])["ok"], "login")
-            ping = json.loads(asked_by(NOBODY, team.state / "gateway.sock", [b'{"word":"ping"}'])[0])
+            ping = json.loads(
+                asked_by(NOBODY, team.state / "gateway.sock", [b'{"word":"ping"}'])[0]
+            )
             self.assertEqual((ping["person"], ping["users"]), ("nobody", ["ann"]))
             refused = b'{"code":1003,"fault":"UnknownPerson","uid":3999999}'
             self.assertEqual(asked_by(3_999_999, team.path, [])[0], refused)
             teams.wait_for(lambda: [entry.person for entry in team.entries()][-1] == "nobody")
-            self.assertEqual({(entry.user, entry.person) for entry in team.entries()}, {("root", "root"), ("ann", "nobody")})
+            self.assertEqual(
+                {(entry.user, entry.person) for entry in team.entries()},
+                {("root", "root"), ("ann", "nobody")},
+            )
 
 
 if __name__ == "__main__":

@@ -1,11 +1,13 @@
 """The reads one by one: who may see what, what is nearly full, the log, what is printed."""
 import json
+import os
 import shutil
 import threading
 import unittest
 
 from reads_support import ABRO, Desk, Session
 from teams import ROOT, Team, random_of
+from test_places import NOBODY, asked_by
 
 from estserve_client.module_text import main_of
 from estserve_client.policy_file import read_policy
@@ -378,7 +380,28 @@ class Filled(Case):
 
 
 class Models(Case):
-    """What a model refuses, and what becomes of the reads then."""
+    """What ends a session, what a model refuses, and what becomes of the reads then."""
+
+    def test_what_ends_a_session(self):
+        self.root.need("inherit", senior="anns", junior="chos")
+        self.root.need("inherit", senior="bobs", junior="chos")
+        self.root.need("assign", user="cho", role="bobs")
+        ended = [
+            ({"cmd": "deassign", "user": "cho", "role": "chos"}, []),
+            ({"cmd": "disinherit", "senior": "anns", "junior": "chos"}, []),
+            ({"cmd": "disinherit", "senior": "bobs", "junior": "chos"}, ["cho"]),
+            ({"cmd": "delrole", "role": "anns"}, ["ann"]),
+            ({"cmd": "deassign", "user": "bob", "role": "bobs"}, ["bob"]),
+            ({"cmd": "deluser", "user": "dan"}, ["dan"]),
+        ]
+        gone = []
+        for command, users in ended:
+            self.root.need(**command)
+            gone += users
+            for user in ("ann", "bob", "cho", "dan"):
+                lives = self.seats[user].give("drop", role="nobody").get("code") != 4
+                self.assertEqual(lives, user not in gone, command)
+                self.assertEqual(lives, self.seats[user].session in self.desk.reads.policy.sessions)
 
     def test_an_entry_out_of_order(self):
         model = PolicyModel()
@@ -506,6 +529,44 @@ class OverTheGateway(unittest.TestCase):
             ]
             wanted += [{"cmd": "grant", **role, **pair}, {"cmd": "revoke", **role, **pair}]
             client.ask_all(chance.choices(wanted, [3, 3, 1, 2, 2], k=200))
+
+    @unittest.skipUnless(os.geteuid() == 0, "only root can be another Unix user")
+    def test_another_unix_user_sees_its_own(self):
+        with Team(people='[people]\nann = ["nobody"]\nroot = ["root"]\n') as team:
+            team.state.parent.chmod(0o711)
+            root = team.root()
+            root.adduser("ann")
+            root.addrole("drivers")
+            root.assign("ann", "drivers")
+            root.grant("drivers", "offer", "0.A")
+            root.grant("root", "load", "0")
+            root.load(0, "ABRO", ABRO)
+            asked = [{"word": "login", "user": "ann", "roles": ["drivers"]}, {"word": "who"}]
+            asked += [
+                {"word": "slots"},
+                {"word": "policy"},
+                {"word": "log"},
+                {"word": "log", "user": "root"},
+            ]
+            asked += [
+                {"word": "why", "user": "root", "op": "load", "object": "0"},
+                {"word": "archive"},
+            ]
+            lines = [json.dumps(word).encode() for word in asked]
+            told = [
+                json.loads(line) for line in asked_by(NOBODY, team.state / "gateway.sock", lines)
+            ]
+            _, who, slots, policy, log, *refused = told
+            self.assertEqual(
+                [holder.get("roles") for holder in who["holders"]], [None, ["drivers"]]
+            )
+            self.assertEqual([slot["main"] for slot in slots["slots"]], ["ABRO"])
+            self.assertEqual((policy["users"], policy["roles"]), (["ann"], ["drivers"]))
+            self.assertEqual(
+                [(e["person"], e["request"]["cmd"]) for e in log["entries"]], [("nobody", "login")]
+            )
+            self.assertEqual([answer["code"] for answer in refused], [1011, 1011, 1011])
+            root.close()
 
     def test_an_archive_logs_out_and_goes_on(self):
         with Team() as team:

@@ -105,7 +105,7 @@ class Case(unittest.TestCase):
 
 
 class Archives(Case):
-    """What stays, what is left behind, and what stops it."""
+    """What stays, what does not, and what stops it."""
 
     def test_facts_instants_and_pending_inputs_stay(self):
         new, old = self.build_filled()

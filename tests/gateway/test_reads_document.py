@@ -5,7 +5,7 @@ import subprocess
 import sys
 import unittest
 
-from teams import ME, ROOT, Team
+from teams import ME, ROOT, Team, wait_for
 
 DOCUMENT = ROOT / "docs" / "GATEWAY-READS.md"
 BLOCK = re.compile(r"```console\n(.*?)```", re.DOTALL)
@@ -32,6 +32,7 @@ class Document(unittest.TestCase):
         printed = "".join(line + "\n" for line in lines if not line.startswith("> "))
         words = [sys.executable, "-B", *shlex.split(command.replace(STATE, str(team.state)))[1:]]
         ran = subprocess.run(words, cwd=ROOT, input=typed, capture_output=True, text=True)
+        wait_for(lambda: self.logged_out(team))
         told = words_of(ran.stdout + ran.stderr)
         if " who " in command:
             told = [
@@ -41,6 +42,12 @@ class Document(unittest.TestCase):
         with self.subTest(command):
             self.assertTrue(command.startswith("python3 clients/estserve.py "))
             self.assertEqual(told, words_of(printed))
+
+    @staticmethod
+    def logged_out(team):
+        """Whether each login that is recorded has its logout."""
+        rows = team.rows("SELECT command FROM entries WHERE command IN ('login', 'logout')")
+        return rows.count(("login",)) == rows.count(("logout",))
 
     def test_each_command_prints_what_is_told(self):
         pieces = re.split(

@@ -10,6 +10,8 @@ from estserve_team.reads.state import models_of
 from estserve_team.refusals import Refused
 
 COMMANDS = 2_000
+RANDOM = 6  # connections that give random commands; each of the others logs in afterwards
+NARROW = [("audit", "policy"), ("offer", "0.A"), ("observe", "1.O"), ("step", "2"), None]
 SEED = 31
 USERS = ["root", "ann", "bob", "cho"]
 ROLES = ["root", "driver", "watcher", "stepper", "chief", "auditor"]
@@ -34,8 +36,8 @@ ADMINISTRATION = {
     "revoke": 9,
     "inherit": 8,
     "disinherit": 3,
-    "dsd": 3,
-    "undsd": 2,
+    "dsd": 5,
+    "undsd": 5,
 }
 DRIVING = {
     "load": 6,
@@ -89,8 +91,10 @@ def keys_of(chance, command):
 
 
 def give_random(chance, desk):
-    """Gives one random command on a random connection, or logs one in."""
-    seat = chance.choice(desk.seats[1:]) if chance.random() < 0.4 else desk.seats[0]
+    """Gives one random command on a random connection, or logs one in.
+
+    A command is answered NoSession exactly where the model says that the session has ended."""
+    seat = chance.choice(desk.seats[1:RANDOM]) if chance.random() < 0.4 else desk.seats[0]
     if seat is desk.seats[0] and seat.session is None:
         return seat.need("login", user="root", roles=["root"])
     if seat.session is None:
@@ -98,7 +102,9 @@ def give_random(chance, desk):
         return seat.give("login", user=chance.choice(USERS[1:]), roles=roles)
     table = ADMINISTRATION if seat is desk.seats[0] and chance.random() < 0.5 else DRIVING
     command = chance.choices(list(table), list(table.values()))[0]
+    number, lives = seat.session, seat.session in desk.reads.policy.sessions
     answer = seat.give(command, **keys_of(chance, command))
+    assert lives == (answer.get("code") != 4), (number, command, answer)
     if answer.get("code") == 4 and command != "logout" and chance.random() < 0.5:
         seat.give("logout")
     return answer
@@ -118,21 +124,32 @@ def prepare(desk):
             root.need("grant", role="root", op="offer", object=f"{place}.{name}")
 
 
+def log_in_narrow(desk, seat, pair):
+    """Root makes a user that has one permission alone, or none, which logs in."""
+    root, name = desk.seats[0], f"only{seat.number}"
+    root.need("adduser", user=name)
+    root.need("addrole", role=name)
+    root.need("assign", user=name, role=name)
+    if pair is not None:
+        root.give("grant", role=name, op=pair[0], object=pair[1])
+    seat.need("login", user=name, roles=[name])
+
+
 class RandomCommands(unittest.TestCase):
     """One run of random commands; each test compares another read with the program."""
 
     @classmethod
     def setUpClass(cls):
-        cls.desk = Desk(seats=8)
+        cls.desk = Desk(seats=RANDOM + len(NARROW))
         cls.enterClassContext(cls.desk) if hasattr(cls, "enterClassContext") else cls.enter()
         chance = random.Random(SEED)
         prepare(cls.desk)
         cls.answers = [give_random(chance, cls.desk) for _ in range(COMMANDS)]
-        if cls.desk.seats[0].session is None:
+        if not cls.desk.seats[0].allowed("administer", "policy"):
+            cls.desk.seats[0].give("logout")
             cls.desk.root()
-        for seat in cls.desk.seats[1:]:
-            if seat.session is None:
-                seat.give("login", user=chance.choice(USERS[1:]), roles=[])
+        for seat, pair in zip(cls.desk.seats[RANDOM:], NARROW):
+            log_in_narrow(cls.desk, seat, pair)
 
     @classmethod
     def enter(cls):
@@ -143,7 +160,7 @@ class RandomCommands(unittest.TestCase):
     def live(self):
         """The connections with a login, its session ended or not."""
         seats = [seat for seat in self.desk.seats if seat.session]
-        self.assertGreater(len(seats), 4)
+        self.assertGreater(len(seats), RANDOM)
         return seats
 
     def allowed(self, seat):

@@ -29,9 +29,13 @@ class Sixteen(unittest.TestCase):
             for at, talker in enumerate(talkers[:16], 1):
                 self.assertEqual(json.loads(talker.ask(login_line()))["session"], at)
             for talker in idle:
-                self.assertEqual(talker.ask(line_of(cmd="step", slot=0)), b'{"code":4,"fault":"NoSession"}')
+                self.assertEqual(
+                    talker.ask(line_of(cmd="step", slot=0)), b'{"code":4,"fault":"NoSession"}'
+                )
             refused = json.loads(talkers[16].ask(login_line()))
-            self.assertEqual(refused, {"code": 1002, "fault": "AllTaken", "holders": [["root", teams.ME]] * 16})
+            self.assertEqual(
+                refused, {"code": 1002, "fault": "AllTaken", "holders": [["root", teams.ME]] * 16}
+            )
             self.assertEqual(json.loads(talkers[3].ask(LOGOUT))["version"], 21)
             self.assertEqual(json.loads(talkers[16].ask(login_line()))["session"], 17)
             talkers[5].close()
@@ -59,8 +63,13 @@ class Ended(unittest.TestCase):
             for time in range(3):
                 talker.ask(login_line("ann", []))
                 root.deluser("ann")
-                self.assertEqual(talker.ask(line_of(cmd="step", slot=0)), b'{"code":4,"fault":"NoSession"}')
-                self.assertEqual(talker.ask(line_of(cmd="check", object="0", op="step")), b'{"allowed":false,"ok":"check"}')
+                self.assertEqual(
+                    talker.ask(line_of(cmd="step", slot=0)), b'{"code":4,"fault":"NoSession"}'
+                )
+                self.assertEqual(
+                    talker.ask(line_of(cmd="check", object="0", op="step")),
+                    b'{"allowed":false,"ok":"check"}',
+                )
                 self.assertEqual(talker.ask(LOGOUT), b'{"code":4,"fault":"NoSession"}')
                 self.assertEqual(talker.ask(LOGOUT), b'{"code":4,"fault":"NoSession"}')
                 root.adduser("ann")
@@ -72,13 +81,16 @@ class Ended(unittest.TestCase):
             before = team.entries()
             self.assertEqual(team.end(), 0)
             with Team(state=team.state, people=people) as again:
-                self.assertEqual(again.entries()[:len(before)], before)
+                self.assertEqual(again.entries()[: len(before)], before)
 
     def test_the_gateway_logs_out_whoever_goes_away(self):
         with Team() as team:
             with team.root() as client:
                 client.addrole("driver")
-            teams.wait_for(lambda: [entry.command for entry in team.entries()] == ["login", "addrole", "logout"])
+            teams.wait_for(
+                lambda: [entry.command for entry in team.entries()]
+                == ["login", "addrole", "logout"]
+            )
 
 
 class Changed(unittest.TestCase):
@@ -93,10 +105,16 @@ class Changed(unittest.TestCase):
                 self.assertTrue(client.check("step", "0")["allowed"] is False)
             client.activate("root")
             self.assertTrue(client.check("step", "0")["allowed"])
-            logins = [json.loads(entry.request)["roles"] for entry in team.entries() if entry.command == "login"]
+            logins = [
+                json.loads(entry.request)["roles"]
+                for entry in team.entries()
+                if entry.command == "login"
+            ]
             self.assertGreaterEqual(len(logins), 3)
             self.assertEqual(logins[:3], [["root"], ["driver"], ["driver"]])
-            kinds = [entry.command for entry in team.entries() if entry.command in ("login", "logout")]
+            kinds = [
+                entry.command for entry in team.entries() if entry.command in ("login", "logout")
+            ]
             self.assertEqual(kinds, ["login", "logout"] * (len(logins) - 1) + ["login"])
 
     def test_where_its_session_has_ended_the_clients_connection_ends(self):
@@ -136,37 +154,66 @@ class Shared(unittest.TestCase):
 
     def entries_of(self, gateway):
         with teams.open_reader(gateway.record_path) as database:
-            return [teams.Entry._make(row) for row in database.execute("SELECT * FROM entries ORDER BY number")]
+            return [
+                teams.Entry._make(row)
+                for row in database.execute("SELECT * FROM entries ORDER BY number")
+            ]
 
     def test_all_with_the_same_roles_share_one_login_until_the_last_leaves(self):
         async def work(gateway):
-            shared = await asyncio.gather(*(gateway.share(ROOT, "root", ["root"]) for _ in range(20)))
+            shared = await asyncio.gather(
+                *(gateway.share(ROOT, "root", ["root"]) for _ in range(20))
+            )
             other = await gateway.share(ROOT, "root", [])
             self.assertEqual({one.number for one in shared}, {shared[0].number})
             self.assertEqual(len(gateway.holders()), 2)
-            self.assertTrue((await other.ask_answer({"cmd": "check", "object": "policy", "op": "administer"}))["allowed"] is False)
+            self.assertTrue(
+                (await other.ask_answer({"cmd": "check", "object": "policy", "op": "administer"}))[
+                    "allowed"
+                ]
+                is False
+            )
             for one in shared[1:]:
                 await one.leave()
             self.assertEqual((await shared[0].ask_answer(GRANT))["ok"], "grant")
             await shared[0].leave()
             await other.leave()
-            self.assertEqual([entry.command for entry in self.entries_of(gateway)], ["login", "login", "grant", "logout", "logout"])
-            self.assertNotEqual((await gateway.share(ROOT, "root", ["root"])).number, shared[0].number)
+            self.assertEqual(
+                [entry.command for entry in self.entries_of(gateway)],
+                ["login", "login", "grant", "logout", "logout"],
+            )
+            self.assertNotEqual(
+                (await gateway.share(ROOT, "root", ["root"])).number, shared[0].number
+            )
 
         self.run_with(work)
 
     def test_what_is_refused(self):
         async def work(gateway):
-            for person, user, roles, code in [(ROOT, "ann", [], 1001), (ROOT, "root", ["no"], 26), (ROOT, "root", ["a b"], 3)]:
+            for person, user, roles, code in [
+                (ROOT, "ann", [], 1001),
+                (ROOT, "root", ["no"], 26),
+                (ROOT, "root", ["a b"], 3),
+            ]:
                 with self.assertRaises(Refused) as held:
                     await gateway.share(person, user, roles)
                 self.assertEqual(held.exception.code, code)
             shared = await gateway.share(ROOT, "root", ["root"])
-            for cmd in ({"cmd": "logout"}, {"cmd": "activate", "role": "root"}, {"cmd": "login", "user": "root", "roles": []}):
+            for cmd in (
+                {"cmd": "logout"},
+                {"cmd": "activate", "role": "root"},
+                {"cmd": "login", "user": "root", "roles": []},
+            ):
                 with self.assertRaises(Refused) as held:
                     await shared.ask(cmd)
                 self.assertEqual(held.exception.code, 1014)
-            for command in ({}, {"cmd": []}, {"cmd": "step", "slot": True}, {"cmd": "step", "slot": 1.0}, {"cmd": "adduser", "user": "\ud800"}):
+            for command in (
+                {},
+                {"cmd": []},
+                {"cmd": "step", "slot": True},
+                {"cmd": "step", "slot": 1.0},
+                {"cmd": "adduser", "user": "\ud800"},
+            ):
                 self.assertEqual(await shared.ask(command), b'{"code":3,"fault":"NotARequest"}')
 
         self.run_with(work)
@@ -177,7 +224,9 @@ class Shared(unittest.TestCase):
             answers = await asyncio.gather(*(shared.ask(GRANT, "one") for _ in range(10)))
             self.assertEqual(set(answers), {b'{"ok":"grant","version":6}'})
             self.assertEqual(await shared.ask(GRANT, "one"), answers[0])
-            self.assertEqual(await shared.ask(GRANT, "two"), b'{"code":31,"fault":"AlreadyGranted"}')
+            self.assertEqual(
+                await shared.ask(GRANT, "two"), b'{"code":31,"fault":"AlreadyGranted"}'
+            )
             revoke = {**GRANT, "cmd": "revoke"}
             for request_id in ("one", "", "x" * 65, "ä"):
                 with self.assertRaises(Refused) as held:
@@ -202,22 +251,37 @@ class Shared(unittest.TestCase):
         async def work(gateway):
             asked = []
             for at in range(60):
-                command = {"cmd": "grant", "object": f"{at % 16}.S{at}", "op": "offer", "role": "root"}
-                asked.append(asyncio.ensure_future(ask_until_answered(gateway, f"id {at}", command)))
+                command = {
+                    "cmd": "grant",
+                    "object": f"{at % 16}.S{at}",
+                    "op": "offer",
+                    "role": "root",
+                }
+                asked.append(
+                    asyncio.ensure_future(ask_until_answered(gateway, f"id {at}", command))
+                )
                 await asyncio.sleep(numbers.uniform(0, 0.01))
                 if at % 10 == 5:
                     os.kill(gateway._server.process, signal.SIGKILL)
             answers = await asyncio.gather(*asked)
             entries = [entry for entry in self.entries_of(gateway) if entry.command == "grant"]
             self.assertEqual(len(entries), 60)
-            self.assertEqual({entry.request_id: entry.reply for entry in entries}, {f"id {at}": answer for at, answer in enumerate(answers)})
+            self.assertEqual(
+                {entry.request_id: entry.reply for entry in entries},
+                {f"id {at}": answer for at, answer in enumerate(answers)},
+            )
 
         self.run_with(work)
 
     def test_a_shared_login_changes_its_connection(self):
         async def work(gateway):
             shared = await gateway.share(ROOT, "root", ["root"])
-            checks = await asyncio.gather(*(shared.ask_answer({"cmd": "check", "object": "0", "op": "step"}) for _ in range(50)))
+            checks = await asyncio.gather(
+                *(
+                    shared.ask_answer({"cmd": "check", "object": "0", "op": "step"})
+                    for _ in range(50)
+                )
+            )
             self.assertEqual(len(checks), 50)
             self.assertGreater(shared.number, 1)
             self.assertEqual(len(gateway.holders()), 1)
@@ -227,7 +291,9 @@ class Shared(unittest.TestCase):
     def test_listeners_hear_of_each_entry_once_and_of_a_restart(self):
         async def work(gateway):
             heard, restarts = [], []
-            unlisten = gateway.listen(lambda entries: heard.extend(entry.number for entry in entries))
+            unlisten = gateway.listen(
+                lambda entries: heard.extend(entry.number for entry in entries)
+            )
             gateway.on_restart(lambda: restarts.append(len(gateway.holders())))
             shared = await gateway.share(ROOT, "root", ["root"])
             await shared.ask(GRANT)

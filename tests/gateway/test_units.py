@@ -1,4 +1,5 @@
-"""Many teams on one machine: the command line of the systemd unit is started for each, and what an idle one takes is measured.
+"""Many teams on one machine: the command line of the systemd unit is started for each, and what an
+idle one takes is measured.
 
 The variable GATEWAY_TEAMS says how many teams. This tests the unit's words, and not systemd.
 """
@@ -19,7 +20,10 @@ import teams
 TEAMS = int(os.environ.get("GATEWAY_TEAMS", "8"))
 AT_ONCE = 4  # are started beside each other
 UNIT = teams.ROOT / "packaging" / "estserve-team@.service"
-INSTALLED = {"/usr/bin/python3": sys.executable, "/usr/lib/estserve/clients": str(teams.ROOT / "clients")}
+INSTALLED = {
+    "/usr/bin/python3": sys.executable,
+    "/usr/lib/estserve/clients": str(teams.ROOT / "clients"),
+}
 
 
 def setting(name):
@@ -28,7 +32,8 @@ def setting(name):
 
 
 def words_of(state):
-    """The unit's command line for one team, with the paths of this machine, and no further words."""
+    """The unit's command line for one team, with the paths of this machine, and no further
+    words."""
     line = setting("ExecStart").replace("${STATE_DIRECTORY}", str(state)).replace("$TEAM_WORDS", "")
     for path, here in {**INSTALLED, "/usr/lib/estserve/estserve": teams.program_file()}.items():
         line = line.replace(path, here)
@@ -47,7 +52,9 @@ class Started:
     def __init__(self, folder, number):
         self.state = folder / f"team{number}"
         self.began = time.monotonic()
-        self.process = subprocess.Popen(words_of(self.state), stdout=subprocess.PIPE, stderr=subprocess.PIPE, text=True)
+        self.process = subprocess.Popen(
+            words_of(self.state), stdout=subprocess.PIPE, stderr=subprocess.PIPE, text=True
+        )
 
     def wait(self):
         """Waits until clients may come, and notes the seconds that it took."""
@@ -58,7 +65,9 @@ class Started:
 
     def kilobytes(self):
         """The memory of the gateway, the server and the second child."""
-        return [memory_of(process) for process in [self.process.pid, *teams.processes_of(self.state)]]
+        return [
+            memory_of(process) for process in [self.process.pid, *teams.processes_of(self.state)]
+        ]
 
     def ping(self):
         """What the gateway answers to `ping`."""
@@ -78,12 +87,17 @@ class ManyTeams(unittest.TestCase):
         with tempfile.TemporaryDirectory(prefix="gateway-") as folder:
             try:
                 for first in range(0, TEAMS, AT_ONCE):
-                    part = [Started(pathlib.Path(folder), at) for at in range(first, min(first + AT_ONCE, TEAMS))]
+                    part = [
+                        Started(pathlib.Path(folder), at)
+                        for at in range(first, min(first + AT_ONCE, TEAMS))
+                    ]
                     started += part
                     for one in part:
                         one.wait()
                 pings = [one.ping() for one in started]
-                self.assertEqual([ping["team"] for ping in pings], [f"team{at}" for at in range(TEAMS)])
+                self.assertEqual(
+                    [ping["team"] for ping in pings], [f"team{at}" for at in range(TEAMS)]
+                )
                 memory = [one.kilobytes() for one in started]
                 self.assertEqual({len(one) for one in memory}, {3})
                 self.tell(started, memory)
@@ -96,7 +110,8 @@ class ManyTeams(unittest.TestCase):
         parts = [statistics.mean(part) / 1024 for part in zip(*memory)]
         seconds = statistics.median(one.seconds for one in started)
         print(
-            f"{TEAMS} idle teams: {sum(parts):.1f} MiB each ({parts[0]:.1f} the gateway, {parts[1]:.1f} and {parts[2]:.1f} its "
+            f"{TEAMS} idle teams: {sum(parts):.1f} MiB each "
+            f"({parts[0]:.1f} the gateway, {parts[1]:.1f} and {parts[2]:.1f} its "
             f"children); ready after {seconds:.2f} s, {AT_ONCE} at a time"
         )
 

@@ -2,25 +2,25 @@
 from typing import Dict
 
 from ..words import Word
-from .archive import archive
+from .archive import make_archive
 from .filling import warnings
-from .record_log import log
+from .record_log import tell_log
 from .state import ReadState
-from .who import policy, slots, who, why
+from .who import tell_policy, tell_slots, tell_who, tell_why
 
 __all__ = ["WORDS", "on_start", "warnings"]
 
 WORDS: Dict[str, Word] = {
-    "who": Word(who, needs_session=False),
-    "slots": Word(slots, optional={"slot": int, "text": bool}),
-    "policy": Word(policy, needs_session=False),
-    "why": Word(why, required={"user": str, "op": str, "object": str}, needs_session=False),
+    "who": Word(tell_who, needs_session=False),
+    "slots": Word(tell_slots, optional={"slot": int, "text": bool}),
+    "policy": Word(tell_policy, needs_session=False),
+    "why": Word(tell_why, required={"user": str, "op": str, "object": str}, needs_session=False),
     "log": Word(
-        log,
+        tell_log,
         optional={"slot": int, "user": str, "instant": int, "last": int, "before": int},
         needs_session=False,
     ),
-    "archive": Word(archive, optional={"slot": int}),
+    "archive": Word(make_archive, optional={"slot": int}),
 }
 
 

@@ -21,7 +21,7 @@ from .slot_model import SLOTS
 from .state import Models, models_of
 from .witness import compare_facts, compare_shown, compare_slots
 
-__all__ = ["ArchiveFailed", "Caller", "archive", "build"]
+__all__ = ["ArchiveFailed", "Caller", "build", "make_archive"]
 
 
 class Caller(NamedTuple):
@@ -37,7 +37,7 @@ def load_objects(emptied: Optional[int]) -> List[str]:
     return [str(number) for number in ([emptied] if emptied is not None else range(SLOTS))]
 
 
-async def archive(context: Context, keys: Dict[str, Any]) -> Dict[str, Any]:
+async def make_archive(context: Context, keys: Dict[str, Any]) -> Dict[str, Any]:
     """Begins a new record, with everyone logged out, and slot `slot` empty where one is named."""
     emptied = keys.get("slot")
     if emptied is not None and not 0 <= emptied < SLOTS:

@@ -155,7 +155,7 @@ def add_words(subparsers: Any) -> None:
     log.add_argument("--slot", type=int, metavar="K", help="the entries of this slot")
     log.add_argument("--user", metavar="USER", help="the entries of this policy user")
     log.add_argument("--instant", type=int, metavar="N", help="the steps that made this instant")
-    log.add_argument("--last", type=int, metavar="N", help="so many entries, the newest ones (50)")
+    log.add_argument("--last", type=int, metavar="N", help="the newest N entries (50)")
     log.add_argument("--before", type=int, metavar="NUMBER", help="those before this number")
     log.set_defaults(keys=("slot", "user", "instant", "last", "before"))
     archive = add_word(subparsers, "archive", "begin a new record; everyone is logged out")

@@ -122,7 +122,7 @@ class RecordedLogin:
         return replies
 
     def ask_in_parts(self, commands: Iterable[Command]) -> None:
-        """Gives commands, so many at a time. Raises ArchiveFailed."""
+        """Gives commands, some at a time. Raises ArchiveFailed."""
         part: List[Command] = []
         for command in commands:
             part.append(command)

@@ -112,7 +112,7 @@ def wanted_of(keys: Dict[str, Any]) -> Tuple[Wanted, int]:
     return wanted, keys.get("last", SHOWN)
 
 
-async def log(context: Context, keys: Dict[str, Any]) -> Dict[str, Any]:
+async def tell_log(context: Context, keys: Dict[str, Any]) -> Dict[str, Any]:
     """The newest entries that are asked for, oldest first; of others for `administer` or `audit`.
 
     `before` asks for those under a number of the log; `older` tells whether there may be more."""

@@ -6,7 +6,7 @@ from ..words import Context
 
 Pair = Tuple[str, str]
 OVERSIGHT: Tuple[Pair, ...] = (("administer", "policy"), ("audit", "policy"))
-TRIES = 50  # a read is made anew where the policy changed meanwhile, so often at most
+TRIES = 50  # a read is made anew where permissions changed meanwhile, 50 times at most
 
 
 class Rights:

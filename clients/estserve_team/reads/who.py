@@ -22,7 +22,7 @@ def time_text(seconds: float) -> str:
 # ---- who
 
 
-async def who(context: Context, keys: Dict[str, Any]) -> Dict[str, Any]:
+async def tell_who(context: Context, keys: Dict[str, Any]) -> Dict[str, Any]:
     """Who holds the sixteen logins; roles and sessions of others for `administer` or `audit`."""
 
     async def compose(rights: Rights) -> Dict[str, Any]:
@@ -53,7 +53,7 @@ def holder_dict(holder, policy: PolicyModel, is_whole: bool) -> Dict[str, Any]:
 # ---- slots
 
 
-async def slots(context: Context, keys: Dict[str, Any]) -> Dict[str, Any]:
+async def tell_slots(context: Context, keys: Dict[str, Any]) -> Dict[str, Any]:
     """The slots on which, or on a signal of which, the session has any permission."""
     asked = keys.get("slot")
     if asked is not None and not 0 <= asked < SLOTS:
@@ -114,7 +114,7 @@ async def look_of(session, slot: int, instant: int) -> Optional[List[list]]:
 # ---- policy
 
 
-async def policy(context: Context, keys: Dict[str, Any]) -> Dict[str, Any]:
+async def tell_policy(context: Context, keys: Dict[str, Any]) -> Dict[str, Any]:
     """The whole policy for whoever may `administer` or `audit`, and else the own part of it."""
 
     async def compose(rights: Rights) -> Dict[str, Any]:
@@ -169,7 +169,7 @@ def sets_of(model: PolicyModel, roles: Set[str], is_whole: bool) -> List[Dict[st
 # ---- why
 
 
-async def why(context: Context, keys: Dict[str, Any]) -> Dict[str, Any]:
+async def tell_why(context: Context, keys: Dict[str, Any]) -> Dict[str, Any]:
     """Through which roles and edges a user has a permission."""
     user, operation, object = keys["user"], keys["op"], keys["object"]
     wrong = out_of_form({"user": user, "op": operation, "object": object})

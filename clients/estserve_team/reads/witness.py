@@ -135,7 +135,7 @@ class Witness:
         return {name for name, code in zip(names, codes) if code == IS_PENDING}
 
     def end_slot(self, slot: Slot) -> None:
-        """Takes the slot's permissions away, of which there may be only so many."""
+        """Takes the slot's permissions away: their table has a limit."""
         self._accepted([{"cmd": "revoke", **permission} for permission in self._permissions(slot)])
 
 
