@@ -66,9 +66,8 @@ __all__ = [
     "sentence",
     "start",
 ]
-NEIGHBOURS = (
-    "estserve_team",
-)  # packages beside this file, which may be there, with subcommands of their own
+# packages beside this file, which may be there, with subcommands of their own
+NEIGHBOURS = ("estserve_team",)
 Parser = argparse.ArgumentParser
 STREAMS = (
     ("stdin", "r", "surrogateescape"),

@@ -1,0 +1,161 @@
+"""The command `team`: the gateway of one team, until it is told to end."""
+import argparse
+import asyncio
+import os
+import pathlib
+import signal
+import socket
+from typing import Any, List, Set
+
+from estserve_client.connection import find_program
+from estserve_client.policy_file import BadPolicy
+
+from . import web
+from .gateway import Gateway
+from .people import People, read_people
+from .places import Failed, Places, bind_socket
+from .reads.client import add_words
+from .record import place_of
+from .sessions import MOST_SENDS
+from .starting import put_aside
+from .unix_clients import LineClient, TeamClient, WordClient
+
+
+def add_parser(subparsers: Any) -> None:
+    """Adds `team` to the commands of the client: by itself it serves, with a word it asks a gateway
+    that runs."""
+    parser = subparsers.add_parser(
+        "team", help="serve a team: who speaks is known, and nothing that was answered is lost"
+    )
+    parser.add_argument("--state", metavar="DIR", type=pathlib.Path, help="the team's folder")
+    parser.add_argument(
+        "--people",
+        metavar="FILE",
+        type=pathlib.Path,
+        help="who may log in as whom: the table [people] of a TOML file",
+    )
+    parser.add_argument(
+        "--program",
+        metavar="PATH",
+        help="the program to serve with, in place of the one that `make run` builds",
+    )
+    parser.add_argument(
+        "--group", metavar="NAME", help="the Unix group of the team (the folder's own)"
+    )
+    parser.add_argument(
+        "--until",
+        metavar="PLACE",
+        help="start before this place of the record, policy:17 or 3:45, and keep the rest aside",
+    )
+    parser.add_argument("--most-sends", type=int, default=MOST_SENDS, help=argparse.SUPPRESS)
+    web.add_options(parser)
+    parser.set_defaults(act=serve_team)
+    add_words(
+        parser.add_subparsers(
+            metavar="WORD",
+            help="a question to the gateway that runs on DIR; without one, serve the team",
+        )
+    )
+
+
+def people_of(path: pathlib.Path) -> People:
+    """The people of a file, or of this machine where none is named. Raises Failed."""
+    if path is None:
+        return People()
+    try:
+        return People(read_people(path.read_text(encoding="utf-8")))
+    except (OSError, UnicodeDecodeError, BadPolicy) as fault:
+        raise Failed(f"{path}: {fault}") from fault
+
+
+def serve_team(arguments: argparse.Namespace) -> None:
+    """Serves the team until SIGTERM or SIGINT. Raises Failed."""
+    if arguments.state is None:
+        raise Failed("the team's folder is missing: --state DIR")
+    people, program = people_of(arguments.people), str(find_program(arguments.program))
+    with Places(arguments.state, arguments.group) as places:
+        if arguments.until is not None:
+            tell_aside(places, arguments.until)
+        asyncio.run(run(places, people, program, arguments))
+
+
+def tell_aside(places: Places, text: str) -> None:
+    """Keeps a part of the record aside, and tells how much. Raises Failed."""
+    try:
+        place = place_of(text)
+    except ValueError:
+        raise Failed(
+            f"{text} is no place of the record: policy:17, or 3:45 for place 45 of slot 3"
+        ) from None
+    count = put_aside(places, place)
+    print(f"{count} entries are kept aside, from {place} on", flush=True)
+
+
+async def run(places: Places, people: People, program: str, arguments: argparse.Namespace) -> None:
+    """One gateway, from its start to its end. Raises Failed."""
+    loop = asyncio.get_running_loop()
+    gateway = Gateway(places, people, program, arguments.most_sends)
+    for orphan in places.orphans:
+        gateway.log(f"the process {orphan} of an earlier gateway was ended")
+    told_to_end = loop.create_future()
+    for number in (signal.SIGTERM, signal.SIGINT):
+        loop.add_signal_handler(number, lambda: told_to_end.done() or told_to_end.set_result(None))
+    starting = asyncio.ensure_future(gateway.start())
+    await asyncio.wait(
+        {starting, told_to_end, gateway.finished}, return_when=asyncio.FIRST_COMPLETED
+    )
+    if not starting.done() or starting.exception():
+        gateway.close()
+        (result,) = await asyncio.gather(starting, return_exceptions=True)
+        if told_to_end.done() and not gateway.finished.done():
+            return
+        raise result if isinstance(result, Exception) else Failed(
+            "the gateway was ended while it started"
+        )
+    await serve(gateway, told_to_end, arguments)
+
+
+async def serve(
+    gateway: Gateway, told_to_end: "asyncio.Future[None]", arguments: argparse.Namespace
+) -> None:
+    """Takes clients until the gateway is told to end, or has a fault. Raises Failed."""
+    loop = asyncio.get_running_loop()
+    clients: Set[LineClient] = set()
+    paths = [(gateway.places.team_socket, TeamClient), (gateway.places.gateway_socket, WordClient)]
+    servers = []
+    try:
+        for path, kind in paths:
+            listening = bind_socket(path)
+            servers.append(
+                await loop.create_unix_server(
+                    lambda kind=kind: kind(gateway, clients), sock=listening
+                )
+            )
+        running = await web.start(gateway, arguments)
+        tell_ready(gateway)
+        await asyncio.wait({told_to_end, gateway.finished}, return_when=asyncio.FIRST_COMPLETED)
+        if running is not None:
+            await running.stop()
+    finally:
+        for server, (path, _) in zip(servers, paths):
+            server.close()
+            path.unlink(missing_ok=True)
+        if gateway.finished.done():
+            gateway.close()
+        else:
+            await gateway.stop()
+        for client in list(clients):
+            client.close()
+        await asyncio.sleep(0)
+    if gateway.finished.done():
+        gateway.finished.result()
+
+
+def tell_ready(gateway: Gateway) -> None:
+    """Tells that clients may come: on standard output, and to systemd where it waits for that."""
+    print(f"ready: {gateway.places.team_socket}", flush=True)
+    path = os.environ.get("NOTIFY_SOCKET")
+    if path:
+        with socket.socket(socket.AF_UNIX, socket.SOCK_DGRAM) as told:
+            told.connect("\0" + path[1:] if path.startswith("@") else path)
+            told.sendall(b"READY=1")

@@ -1,0 +1,498 @@
+"""The gateway: the server, the record, the sixteen logins and who listens to new entries, on one
+asyncio loop.
+
+What comes from clients goes to the server by `Session.ask`; what comes from the server goes to
+`Order`, which says what may be written and what may go out. Entries that are ready are written
+in one transaction by `_commit`, and answers that may go out then go out in `_release`. Whatever
+goes wrong between server and record ends in `fail`: the server is ended, and begun anew from the
+record.
+"""
+import asyncio
+import sqlite3
+import sys
+import time
+from pathlib import Path
+from typing import Any, Callable, Dict, List, Optional, Set, Tuple
+
+from . import reads, web, words
+from .answerer import Answerer
+from .lines import Reader
+from .order import Asked, Order
+from .people import People, Person
+from .places import Failed, Places
+from .record import POLICY, Connection, Entry, GivenUp, RecordWriter
+from .refusals import ProgramRefused, Refused, all_taken, failed, interrupted, not_you, stopping
+from .server import Lost
+from .sessions import (
+    LOGOUT,
+    MOST_SENDS,
+    SEATS,
+    Holder,
+    Session,
+    SharedSession,
+    ask_later,
+    login_request,
+)
+from .starting import Begun, replace_record, restore_record, start_server
+
+STARTING, SERVING, BEGINNING, ARCHIVING, STOPPING = (
+    "starting",
+    "serving",
+    "beginning anew",
+    "archiving",
+    "stopping",
+)
+WATCH_SECONDS = 1.0
+UNUSED_SECONDS = 5.0  # a shared login for which nobody has waited is logged out after so many
+AGAIN_SECONDS = 0.05  # a logout for which there was no memory is asked again after so many
+MOST_STARTS = 5  # of servers that are lost while they are begun
+STOP_SECONDS = 60  # logouts are answered in so many, or the gateway ends without
+
+
+class Gateway:
+    """One team's gateway."""
+
+    def __init__(
+        self, places: Places, people: People, program: str, most_sends: int = MOST_SENDS
+    ) -> None:
+        self.places, self.people, self.program, self.most_sends = (
+            places,
+            people,
+            program,
+            most_sends,
+        )
+        self.state, self.private, self.record_path = places.state, places.private, places.record
+        self.name = self.state.name
+        self.reader = Reader()
+        self.words = {**words.WORDS, **reads.WORDS, **web.WORDS}
+        self.phase = STARTING
+        self.sessions: Dict[int, Session] = {}
+        self.shared: Dict[Tuple[str, str, Tuple[str, ...]], "asyncio.Future[SharedSession]"] = {}
+        self.under_way: Dict[Tuple[str, str], Tuple[bytes, "asyncio.Future[bytes]"]] = {}
+        self.dirty: Set[Any] = set()  # clients that have answers to send
+        self.order = Order(0, [0] * 16)
+        self.entries_written = 0
+        self.finished: "asyncio.Future[None]" = asyncio.get_running_loop().create_future()
+        self._serving = asyncio.Event()
+        self._writer: RecordWriter = None  # type: ignore[assignment]
+        self._server: Any = None
+        self._connections = 0
+        self._givenup: List[Asked] = []  # logouts of sessions that had ended
+        self._is_commit_due = self._is_lost = self._is_closed = False
+        self._beginning: "Optional[asyncio.Future[None]]" = None
+        self._listeners: List[Callable[[List[Entry]], None]] = []
+        self._restart_listeners: List[Callable[[], None]] = []
+        self.answerer = Answerer(program, places.children, self.stop_failed)
+
+    # ---- what others ask
+
+    def log(self, text: str) -> None:
+        """Writes a line on standard error."""
+        print(f"estserve.py team: {text}", file=sys.stderr, flush=True)
+
+    def listen(self, callback: Callable[[List[Entry]], None]) -> Callable[[], None]:
+        """Calls back with new entries after they were recorded; the answer takes the listener away
+        again."""
+        self._listeners.append(callback)
+        return lambda: self._listeners.remove(callback)
+
+    def on_restart(self, callback: Callable[[], None]) -> None:
+        """Calls back after the server was begun anew, or the record archived: all sessions are
+        over."""
+        self._restart_listeners.append(callback)
+
+    def holders(self) -> List[Holder]:
+        """Who holds the sixteen."""
+        return [session.holder() for session in self.sessions.values()]
+
+    def old_records(self) -> List[Path]:
+        """The records that `archive` has kept, the oldest first."""
+        return sorted(self.places.old_records.glob("[0-9]*.sqlite"))
+
+    def answer_to(self, person: str, request_id: str) -> Optional[Tuple[bytes, bytes]]:
+        """The request and the answer that are recorded under a person's id, if some are."""
+        return self._writer.answer_to(person, request_id)
+
+    async def share(self, person: Person, user: str, roles: List[str]) -> SharedSession:
+        """A share of the login of this person as this user in these roles, which is made if there
+        is none. Raises Refused."""
+        key = (person.name, user, tuple(sorted(roles)))
+        held = self.shared.get(key)
+        if held is None or (
+            held.done() and not held.cancelled() and not held.exception() and held.result().is_over
+        ):
+            held = self.shared[key] = asyncio.ensure_future(
+                self._share_first(key, person, user, roles)
+            )
+        try:
+            shared = await asyncio.shield(held)
+        except Refused:
+            if self.shared.get(key) is held:
+                del self.shared[key]
+            raise
+        except asyncio.CancelledError:
+            asyncio.get_running_loop().call_later(UNUSED_SECONDS, self._end_unused, held)
+            raise
+        shared.count += 1
+        return shared
+
+    def _end_unused(self, held: "asyncio.Future[SharedSession]") -> None:
+        """Logs out a shared session that nobody came to use."""
+        if held.done() and not held.exception() and held.result().count == 0:
+            held.result().count = 1
+            asyncio.ensure_future(held.result().leave())
+
+    async def _share_first(
+        self, key: Tuple[str, str, Tuple[str, ...]], person: Person, user: str, roles: List[str]
+    ) -> SharedSession:
+        return SharedSession(self, key, await self.open_session(person, user, roles))
+
+    # ---- logins
+
+    async def until_serving(self) -> None:
+        """Waits while the server is being begun anew. Raises Refused, where the gateway stops."""
+        while self.phase != SERVING:
+            if self.phase == STOPPING:
+                raise stopping()
+            await self._serving.wait()
+
+    async def open_session(
+        self,
+        person: Person,
+        user: str,
+        roles: List[str],
+        instead: Optional[Session] = None,
+        answer: Callable[[bytes], None] = lambda reply: None,
+    ) -> Session:
+        """A session of this login, on a connection of its own; it takes the seat of another, where
+        one is given.
+
+        `answer` is called with the program's answer. Raises Refused."""
+        if not person.may_be(user):
+            raise not_you(user)
+        request = login_request(user, roles)
+        if request is None:
+            raise ProgramRefused(b'{"code":3,"fault":"NotARequest"}')
+        session = await self._connect(person, user, roles, instead)
+        reply = await ask_later(session, request)
+        answer(reply)
+        if not session.session:
+            session.end()
+            raise ProgramRefused(reply)
+        return session
+
+    async def _connect(
+        self, person: Person, user: str, roles: List[str], instead: Optional[Session]
+    ) -> Session:
+        """A connection to the server with a seat, on which nothing is asked yet. Raises Refused."""
+        for _ in range(MOST_STARTS):
+            await self.until_serving()
+            if instead is not None:
+                self.sessions.pop(instead.number, None)
+            elif len(self.sessions) >= SEATS:
+                raise all_taken([[holder.user, holder.person] for holder in self.holders()])
+            self._connections += 1
+            session = Session(self, self._connections, person, user, roles)
+            self.sessions[session.number] = session
+            try:
+                await session.connect(self.places.inner_socket)
+            except OSError as fault:
+                self.fail(f"the server takes no connection: {fault}")
+            if not session.is_over:
+                return session
+        raise interrupted()
+
+    async def close_session(self, session: Session) -> bool:
+        """Logs a session out, which is recorded, and closes it. Answers whether it lived until
+        then."""
+        while not session.is_over:
+            if session.is_connected:
+                try:
+                    reply = await ask_later(session, LOGOUT)
+                except Refused:
+                    return False
+                if session.is_over:
+                    return reply.startswith(b'{"ok"')
+            await asyncio.sleep(AGAIN_SECONDS)
+        return False
+
+    async def renew(self, session: Session) -> Session:
+        """The same login on another connection, in the roles that are active. Raises Refused, where
+        its session had ended."""
+        session.keeps_seat = True
+        try:
+            if await self.close_session(session):
+                return await self.open_session(session.person, session.user, session.roles, session)
+        finally:
+            self.sessions.pop(session.number, None)
+        raise interrupted()
+
+    # ---- answers and entries
+
+    def after_answers(self) -> None:
+        """Does what answers of the server make possible: entries are written soon, in one
+        transaction; other answers go out."""
+        if self.order.has_ready:
+            self._commit_soon()
+        self.release()
+
+    def _commit_soon(self) -> None:
+        if not self._is_commit_due:
+            self._is_commit_due = True
+            asyncio.get_running_loop().call_soon(self._commit)
+
+    def _entry_of(self, asked: Asked, number: int) -> Entry:
+        """The row of an entry that is to be written."""
+        session, request = asked.session, asked.request
+        slot = POLICY if request.slot is None else request.slot
+        return Entry(
+            number,
+            slot,
+            asked.place,
+            asked.version,
+            session.number,
+            session.session,
+            session.user,
+            session.person.name,
+            asked.time,
+            asked.fields.get("instant"),
+            request.cmd,
+            request.line,
+            asked.reply,
+            asked.request_id,
+            self._writer.program,
+        )
+
+    def _commit(self) -> None:
+        """Writes what is ready, in one transaction, and lets go what waited for it."""
+        self._is_commit_due = False
+        ready, givenup = self.order.take_ready(), self._givenup
+        self._givenup = []
+        if not ready and not givenup:
+            return
+        entries = [
+            self._entry_of(asked, self.entries_written + at) for at, asked in enumerate(ready, 1)
+        ]
+        logins = [asked.session for asked in ready if asked.request.cmd == "login"]
+        connections = [
+            Connection(s.number, s.session, s.user, s.person.name, s.login_roles) for s in logins
+        ]
+        version = max(
+            [self.order.version, *(asked.place for asked in ready if asked.request.slot is None)]
+        )
+        now = time.time()
+        try:
+            self._writer.append(
+                entries,
+                connections,
+                [GivenUp(asked.session.number, version, now) for asked in givenup],
+            )
+        except sqlite3.Error as fault:
+            self.fail(f"the record cannot be written: {fault}", is_record_good=False)
+            return
+        self.entries_written += len(entries)
+        self.order.written(ready)
+        for asked in givenup:
+            asked.session.end()
+            asked.done(asked)
+        for listener in self._listeners if entries else ():
+            listener(entries)
+        self.release()
+
+    def release(self) -> None:
+        """Lets the answers go out that may, of each session in its order."""
+        may_go = self.order.may_go
+        for session in list(self.sessions.values()):
+            answered = session.answered
+            while answered and may_go(answered[0]):
+                asked = answered.popleft()
+                if asked.request.cmd != "logout" or self._closes(session, asked):
+                    asked.done(asked)
+        self.flush()
+
+    def _closes(self, session: Session, asked: Asked) -> bool:
+        """Closes a session by the answer to its logout, and answers whether that may go out.
+
+        Where its session had ended, it is first recorded that the connection is given up."""
+        code = asked.fields.get("code")
+        if code == 4 and session.session:
+            if all(other.session is not session for other in self._givenup):
+                self._givenup.append(asked)
+                self._commit_soon()
+                return False
+            asked.lose()
+            return False
+        if code is None:
+            session.end()
+        return True
+
+    def flush(self) -> None:
+        """Has the clients send what may go out."""
+        while self.dirty:
+            self.dirty.pop().flush()
+
+    # ---- start, restart, end
+
+    async def start(self) -> None:
+        """Starts the children, and replays the record. Raises Failed."""
+        await self.answerer.start()
+        await self._begin()
+        asyncio.ensure_future(self._watch())
+
+    async def _begin(self) -> None:
+        """A server that has what the record says, with nobody logged in. Raises Failed."""
+        begun = await self._start_server()
+        self._is_lost = False
+        self._writer, self.order = begun.writer, Order(*begun.extent)
+        self.entries_written, connections = begun.writer.last_numbers()
+        self._connections = max(self._connections, connections)
+        reads.on_start(self)
+        if begun.count:
+            self.log(f"{begun.count} entries replayed, {begun.logged_out} sessions logged out")
+        if self.phase != STOPPING:
+            self.phase = SERVING
+            self._serving.set()
+
+    async def _start_server(self) -> Begun:
+        """A server that has what the record says; another one, where it is lost meanwhile. Raises
+        Failed."""
+        for left in reversed(range(MOST_STARTS)):
+            try:
+                return await start_server(self.places, self.program, self._note_server)
+            except Lost as fault:
+                self._server.end()
+                if not left or self._is_closed:
+                    raise
+                self.log(f"{fault}; it is begun anew once more")
+        raise AssertionError("there is a last start")
+
+    def _note_server(self, server: Any) -> None:
+        self._server = server
+
+    def fail(self, why: str, is_record_good: bool = True) -> None:
+        """Ends the server, and begins anew from the record: an answer is lost, or an entry can't be
+        written."""
+        if self.phase not in (SERVING, ARCHIVING, STOPPING) or self._is_lost:
+            return
+        self.log(f"{why}; the server is begun anew from the record")
+        self._is_lost = True
+        if self.phase != STOPPING:
+            self.phase = BEGINNING
+            self._serving.clear()
+        self._server.end()
+        if is_record_good:
+            self._commit()
+        self._drop_sessions()
+        self._beginning = asyncio.ensure_future(self._begin_anew())
+
+    def _drop_sessions(self) -> None:
+        """Gives up all sessions: whoever waits for an answer gets none."""
+        lost, self._givenup = self._givenup, []
+        self.order.take_ready()
+        for asked in lost:
+            asked.lose()
+        sessions, self.sessions = list(self.sessions.values()), {}
+        self.shared.clear()
+        for session in sessions:
+            session.abandon()
+        self.flush()
+
+    async def _begin_anew(self) -> None:
+        try:
+            self._writer.close()
+            await self._begin()
+        except Exception as fault:  # whatever it is, there is no server
+            self.stop_failed(str(fault) if isinstance(fault, Failed) else repr(fault))
+            return
+        self._tell_restart()
+
+    def stop_failed(self, why: str) -> None:
+        """Ends the gateway with a fault."""
+        if not self.finished.done():
+            self.finished.set_exception(Failed(why))
+
+    async def _watch(self) -> None:
+        """Sees every second whether the server runs and answers."""
+        while self.phase != STOPPING:
+            await asyncio.sleep(WATCH_SECONDS)
+            if self.phase == SERVING and not self._server.is_running:
+                self.fail("the server has ended")
+            now = time.time()
+            if any(session.is_late(now) for session in self.sessions.values()):
+                self.fail("an answer is missing")
+
+    async def _log_all_out(self) -> None:
+        """Logs out each session, which is recorded, and tells who holds it."""
+        sessions = list(self.sessions.values())
+        await asyncio.gather(*(self.close_session(session) for session in sessions))
+        self.shared.clear()
+        for session in sessions:
+            if session.on_close:
+                session.on_close()
+
+    async def stop(self) -> None:
+        """Logs everyone out, and ends the server. Raises Failed, where that can't be recorded."""
+        was, self.phase = self.phase, STOPPING
+        self._serving.set()
+        try:
+            if was == SERVING:
+                await asyncio.wait_for(self._log_all_out(), STOP_SECONDS)
+            if self._is_lost and self._beginning is not None:
+                await self._beginning  # which records the logouts
+        except asyncio.TimeoutError:
+            raise Failed("the logouts are not answered") from None
+        finally:
+            self.close()
+
+    def close(self) -> None:
+        """Ends the children, and closes the record."""
+        self._is_closed = True
+        self.answerer.close()
+        if self._server is not None:
+            self._server.end()
+        if self._writer is not None:
+            self._writer.close()
+
+    async def archive(self, build: Callable[[Path, Path, str, Path], None]) -> None:
+        """Logs everyone out, has `build` make a new record of the old one, and begins anew from it.
+        Raises Refused."""
+        if self.phase != SERVING:
+            raise stopping()
+        self.phase = ARCHIVING
+        self._serving.clear()
+        fault: Optional[Exception] = None
+        try:
+            await self._log_all_out()
+            await self._follow_record(build)
+        except Exception as found:  # whatever `build` raises, the old record goes on
+            fault = found
+        if self.phase == ARCHIVING:
+            self._server.end()
+            await self._begin_anew()
+        elif self.phase == SERVING:
+            self._tell_restart()
+        if fault is not None:
+            raise failed(str(fault)) from fault
+
+    async def _follow_record(self, build: Callable[[Path, Path, str, Path], None]) -> None:
+        """Has a new record made, puts it in the place of the old one, and begins anew from it.
+        Raises Failed, and what `build` raises."""
+        if self.phase != ARCHIVING:
+            raise Failed("the server has ended meanwhile")
+        loop = asyncio.get_running_loop()
+        self.places.next_record.unlink(missing_ok=True)
+        await loop.run_in_executor(
+            None, build, self.record_path, self.places.next_record, self.program, self.private
+        )
+        self._server.end()
+        self._writer.close()
+        await loop.run_in_executor(None, replace_record, self.places)
+        try:
+            await self._begin()
+        except Failed:
+            restore_record(self.places)
+            raise
+
+    def _tell_restart(self) -> None:
+        for callback in self._restart_listeners:
+            callback()

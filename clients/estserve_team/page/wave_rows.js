@@ -1,0 +1,96 @@
+/** What is known of a load's instants: statuses, fetched by chunks as they are looked at. */
+
+export const ABSENT = 0, PRESENT = 1, HIDDEN = 2, UNKNOWN = 3;
+export const CHUNK = 128; // instants that are asked for at once
+const ASKED_AT_ONCE = 3;
+const AGAIN = 500; // milliseconds after which instants that did not come are asked for again
+const CODES = { 0: ABSENT, 1: PRESENT, ".": HIDDEN };
+
+export class WaveRows {
+  /** `ask(first, last)` promises the rows of these instants, each a string with a letter a signal;
+   * `changed` is called with news. */
+  constructor(ask, changed) {
+    this.ask = ask;
+    this.changed = changed;
+    this.reset(0);
+  }
+
+  /** Forgets everything: another load, or other permissions. */
+  reset(signals) {
+    this.signals = signals;
+    this.newest = 0;
+    this.chunks = new Map();
+    this.wanted = [];
+    this.asked = 0;
+    this.life = (this.life ?? 0) + 1;
+  }
+
+  /** There are so many instants now. */
+  grow(newest) {
+    this.newest = Math.max(this.newest, newest);
+  }
+
+  /** The status of a signal, by its place in the declaration, in an instant, from 1. */
+  status(instant, signal) {
+    const at = (instant - 1) % CHUNK;
+    const chunk = this.chunks.get((instant - 1 - at) / CHUNK);
+    return chunk && at < chunk.filled ? chunk.bytes[at * this.signals + signal] : UNKNOWN;
+  }
+
+  /** These instants are looked at: what is not known of them is asked for, and what was wanted
+   * before is not. */
+  want(first, last) {
+    this.wanted = [];
+    const [from, to] = [Math.max(1, first), Math.min(last, this.newest)];
+    for (let number = Math.floor((from - 1) / CHUNK); number * CHUNK < to; number += 1) {
+      this.wanted.push(number);
+    }
+    this.askNext();
+  }
+
+  chunkOf(number) {
+    if (!this.chunks.has(number)) {
+      this.chunks.set(
+        number, { bytes: new Uint8Array(CHUNK * this.signals), filled: 0, asking: false }
+      );
+    }
+    return this.chunks.get(number);
+  }
+
+  /** Whether a chunk lacks instants that there are, and nobody asks for them. */
+  lacks(number) {
+    const chunk = this.chunkOf(number);
+    return !chunk.asking && chunk.filled < Math.min(CHUNK, this.newest - number * CHUNK);
+  }
+
+  askNext() {
+    while (this.asked < ASKED_AT_ONCE) {
+      const number = this.wanted.find((one) => this.lacks(one));
+      if (number === undefined) return;
+      this.fetchChunk(number);
+    }
+  }
+
+  async fetchChunk(number) {
+    const [chunk, life] = [this.chunkOf(number), this.life];
+    chunk.asking = true;
+    this.asked += 1;
+    const first = number * CHUNK + chunk.filled + 1;
+    const last = Math.min(this.newest, (number + 1) * CHUNK);
+    const rows = await this.ask(first, last).catch(() => []);
+    if (life !== this.life) return;
+    chunk.asking = false;
+    this.asked -= 1;
+    this.keep(chunk, rows);
+    if (rows.length) this.changed();
+    else setTimeout(() => this.changed(), AGAIN);
+  }
+
+  keep(chunk, rows) {
+    for (const row of rows) {
+      const codes = Array.from(row, (letter) => CODES[letter]);
+      chunk.bytes.set(codes, chunk.filled * this.signals);
+      chunk.filled += 1;
+    }
+  }
+}

@@ -1,0 +1,228 @@
+"""Where a team's files lie, the lock that one gateway holds, and the processes that die with it.
+
+    DIR                 0750, of the team's group
+    DIR/team.sock       0660: the program's lines
+    DIR/gateway.sock    0660: the gateway's own words
+    DIR/private         0700: what follows
+    .../lock            held while a gateway runs
+    .../inner.sock      the server's socket
+    .../children        the processes that were started, by id and start time
+    .../record.sqlite   the record
+    .../records         older records
+"""
+import ctypes
+import fcntl
+import hashlib
+import json
+import os
+import pathlib
+import shutil
+import signal
+import socket
+import stat
+import subprocess
+import time
+from typing import Any, Callable, Dict, List, Optional, Sequence
+
+from estserve_client.running import Failed
+
+PATH_BYTES = 107  # the longest path of a Unix socket
+LIST_NAME = "children"
+END_SECONDS = 10  # a process that was killed is gone in so many
+SET_PARENT_DEATH_SIGNAL = 1
+C_LIBRARY = ctypes.CDLL(None, use_errno=True)
+
+
+def digest_of(program: str) -> str:
+    """The SHA-256 of the program's file, which names its version. Raises Failed."""
+    found = hashlib.sha256()
+    try:
+        with open(program, "rb") as file:
+            for part in iter(lambda: file.read(1 << 20), b""):
+                found.update(part)
+    except OSError as fault:
+        raise Failed(f"the program {program} cannot be read: {fault.strerror}") from fault
+    return found.hexdigest()
+
+
+def make_folder(path: pathlib.Path, mode: int, group: Optional[str] = None) -> None:
+    """Makes a folder with this mode, or sees that one that is there is ours and has no wider one.
+    Raises Failed."""
+    try:
+        path.mkdir(mode=mode, parents=False, exist_ok=True)
+        found = path.stat()
+        if not stat.S_ISDIR(found.st_mode) or found.st_uid != os.geteuid():
+            raise Failed(f"{path} is not a folder of the user who starts the gateway")
+        if group is not None:
+            shutil.chown(path, group=group)
+        path.chmod(mode)
+    except (OSError, LookupError) as fault:
+        raise Failed(f"{path} cannot be made a folder of mode {mode:o}: {fault}") from fault
+
+
+def check_socket_path(path: pathlib.Path) -> None:
+    """Raises Failed, where the path is too long for a Unix socket."""
+    if len(os.fsencode(path)) > PATH_BYTES:
+        raise Failed(f"{path} is over {PATH_BYTES} bytes, which is too long for a socket")
+
+
+def bind_socket(path: pathlib.Path) -> socket.socket:
+    """A socket that listens at the path, for the owner and the group of its folder. What stood
+    there is taken away. Raises Failed."""
+    check_socket_path(path)
+    listening = socket.socket(socket.AF_UNIX, socket.SOCK_STREAM)
+    before = os.umask(0o117)
+    try:
+        path.unlink(missing_ok=True)
+        listening.bind(os.fspath(path))
+        os.chown(path, -1, path.parent.stat().st_gid)
+    except OSError as fault:
+        listening.close()
+        raise Failed(f"{path} cannot be bound: {fault}") from fault
+    finally:
+        os.umask(before)
+    listening.listen(128)
+    listening.setblocking(False)
+    return listening
+
+
+def start_time_of(process: int) -> Optional[str]:
+    """When a process was started, in the system's ticks. None where there is none, or it has
+    ended."""
+    try:
+        fields = (
+            pathlib.Path(f"/proc/{process}/stat")
+            .read_text(errors="replace")
+            .rpartition(")")[2]
+            .split()
+        )
+    except OSError:
+        return None
+    return None if fields[0] in "ZX" else fields[19]
+
+
+def end_process(process: int, start: str) -> None:
+    """Kills the process that has this id and start time, and waits until it is gone. Raises
+    Failed."""
+    end = time.monotonic() + END_SECONDS
+    while start_time_of(process) == start:
+        try:
+            os.kill(process, signal.SIGKILL)
+        except ProcessLookupError:
+            return
+        except OSError as fault:
+            raise Failed(
+                f"the process {process} of an earlier gateway cannot be ended: {fault.strerror}"
+            ) from fault
+        if time.monotonic() > end:
+            raise Failed(f"the process {process} of an earlier gateway does not end")
+        time.sleep(0.005)
+
+
+def die_with(parent: int) -> Callable[[], None]:
+    """What a child does before it becomes the program: it asks to be killed when the parent ends,
+    and ends if it has already."""
+
+    def prepare() -> None:
+        C_LIBRARY.prctl(SET_PARENT_DEATH_SIGNAL, int(signal.SIGKILL), 0, 0, 0)
+        if os.getppid() != parent:
+            os._exit(1)
+
+    return prepare
+
+
+def start_child(command: Sequence[str], **streams: Any) -> subprocess.Popen:
+    """Starts a process that dies with the thread that calls this. Raises Failed."""
+    try:
+        return subprocess.Popen(
+            command, start_new_session=True, preexec_fn=die_with(os.getpid()), **streams
+        )
+    except (OSError, ValueError, subprocess.SubprocessError) as fault:
+        raise Failed(f"{command[0]} cannot be started: {fault}") from fault
+
+
+def end_child(child: subprocess.Popen) -> None:
+    """Ends a process that was started here."""
+    if child.poll() is None:
+        child.kill()
+    child.wait()
+
+
+class Children:
+    """The processes that this gateway has started, kept in a file so that the next one ends what
+    was left over."""
+
+    def __init__(self, folder: pathlib.Path) -> None:
+        self._path = folder / LIST_NAME
+        self._running: Dict[int, str] = {}
+
+    def end_orphans(self) -> List[int]:
+        """Ends what an earlier gateway has left over. Answers their ids. Raises Failed."""
+        try:
+            listed = {
+                int(process): start for process, start in json.loads(self._path.read_text()).items()
+            }
+        except FileNotFoundError:
+            return []
+        except (ValueError, AttributeError) as fault:
+            raise Failed(f"{self._path} is no list of processes: {fault}") from fault
+        left = [process for process, start in listed.items() if start_time_of(process) == start]
+        for process in left:
+            end_process(process, listed[process])
+        self._write()
+        return left
+
+    def start(self, command: Sequence[str], **streams: Any) -> subprocess.Popen:
+        """Starts a process, and lists it. Raises Failed."""
+        child = start_child(command, **streams)
+        self._running[child.pid] = start_time_of(child.pid) or ""
+        self._write()
+        return child
+
+    def end(self, child: subprocess.Popen) -> None:
+        """Ends a process, and takes it from the list."""
+        end_child(child)
+        self._running.pop(child.pid, None)
+        self._write()
+
+    def _write(self) -> None:
+        beside = self._path.with_suffix(".new")
+        beside.write_text(json.dumps(self._running))
+        beside.replace(self._path)
+
+
+class Places:
+    """The files of one team, under the lock. Used with `with`, the lock is given back at the
+    end."""
+
+    def __init__(self, state: pathlib.Path, group: Optional[str] = None) -> None:
+        self.state = state.absolute()
+        self.group = group
+        self.private = self.state / "private"
+        self.team_socket = self.state / "team.sock"
+        self.gateway_socket = self.state / "gateway.sock"
+        self.inner_socket = self.private / "inner.sock"
+        self.record = self.private / "record.sqlite"
+        self.next_record = self.private / "record-next.sqlite"
+        self.old_records = self.private / "records"
+        self.children = Children(self.private)
+
+    def __enter__(self) -> "Places":
+        """Makes what is missing, takes the lock, and ends what an earlier gateway left over. Raises
+        Failed."""
+        make_folder(self.state, 0o750, self.group)
+        make_folder(self.private, 0o700)
+        make_folder(self.old_records, 0o700)
+        check_socket_path(self.inner_socket)
+        self._lock = open(self.private / "lock", "w")
+        try:
+            fcntl.flock(self._lock, fcntl.LOCK_EX | fcntl.LOCK_NB)
+        except OSError:
+            self._lock.close()
+            raise Failed(f"another gateway runs on {self.state}") from None
+        self.orphans = self.children.end_orphans()
+        self.inner_socket.unlink(missing_ok=True)
+        return self
+
+    def __exit__(self, *_: object) -> None:
+        self._lock.close()

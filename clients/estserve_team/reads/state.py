@@ -1,0 +1,101 @@
+"""The models of a record: policy and slots, as its entries say, followed as new ones come."""
+import json
+import pathlib
+from typing import Iterable, Iterator, List, Optional, Set
+
+from ..record import POLICY, Entry, in_order, open_reader
+from ..refusals import failed
+from .filling import FillingWatch
+from .policy_model import PolicyModel
+from .slot_model import SlotsModel
+
+WITHOUT_KEYS = {command: {"cmd": command} for command in ("step", "discard", "unload")}
+
+
+class Models:
+    """The policy and the slots after the entries that were added."""
+
+    def __init__(self) -> None:
+        self.policy = PolicyModel()
+        self.slots = SlotsModel()
+
+    def add(self, entry: Entry) -> None:
+        """Adds one entry. Raises OutOfOrder where it doesn't follow those before it."""
+        if entry.slot == POLICY:
+            reply = {"version": entry.version, "session": entry.session}
+            self.policy.add(entry.session, json.loads(entry.request), reply)
+            return
+        known = WITHOUT_KEYS.get(entry.command)
+        request = {**known, "slot": entry.slot} if known else json.loads(entry.request)
+        reply = {"place": entry.place, "version": entry.version, "instant": entry.instant}
+        self.slots.add(request, reply)
+
+    def add_all(self, entries: Iterable[Entry]) -> "Models":
+        """Adds entries in their order."""
+        for entry in entries:
+            self.add(entry)
+        return self
+
+
+def entries_of(path: pathlib.Path) -> Iterator[Entry]:
+    """The entries of a record, in an order in which each follows all that it may have seen."""
+    with open_reader(path) as database:
+        yield from in_order(database)
+
+
+def models_of(path: pathlib.Path) -> Models:
+    """The models of a whole record."""
+    return Models().add_all(entries_of(path))
+
+
+class ReadState:
+    """What a gateway's reads are made from: the models of its record, kept up to date.
+
+    A gateway that began anew from its record calls `begin` again."""
+
+    def __init__(self, gateway) -> None:
+        self._gateway = gateway
+        self._watch = FillingWatch(gateway.log)
+        self._models = Models()
+        self._fault: Optional[Exception] = None
+        gateway.listen(self.follow)
+
+    @property
+    def models(self) -> Models:
+        """The models of the record. Raises Refused, where they could not follow an entry."""
+        if self._fault is not None:
+            raise failed(f"the record can't be read: {self._fault}")
+        return self._models
+
+    @property
+    def policy(self) -> PolicyModel:
+        """The policy as it stands."""
+        return self.models.policy
+
+    @property
+    def slots(self) -> SlotsModel:
+        """The slots as they stand."""
+        return self.models.slots
+
+    def begin(self) -> None:
+        """Builds the models from the whole record, and tells what is nearly full."""
+        self._models, self._fault = models_of(self._gateway.record_path), None
+        self._watch = FillingWatch(self._gateway.log)
+        self._watch.tell(self.policy.fillings() + self.slots.fillings())
+
+    def follow(self, entries: List[Entry]) -> None:
+        """Adds new entries, and tells what is nearly full by them. It never raises."""
+        if self._fault is not None:
+            return
+        try:
+            self._models.add_all(entries)
+            self._tell({entry.slot for entry in entries})
+        except Exception as fault:
+            self._fault = fault
+            self._gateway.log(f"reads are refused until the next start: {fault!r}")
+
+    def _tell(self, touched: Set[int]) -> None:
+        """Tells what is nearly full of these slots, or of the policy."""
+        for slot in touched:
+            is_policy = slot == POLICY
+            self._watch.tell(self.policy.fillings() if is_policy else [self.slots[slot].filling()])

@@ -1,0 +1,177 @@
+"""How a start comes from the record to a server with nobody logged in, and how one record follows
+another."""
+import asyncio
+import os
+import pathlib
+import sqlite3
+import time
+from typing import Callable, List, NamedTuple, Optional, Tuple
+
+from .places import Failed, Places, digest_of
+from .record import POLICY, Aside, Entry, GivenUp, RecordWriter
+from .replay import Live, Replay
+from .server import Server
+from .sessions import LOGOUT
+
+
+class Begun(NamedTuple):
+    """A server that has what the record says: the record, how far it goes, what was replayed and
+    who was logged out."""
+
+    writer: RecordWriter
+    extent: Tuple[int, List[int]]
+    count: int
+    logged_out: int
+
+
+def open_record(places: Places, program: str) -> RecordWriter:
+    """The team's record, which is made where there is none. Raises Failed."""
+    settle_records(places)
+    if places.record.exists():
+        return RecordWriter(places.record)
+    return RecordWriter.make(places.record, program)
+
+
+def put_aside(places: Places, place: Aside) -> int:
+    """Keeps aside what the record has from a place on. Raises Failed."""
+    settle_records(places)
+    if not places.record.exists():
+        raise Failed("there is no record yet")
+    with RecordWriter(places.record) as writer:
+        return writer.put_aside(place, f"--until {place}")
+
+
+def settle_records(places: Places) -> None:
+    """Finishes what an archiving left that was broken off: the present record is none of the old
+    ones, and there is no next one."""
+    places.next_record.unlink(missing_ok=True)
+    for old in sorted(places.old_records.glob("[0-9]*.sqlite")):
+        if places.record.exists() and old.samefile(places.record):
+            old.unlink()
+
+
+def replace_record(places: Places) -> None:
+    """Keeps the record among the old ones, and puts the next one in its place. Raises Failed."""
+    for path in (places.record, places.next_record):
+        database = sqlite3.connect(path, isolation_level=None)
+        mode = database.execute("PRAGMA journal_mode=DELETE").fetchone()[0]
+        database.close()
+        if mode != "delete":
+            raise Failed(f"{path} is open elsewhere")
+    count = len(list(places.old_records.glob("[0-9]*.sqlite")))
+    os.link(places.record, places.old_records / f"{count + 1:04}.sqlite")
+    sync_folder(places.old_records)
+    os.replace(places.next_record, places.record)
+    sync_folder(places.private)
+
+
+def restore_record(places: Places) -> None:
+    """Puts the last of the old records back in the place of the present one."""
+    last = sorted(places.old_records.glob("[0-9]*.sqlite"))[-1]
+    for suffix in ("-wal", "-shm"):
+        places.record.with_name(places.record.name + suffix).unlink(missing_ok=True)
+    os.replace(last, places.record)
+    sync_folder(places.private)
+
+
+def sync_folder(path: pathlib.Path) -> None:
+    """Has the folder's names on the disk."""
+    folder = os.open(path, os.O_RDONLY | os.O_DIRECTORY)
+    try:
+        os.fsync(folder)
+    finally:
+        os.close(folder)
+
+
+async def start_server(places: Places, program: str, note: Callable[[Server], None]) -> Begun:
+    """A server that has what the record says. `note` is told of each server that is started, before
+    it is asked. Raises Failed."""
+    loop = asyncio.get_running_loop()
+    writer = open_record(places, program)
+    try:
+        if writer.digest != digest_of(program):
+            await try_program(places, program, note)
+            writer.note_program(program)
+        server = Server(program, places.inner_socket, places.children)
+        note(server)
+        server.start()
+        count, logged_out = await loop.run_in_executor(None, replay_and_log_out, writer, server)
+        return Begun(writer, writer.extent(), count, logged_out)
+    except BaseException:
+        writer.close()
+        raise
+
+
+async def try_program(places: Places, program: str, note: Callable[[Server], None]) -> None:
+    """Replays the record on a server that is ended afterwards: the program is another one than made
+    it. Raises Failed."""
+    server = Server(program, places.private / "trial.sock", places.children)
+    note(server)
+    server.start()
+    try:
+        await asyncio.get_running_loop().run_in_executor(
+            None, replay_alone, places.record, server.path
+        )
+    except Failed as fault:
+        raise Failed(
+            f"this program is another one than made the record, and in a trial {fault}"
+        ) from fault
+    finally:
+        server.end()
+
+
+def replay_alone(record: pathlib.Path, server: pathlib.Path) -> None:
+    """Replays a record on a server. Raises Failed."""
+    with Replay(record, server) as replay:
+        replay.run()
+
+
+def replay_and_log_out(writer: RecordWriter, server: Server) -> Tuple[int, int]:
+    """Replays the record, and logs out each session that lives still, which is recorded. Answers
+    how many entries and sessions. Raises Failed."""
+    with Replay(writer.path, server.path) as replay:
+        replay.run()
+        entries: List[Entry] = []
+        givenup: List[GivenUp] = []
+        version, number = writer.extent()[0], writer.last_numbers()[0]
+        for live in replay.live.values():
+            entry = log_out(live, number + 1, version + 1, writer.program)
+            if entry is None:
+                givenup.append(GivenUp(live.login.connection, version, time.time()))
+            else:
+                entries.append(entry)
+                version, number = version + 1, number + 1
+        try:
+            if entries or givenup:
+                writer.append(entries, (), givenup)
+        except sqlite3.Error as fault:
+            raise Failed(f"the record cannot be written: {fault}") from fault
+        return replay.count, len(entries)
+
+
+def log_out(live: Live, number: int, version: int, program: int) -> Optional[Entry]:
+    """The logout of a session, as an entry with this number and version. None where it had ended.
+    Raises Failed."""
+    reply = live.talker.ask(LOGOUT.line)
+    if reply.startswith(b'{"code":4,'):
+        return None
+    if reply != b'{"ok":"logout","version":%d}' % version:
+        raise Failed(f"the logout at the start is answered {reply[:200]!r}")
+    login = live.login
+    return Entry(
+        number,
+        POLICY,
+        version,
+        version,
+        login.connection,
+        login.session,
+        login.user,
+        login.person,
+        time.time(),
+        None,
+        "logout",
+        LOGOUT.line,
+        reply,
+        None,
+        program,
+    )

@@ -1,0 +1,328 @@
+"""The clients at the two Unix sockets: team.sock speaks the program's lines, gateway.sock the
+gateway's own words."""
+import asyncio
+import json
+from collections import deque
+from typing import Any, Deque, Dict, List, Optional
+
+from . import words
+from .gateway import Gateway
+from .lines import LINE_BYTES, Request, cut_lines
+from .order import Asked
+from .people import Person, peer_uid
+from .refusals import Refused, failed, not_a_word, not_you, unknown_person
+from .sessions import Session, SharedSession
+
+WINDOW = 128  # answers that one client may have to wait for
+MOST_LINES = 1_000  # of one client wait; beyond that no more are read
+FEW_LINES = 200
+TOO_LONG = b'{"code":1,"fault":"TooLong"}'
+
+
+class Item:
+    """One answer that a client has to get, once it may go out: its line, without LF."""
+
+    __slots__ = ("line",)
+
+    def __init__(self, line: Optional[bytes] = None) -> None:
+        self.line = line
+
+
+class LineClient(asyncio.Protocol):
+    """A client that sends lines: who it is, and its lines as they come."""
+
+    def __init__(self, gateway: Gateway, clients: "set[LineClient]") -> None:
+        self.gateway, self.clients = gateway, clients
+        self.lines: Deque[
+            Optional[bytes]
+        ] = deque()  # None stands for a line that is too long; after it nothing counts
+        self.person: Person = None  # type: ignore[assignment]
+        self.is_gone = self.is_at_end = False
+        self._held = b""
+        self._is_paused = False
+        self._transport: Any = None
+
+    def connection_made(self, transport: Any) -> None:
+        self._transport = transport
+        self.clients.add(self)
+        uid = -1
+        try:
+            uid = peer_uid(transport.get_extra_info("socket"))
+            self.person = self.gateway.people.of_uid(uid)
+        except (Refused, OSError):
+            self.is_at_end = True
+            transport.write(unknown_person(uid).line + b"\n")
+            self.close()
+
+    def data_received(self, data: bytes) -> None:
+        if self.is_at_end or self.is_gone:
+            return
+        lines, self._held = cut_lines(self._held, data)
+        for line in lines:
+            if len(line) > LINE_BYTES:
+                self._end_lines(None)
+                break
+            self.lines.append(line)
+        else:
+            if len(self._held) > LINE_BYTES:
+                self._end_lines(None)
+        if len(self.lines) > MOST_LINES and not self._is_paused:
+            self._is_paused = True
+            self._transport.pause_reading()
+        self.pump()
+
+    def _end_lines(self, *last: Optional[bytes]) -> None:
+        """Takes no more lines than these."""
+        self.is_at_end = True
+        self._held = b""
+        self.lines.extend(last)
+
+    def resume(self) -> None:
+        """Reads on, where that was paused and few lines are left."""
+        if self._is_paused and len(self.lines) < FEW_LINES and not self.is_gone:
+            self._is_paused = False
+            self._transport.resume_reading()
+
+    def eof_received(self) -> bool:
+        if not self.is_at_end:
+            self._end_lines(*([self._held] if self._held else []))
+        self.pump()
+        return True
+
+    def connection_lost(self, fault: Optional[Exception]) -> None:
+        self.is_gone = self.is_at_end = True
+        self.lines.clear()
+        self.clients.discard(self)
+        self.leave()
+
+    def close(self) -> None:
+        """Ends the connection, once what was written is sent."""
+        if not self.is_gone:
+            self.is_gone = True
+            self.lines.clear()
+            self._transport.close()
+
+    def pump(self) -> None:
+        """Takes lines, as far as that is possible now."""
+        raise NotImplementedError
+
+    def leave(self) -> None:
+        """Gives up the login, if one is held."""
+        raise NotImplementedError
+
+
+class TeamClient(LineClient):
+    """A client of team.sock: it has the answers of the program, and those of the gateway where it
+    refuses a login."""
+
+    def __init__(self, gateway: Gateway, clients: "set[LineClient]") -> None:
+        super().__init__(gateway, clients)
+        self.session: Optional[Session] = None
+        self.items: Deque[Item] = deque()
+        self._is_busy = False  # a login or a logout is under way
+        self._is_choked = False  # it reads no answers
+
+    def pump(self) -> None:
+        while self.lines and not self._is_busy and not self._is_choked and len(self.items) < WINDOW:
+            self._take(self.lines.popleft())
+        if self.session is not None and not self.session.is_over:
+            self.session.flush()
+        self.resume()
+        if self.is_at_end and not self.lines and not self.items and not self._is_busy:
+            self.close()
+
+    def _take(self, line: Optional[bytes]) -> None:
+        """Has one line answered."""
+        item = Item()
+        self.items.append(item)
+        if line is None:
+            self._put(item, TOO_LONG)
+            return
+        request = self.gateway.reader.understand(line)
+        if request is None or (self.session is None and request.cmd != "login"):
+            self.gateway.answerer.ask(line, lambda answer: self._put(item, answer))
+        elif request.cmd == "login" and not self.person.may_be(request.keys["user"]):
+            self._put(item, not_you(request.keys["user"]).line)
+        elif self.session is None:
+            self._begin(self._log_in(request, item))
+        elif self.session.is_worn and request.cmd != "logout":
+            self._begin(self._renew(line))
+            self.items.pop()
+        else:
+            self._is_busy = request.cmd == "logout"
+            self.session.ask(Asked(request, self.session, self._have, item))
+
+    def _begin(self, work: Any) -> None:
+        """Does something before the next line is taken."""
+        self._is_busy = True
+        asyncio.ensure_future(work)
+
+    def _put(self, item: Item, line: bytes) -> None:
+        """Has an answer that is none of the session's. It goes out with the next flush."""
+        item.line = line
+        if not self.gateway.dirty:
+            asyncio.get_running_loop().call_soon(self.gateway.flush)
+        self.gateway.dirty.add(self)
+
+    def _have(self, asked: Asked) -> None:
+        """Has an answer of the session, which may go out; or none comes, and the connection
+        ends."""
+        if not asked.reply:
+            self.lose()
+            return
+        asked.context.line = asked.reply
+        if asked.request.cmd == "logout":
+            self._is_busy = False
+            if asked.session.is_over:
+                self.session = None
+        self.gateway.dirty.add(self)
+
+    async def _log_in(self, request: Request, item: Item) -> None:
+        """Makes a session by a login, or has its refusal."""
+        try:
+            session = await self.gateway.open_session(
+                self.person,
+                request.keys["user"],
+                request.keys["roles"],
+                answer=lambda reply: self._put(item, reply),
+            )
+        except Refused as refused:
+            session = None
+            if refused.code == 1004:
+                self.lose()
+            elif item.line is None:
+                self._put(item, refused.line)
+        await self._take_session(session)
+
+    async def _take_session(self, session: Optional[Session]) -> None:
+        """Holds a session, or gives it up again where the client has gone meanwhile."""
+        self._is_busy = False
+        if session is not None and self.is_gone:
+            await self.gateway.close_session(session)
+            return
+        self.session = session
+        if session is not None:
+            session.on_close = self.lose
+        self.pump()
+
+    async def _renew(self, line: bytes) -> None:
+        """Changes the connection to the server, and takes the line again. Where that can't be, the
+        client's connection ends."""
+        session, self.session = self.session, None
+        assert session is not None
+        session.on_close = None
+        try:
+            renewed = await self.gateway.renew(session)
+        except Refused:
+            self.lose()
+            return
+        self.lines.appendleft(line)
+        await self._take_session(renewed)
+
+    def lose(self) -> None:
+        """Ends the connection, since its session is lost: what may go out goes out."""
+        self.session = None
+        self._write()
+        self.close()
+
+    def flush(self) -> None:
+        """Sends the answers that are there, in the order of their lines."""
+        self._write()
+        self.pump()
+
+    def _write(self) -> None:
+        out: List[bytes] = []
+        items = self.items
+        while items and items[0].line is not None:
+            out.append(items.popleft().line)  # type: ignore[arg-type]
+        if out and not self._transport.is_closing():
+            out.append(b"")
+            self._transport.write(b"\n".join(out))
+
+    def pause_writing(self) -> None:
+        self._is_choked = True
+
+    def resume_writing(self) -> None:
+        self._is_choked = False
+        self.pump()
+
+    def leave(self) -> None:
+        session, self.session = self.session, None
+        if session is not None and not session.is_over:
+            session.on_close = None
+            asyncio.ensure_future(self.gateway.close_session(session))
+
+
+class WordClient(LineClient):
+    """A client of gateway.sock: it asks one word after the other, in a shared session that it logs
+    in to."""
+
+    def __init__(self, gateway: Gateway, clients: "set[LineClient]") -> None:
+        super().__init__(gateway, clients)
+        self.session: Optional[SharedSession] = None
+        self._task: "Optional[asyncio.Future[None]]" = None
+
+    def pump(self) -> None:
+        if self.lines and self._task is None:
+            self._task = asyncio.ensure_future(self._answer(self.lines.popleft()))
+            self._task.add_done_callback(self._go_on)
+        elif self.is_at_end and not self.lines and self._task is None:
+            self.close()
+
+    def _go_on(self, _: Any) -> None:
+        self._task = None
+        self.resume()
+        self.pump()
+
+    async def _answer(self, line: Optional[bytes]) -> None:
+        """Answers one word."""
+        try:
+            answer = await self._act(line)
+        except Refused as refused:
+            answer = refused.answer
+        except Exception as fault:  # a fault of one word is told, and the gateway goes on
+            self.gateway.log(f"a word failed: {fault!r}")
+            answer = failed("the gateway has a fault").answer
+        if not self._transport.is_closing():
+            self._transport.write(
+                json.dumps(answer, separators=(",", ":"), sort_keys=True).encode() + b"\n"
+            )
+
+    async def _act(self, line: Optional[bytes]) -> Dict[str, Any]:
+        """Carries out the word of a line. Raises Refused."""
+        if line is None:
+            raise not_a_word("the line is too long")
+        try:
+            asked = json.loads(line.decode())
+        except (ValueError, RecursionError):
+            raise not_a_word("the line is no JSON") from None
+        if not isinstance(asked, dict):
+            raise not_a_word("the line is no object")
+        if asked.get("word") in ("login", "logout"):
+            return await self._change_login(asked)
+        session = self.session if self.session is not None and not self.session.is_over else None
+        return await words.act_on(words.Context(self.gateway, self.person, session), asked)
+
+    async def _change_login(self, asked: Dict[str, Any]) -> Dict[str, Any]:
+        """`login` shares a session for this connection, `logout` gives it up. Raises Refused."""
+        word = asked["word"]
+        keys = {key: value for key, value in asked.items() if key != "word"}
+        words.check_keys(words.LOGINS[word], keys)
+        await self._give_up()
+        if word == "logout":
+            return {"ok": word}
+        roles = keys.get("roles", [])
+        if not all(isinstance(role, str) for role in roles):
+            raise not_a_word("roles is a list of names")
+        self.session = await self.gateway.share(self.person, keys["user"], roles)
+        if self.is_gone:
+            await self._give_up()
+        return {"ok": word, "session": self.session.number if self.session else 0}
+
+    async def _give_up(self) -> None:
+        session, self.session = self.session, None
+        if session is not None:
+            await session.leave()
+
+    def leave(self) -> None:
+        asyncio.ensure_future(self._give_up())

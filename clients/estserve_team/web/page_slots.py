@@ -1,0 +1,117 @@
+"""A slot as the page shows it: what its session may see and do there, each asked of the program
+by `check`."""
+from typing import Any, Dict, List
+
+from estserve_client.module_text import main_of
+
+from ..reads.rights import Rights
+from ..reads.who import sees_slot
+from ..refusals import failed, not_allowed
+from .seats import Seat
+
+TRIES = 50  # a slot is read anew where permissions changed meanwhile, so often at most
+
+
+def rights_of(seat: Seat) -> Rights:
+    """The answers to `check` that the session got since permissions changed last."""
+    if seat.rights is None or seat.rights_at != seat.changes.count:
+        seat.rights, seat.rights_at = Rights(seat.share), seat.changes.count
+    return seat.rights
+
+
+async def may_of(rights: Rights, granted: set, number: int, signals: List[Any]) -> Dict[str, Any]:
+    """What the session may do on a slot and on its signals. What nobody was granted needs no
+    question."""
+
+    async def may(operation: str, object: str) -> bool:
+        return (operation, object) in granted and await rights.may(operation, object)
+
+    own = str(number)
+    return {
+        "load": await may("load", own),
+        "step": await may("step", own),
+        "offer": {
+            name: await may("offer", f"{own}.{name}") for name, kind in signals if kind == "input"
+        },
+        "observe": {name: await may("observe", f"{own}.{name}") for name, _ in signals},
+    }
+
+
+def shown(slot: Any, may: Dict[str, Any]) -> Dict[str, Any]:
+    """What is told of a slot that the session may see."""
+    seen = {name for name in may["observe"] if may["observe"][name] or may["offer"].get(name)}
+    return {
+        "slot": slot.number,
+        "visible": True,
+        "loaded": slot.is_loaded,
+        "load": slot.loaded if slot.is_loaded else None,
+        "main": slot.main,
+        "signals": [list(signal) for signal in slot.signals],
+        "instants": len(slot.instants),
+        "entries": slot.entries,
+        "pending": [name for name in slot.pending if name in seen],
+        "may": may,
+    }
+
+
+async def look_at(seat: Seat, number: int) -> Dict[str, Any]:
+    """The slot by what the session may do now; asked again where permissions or the module
+    change meanwhile."""
+    state = seat.context.gateway.reads
+    for _ in range(TRIES):
+        changes, slot = seat.changes.count, state.slots[number]
+        rights, signals, granted = rights_of(seat), slot.signals, set(state.policy.pairs())
+        may = await may_of(rights, granted, number, signals)
+        is_seen = await sees_slot(rights, state.policy, number)
+        if (
+            changes == seat.changes.count
+            and slot is state.slots[number]
+            and signals == slot.signals
+        ):
+            return shown(slot, may) if is_seen else {"slot": number, "visible": False, "may": may}
+    raise failed("permissions change too fast to be shown")
+
+
+async def page_slot(seat: Seat, number: int) -> Dict[str, Any]:
+    """What the page is told of a slot. Of one that may not be seen, that it is so. Raises
+    Refused."""
+    told = await look_at(seat, number)
+    if not told["visible"]:
+        may = {"load": told["may"]["load"], "step": told["may"]["step"], "offer": {}, "observe": {}}
+        told = {
+            "slot": number,
+            "visible": False,
+            "loaded": False,
+            "load": None,
+            "pending": [],
+            "may": may,
+        }
+    return told
+
+
+async def seen_slot(seat: Seat, number: int) -> Dict[str, Any]:
+    """What runs in a slot, for a session that may see it. Raises Refused."""
+    told = await look_at(seat, number)
+    if not told["visible"]:
+        raise not_allowed(f"slot {number} needs some permission on it")
+    return told
+
+
+async def text_of(seat: Seat, number: int) -> Dict[str, Any]:
+    """The text that was loaded, and the load. Raises Refused."""
+    told = await seen_slot(seat, number)
+    slot = seat.context.gateway.reads.slots[number]
+    return {
+        "load": told["load"],
+        "text": slot.text if slot.loaded == told["load"] and slot.is_loaded else "",
+    }
+
+
+async def relations_of(seat: Seat, number: Any) -> List[str]:
+    """The relations of the module in a slot, as far as the session may know them."""
+    if not isinstance(number, int) or isinstance(number, bool) or not 0 <= number < 16:
+        return []
+    if not (await look_at(seat, number))["visible"]:
+        return []
+    slot = seat.context.gateway.reads.slots[number]
+    return main_of(slot.text, slot.main).relations if slot.is_loaded else []

@@ -1,0 +1,105 @@
+"""Seats: each page that is logged in has one, with its share of a login.
+
+Pages of one person with the same user and roles share the login. A seat whose page is silent for a
+while is given up, so that its login, one of sixteen, is free again; a page that comes back takes a
+new one by itself."""
+import asyncio
+import contextlib
+import secrets
+import time
+from typing import Any, Dict, Optional
+
+from ..refusals import Refused
+from ..words import Context
+
+SILENT_SECONDS = 30  # a page that follows no events and asks for nothing is gone after so long
+SEATS = 512  # so many pages there may be at once
+
+
+class Changes:
+    """How often permissions have changed, since the site began."""
+
+    def __init__(self) -> None:
+        self.count = 0
+
+
+class Seat:
+    """The seat of one page: whose visit it is of, its share, and how it is used."""
+
+    def __init__(self, cookie: str, context: Context, changes: Changes) -> None:
+        self.name = secrets.token_urlsafe(18)
+        self.cookie, self.context = cookie, context
+        self.share: Any = context.session
+        self.changes = changes
+        self.rights: Any = None  # what the session was answered to `check`,
+        self.rights_at = -1  # when permissions had changed so often
+        self.streams = 0
+        self.used = time.monotonic()
+        self.is_left = False
+
+    @property
+    def is_over(self) -> bool:
+        """Whether the page has to take another seat."""
+        return self.is_left or self.share.is_over
+
+    def is_silent(self) -> bool:
+        """Whether its page seems to be gone."""
+        return not self.streams and time.monotonic() - self.used > SILENT_SECONDS
+
+    async def leave(self) -> None:
+        """Gives the share up, once. A login that is over by then needs no logout."""
+        if not self.is_left:
+            self.is_left = True
+            with contextlib.suppress(Refused):
+                await self.share.leave()
+
+
+class Seats:
+    """All seats."""
+
+    def __init__(self) -> None:
+        self._seats: Dict[str, Seat] = {}
+        self._leaving: "set[asyncio.Task[None]]" = set()
+
+    def add(self, seat: Seat) -> None:
+        """Adds a seat; where there are too many, the one that was used least lately goes."""
+        while len(self._seats) >= SEATS:
+            self.drop(min(self._seats.values(), key=lambda one: one.used))
+        self._seats[seat.name] = seat
+
+    def find(self, name: Optional[str], cookie: str) -> Optional[Seat]:
+        """The seat of this name, of this visit, if it isn't over."""
+        seat = self._seats.get(name or "")
+        if seat is None or seat.cookie != cookie:
+            return None
+        if seat.is_over:
+            self.drop(seat)
+            return None
+        seat.used = time.monotonic()
+        return seat
+
+    def drop(self, seat: Seat) -> None:
+        """Gives a seat up; its logout goes on by itself."""
+        self._seats.pop(seat.name, None)
+        task = asyncio.get_running_loop().create_task(seat.leave())
+        self._leaving.add(task)
+        task.add_done_callback(self._leaving.discard)
+
+    def drop_visit(self, cookie: str) -> None:
+        """Gives up all seats of a visit."""
+        for seat in [one for one in self._seats.values() if one.cookie == cookie]:
+            self.drop(seat)
+
+    async def drop_silent(self) -> None:
+        """Gives up seats whose pages are gone, again and again."""
+        while True:
+            await asyncio.sleep(SILENT_SECONDS / 6)
+            for seat in [one for one in self._seats.values() if one.is_silent() or one.is_over]:
+                self.drop(seat)
+
+    async def drop_all(self) -> None:
+        """Gives up all seats, and waits for their logouts."""
+        for seat in list(self._seats.values()):
+            self.drop(seat)
+        if self._leaving:
+            await asyncio.wait(list(self._leaving), timeout=5)

@@ -1,0 +1,120 @@
+"""Who has come in by HTTP: links that are used once, and visits, each of one browser.
+
+A visit has two secrets: a cookie, which no script reads, and a token, which the page sends with
+each request and which no other origin has. Either alone opens nothing. Only their digests are kept,
+in a file that only the gateway's user may read, so that a visit goes on when the gateway is started
+anew."""
+import hashlib
+import json
+import os
+import pathlib
+import secrets
+import time
+from typing import Callable, Dict, NamedTuple, Optional, Tuple
+
+LINK_SECONDS = 300  # a link may be used for so long
+VISIT_SECONDS = 12 * 3600  # a visit ends when it was not used for so long
+KEPT_AFTER = 600  # seconds after which it is written anew that a visit was used
+LINKS, VISITS = 256, 1024  # so many there may be at once: the oldest one goes
+
+
+def digest_of(secret: str) -> str:
+    """What is kept of a secret."""
+    return hashlib.sha256(secret.encode("utf-8", "surrogatepass")).hexdigest()
+
+
+class Visit(NamedTuple):
+    """A visit: its cookie's digest, its token's, the person's name, and when it was used last."""
+
+    cookie: str
+    token: str
+    person: str
+    used: float
+
+
+class Links:
+    """Links that were given out and not yet used."""
+
+    def __init__(self, clock: Callable[[], float] = time.monotonic) -> None:
+        self._clock = clock
+        self._links: Dict[str, Tuple[str, float]] = {}
+
+    def make(self, person: str) -> str:
+        """The secret of a new link of this person."""
+        secret = secrets.token_urlsafe(32)
+        while len(self._links) >= LINKS:
+            del self._links[next(iter(self._links))]
+        self._links[digest_of(secret)] = person, self._clock() + LINK_SECONDS
+        return secret
+
+    def use(self, secret: str) -> Optional[str]:
+        """The person of a link, which is spent by that; None where there is none, or its time is
+        over."""
+        person, end = self._links.pop(digest_of(secret), ("", 0.0))
+        return person if person and self._clock() < end else None
+
+
+class Visits:
+    """The visits, in a file."""
+
+    def __init__(self, path: pathlib.Path, clock: Callable[[], float] = time.time) -> None:
+        self._path, self._clock = path, clock
+        self._visits: Dict[str, Visit] = {}
+        self._kept = 0.0
+        self._read()
+
+    def _read(self) -> None:
+        """Reads the file. One that can't be read holds no visits: people ask for links again."""
+        try:
+            rows = json.loads(self._path.read_text())
+            visits = [Visit(str(c), str(t), str(p), float(u)) for c, t, p, u in rows]
+        except (OSError, ValueError, TypeError):
+            visits = []
+        self._visits = {visit.cookie: visit for visit in visits}
+        self._drop_old()
+
+    def keep(self) -> None:
+        """Writes the file anew, in one piece."""
+        beside = self._path.with_suffix(".new")
+        descriptor = os.open(beside, os.O_WRONLY | os.O_CREAT | os.O_TRUNC, 0o600)
+        with open(descriptor, "w", encoding="utf-8") as file:
+            json.dump([list(visit) for visit in self._visits.values()], file)
+        os.replace(beside, self._path)
+        self._kept = self._clock()
+
+    def _drop_old(self) -> None:
+        oldest = self._clock() - VISIT_SECONDS
+        self._visits = {
+            cookie: visit for cookie, visit in self._visits.items() if visit.used >= oldest
+        }
+        while len(self._visits) > VISITS:
+            del self._visits[min(self._visits.values(), key=lambda visit: visit.used).cookie]
+
+    def begin(self, person: str) -> Tuple[str, str]:
+        """The cookie and the token of a new visit of this person."""
+        cookie, token = secrets.token_urlsafe(32), secrets.token_urlsafe(32)
+        self._visits[digest_of(cookie)] = Visit(
+            digest_of(cookie), digest_of(token), person, self._clock()
+        )
+        self._drop_old()
+        self.keep()
+        return cookie, token
+
+    def find(self, cookie: Optional[str], token: Optional[str]) -> Optional[Visit]:
+        """The visit that has this cookie and this token, if one has."""
+        visit = self._visits.get(digest_of(cookie or ""))
+        if visit is None or not secrets.compare_digest(visit.token, digest_of(token or "")):
+            return None
+        now = self._clock()
+        if visit.used < now - VISIT_SECONDS:
+            return None
+        self._visits[visit.cookie] = visit._replace(used=now)
+        if self._kept < now - KEPT_AFTER:
+            self._drop_old()
+            self.keep()
+        return visit
+
+    def end(self, visit: Visit) -> None:
+        """Ends a visit: its secrets open nothing any more."""
+        self._visits.pop(visit.cookie, None)
+        self.keep()

@@ -1,0 +1,247 @@
+"""The gateway as a process of its own, on a folder of its own, for the tests of this folder.
+
+The program is the one that the variable ESTSERVE names, or one that `rt try` builds WITHOUT
+proof, once.
+"""
+import contextlib
+import json
+import os
+import pathlib
+import pwd
+import random
+import shlex
+import signal
+import socket
+import subprocess
+import sys
+import tempfile
+import time
+
+ROOT = pathlib.Path(__file__).resolve().parents[2]
+sys.path[:0] = [str(ROOT / "clients"), str(ROOT / "tests" / "socket")]
+sys.dont_write_bytecode = True
+import running as programs  # noqa: E402
+from estserve_client.connection import connect  # noqa: E402
+from estserve_team.record import Entry, open_reader  # noqa: E402
+from estserve_team.replay import Talker  # noqa: E402
+from estserve_team.server import Server  # noqa: E402
+
+ME = pwd.getpwuid(os.geteuid()).pw_name
+WAIT_SECONDS = 60
+SEED = int(os.environ.get("GATEWAY_SEED", "31"))
+_folder = tempfile.TemporaryDirectory(prefix="gateway-")
+
+
+def random_of(name):
+    """Numbers for one test, the same ones each time, but where GATEWAY_SEED says otherwise."""
+    return random.Random(f"{SEED} {name}")
+
+
+def program_file():
+    """A file that calls the program."""
+    words = programs.program()
+    if len(words) == 1:
+        return words[0]
+    path = pathlib.Path(_folder.name) / "estserve"
+    if not path.exists():
+        path.write_text(f'#!/bin/sh\nexec {shlex.join(words)} "$@"\n')
+        path.chmod(0o755)
+    return str(path)
+
+
+def line_of(**command):
+    """A command's line, without LF."""
+    return json.dumps(command, separators=(",", ":"), sort_keys=True, ensure_ascii=False).encode()
+
+
+def login_line(user="root", roles=("root",)):
+    """The line of a login."""
+    return line_of(cmd="login", user=user, roles=list(roles))
+
+
+def processes_of(state):
+    """The processes that a team's gateway has listed, by id."""
+    try:
+        return [
+            int(process) for process in json.loads((state / "private" / "children").read_text())
+        ]
+    except FileNotFoundError:
+        return []
+
+
+class WordTalker(Talker):
+    """A connection to gateway.sock, which asks one word after the other."""
+
+    def word(self, word, **keys):
+        """The answer to a word, an object."""
+        return json.loads(self.ask(json.dumps({"word": word, **keys}).encode()))
+
+
+class Team:
+    """A gateway process. Used with `with`, it is started, and killed at the end if it runs still;
+    its folder is then gone.
+
+    `people` is the text of a file of people; `state` is a folder that is there already, and
+    stays."""
+
+    def __init__(self, *words, people=None, state=None, program=None, python=None):
+        self._held = tempfile.TemporaryDirectory(prefix="gateway-")
+        self.state = pathlib.Path(state) if state else pathlib.Path(self._held.name) / "team"
+        self._words, self._people, self._program = list(words), people, program
+        self._python = python or sys.executable
+        self.process = None
+
+    def __enter__(self):
+        try:
+            self.start()
+        except BaseException:
+            self.__exit__()
+            raise
+        return self
+
+    def command(self):
+        """The words that start the gateway."""
+        words = [
+            self._python,
+            "-B",
+            str(ROOT / "clients" / "estserve.py"),
+            "team",
+            "--state",
+            str(self.state),
+        ]
+        words += ["--program", self._program or program_file(), *self._words]
+        if self._people is not None:
+            path = pathlib.Path(self._held.name) / "people.toml"
+            path.write_text(self._people)
+            words += ["--people", str(path)]
+        return words
+
+    def launch(self):
+        """Starts the gateway, and doesn't wait."""
+        self._told = open(pathlib.Path(self._held.name) / "told", "ab")
+        self.process = subprocess.Popen(
+            self.command(),
+            stdin=subprocess.DEVNULL,
+            stdout=subprocess.PIPE,
+            stderr=self._told,
+            text=True,
+        )
+
+    def start(self):
+        """Starts the gateway, and waits until clients may come. Fails, where it ends before."""
+        self.launch()
+        self.printed = []
+        for line in self.process.stdout:
+            if line.startswith("ready: "):
+                return
+            self.printed.append(line)
+        self.process.wait()
+        raise AssertionError(f"the gateway ended with {self.process.returncode}: {self.told()}")
+
+    def told(self):
+        """What the gateway has written on standard error since its folder was made."""
+        return (pathlib.Path(self._held.name) / "told").read_text(errors="replace")
+
+    def end(self, number=signal.SIGTERM):
+        """Sends a signal, and gives the status that the gateway ends with."""
+        self.process.send_signal(number)
+        return self.wait()
+
+    def wait(self):
+        """The status that the gateway ends with."""
+        try:
+            return self.process.wait(WAIT_SECONDS)
+        finally:
+            self.process.stdout.close()
+            self._told.close()
+
+    def __exit__(self, *_):
+        if self.process is not None and self.process.poll() is None:
+            self.process.kill()
+            self.wait()
+        self._held.cleanup()
+
+    @property
+    def path(self):
+        """The socket for the program's lines."""
+        return self.state / "team.sock"
+
+    @property
+    def record(self):
+        """The record."""
+        return self.state / "private" / "record.sqlite"
+
+    def client(self):
+        """A client of the team's socket."""
+        return connect(self.path)
+
+    def root(self):
+        """A client that is logged in as root."""
+        client = self.client()
+        client.login("root", ["root"])
+        return client
+
+    def talker(self):
+        """A connection to the team's socket, for plain lines."""
+        return Talker(self.path)
+
+    def words(self):
+        """A connection to gateway.sock."""
+        return WordTalker(self.state / "gateway.sock")
+
+    def entries(self):
+        """All entries of the record, in the order of their recording."""
+        with open_reader(self.record) as database:
+            return list(map(Entry._make, database.execute("SELECT * FROM entries ORDER BY number")))
+
+    def rows(self, sql):
+        """The rows of a query on the record."""
+        with open_reader(self.record) as database:
+            return database.execute(sql).fetchall()
+
+    def server(self):
+        """The id of the server's process, once one runs, also where it is just being begun anew."""
+        return wait_for(
+            lambda: next(
+                (
+                    process
+                    for process in processes_of(self.state)
+                    if b"serve\0--socket" in command_of(process)
+                ),
+                None,
+            )
+        )
+
+
+def command_of(process):
+    """The command line of a process, empty where there is none."""
+    try:
+        return pathlib.Path(f"/proc/{process}/cmdline").read_bytes()
+    except OSError:
+        return b""
+
+
+def is_running(process):
+    """Whether a process runs."""
+    try:
+        return (
+            pathlib.Path(f"/proc/{process}/stat").read_text().rpartition(")")[2].split()[0]
+            not in "ZX"
+        )
+    except OSError:
+        return False
+
+
+def wait_for(what, seconds=WAIT_SECONDS):
+    """The first answer of `what` that isn't None or false. Fails, where there is none in time."""
+    return programs.wait_for(what, seconds)
+
+
+@contextlib.contextmanager
+def program_alone():
+    """A connection to a server without a gateway, for plain lines."""
+    with tempfile.TemporaryDirectory(prefix="gateway-") as folder:
+        with Server(program_file(), pathlib.Path(folder) / "socket") as server, Talker(
+            server.path
+        ) as talker:
+            yield talker

@@ -1,0 +1,197 @@
+"""How the gateway ends, and what it does where the server or the record fails it."""
+import json
+import os
+import signal
+import sqlite3
+import threading
+import time
+import unittest
+
+import teams
+from teams import Team, line_of, login_line
+from estserve_client.connection import Disconnected
+
+STEP = line_of(cmd="check", object="0", op="step")
+
+
+class Ended(unittest.TestCase):
+    def ended_by(self, number):
+        with Team() as team:
+            talkers = [team.talker() for _ in range(6)]
+            for talker in talkers[:4]:
+                talker.ask(login_line())
+            words = team.words()
+            self.assertEqual(words.word("login", user="root", roles=["root"])["session"], 5)
+            children = teams.processes_of(team.state)
+            self.assertEqual(team.end(number), 0)
+            self.assertEqual(
+                [entry.command for entry in team.entries()], ["login"] * 5 + ["logout"] * 5
+            )
+            self.assertEqual({path.name for path in team.state.iterdir()}, {"private"})
+            self.assertFalse(any(map(teams.is_running, children)))
+            for talker in (*talkers, words):
+                self.assertEqual(talker._socket.recv(1), b"")
+                talker.close()
+
+    def test_sigterm_logs_all_out_and_leaves_nothing_behind(self):
+        self.ended_by(signal.SIGTERM)
+
+    def test_sigint_too(self):
+        self.ended_by(signal.SIGINT)
+
+    def test_under_load_what_was_answered_is_recorded(self):
+        with Team() as team:
+            told = [[] for _ in range(4)]
+
+            def load(name, answers):
+                try:
+                    with team.root() as client:
+                        while True:
+                            answers.append(client.grant("root", "offer", name))
+                            answers.append(client.revoke("root", "offer", name))
+                except Disconnected:
+                    pass
+
+            threads = [
+                threading.Thread(target=load, args=(f"{at}.S", answers))
+                for at, answers in enumerate(told)
+            ]
+            for thread in threads:
+                thread.start()
+            teams.wait_for(lambda: all(len(answers) > 5 for answers in told))
+            self.assertEqual(team.end(), 0)
+            for thread in threads:
+                thread.join()
+            entries = {entry.version: entry for entry in team.entries()}
+            for answer in (answer for answers in told for answer in answers):
+                self.assertEqual(json.loads(entries[answer["version"]].reply), answer)
+            self.assertEqual(
+                {entry.session for entry in entries.values() if entry.command == "logout"},
+                {1, 2, 3, 4},
+            )
+            self.assertEqual(entries[max(entries)].command, "logout")
+
+    def test_a_server_that_is_killed_just_before_leaves_no_logout_out(self):
+        numbers = teams.random_of("ends")
+        for _ in range(6):
+            with Team() as team, team.root() as client, team.talker() as talker:
+                client.addrole("driver")
+                os.kill(team.server(), signal.SIGKILL)
+                time.sleep(numbers.choice([0, 0.001, 0.01, 0.05]))
+                talker._socket.sendall(login_line() + b"\n")
+                time.sleep(numbers.choice([0, 0.001, 0.01]))
+                self.assertEqual(team.end(), 0, team.told())
+                commands = [entry.command for entry in team.entries()]
+                self.assertIn(
+                    commands,
+                    (
+                        ["login", "addrole", "logout"],
+                        ["login", "addrole", "logout", "login", "logout"],
+                    ),
+                )
+
+    def test_a_start_that_is_ended(self):
+        with Team() as team:
+            with team.root() as client:
+                client.addrole("driver")
+            team.end(signal.SIGKILL)
+            again = Team(state=team.state)
+            again.launch()
+            teams.wait_for(lambda: teams.processes_of(team.state))
+            self.assertIn(again.end(), (0, -signal.SIGTERM))
+            again._held.cleanup()
+            with Team(state=team.state):
+                self.assertEqual(
+                    [entry.command for entry in team.entries()], ["login", "addrole", "logout"]
+                )
+
+
+class ServerLost(unittest.TestCase):
+    def test_it_is_begun_anew_and_clients_without_a_login_stay(self):
+        with Team() as team, team.root() as client, team.talker() as idle, team.words() as words:
+            words.word("login", user="root", roles=[])
+            client.addrole("driver")
+            idle.ask(STEP)
+            os.kill(team.server(), signal.SIGKILL)
+            with self.assertRaises(Disconnected):
+                for _ in range(2):
+                    client.check("step", "0")
+            self.assertEqual(idle.ask(STEP), b'{"code":4,"fault":"NoSession"}')
+            self.assertEqual(json.loads(idle.ask(login_line("root", ["driver"])))["code"], 21)
+            self.assertEqual(json.loads(idle.ask(login_line()))["version"], 10)
+            self.assertEqual(words.word("ping")["person"], teams.ME)
+            self.assertEqual(
+                [entry.command for entry in team.entries()],
+                ["login", "login", "addrole", "logout", "logout", "login"],
+            )
+
+    def test_with_nobody_logged_in_it_is_noticed_too(self):
+        with Team() as team, team.talker() as talker:
+            server = team.server()
+            os.kill(server, signal.SIGKILL)
+            teams.wait_for(lambda: not teams.is_running(server))
+            self.assertEqual(talker.ask(login_line()), b'{"ok":"login","session":1,"version":5}')
+            teams.wait_for(lambda: team.server() != server)
+
+    def test_the_second_child_is_begun_anew(self):
+        with Team() as team, team.talker() as talker:
+            talker.ask(b"x")
+            for _ in range(5):
+                second = next(
+                    process
+                    for process in teams.processes_of(team.state)
+                    if process != team.server()
+                )
+                os.kill(second, signal.SIGKILL)
+                self.assertEqual(talker.ask(b"x"), b'{"code":2,"fault":"NotJson"}')
+            self.assertEqual(json.loads(talker.ask(login_line()))["session"], 1)
+
+
+class RecordFails(unittest.TestCase):
+    def test_what_cannot_be_written_is_not_answered(self):
+        with Team() as team, team.root() as client:
+            client.addrole("one")
+            other = sqlite3.connect(team.record, isolation_level=None)
+            other.execute("BEGIN IMMEDIATE")
+            with self.assertRaises(Disconnected):
+                client.addrole("two")
+            other.execute("ROLLBACK")
+            other.close()
+            teams.wait_for(lambda: team.process.poll() is not None or len(team.entries()) == 3)
+            if team.process.poll() is not None:
+                self.assertEqual(team.process.returncode, 1)
+                self.assertIn("the record cannot be written", team.told())
+            with Team(state=team.state) if team.process.poll() is not None else team.root():
+                self.assertNotIn(b"two", b"".join(entry.request for entry in team.entries()))
+
+
+def memory_of(process):
+    """The kilobytes that a process has in memory."""
+    with open(f"/proc/{process}/status") as status:
+        return int(next(line for line in status if line.startswith("VmRSS")).split()[1])
+
+
+class Slow(unittest.TestCase):
+    def test_a_client_that_reads_nothing_holds_up_nobody(self):
+        with Team() as team, team.root() as client, team.talker() as slow:
+            client.grant("root", "step", "0")
+            slow._socket.settimeout(0.2)
+            slow._socket.sendall(login_line() + b"\n")
+            sent = 0
+            try:
+                while sent < 60_000:
+                    slow._socket.sendall(
+                        (line_of(cmd="check", object="0", op="step") + b"\n") * 500
+                    )
+                    sent += 500
+            except OSError:
+                pass
+            began = time.monotonic()
+            for _ in range(10):
+                self.assertTrue(client.check("step", "0")["allowed"])
+            self.assertLess(time.monotonic() - began, 20)
+            self.assertLess(memory_of(team.process.pid), 200_000)
+
+
+if __name__ == "__main__":
+    unittest.main()

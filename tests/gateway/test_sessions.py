@@ -1,0 +1,313 @@
+"""The sixteen logins, what becomes of one that ends, and logins that are shared."""
+import asyncio
+import contextlib
+import json
+import os
+import pathlib
+import signal
+import tempfile
+import unittest
+
+import teams
+from teams import Team, line_of, login_line
+from estserve_client.connection import Disconnected, Refusal
+from estserve_team.gateway import Gateway
+from estserve_team.people import People, Person
+from estserve_team.places import Places
+from estserve_team.refusals import Refused
+
+ROOT = Person("admin", ("root",))
+LOGOUT = line_of(cmd="logout")
+GRANT = {"cmd": "grant", "object": "0", "op": "step", "role": "root"}
+
+
+class Sixteen(unittest.TestCase):
+    def test_the_seventeenth_is_told_who_holds_them_and_a_logout_frees_one(self):
+        with Team() as team, contextlib.ExitStack() as held:
+            talkers = [held.enter_context(team.talker()) for _ in range(17)]
+            idle = [held.enter_context(team.talker()) for _ in range(40)]
+            for at, talker in enumerate(talkers[:16], 1):
+                self.assertEqual(json.loads(talker.ask(login_line()))["session"], at)
+            for talker in idle:
+                self.assertEqual(
+                    talker.ask(line_of(cmd="step", slot=0)), b'{"code":4,"fault":"NoSession"}'
+                )
+            refused = json.loads(talkers[16].ask(login_line()))
+            self.assertEqual(
+                refused, {"code": 1002, "fault": "AllTaken", "holders": [["root", teams.ME]] * 16}
+            )
+            self.assertEqual(json.loads(talkers[3].ask(LOGOUT))["version"], 21)
+            self.assertEqual(json.loads(talkers[16].ask(login_line()))["session"], 17)
+            talkers[5].close()
+            teams.wait_for(lambda: json.loads(talkers[3].ask(login_line())).get("session") == 18)
+
+    def test_many_logins_one_after_the_other(self):
+        with Team() as team:
+            for at in range(40):
+                with team.root() as client:
+                    client.check("administer", "policy")
+            teams.wait_for(lambda: len(team.entries()) == 80)
+
+    def test_a_refused_login_holds_none(self):
+        with Team() as team, team.talker() as talker:
+            for _ in range(40):
+                self.assertEqual(json.loads(talker.ask(login_line("root", ["no"])))["code"], 26)
+            self.assertEqual(team.entries(), [])
+
+
+class Ended(unittest.TestCase):
+    def test_a_session_that_another_has_ended_frees_its_seat_by_its_logout(self):
+        people = f'[people]\nroot = ["{teams.ME}"]\nann = ["{teams.ME}"]\n'
+        with Team(people=people) as team, team.root() as root, team.talker() as talker:
+            root.adduser("ann")
+            for time in range(3):
+                talker.ask(login_line("ann", []))
+                root.deluser("ann")
+                self.assertEqual(
+                    talker.ask(line_of(cmd="step", slot=0)), b'{"code":4,"fault":"NoSession"}'
+                )
+                self.assertEqual(
+                    talker.ask(line_of(cmd="check", object="0", op="step")),
+                    b'{"allowed":false,"ok":"check"}',
+                )
+                self.assertEqual(talker.ask(LOGOUT), b'{"code":4,"fault":"NoSession"}')
+                self.assertEqual(talker.ask(LOGOUT), b'{"code":4,"fault":"NoSession"}')
+                root.adduser("ann")
+            self.assertEqual(team.rows("SELECT connection FROM givenup"), [(2,), (3,), (4,)])
+            talker.ask(login_line("ann", []))
+            root.deluser("ann")
+            talker.close()
+            teams.wait_for(lambda: len(team.rows("SELECT connection FROM givenup")) == 4)
+            before = team.entries()
+            self.assertEqual(team.end(), 0)
+            with Team(state=team.state, people=people) as again:
+                self.assertEqual(again.entries()[: len(before)], before)
+
+    def test_the_gateway_logs_out_whoever_goes_away(self):
+        with Team() as team:
+            with team.root() as client:
+                client.addrole("driver")
+            teams.wait_for(
+                lambda: [entry.command for entry in team.entries()]
+                == ["login", "addrole", "logout"]
+            )
+
+
+class Changed(unittest.TestCase):
+    def test_a_connection_is_changed_before_its_reads_are_used_up(self):
+        with Team("--most-sends", "20") as team, team.root() as client:
+            client.grant("root", "step", "0")
+            client.addrole("driver")
+            client.assign("root", "driver")
+            client.activate("driver")
+            client.drop("root")
+            for _ in range(60):
+                self.assertTrue(client.check("step", "0")["allowed"] is False)
+            client.activate("root")
+            self.assertTrue(client.check("step", "0")["allowed"])
+            logins = [
+                json.loads(entry.request)["roles"]
+                for entry in team.entries()
+                if entry.command == "login"
+            ]
+            self.assertGreaterEqual(len(logins), 3)
+            self.assertEqual(logins[:3], [["root"], ["driver"], ["driver"]])
+            kinds = [
+                entry.command for entry in team.entries() if entry.command in ("login", "logout")
+            ]
+            self.assertEqual(kinds, ["login", "logout"] * (len(logins) - 1) + ["login"])
+
+    def test_where_its_session_has_ended_the_clients_connection_ends(self):
+        with Team("--most-sends", "10") as team, team.root() as root, team.root() as client:
+            root.addrole("driver")
+            root.assign("root", "driver")
+            client.activate("driver")
+            root.deassign("root", "driver")
+            with self.assertRaises(Disconnected):
+                for _ in range(20):
+                    self.assertFalse(client.check("step", "0")["allowed"])
+
+
+@contextlib.asynccontextmanager
+async def gateway_of(folder, most_sends=900_000):
+    """A gateway in this process."""
+    with Places(pathlib.Path(folder) / "team") as places:
+        gateway = Gateway(places, People({"root": ["admin"]}), teams.program_file(), most_sends)
+        gateway.log = lambda text: None
+        await gateway.start()
+        try:
+            yield gateway
+        finally:
+            await gateway.stop()
+
+
+class Shared(unittest.TestCase):
+    def run_with(self, work, **words):
+        """Runs a coroutine with a gateway of its own."""
+
+        async def whole():
+            with tempfile.TemporaryDirectory(prefix="gateway-") as folder:
+                async with gateway_of(folder, **words) as gateway:
+                    await work(gateway)
+
+        asyncio.run(whole())
+
+    def entries_of(self, gateway):
+        with teams.open_reader(gateway.record_path) as database:
+            return [
+                teams.Entry._make(row)
+                for row in database.execute("SELECT * FROM entries ORDER BY number")
+            ]
+
+    def test_all_with_the_same_roles_share_one_login_until_the_last_leaves(self):
+        async def work(gateway):
+            shared = await asyncio.gather(
+                *(gateway.share(ROOT, "root", ["root"]) for _ in range(20))
+            )
+            other = await gateway.share(ROOT, "root", [])
+            self.assertEqual({one.number for one in shared}, {shared[0].number})
+            self.assertEqual(len(gateway.holders()), 2)
+            self.assertTrue(
+                (await other.ask_answer({"cmd": "check", "object": "policy", "op": "administer"}))[
+                    "allowed"
+                ]
+                is False
+            )
+            for one in shared[1:]:
+                await one.leave()
+            self.assertEqual((await shared[0].ask_answer(GRANT))["ok"], "grant")
+            await shared[0].leave()
+            await other.leave()
+            self.assertEqual(
+                [entry.command for entry in self.entries_of(gateway)],
+                ["login", "login", "grant", "logout", "logout"],
+            )
+            self.assertNotEqual(
+                (await gateway.share(ROOT, "root", ["root"])).number, shared[0].number
+            )
+
+        self.run_with(work)
+
+    def test_what_is_refused(self):
+        async def work(gateway):
+            for person, user, roles, code in [
+                (ROOT, "ann", [], 1001),
+                (ROOT, "root", ["no"], 26),
+                (ROOT, "root", ["a b"], 3),
+            ]:
+                with self.assertRaises(Refused) as held:
+                    await gateway.share(person, user, roles)
+                self.assertEqual(held.exception.code, code)
+            shared = await gateway.share(ROOT, "root", ["root"])
+            for cmd in (
+                {"cmd": "logout"},
+                {"cmd": "activate", "role": "root"},
+                {"cmd": "login", "user": "root", "roles": []},
+            ):
+                with self.assertRaises(Refused) as held:
+                    await shared.ask(cmd)
+                self.assertEqual(held.exception.code, 1014)
+            for command in (
+                {},
+                {"cmd": []},
+                {"cmd": "step", "slot": True},
+                {"cmd": "step", "slot": 1.0},
+                {"cmd": "adduser", "user": "\ud800"},
+            ):
+                self.assertEqual(await shared.ask(command), b'{"code":3,"fault":"NotARequest"}')
+
+        self.run_with(work)
+
+    def test_an_id_is_carried_out_once(self):
+        async def work(gateway):
+            shared = await gateway.share(ROOT, "root", ["root"])
+            answers = await asyncio.gather(*(shared.ask(GRANT, "one") for _ in range(10)))
+            self.assertEqual(set(answers), {b'{"ok":"grant","version":6}'})
+            self.assertEqual(await shared.ask(GRANT, "one"), answers[0])
+            self.assertEqual(
+                await shared.ask(GRANT, "two"), b'{"code":31,"fault":"AlreadyGranted"}'
+            )
+            revoke = {**GRANT, "cmd": "revoke"}
+            for request_id in ("one", "", "x" * 65, "ä"):
+                with self.assertRaises(Refused) as held:
+                    await shared.ask(revoke, request_id)
+                self.assertEqual(held.exception.code, 1015)
+            self.assertEqual(await shared.ask(revoke, "two"), b'{"ok":"revoke","version":7}')
+            self.assertEqual(len(self.entries_of(gateway)), 3)
+
+        self.run_with(work)
+
+    def test_an_id_is_carried_out_once_however_often_the_server_is_killed(self):
+        numbers = teams.random_of("ids")
+
+        async def ask_until_answered(gateway, request_id, command):
+            while True:
+                try:
+                    shared = await gateway.share(ROOT, "root", ["root"])
+                    return await shared.ask(command, request_id)
+                except Refused as refused:
+                    self.assertEqual(refused.code, 1004)
+
+        async def work(gateway):
+            asked = []
+            for at in range(60):
+                command = {
+                    "cmd": "grant",
+                    "object": f"{at % 16}.S{at}",
+                    "op": "offer",
+                    "role": "root",
+                }
+                asked.append(
+                    asyncio.ensure_future(ask_until_answered(gateway, f"id {at}", command))
+                )
+                await asyncio.sleep(numbers.uniform(0, 0.01))
+                if at % 10 == 5:
+                    os.kill(gateway._server.process, signal.SIGKILL)
+            answers = await asyncio.gather(*asked)
+            entries = [entry for entry in self.entries_of(gateway) if entry.command == "grant"]
+            self.assertEqual(len(entries), 60)
+            self.assertEqual(
+                {entry.request_id: entry.reply for entry in entries},
+                {f"id {at}": answer for at, answer in enumerate(answers)},
+            )
+
+        self.run_with(work)
+
+    def test_a_shared_login_changes_its_connection(self):
+        async def work(gateway):
+            shared = await gateway.share(ROOT, "root", ["root"])
+            checks = await asyncio.gather(
+                *(
+                    shared.ask_answer({"cmd": "check", "object": "0", "op": "step"})
+                    for _ in range(50)
+                )
+            )
+            self.assertEqual(len(checks), 50)
+            self.assertGreater(shared.number, 1)
+            self.assertEqual(len(gateway.holders()), 1)
+
+        self.run_with(work, most_sends=10)
+
+    def test_listeners_hear_of_each_entry_once_and_of_a_restart(self):
+        async def work(gateway):
+            heard, restarts = [], []
+            unlisten = gateway.listen(
+                lambda entries: heard.extend(entry.number for entry in entries)
+            )
+            gateway.on_restart(lambda: restarts.append(len(gateway.holders())))
+            shared = await gateway.share(ROOT, "root", ["root"])
+            await shared.ask(GRANT)
+            os.kill(gateway._server.process, signal.SIGKILL)
+            while not restarts:
+                await asyncio.sleep(0.01)
+            self.assertTrue(shared.is_over)
+            self.assertEqual((heard, restarts), ([1, 2], [0]))
+            unlisten()
+            await gateway.share(ROOT, "root", ["root"])
+            self.assertEqual((heard, gateway.entries_written), ([1, 2], 4))
+
+        self.run_with(work)
+
+
+if __name__ == "__main__":
+    unittest.main()

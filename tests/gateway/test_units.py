@@ -1,0 +1,139 @@
+"""Many teams on one machine: the command line of the systemd unit is started for each, and what an
+idle one takes is measured.
+
+The variable GATEWAY_TEAMS says how many teams. This tests the unit's words, and not systemd.
+"""
+import os
+import pathlib
+import re
+import shlex
+import signal
+import statistics
+import subprocess
+import sys
+import tempfile
+import time
+import unittest
+
+import teams
+
+TEAMS = int(os.environ.get("GATEWAY_TEAMS", "8"))
+AT_ONCE = 4  # are started beside each other
+UNIT = teams.ROOT / "packaging" / "estserve-team@.service"
+INSTALLED = {
+    "/usr/bin/python3": sys.executable,
+    "/usr/lib/estserve/clients": str(teams.ROOT / "clients"),
+}
+
+
+def setting(name):
+    """A setting of the unit."""
+    return re.search(rf"^{name}=(.*)$", UNIT.read_text(), re.MULTILINE).group(1)
+
+
+def words_of(state):
+    """The unit's command line for one team, with the paths of this machine, and no further
+    words."""
+    line = setting("ExecStart").replace("${STATE_DIRECTORY}", str(state)).replace("$TEAM_WORDS", "")
+    for path, here in {**INSTALLED, "/usr/lib/estserve/estserve": teams.program_file()}.items():
+        line = line.replace(path, here)
+    return shlex.split(line)
+
+
+def memory_of(process):
+    """The kilobytes that a process has for itself, where it shares a page its part of it."""
+    rollup = pathlib.Path(f"/proc/{process}/smaps_rollup").read_text()
+    return int(re.search(r"^Pss:\s+(\d+)", rollup, re.MULTILINE).group(1))
+
+
+class Started:
+    """One team's gateway, as the unit starts it."""
+
+    def __init__(self, folder, number):
+        self.state = folder / f"team{number}"
+        self.began = time.monotonic()
+        self.process = subprocess.Popen(
+            words_of(self.state), stdout=subprocess.PIPE, stderr=subprocess.PIPE, text=True
+        )
+
+    def wait(self):
+        """Waits until clients may come, and notes the seconds that it took."""
+        line = self.process.stdout.readline()
+        if not line.startswith("ready: "):
+            raise AssertionError(f"{line}{self.process.communicate()[1]}")
+        self.seconds = time.monotonic() - self.began
+
+    def kilobytes(self):
+        """The memory of the gateway, the server and the second child."""
+        return [
+            memory_of(process) for process in [self.process.pid, *teams.processes_of(self.state)]
+        ]
+
+    def ping(self):
+        """What the gateway answers to `ping`."""
+        with teams.WordTalker(self.state / "gateway.sock") as words:
+            return words.word("ping")
+
+    def end(self):
+        """Ends it, as the unit does. Its status, and what it told."""
+        self.process.send_signal(signal.SIGTERM)
+        told = self.process.communicate(timeout=teams.WAIT_SECONDS)[1]
+        return self.process.returncode, told
+
+
+class ManyTeams(unittest.TestCase):
+    def test_the_units_command_line_serves_each_team(self):
+        started = []
+        with tempfile.TemporaryDirectory(prefix="gateway-") as folder:
+            try:
+                for first in range(0, TEAMS, AT_ONCE):
+                    part = [
+                        Started(pathlib.Path(folder), at)
+                        for at in range(first, min(first + AT_ONCE, TEAMS))
+                    ]
+                    started += part
+                    for one in part:
+                        one.wait()
+                pings = [one.ping() for one in started]
+                self.assertEqual(
+                    [ping["team"] for ping in pings], [f"team{at}" for at in range(TEAMS)]
+                )
+                memory = [one.kilobytes() for one in started]
+                self.assertEqual({len(one) for one in memory}, {3})
+                self.tell(started, memory)
+            finally:
+                ended = [one.end() for one in started]
+            self.assertEqual(ended, [(0, "")] * TEAMS)
+
+    def tell(self, started, memory):
+        """Prints what an idle team takes."""
+        parts = [statistics.mean(part) / 1024 for part in zip(*memory)]
+        seconds = statistics.median(one.seconds for one in started)
+        print(
+            f"{TEAMS} idle teams: {sum(parts):.1f} MiB each "
+            f"({parts[0]:.1f} the gateway, {parts[1]:.1f} and {parts[2]:.1f} its "
+            f"children); ready after {seconds:.2f} s, {AT_ONCE} at a time"
+        )
+
+    def test_the_unit_ends_it_by_sigterm_and_waits_long_enough(self):
+        self.assertEqual(setting("KillMode"), "mixed")
+        self.assertGreater(int(setting("TimeoutStopSec")), 60)
+        self.assertEqual(setting("StateDirectoryMode"), "0750")
+
+    def test_it_is_told_that_the_gateway_is_ready(self):
+        import socket
+
+        with tempfile.TemporaryDirectory(prefix="gateway-") as folder:
+            path = pathlib.Path(folder) / "notify"
+            with socket.socket(socket.AF_UNIX, socket.SOCK_DGRAM) as told:
+                told.bind(str(path))
+                os.environ["NOTIFY_SOCKET"] = str(path)
+                try:
+                    with teams.Team():
+                        self.assertEqual(told.recv(100), b"READY=1")
+                finally:
+                    del os.environ["NOTIFY_SOCKET"]
+
+
+if __name__ == "__main__":
+    unittest.main()

@@ -1,0 +1,213 @@
+"""Parts of the page's server that need neither a gateway nor aiohttp: options, links, visits,
+sentences."""
+import argparse
+import os
+import pathlib
+import sys
+import tempfile
+import unittest
+
+sys.path.insert(0, str(pathlib.Path(__file__).resolve().parents[2] / "clients"))
+from estserve_team import web  # noqa: E402
+from estserve_team.web.options import Bad, Options, read_options  # noqa: E402
+from estserve_team.web.refusing import refusal_of, sentence_of  # noqa: E402
+from estserve_team.web.visits import (
+    LINK_SECONDS,
+    VISIT_SECONDS,
+    Links,
+    Visits,
+    digest_of,
+)  # noqa: E402
+
+
+class Clock:
+    """A clock that is set by hand."""
+
+    def __init__(self):
+        self.now = 1_000_000.0
+
+    def __call__(self):
+        return self.now
+
+
+def options_of(*words):
+    parser = argparse.ArgumentParser()
+    web.add_options(parser)
+    return read_options(parser.parse_args(words))
+
+
+class OptionsTest(unittest.TestCase):
+    def test_no_http_unless_it_is_asked_for(self):
+        self.assertIsNone(options_of())
+
+    def test_loopback_is_the_place_where_none_is_named(self):
+        self.assertEqual(
+            options_of("--http"), Options(("127.0.0.1", 8710), None, None, "", None, None)
+        )
+
+    def test_loopback_has_several_names(self):
+        for place, host in [
+            ("localhost:80", "localhost"),
+            ("127.9.9.9:1", "127.9.9.9"),
+            ("[::1]:65535", "::1"),
+        ]:
+            self.assertEqual(options_of("--http", place).place[0], host)
+
+    def test_another_host_needs_an_origin(self):
+        for place in ("0.0.0.0:80", "192.168.1.4:80", "team.example.org:80", "[::]:80"):
+            with self.assertRaises(Bad, msg=place):
+                options_of("--http", place)
+        read = options_of("--http", "0.0.0.0:80", "--origin", "https://Team.example.org/blue/")
+        self.assertEqual((read.origin, read.prefix), ("https://team.example.org", "/blue"))
+
+    def test_words_out_of_form_are_refused(self):
+        for words in (
+            ["--http", "127.0.0.1"],
+            ["--http", "127.0.0.1:70000"],
+            ["--http", ":80"],
+            ["--origin", "https://a.example"],
+            ["--http", "--origin", "team.example.org"],
+            ["--http", "--origin", "https://u@a.example"],
+            ["--http", "--origin", "ftp://a.example"],
+            ["--http", "--origin", "https://a.example/?x"],
+            ["--http-socket", "/tmp/s"],
+        ):
+            with self.assertRaises(Bad, msg=words):
+                options_of(*words)
+
+    def test_the_header_needs_the_proxys_socket_and_user(self):
+        header, socket, origin = (
+            ["--user-header", "X-Remote-User"],
+            ["--http-socket", "/tmp/s"],
+            ["--origin", "https://a.example"],
+        )
+        for words in (
+            [*header, "--http"],
+            [*header, *socket, *origin],
+            [*header, "--proxy-user", "root", "--http"],
+        ):
+            with self.assertRaises(Bad, msg=words):
+                options_of(*words)
+        with self.assertRaises(Bad):
+            options_of(*header, *socket, *origin, "--proxy-user", "no-such-user-here")
+        read = options_of(*header, *socket, *origin, "--proxy-user", "root")
+        self.assertEqual((read.header, read.proxy, read.socket), ("X-Remote-User", 0, "/tmp/s"))
+
+
+class LinksTest(unittest.TestCase):
+    def setUp(self):
+        self.clock = Clock()
+        self.links = Links(self.clock)
+
+    def test_a_link_is_spent_by_its_use(self):
+        secret = self.links.make("ann")
+        self.assertEqual(self.links.use(secret), "ann")
+        self.assertIsNone(self.links.use(secret))
+
+    def test_a_link_ends_by_time(self):
+        early, late = self.links.make("ann"), self.links.make("ann")
+        self.clock.now += LINK_SECONDS - 1
+        self.assertEqual(self.links.use(early), "ann")
+        self.clock.now += 1
+        self.assertIsNone(self.links.use(late))
+
+    def test_what_is_no_link_is_none(self):
+        self.links.make("ann")
+        for secret in ("", "x", "\ud800", "a" * 10_000):
+            self.assertIsNone(self.links.use(secret))
+
+    def test_too_many_links_push_the_oldest_out(self):
+        secrets = [self.links.make("ann") for _ in range(300)]
+        self.assertIsNone(self.links.use(secrets[0]))
+        self.assertEqual(self.links.use(secrets[-1]), "ann")
+
+
+class VisitsTest(unittest.TestCase):
+    def setUp(self):
+        held = tempfile.TemporaryDirectory()
+        self.addCleanup(held.cleanup)
+        self.path = pathlib.Path(held.name) / "visits.json"
+        self.clock = Clock()
+        self.visits = Visits(self.path, self.clock)
+
+    def test_both_secrets_are_needed(self):
+        cookie, token = self.visits.begin("ann")
+        other_cookie, other_token = self.visits.begin("bob")
+        self.assertEqual(self.visits.find(cookie, token).person, "ann")
+        for pair in [
+            (cookie, None),
+            (None, token),
+            (cookie, ""),
+            (token, cookie),
+            (cookie, other_token),
+            (other_cookie, token),
+        ]:
+            self.assertIsNone(self.visits.find(*pair), pair)
+
+    def test_a_visit_outlives_the_gateway(self):
+        cookie, token = self.visits.begin("ann")
+        self.assertEqual(Visits(self.path, self.clock).find(cookie, token).person, "ann")
+
+    def test_the_file_is_private_and_has_no_secret(self):
+        cookie, token = self.visits.begin("ann")
+        self.assertEqual(os.stat(self.path).st_mode & 0o777, 0o600)
+        text = self.path.read_text()
+        self.assertNotIn(cookie, text)
+        self.assertNotIn(token, text)
+        self.assertIn(digest_of(cookie), text)
+
+    def test_a_visit_ends_when_it_is_not_used(self):
+        cookie, token = self.visits.begin("ann")
+        self.clock.now += VISIT_SECONDS - 1
+        self.assertIsNotNone(self.visits.find(cookie, token))
+        self.clock.now += VISIT_SECONDS - 1
+        self.assertIsNotNone(self.visits.find(cookie, token))
+        self.assertIsNotNone(Visits(self.path, self.clock).find(cookie, token))
+        self.clock.now += VISIT_SECONDS + 1
+        self.assertIsNone(self.visits.find(cookie, token))
+        self.assertIsNone(Visits(self.path, self.clock).find(cookie, token))
+
+    def test_a_visit_that_was_ended_is_over(self):
+        cookie, token = self.visits.begin("ann")
+        self.visits.end(self.visits.find(cookie, token))
+        self.assertIsNone(self.visits.find(cookie, token))
+        self.assertIsNone(Visits(self.path, self.clock).find(cookie, token))
+
+    def test_a_file_that_is_broken_holds_no_visits(self):
+        for text in ("", "[", "{}", '[["a"]]', '[[1,2,3,"x"]]'):
+            self.path.write_text(text)
+            self.assertIsNone(Visits(self.path, self.clock).find("a", "b"))
+
+
+class SentencesTest(unittest.TestCase):
+    def test_the_sentences_are_the_clients(self):
+        command = {"cmd": "offer", "slot": 0, "signal": "R"}
+        answer = {"code": 40, "fault": "Excluded", "relation": 1, "signal": "A"}
+        told = refusal_of(answer, command, ["A # R"])
+        self.assertEqual(
+            told,
+            {
+                "refusal": answer,
+                "sentence": "Excluded: relation 1 (A # R) excludes R, since A is pending",
+            },
+        )
+        self.assertEqual(
+            sentence_of({"code": 10, "fault": "Permission", "op": "step", "object": "0"}, {}),
+            "Permission: needs step on 0",
+        )
+
+    def test_the_gateways_own_refusals_have_sentences_too(self):
+        self.assertEqual(
+            sentence_of({"code": 1001, "fault": "NotYou", "user": "root"}, {}),
+            "NotYou: you may not log in as root",
+        )
+        taken = sentence_of(
+            {"code": 1002, "fault": "AllTaken", "holders": [["ann", "ann"], ["bob", "eve"]]}, {}
+        )
+        self.assertEqual(
+            taken, "AllTaken: each of the sixteen logins is held: ann of ann, bob of eve"
+        )
+
+
+if __name__ == "__main__":
+    unittest.main()

@@ -1,0 +1,190 @@
+"""A visitor of the page without a browser: HTTP by the standard library, for the tests."""
+import http.client
+import importlib.util
+import json
+import os
+import pathlib
+import re
+import socket
+import tempfile
+
+import teams
+
+HAS_AIOHTTP = importlib.util.find_spec("aiohttp") is not None
+NO_AIOHTTP = (
+    "aiohttp is not there for this Python: scripts/install_debian.sh installs it for Debian's"
+)
+USERS = ("root", "ann", "bob", "cho")
+PEOPLE = "[people]\n" + "".join(f'{user} = ["{teams.ME}"]\n' for user in USERS)
+SECONDS = 30
+MEMORY = "/dev/shm" if os.access("/dev/shm", os.W_OK) else None  # a folder that is no disk's
+
+
+def address_of(team):
+    """The host and the port at which a team's gateway serves HTTP."""
+    return re.findall(r"the page is at http://(127\.0\.0\.1:\d+)/", team.told())[-1]
+
+
+def address_of_link(team):
+    """A new link, asked over gateway.sock."""
+    talker = team.words()
+    try:
+        return talker.word("link")["link"]
+    finally:
+        talker.close()
+
+
+def link_of(team):
+    """The secret of a new link."""
+    return address_of_link(team).partition("#link=")[2]
+
+
+class Team(teams.Team):
+    """A gateway whose people may all be the one who runs the tests. Its folder is in memory where
+    that can be: these tests are about answers, not about disks."""
+
+    def __init__(self, *words):
+        self._memory = tempfile.TemporaryDirectory(prefix="gateway-", dir=MEMORY)
+        super().__init__(*words, people=PEOPLE, state=pathlib.Path(self._memory.name) / "team")
+
+    def __exit__(self, *fault):
+        super().__exit__(*fault)
+        self._memory.cleanup()
+
+
+class UnixConnection(http.client.HTTPConnection):
+    """HTTP over a Unix socket."""
+
+    def __init__(self, path):
+        super().__init__("localhost", timeout=SECONDS)
+        self._path = path
+
+    def connect(self):
+        self.sock = socket.socket(socket.AF_UNIX)
+        self.sock.settimeout(SECONDS)
+        self.sock.connect(str(self._path))
+
+
+class Answer:
+    """A status, headers, and what the body tells."""
+
+    def __init__(self, response):
+        self.status, self.headers = response.status, response.headers
+        self.body = response.read()
+
+    @property
+    def told(self):
+        """The JSON of the body."""
+        return json.loads(self.body)
+
+
+class Visitor:
+    """One browser: a cookie, a token, and the seat of one page."""
+
+    def __init__(self, host, path=None):
+        self.host, self.path = host, path
+        self.origin = f"http://{host}"
+        self.cookie = self.token = self.seat = None
+
+    def send(self, method, path, body=None, headers=(), own=True):
+        """One request, with the visitor's own headers; `headers` replace them, None takes one away."""
+        all_of = {"Host": self.host}
+        if method == "POST":
+            all_of.update({"Origin": self.origin, "Content-Type": "application/json"})
+        if own and self.cookie:
+            all_of.update({"Cookie": self.cookie, "X-Estserve-Token": self.token})
+        all_of.update(dict(headers))
+        connection = (
+            UnixConnection(self.path)
+            if self.path
+            else http.client.HTTPConnection(self.host, timeout=SECONDS)
+        )
+        connection.putrequest(method, path, skip_host=True, skip_accept_encoding=True)
+        for name, value in all_of.items():
+            for one in value if isinstance(value, list) else [value]:
+                if one is not None:
+                    connection.putheader(name, one)
+        payload = (
+            body if isinstance(body, bytes) else b"" if body is None else json.dumps(body).encode()
+        )
+        connection.putheader("Content-Length", str(len(payload)))
+        connection.endheaders(payload)
+        response = connection.getresponse()
+        if response.headers.get_content_type() == "text/event-stream":
+            return response
+        try:
+            return Answer(response)
+        finally:
+            connection.close()
+
+    def get(self, name, **query):
+        """Reads something of the page's API."""
+        words = "&".join(f"{key}={value}" for key, value in {"seat": self.seat, **query}.items())
+        return self.send("GET", f"/api/{name}?{words}")
+
+    def post(self, name, body, **options):
+        """Asks for something that may change things."""
+        return self.send("POST", f"/api/{name}", body, **options)
+
+    def enter(self, link, **options):
+        """Comes in by a link."""
+        answer = self.post("enter", {"link": link} if link else {}, **options)
+        if answer.status == 200:
+            self.cookie = answer.headers["Set-Cookie"].partition(";")[0]
+            self.token = answer.told["token"]
+        return answer
+
+    def login(self, user, *roles):
+        """Takes a seat."""
+        answer = self.post("login", {"user": user, "roles": list(roles)})
+        self.seat = answer.told.get("seat")
+        return answer.told
+
+    def ask(self, request_id, cmd, **keys):
+        """Asks for a command, under an id."""
+        return self.post(
+            "ask", {"seat": self.seat, "id": request_id, "command": {"cmd": cmd, **keys}}
+        ).told
+
+    def page(self):
+        """Another page of the same browser."""
+        other = Visitor(self.host, self.path)
+        other.cookie, other.token = self.cookie, self.token
+        return other
+
+    def events(self):
+        """The live events, as pairs of a name and a value."""
+        response = self.send("GET", f"/api/events?seat={self.seat}")
+        name = ""
+        while True:
+            line = response.readline().decode()
+            if not line:
+                return
+            line = line.rstrip("\n")
+            if line.startswith("event: "):
+                name = line[7:]
+            elif line.startswith("data: "):
+                yield name, json.loads(line[6:])
+
+
+def visitor_of(team, user=None, *roles):
+    """A visitor who has come in, and has a seat where a user is named."""
+    visitor = Visitor(address_of(team))
+    answer = visitor.enter(link_of(team))
+    if answer.status != 200:
+        raise AssertionError(answer.body)
+    if user:
+        visitor.login(user, *roles)
+    return visitor
+
+
+def set_up(team):
+    """The policy and the controller of examples/team, in slot 0."""
+    from estserve_client.policy_file import read_policy
+
+    folder = teams.ROOT / "examples" / "team"
+    with team.root() as client:
+        for wish in read_policy((folder / "team.toml").read_text()):
+            client.ask(**wish.command)
+        client.load(0, "TEAM", (folder / "team.strl").read_text())
+        client.logout()
