@@ -9,7 +9,7 @@ PREFIX ?= /usr/local
 # rt ci proves as many crates side by side as RT_JOBS says, each by one job: a second job at one crate costs more than it saves.
 CORES := $(shell nproc)
 
-.PHONY: help try run build abro examples client socket documents test bench faults times install
+.PHONY: help try run build abro examples client socket gateway documents test bench faults times install
 
 help:
 	@echo 'make try       run the opening script on the program as it stands, built WITHOUT proof: about a minute'
@@ -20,6 +20,7 @@ help:
 	@echo 'make examples  run each script and controller of examples on the program, built without proof, and compare its answers'
 	@echo 'make client    the tests of the client and of the tutorial, on the program built WITHOUT proof'
 	@echo 'make socket    the tests of the server over its socket, on the program built WITHOUT proof'
+	@echo 'make gateway   the tests of the team'"'"'s gateway and its page, on the program built WITHOUT proof'
 	@echo 'make abro      the waves of ABRO, by the client, on the program built WITHOUT proof: about a minute, and at once from then on'
 	@echo 'make install   put the proved program, the client, its page of the manual and completions under PREFIX (/usr/local)'
 	@echo 'make documents write the lists of docs/generated anew from the sources'
@@ -53,6 +54,9 @@ client:
 socket:
 	tests/socket/run
 
+gateway:
+	tests/gateway/run
+
 documents:
 	python3 scripts/reading_list.py
 	python3 scripts/wrong_bodies.py
@@ -61,7 +65,7 @@ documents:
 test:
 	python3 tests/documents.py
 	$(MAKE) --no-print-directory examples
-	python3 scripts/trial.py sh -c 'clients/tests/run && tests/socket/run && tests/journals/walk'
+	python3 scripts/trial.py sh -c 'clients/tests/run && tests/socket/run && tests/journals/walk && tests/gateway/run'
 	python3 tests/journals/run
 	python3 tests/must-not-compile/run
 	RT_JOBS=$(CORES) rt ci
