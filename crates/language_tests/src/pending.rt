@@ -1,166 +1,173 @@
 //! Offers under relations. The interface is `input A, B, C; output O`.
 
+use crate::told::{expect_holds, expect_told};
 use est_kernel::interface::{Declaration, Interface, Kind, MOST_SIGNALS};
 use est_kernel::statement::InterfaceSignal;
 use est_relations::pending::Pending;
 use est_relations::refusal::Refusal;
-use est_relations::relations::{Members, Relation, Relations};
+use est_relations::relations::{MOST_RELATIONS, Members, Relation, Relations};
 use est_text::identifier::Identifier;
 use std::alloc::Global;
 use std::process::Abort;
-use std::test::Fail;
 
-const A: InterfaceSignal = InterfaceSignal { index: 0 };
-
-const B: InterfaceSignal = InterfaceSignal { index: 1 };
-
-const C: InterfaceSignal = InterfaceSignal { index: 2 };
+/// A copy of a text.
+fn text(rt: &impl Abort, alloc: Global, text: &str) -> String {
+    String::from_str(alloc, text).expect(rt, "room")
+}
 
 fn name(rt: &impl Abort, text: &str) -> Identifier {
     Identifier::from_text(text).expect(rt, "an identifier")
 }
 
-fn interface(rt: &impl Abort, alloc: Global) -> Result<Interface, Fail> {
+/// Declares a signal.
+fn declare(rt: &impl Abort, interface: &mut Interface, text: &str, kind: Kind) {
+    let name = name(rt, text);
+    assert!(rt; interface.len() < MOST_SIGNALS && !interface.has(&name));
+    interface
+        .declare(Declaration { name, kind })
+        .expect(rt, "room");
+}
+
+fn interface(rt: &impl Abort, alloc: Global) -> Interface {
     let mut interface = Interface::new(alloc);
-    for (text, kind) in [
-        ("A", Kind::Input),
-        ("B", Kind::Input),
-        ("C", Kind::Input),
-        ("O", Kind::Output),
-    ] {
-        let name = name(rt, text);
-        if interface.len() >= MOST_SIGNALS || interface.has(&name) {
-            return Err(Fail::from("no room for the name"));
-        }
-        interface.declare(Declaration { name, kind })?;
+    for input in "A B C".split(' ') {
+        declare(rt, &mut interface, input, Kind::Input);
     }
-    Ok(interface)
+    declare(rt, &mut interface, "O", Kind::Output);
+    interface
 }
 
-/// `A # B`, in the order that is given.
-fn exclusion(
-    alloc: Global,
-    first: InterfaceSignal,
-    second: InterfaceSignal,
-) -> Result<Relation, Fail> {
+fn signal(rt: &impl Abort, interface: &Interface, text: &str) -> InterfaceSignal {
+    interface.find(&name(rt, text)).expect(rt, "a signal")
+}
+
+/// The relation of a text, `A # B` or `A => B`.
+fn relation(rt: &impl Abort, alloc: Global, interface: &Interface, text: &str) -> Relation {
+    if let Some((condition, implied)) = text.split_once(" => ") {
+        return Relation::Implication(
+            signal(rt, interface, condition),
+            signal(rt, interface, implied),
+        );
+    }
     let mut members = Members::new(alloc);
-    members.push(first)?;
-    members.push(second)?;
-    Ok(Relation::Exclusion(members))
+    for member in text.split(" # ") {
+        members
+            .push(signal(rt, interface, member))
+            .expect(rt, "room");
+    }
+    Relation::Exclusion(members)
 }
 
-/// One relation or two.
-fn relations(alloc: Global, first: Relation, second: Option<Relation>) -> Result<Relations, Fail> {
+/// The relations of a text, with commas between them.
+fn relations(rt: &impl Abort, alloc: Global, interface: &Interface, text: &str) -> Relations {
     let mut relations = Relations::new(alloc);
-    relations.push(first)?;
-    if let Some(second) = second {
-        relations.push(second)?;
+    for part in text.split(", ") {
+        let next = relation(rt, alloc, interface, part);
+        assert!(rt; relations.as_slice().len() < MOST_RELATIONS);
+        relations.push(next).expect(rt, "room");
     }
-    Ok(relations)
+    relations
 }
 
-/// Nothing is pending; the relations have to be between inputs.
-fn none_pending<'a>(
+/// Relations, and what is done under them in turn with what is answered: a name is offered, `inputs` shows what is
+/// pending, with A as the last digit.
+const OFFERS: [(&str, &str); 4] = [
+    (
+        "A # B",
+        "A: Ok; X: UnknownSignal; O: NotInput; A: AlreadyOffered; B: Excluded by 1 A; C: Ok; ready: Ok; \
+         inputs: 101; clear: Ok; B: Ok; inputs: 10",
+    ),
+    (
+        "A => C",
+        "ready: Ok; A: Ok; ready: Implied by 1 C; C: Ok; ready: Ok; inputs: 101",
+    ),
+    (
+        "A # B, B => C",
+        "B: Ok; ready: Implied by 2 C; A: Excluded by 1 B; clear: Ok; A: Ok; ready: Ok; inputs: 1",
+    ),
+    // a signal does not exclude itself
+    ("A # A", "A: Ok; B: Ok; ready: Ok"),
+];
+
+/// A refusal that names a relation and a signal, as text.
+fn named(
     rt: &impl Abort,
-    interface: &'a Interface,
-    relations: &'a Relations,
-) -> Pending<'a> {
-    assert!(rt; relations.are_over_inputs(interface));
-    Pending::new(interface, relations)
+    alloc: Global,
+    refusal: &str,
+    relation: u8,
+    signal: &Identifier,
+) -> String {
+    format!(in alloc; "{refusal} {relation} {}", signal.as_str()).expect(rt, "room")
 }
 
-#[test]
-fn exclusions(rt: HostRuntime) -> Result<(), Fail> {
-    let interface = interface(&rt, rt.alloc())?;
-    let relations = relations(rt.alloc(), exclusion(rt.alloc(), A, B)?, None)?;
-    let mut pending = none_pending(&rt, &interface, &relations);
-    assert_eq!(rt; pending.offer(&name(&rt, "A")), Ok(()));
-    let excluded = Refusal::Excluded {
-        relation: 1,
-        signal: name(&rt, "A"),
-    };
-    for (text, answer) in [
-        ("X", Err(Refusal::UnknownSignal)),
-        ("O", Err(Refusal::NotInput)),
-        ("A", Err(Refusal::AlreadyOffered)),
-        ("B", Err(excluded)),
-        ("C", Ok(())),
-    ] {
-        assert_eq!(rt; pending.offer(&name(&rt, text)), answer, "offer of {text}");
+/// An answer as text.
+fn told(rt: &impl Abort, alloc: Global, answer: &Result<(), Refusal>) -> String {
+    match answer {
+        Ok(()) => text(rt, alloc, "Ok"),
+        Err(Refusal::UnknownSignal) => text(rt, alloc, "UnknownSignal"),
+        Err(Refusal::NotInput) => text(rt, alloc, "NotInput"),
+        Err(Refusal::AlreadyOffered) => text(rt, alloc, "AlreadyOffered"),
+        Err(Refusal::Excluded { relation, signal }) => {
+            named(rt, alloc, "Excluded by", *relation, signal)
+        }
+        Err(Refusal::Implied { relation, missing }) => {
+            named(rt, alloc, "Implied by", *relation, missing)
+        }
     }
-    assert_eq!(rt; pending.ready(), Ok(()));
-    assert_eq!(rt; pending.inputs(), 0b101);
-    pending.clear();
-    assert_eq!(rt; pending.offer(&name(&rt, "B")), Ok(()));
-    assert_eq!(rt; pending.inputs(), 0b010);
-    Ok(())
+}
+
+/// Does what the word says, and tells the answer.
+fn ask(rt: &impl Abort, alloc: Global, pending: &mut Pending<'_>, word: &str) -> String {
+    match word {
+        "ready" => told(rt, alloc, &pending.ready()),
+        "inputs" => format!(in alloc; "{:b}", pending.inputs()).expect(rt, "room"),
+        "clear" => {
+            pending.clear();
+            told(rt, alloc, &Ok(()))
+        }
+        _ => told(rt, alloc, &pending.offer(&name(rt, word))),
+    }
+}
+
+/// Follows the steps of a row; the relations have to be between inputs.
+fn follow(rt: &impl Abort, alloc: Global, written: &str, steps: &str) {
+    let interface = interface(rt, alloc);
+    let relations = relations(rt, alloc, &interface, written);
+    assert!(rt; relations.are_over_inputs(&interface));
+    let mut pending = Pending::new(&interface, &relations);
+    for step in steps.split("; ") {
+        let (word, answer) = step.split_once(": ").expect(rt, "a step");
+        let found = ask(rt, alloc, &mut pending, word);
+        expect_told(rt, found.as_str(), answer, step);
+    }
+}
+
+/// Follows the rows of a table.
+fn follow_each(rt: &impl Abort, alloc: Global, rows: &[(&str, &str)]) {
+    for (written, steps) in rows {
+        follow(rt, alloc, written, steps);
+    }
 }
 
 #[test]
-fn implications(rt: HostRuntime) -> Result<(), Fail> {
-    let interface = interface(&rt, rt.alloc())?;
-    let relations = relations(rt.alloc(), Relation::Implication(A, C), None)?;
-    let mut pending = none_pending(&rt, &interface, &relations);
-    assert_eq!(rt; pending.ready(), Ok(()));
-    assert_eq!(rt; pending.offer(&name(&rt, "A")), Ok(()));
-    let implied = Refusal::Implied {
-        relation: 1,
-        missing: name(&rt, "C"),
-    };
-    assert_eq!(rt; pending.ready(), Err(implied));
-    assert_eq!(rt; pending.offer(&name(&rt, "C")), Ok(()));
-    assert_eq!(rt; pending.ready(), Ok(()));
-    assert_eq!(rt; pending.inputs(), 0b101);
-    Ok(())
+fn offers_under_relations(rt: HostRuntime) {
+    follow_each(&rt, rt.alloc(), &OFFERS);
 }
 
-/// `relation A # B, B => C`
-#[test]
-fn both_relations(rt: HostRuntime) -> Result<(), Fail> {
-    let interface = interface(&rt, rt.alloc())?;
-    let second = Some(Relation::Implication(B, C));
-    let relations = relations(rt.alloc(), exclusion(rt.alloc(), A, B)?, second)?;
-    let mut pending = none_pending(&rt, &interface, &relations);
-    assert_eq!(rt; pending.offer(&name(&rt, "B")), Ok(()));
-    let implied = Refusal::Implied {
-        relation: 2,
-        missing: name(&rt, "C"),
-    };
-    assert_eq!(rt; pending.ready(), Err(implied));
-    let excluded = Refusal::Excluded {
-        relation: 1,
-        signal: name(&rt, "B"),
-    };
-    assert_eq!(rt; pending.offer(&name(&rt, "A")), Err(excluded));
-    pending.clear();
-    assert_eq!(rt; pending.offer(&name(&rt, "A")), Ok(()));
-    assert_eq!(rt; pending.ready(), Ok(()));
-    assert_eq!(rt; pending.inputs(), 0b001);
-    Ok(())
+/// Relations, and whether they are between inputs.
+const OVER_INPUTS: [(&str, bool); 3] = [("A # B", true), ("A # O", false), ("A => O", false)];
+
+/// Fails where relations are between inputs and shouldn't be, or the other way round.
+fn expect_over_inputs(rt: &impl Abort, alloc: Global, rows: &[(&str, bool)]) {
+    let interface = interface(rt, alloc);
+    for (written, over_inputs) in rows {
+        let relations = relations(rt, alloc, &interface, written);
+        let holds = relations.are_over_inputs(&interface) == *over_inputs;
+        expect_holds(rt, holds, written);
+    }
 }
 
-/// `relation A # A`: a signal does not exclude itself.
 #[test]
-fn a_member_written_twice(rt: HostRuntime) -> Result<(), Fail> {
-    let interface = interface(&rt, rt.alloc())?;
-    let relations = relations(rt.alloc(), exclusion(rt.alloc(), A, A)?, None)?;
-    let mut pending = none_pending(&rt, &interface, &relations);
-    assert_eq!(rt; pending.offer(&name(&rt, "A")), Ok(()));
-    assert_eq!(rt; pending.offer(&name(&rt, "B")), Ok(()));
-    assert_eq!(rt; pending.ready(), Ok(()));
-    Ok(())
-}
-
-/// A relation over an output is found.
-#[test]
-fn relations_over_outputs(rt: HostRuntime) -> Result<(), Fail> {
-    let interface = interface(&rt, rt.alloc())?;
-    let output = InterfaceSignal { index: 3 };
-    let inputs = relations(rt.alloc(), exclusion(rt.alloc(), A, B)?, None)?;
-    assert!(rt; inputs.are_over_inputs(&interface));
-    let outputs = relations(rt.alloc(), exclusion(rt.alloc(), A, output)?, None)?;
-    assert!(rt; !outputs.are_over_inputs(&interface));
-    let implied = relations(rt.alloc(), Relation::Implication(A, output), None)?;
-    assert!(rt; !implied.are_over_inputs(&interface));
-    Ok(())
+fn relations_over_outputs(rt: HostRuntime) {
+    expect_over_inputs(&rt, rt.alloc(), &OVER_INPUTS);
 }
