@@ -215,9 +215,8 @@ class BorderTest(SharedTest):
                 visitor.post("ask", {**body, "id": host}, headers=headers).status, 200, host
             )
 
-    def test_what_is_no_request_is_refused_and_harms_nobody(self):
+    def test_what_is_no_request_is_refused(self):
         visitor = visitor_of(self.team, "root", "root")
-        number = visitor.get("here").told["session"]
         for body in (b"", b"{", b"[]", b'"x"', b"\xff", b"[" * 100_000, b'{"seat":NaN}', b"null"):
             self.assertEqual(visitor.post("ask", body).status, 400, body[:20])
         self.assertEqual(
@@ -228,6 +227,10 @@ class BorderTest(SharedTest):
         self.assertEqual(
             visitor.send("PUT", "/api/ask", {}, {"Origin": visitor.origin}).status, 405
         )
+
+    def test_what_is_no_command_is_refused_and_harms_nobody(self):
+        visitor = visitor_of(self.team, "root", "root")
+        number = visitor.get("here").told["session"]
         commands = [
             None,
             [],
