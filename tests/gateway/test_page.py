@@ -203,6 +203,7 @@ class PageTest(unittest.TestCase):
         self.one.wait_text(".facts", "all of it")
         label = self.one.find("svg.roles").get_attribute("aria-label")
         self.assertIn("lead above driver, lead above watcher", label)
+        self.shoot(self.one, "policy")
         self.one.type("#why-user", "ann")
         self.one.type("#why-object", "0.A")
         self.one.click("#why")
