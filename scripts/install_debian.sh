@@ -1,14 +1,16 @@
 #!/usr/bin/env bash
-# Installs the Debian packages that the gateway's page and its tests need: aiohttp, a browser, its driver.
-# It waits while another process installs packages. Where they can't be installed (no network, no root, no Debian)
-# it says so and ends with status 0: the tests that need them say that they were skipped.
+# Installs the Debian packages that the gateway's page and its tests need: aiohttp, a browser, its
+# driver. It waits while another process installs packages. Where they can't be installed (no
+# network, no root, no Debian) it says so and ends with status 0: the tests that need them say that
+# they were skipped.
 set -u
 PACKAGES="python3-aiohttp python3-selenium chromium chromium-driver"
 WAIT=300 # seconds for the lock of the package manager
 
 missing() {
     for package in $PACKAGES; do
-        dpkg-query --show --showformat='${db:Status-Status}\n' "$package" 2>/dev/null | grep -qx installed || echo "$package"
+        dpkg-query --show --showformat='${db:Status-Status}\n' "$package" 2> /dev/null \
+            | grep -qx installed || echo "$package"
     done
 }
 

@@ -49,7 +49,7 @@ class Page:
         return found[0] if found else None
 
     def wait(self, what, told="it"):
-        """The first answer of `what` that isn't None or false. Fails where there is none in time."""
+        """The first answer of `what` that isn't None or false. Fails where none comes in time."""
         from selenium.common.exceptions import WebDriverException
 
         end = time.monotonic() + SECONDS

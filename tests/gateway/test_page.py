@@ -15,7 +15,7 @@ FRAME = 1000 / 30  # milliseconds: a frame that is drawn in less looks smooth
 
 
 def wide_module():
-    """The text of a module of 32 inputs and 32 outputs, of which two do something, and the names."""
+    """The text of a module of 32 inputs and 32 outputs, of which two do something; the names."""
     inputs = [f"I{number}" for number in range(SIGNALS // 2)]
     outputs = [f"O{number}" for number in range(SIGNALS // 2)]
     declared = f"input {', '.join(inputs)}; output {', '.join(outputs)};"
@@ -104,7 +104,8 @@ class PageTest(unittest.TestCase):
         self.one.wait_text("#wave-told", "instant 300:")
         colours = self.one.run(
             "const c = document.querySelector('canvas'), pen = c.getContext('2d');"
-            "const seen = new Set(new Uint32Array(pen.getImageData(0, 0, c.width, c.height).data.buffer));"
+            "const { data } = pen.getImageData(0, 0, c.width, c.height);"
+            "const seen = new Set(new Uint32Array(data.buffer));"
             "return [c.width, c.height, seen.size]"
         )
         self.assertGreater(colours[0], 300)
@@ -136,7 +137,8 @@ class PageTest(unittest.TestCase):
         self.one.wait_text(".fault-line", "Lexical: no token stands at line 3, column 8")
         before = self.one.run(
             "const under = document.querySelector('.fault-line');"
-            "return [under.previousElementSibling.textContent, under.querySelector('code').textContent]"
+            "const texts = [under.previousElementSibling, under.querySelector('code')];"
+            "return texts.map((one) => one.textContent)"
         )
         self.assertEqual(before, ["output Ö;", "       ^"])
         area = self.one.find("#load-text")
@@ -201,6 +203,7 @@ class PageTest(unittest.TestCase):
         self.one.wait_text(".facts", "all of it")
         label = self.one.find("svg.roles").get_attribute("aria-label")
         self.assertIn("lead above driver, lead above watcher", label)
+        self.shoot(self.one, "policy")
         self.one.type("#why-user", "ann")
         self.one.type("#why-object", "0.A")
         self.one.click("#why")

@@ -215,9 +215,8 @@ class BorderTest(SharedTest):
                 visitor.post("ask", {**body, "id": host}, headers=headers).status, 200, host
             )
 
-    def test_what_is_no_request_is_refused_and_harms_nobody(self):
+    def test_what_is_no_request_is_refused(self):
         visitor = visitor_of(self.team, "root", "root")
-        number = visitor.get("here").told["session"]
         for body in (b"", b"{", b"[]", b'"x"', b"\xff", b"[" * 100_000, b'{"seat":NaN}', b"null"):
             self.assertEqual(visitor.post("ask", body).status, 400, body[:20])
         self.assertEqual(
@@ -228,6 +227,10 @@ class BorderTest(SharedTest):
         self.assertEqual(
             visitor.send("PUT", "/api/ask", {}, {"Origin": visitor.origin}).status, 405
         )
+
+    def test_what_is_no_command_is_refused_and_harms_nobody(self):
+        visitor = visitor_of(self.team, "root", "root")
+        number = visitor.get("here").told["session"]
         commands = [
             None,
             [],
@@ -332,7 +335,8 @@ class OnceTest(OwnTest):
         )
 
     def test_a_stop_logs_everyone_out(self):
-        visitor_of(self.team, "ann", "lead")
+        events = visitor_of(self.team, "ann", "lead").events()
+        slot_of(events, 0)
         visitor_of(self.team, "cho", "stepper")
         self.assertEqual(self.team.end(), 0)
         commands = [entry.command for entry in self.team.entries()]
@@ -434,6 +438,17 @@ class ReadsTest(OwnTest):
         self.assertTrue(log["more"])
         users = {one["user"] for one in self.root.get("who").told["holders"]}
         self.assertEqual(users, set(visitors.USERS))
+
+    def test_an_archive_begins_a_new_record(self):
+        self.cho.ask("a", "step", slot=0)
+        told = self.cho.post("archive", {"seat": self.cho.seat}).told
+        self.assertEqual(told["refusal"]["fault"], "NotAllowed")
+        self.assertEqual(self.root.post("archive", {"seat": self.root.seat}).told["ok"], "archive")
+        for visitor in (self.root, self.ann, self.bob, self.cho):
+            self.assertEqual(visitor.get("here").status, 410, "everyone was logged out")
+        self.cho.login("cho", "stepper")
+        self.assertEqual(slot_of(self.cho.events(), 0)["instants"], 1)
+        self.assertEqual(self.cho.ask("b", "step", slot=0)["reply"]["instant"], 2)
 
     def test_numbers_out_of_form_are_refused(self):
         for query in ({"slot": "x"}, {"slot": 16}, {"slot": -1}, {"slot": 0, "from": "", "to": 1}):

@@ -1,6 +1,7 @@
 """Parts of the page's server that need neither a gateway nor aiohttp: options, links, visits,
 sentences."""
 import argparse
+import asyncio
 import os
 import pathlib
 import sys
@@ -9,8 +10,10 @@ import unittest
 
 sys.path.insert(0, str(pathlib.Path(__file__).resolve().parents[2] / "clients"))
 from estserve_team import web  # noqa: E402
+from estserve_team.refusals import Refused  # noqa: E402
 from estserve_team.web.options import Bad, Options, read_options  # noqa: E402
 from estserve_team.web.refusing import refusal_of, sentence_of  # noqa: E402
+from estserve_team.web.seats import SILENT_SECONDS, Changes, Seat, Seats  # noqa: E402
 from estserve_team.web.visits import (
     LINK_SECONDS,
     VISIT_SECONDS,
@@ -18,6 +21,7 @@ from estserve_team.web.visits import (
     Visits,
     digest_of,
 )  # noqa: E402
+from estserve_team.words import Context  # noqa: E402
 
 
 class Clock:
@@ -177,6 +181,53 @@ class VisitsTest(unittest.TestCase):
         for text in ("", "[", "{}", '[["a"]]', '[[1,2,3,"x"]]'):
             self.path.write_text(text)
             self.assertIsNone(Visits(self.path, self.clock).find("a", "b"))
+
+
+class Share:
+    """A share of a login, for seats."""
+
+    def __init__(self):
+        self.is_over = False
+        self.left = 0
+
+    async def leave(self):
+        self.left += 1
+        raise Refused(1004, "Interrupted")
+
+
+class SeatsTest(unittest.TestCase):
+    def seat(self, seats):
+        seat = Seat("cookie", Context(None, None, Share()), Changes())
+        seats.add(seat)
+        return seat
+
+    def test_a_seat_whose_page_is_gone_is_given_up_once(self):
+        async def act():
+            seats = Seats()
+            gone, streaming, fresh = (self.seat(seats) for _ in range(3))
+            for seat in (gone, streaming):
+                seat.used -= SILENT_SECONDS + 1
+            streaming.streams = 1
+            seats.drop_silent()
+            await asyncio.sleep(0.01)
+            self.assertEqual([seat.share.left for seat in (gone, streaming, fresh)], [1, 0, 0])
+            self.assertIsNone(seats.find(gone.name, "cookie"))
+            self.assertIs(seats.find(fresh.name, "cookie"), fresh)
+            self.assertIsNone(seats.find(fresh.name, "another cookie"))
+            await seats.drop_all()
+            await gone.leave()
+            self.assertEqual([seat.share.left for seat in (gone, streaming, fresh)], [1, 1, 1])
+
+        asyncio.run(act())
+
+    def test_a_seat_of_a_login_that_is_over_is_not_found(self):
+        async def act():
+            seats = Seats()
+            seat = self.seat(seats)
+            seat.share.is_over = True
+            self.assertIsNone(seats.find(seat.name, "cookie"))
+
+        asyncio.run(act())
 
 
 class SentencesTest(unittest.TestCase):

@@ -1,4 +1,5 @@
 """A visitor of the page without a browser: HTTP by the standard library, for the tests."""
+import contextlib
 import http.client
 import importlib.util
 import json
@@ -49,6 +50,9 @@ class Team(teams.Team):
 
     def __exit__(self, *fault):
         super().__exit__(*fault)
+        if self.process is not None:
+            self.process.stdout.close()
+            self._told.close()
         self._memory.cleanup()
 
 
@@ -63,6 +67,16 @@ class UnixConnection(http.client.HTTPConnection):
         self.sock = socket.socket(socket.AF_UNIX)
         self.sock.settimeout(SECONDS)
         self.sock.connect(str(self._path))
+
+
+def plain_connection(host):
+    """HTTP over TCP."""
+    return http.client.HTTPConnection(host, timeout=SECONDS)
+
+
+def as_json(value):
+    """The bytes of a value."""
+    return json.dumps(value).encode()
 
 
 class Answer:
@@ -86,36 +100,31 @@ class Visitor:
         self.origin = f"http://{host}"
         self.cookie = self.token = self.seat = None
 
-    def send(self, method, path, body=None, headers=(), own=True):
-        """One request, with the visitor's own headers; `headers` replace them, None takes one away."""
+    def open(self, method, path, body=None, headers=()):
+        """A connection and the answer to one request on it, which has the visitor's own headers;
+        `headers` replace them, None takes one away."""
         all_of = {"Host": self.host}
         if method == "POST":
             all_of.update({"Origin": self.origin, "Content-Type": "application/json"})
-        if own and self.cookie:
+        if self.cookie:
             all_of.update({"Cookie": self.cookie, "X-Estserve-Token": self.token})
         all_of.update(dict(headers))
-        connection = (
-            UnixConnection(self.path)
-            if self.path
-            else http.client.HTTPConnection(self.host, timeout=SECONDS)
-        )
+        connection = UnixConnection(self.path) if self.path else plain_connection(self.host)
         connection.putrequest(method, path, skip_host=True, skip_accept_encoding=True)
-        for name, value in all_of.items():
-            for one in value if isinstance(value, list) else [value]:
-                if one is not None:
-                    connection.putheader(name, one)
-        payload = (
-            body if isinstance(body, bytes) else b"" if body is None else json.dumps(body).encode()
-        )
+        lists = [(name, one if isinstance(one, list) else [one]) for name, one in all_of.items()]
+        for name, value in [(name, value) for name, values in lists for value in values]:
+            if value is not None:
+                connection.putheader(name, value)
+        payload = body if isinstance(body, bytes) else b"" if body is None else as_json(body)
         connection.putheader("Content-Length", str(len(payload)))
         connection.endheaders(payload)
-        response = connection.getresponse()
-        if response.headers.get_content_type() == "text/event-stream":
-            return response
-        try:
+        return connection, connection.getresponse()
+
+    def send(self, method, path, body=None, headers=()):
+        """The answer to one request."""
+        connection, response = self.open(method, path, body, headers)
+        with contextlib.closing(connection):
             return Answer(response)
-        finally:
-            connection.close()
 
     def get(self, name, **query):
         """Reads something of the page's API."""
@@ -154,17 +163,15 @@ class Visitor:
 
     def events(self):
         """The live events, as pairs of a name and a value."""
-        response = self.send("GET", f"/api/events?seat={self.seat}")
-        name = ""
-        while True:
-            line = response.readline().decode()
-            if not line:
-                return
-            line = line.rstrip("\n")
-            if line.startswith("event: "):
-                name = line[7:]
-            elif line.startswith("data: "):
-                yield name, json.loads(line[6:])
+        connection, response = self.open("GET", f"/api/events?seat={self.seat}")
+        with contextlib.closing(connection), contextlib.closing(response):
+            name = ""
+            for line in iter(response.readline, b""):
+                word, _, value = line.decode().rstrip("\n").partition(": ")
+                if word == "event":
+                    name = value
+                elif word == "data":
+                    yield name, json.loads(value)
 
 
 def visitor_of(team, user=None, *roles):

@@ -90,12 +90,16 @@ class Seats:
         for seat in [one for one in self._seats.values() if one.cookie == cookie]:
             self.drop(seat)
 
-    async def drop_silent(self) -> None:
+    async def watch(self) -> None:
         """Gives up seats whose pages are gone, again and again."""
         while True:
             await asyncio.sleep(SILENT_SECONDS / 6)
-            for seat in [one for one in self._seats.values() if one.is_silent() or one.is_over]:
-                self.drop(seat)
+            self.drop_silent()
+
+    def drop_silent(self) -> None:
+        """Gives up the seats whose pages are gone."""
+        for seat in [one for one in self._seats.values() if one.is_silent() or one.is_over]:
+            self.drop(seat)
 
     async def drop_all(self) -> None:
         """Gives up all seats, and waits for their logouts."""

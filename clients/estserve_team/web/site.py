@@ -82,7 +82,7 @@ class Site:
             await web.SockSite(self._runner, one, shutdown_timeout=1.0).start()
         self._unlisten = self._gateway.listen(self._note)
         self._gateway.on_restart(self._wake_all)
-        self._dropping = asyncio.get_running_loop().create_task(self._seats.drop_silent())
+        self._dropping = asyncio.get_running_loop().create_task(self._seats.watch())
         places = [f"{self._options.place[0]}:{self.port}"] if self._options.place else []
         places += [self._options.socket] if self._options.socket else []
         self._gateway.log(f"the page is at {self.address}, served on {' and '.join(places)}")
