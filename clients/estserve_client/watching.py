@@ -55,6 +55,11 @@ def watch_files(paths: Sequence[str], act: Callable[[], None]) -> None:
 
 
 def wait_for_change(paths: Sequence[str], before: List[Stamp]) -> None:
-    """Waits until a file is another one, and then until it is there."""
-    while stamps_of(paths) == before or None in stamps_of(paths):
+    """Waits until a file is another one, and until two looks at all of them agree: a save may take two steps."""
+    last = before
+    while True:
         time.sleep(LOOKED)
+        now = stamps_of(paths)
+        if now != before and now == last and None not in now:
+            return
+        last = now
