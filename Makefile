@@ -85,6 +85,8 @@ bench: build
 	@python3 scripts/run.py echo_bench < crates/echo_bench/stdin > /dev/null
 	python3 bench/socket.py $(PROGRAM) $(ECHO)
 	python3 bench/closing.py $(PROGRAM)
+	python3 bench/waits.py $(PROGRAM)
+	python3 bench/gateway.py $(PROGRAM)
 
 faults:
 	python3 tests/faults/run
