@@ -3,7 +3,7 @@
 
 usage: waits.py PROGRAM [RUNS]
 
-PROGRAM is the built `crates/estserve/out/estserve`. One client grants and revokes 1,000 permissions, one line after the other,
+PROGRAM is the built `crates/estserve/out/estserve`. One client grants and revokes 1,000 permissions or more, one line after the other,
 and each answer is timed: first alone, and then while another client, on a connection of its own, loads a text that takes long
 into one slot, again and again: a module that runs another RUNS times (20 if left out). Printed are the greatest time of a load, the greatest wait of a grant alone and beside the loads,
 and what is hoped of their difference.
@@ -21,6 +21,7 @@ import time
 GRANTS = 1_000
 OUTPUTS = 1_000
 RUNS = int(sys.argv[2]) if len(sys.argv) > 2 else 20
+SECONDS = 3  # at least so long
 HOPED_MILLISECONDS = 5  # the greatest wait beside loads, over the greatest alone: at most
 
 
@@ -72,16 +73,16 @@ def load_again_and_again(path, begun, ended, times):
     times.put((longest, count))
 
 
-def greatest_wait(client):
-    """The greatest time of 1,000 grants and revocations in turn, in milliseconds."""
+def greatest_wait(client, seconds=0.0):
+    """The greatest time of 1,000 grants and revocations in turn, or of more in so many seconds, in milliseconds."""
     keys = {"object": "1.I", "op": "offer", "role": "root"}
     lines = [bench.line_of(command, **keys) for command in ("grant", "revoke")]
-    longest = 0.0
-    for number in range(GRANTS):
+    longest, number, end = 0.0, 0, time.perf_counter() + seconds
+    while number < GRANTS or number % 2 or time.perf_counter() < end:
         answer, took = answer_to(client, lines[number % 2])
         if b'"fault"' in answer:
             sys.exit(f"a grant was answered {answer!r}")
-        longest = max(longest, took)
+        longest, number = max(longest, took), number + 1
     return longest
 
 
@@ -93,7 +94,7 @@ def wait_beside_loads(path, client):
     loader.start()
     if not begun.wait(bench.WAIT_SECONDS):
         sys.exit("no load was answered")
-    longest = greatest_wait(client)
+    longest = greatest_wait(client, SECONDS)
     ended.set()
     load, count = times.get(timeout=bench.WAIT_SECONDS)
     loader.join()
@@ -108,10 +109,10 @@ def main():
             opening = [bench.line_of("login", roles=["root"], user="root")]
             opening += [bench.line_of("grant", object="0", op="load", role="root")]
             client.ask(opening, 1)
-            alone = greatest_wait(client)
+            alone = greatest_wait(client, SECONDS)
             beside, load, count = wait_beside_loads(path, client)
     more = beside - alone
-    print(f"{count} loads beside {GRANTS} grants; the longest load took {load:.1f} milliseconds")
+    print(f"{count} loads beside {GRANTS} grants or more; the longest load took {load:.1f} milliseconds")
     print(f"the longest wait of a grant: {alone:.2f} milliseconds alone, {beside:.2f} beside the loads")
     missed = "" if more <= HOPED_MILLISECONDS else ", MISSED"
     print(f"more beside the loads: {more:.2f} (hoped: at most {HOPED_MILLISECONDS}{missed})")
