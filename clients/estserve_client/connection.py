@@ -87,6 +87,10 @@ class CannotBeSent(Exception):
     """A command is one that no line can hold. Nothing was sent, and the connection goes on."""
 
 
+# the commands by which a connection's user or roles change
+LOGINS = ("login", "logout", "activate", "drop")
+
+
 class TooLong(CannotBeSent):
     """A command's line would have `length` bytes, which is more than a line may have."""
 
@@ -102,11 +106,15 @@ class NotText(CannotBeSent):
         super().__init__("a word of the command is not UTF-8")
 
 
+# One encoder and one decoder for all lines: making an encoder costs more than a line does.
+ENCODER = json.JSONEncoder(separators=(",", ":"), sort_keys=True, ensure_ascii=False)
+DECODER = json.JSONDecoder()
+
+
 def line_of(command: Answer) -> bytes:
     """The line of a command, a dictionary with its keys, with the LF. Raises TooLong, NotText."""
-    text = json.dumps(command, separators=(",", ":"), sort_keys=True, ensure_ascii=False)
     try:
-        line = text.encode()
+        line = ENCODER.encode(command).encode()
     except UnicodeEncodeError as fault:
         raise NotText() from fault
     if len(line) > LINE_BYTES:
@@ -119,12 +127,12 @@ def answer_of(line: bytes, cmd: Optional[str] = None) -> Answer:
     Raises Disconnected.
     """
     try:
-        answer = json.loads(line)
+        answer = DECODER.decode(line.decode())
     except (ValueError, RecursionError):
         answer = None
     if isinstance(answer, dict):
         done = answer.get("ok")
-        if {"code", "fault"} <= answer.keys() or (done is not None and done == (cmd or done)):
+        if (done is not None and done == (cmd or done)) or {"code", "fault"} <= answer.keys():
             return answer
     raise Disconnected(f"this is no answer of estserve: {line[:60].decode(errors='replace')!r}")
 
@@ -214,7 +222,8 @@ class Client:
 
     def _begin(self) -> None:
         """The counts of a connection on which nothing was sent yet."""
-        self._held = b""  # what was read after the last answer
+        self._lines: Deque[bytes] = collections.deque()  # answers that were read
+        self._held = b""  # what was read after them
         self._owed = 0  # this many answers come still
         self._cut = False  # whether a command may have been sent in part
         self._used = 0  # this many reads, about, the server has made
@@ -249,11 +258,11 @@ class Client:
 
     def _read_line(self) -> bytes:
         """The next answer's line. Raises Disconnected, TimedOut."""
-        while b"\n" not in self._held:
-            self._held += self._read_more()
-        line, _, self._held = self._held.partition(b"\n")
+        while not self._lines:
+            *lines, self._held = (self._held + self._read_more()).split(b"\n")
+            self._lines.extend(lines)
         self._owed -= 1
-        return line
+        return self._lines.popleft()
 
     def _read_more(self) -> bytes:
         """The next bytes that come. Raises Disconnected, TimedOut."""
@@ -388,8 +397,9 @@ class Client:
         """The answers to each group of a batch that was sent."""
         for group in batch:
             answers = [self._receive(command["cmd"]) for command in group]
-            for command in (asked for asked, answer in zip(group, answers) if "ok" in answer):
-                self._keep_login(command)
+            for command, answer in zip(group, answers):
+                if command["cmd"] in LOGINS and "ok" in answer:
+                    self._keep_login(command)
             yield answers
 
     def instant(self, slot: int, names: Iterable[str] = ()) -> Instant:
