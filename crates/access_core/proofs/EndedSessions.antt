@@ -13,7 +13,8 @@ use Rattle.access_core.specs.Needs.{Needs}
 use Rattle.access_core.proofs.Legality.{versions_rise, entry_allowed}
 
 -- whoever has what a command needs lives
-needs_life : (entries : List Entry) (slot session : ℕ) (command : SlotCommand) → Needs entries slot session command → IsLive entries session
+needs_life : (entries : List Entry) (slot session : ℕ) (command : SlotCommand) → Needs entries slot session command
+    → IsLive entries session
 needs_life entries slot session (Load main text) may = (may.user, may.lives)
 needs_life entries slot session (Offer signal) may = (may.user, may.lives)
 needs_life entries slot session Discard may = (may.user, may.lives)
@@ -23,16 +24,20 @@ needs_life entries slot session (Look n) live = live
 needs_life entries slot session Audit may = (may.user, may.lives)
 
 -- the first entries are more of them after fewer
-take_longer : (list : List Entry) (few many : ℕ) → few ≤ many → take few list ++ drop few (take many list) ≡ take many list
+take_longer : (list : List Entry) (few many : ℕ) → few ≤ many
+    → take few list ++ drop few (take many list) ≡ take many list
 take_longer list few many le =
-    subst (λ front. front ++ drop few (take many list) ≡ take many list) (take-take few many list le) (take-append-drop few (take many list))
+    subst (λ front. front ++ drop few (take many list) ≡ take many list) (take-take few many list le)
+    (take-append-drop few (take many list))
 
-pub adds_nothing : ((entries more : List Entry) (session : ℕ) → session ≤ logins entries → ¬ (IsLive entries session) → ¬ (IsLive (entries ++ more) session))
-    → (list : List Entry) (slot session version early late : ℕ) (journal : List SlotEntry) (x y : SlotEntry) → IsLegal list slot journal
-    → HasEnded list session version → early ≤ late → slice_get journal early ≡ Some x → slice_get journal late ≡ Some y
+pub adds_nothing : ((entries more : List Entry) (session : ℕ) → session ≤ logins entries → ¬ (IsLive entries session)
+    → ¬ (IsLive (entries ++ more) session))
+    → (list : List Entry) (slot session version early late : ℕ) (journal : List SlotEntry) (x y : SlotEntry)
+    → IsLegal list slot journal → HasEnded list session version → early ≤ late → slice_get journal early ≡ Some x → slice_get journal late ≡ Some y
     → version ≤ x.stamp.version → ¬ (y.stamp.session ≡ session)
 adds_nothing stays list slot session version early late journal x y legal has le there then reached same =
-    let later : version ≤ y.stamp.version = le_trans reached (versions_rise list slot journal legal early late x y le there then) in
+    let later : version ≤ y.stamp.version =
+    le_trans reached (versions_rise list slot journal legal early late x y le there then) in
     let live = needs_life (take y.stamp.version list) slot y.stamp.session (command_of y.action)
     (entry_allowed list slot journal legal late y then) in
     let live_there : IsLive (take version list ++ drop version (take y.stamp.version list)) session =

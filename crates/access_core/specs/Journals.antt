@@ -56,7 +56,8 @@ AreLegal list slot journal count =
 abbrev pub IsLegal : List Entry → (slot : ℕ) → List SlotEntry → Type 0
 IsLegal list slot journal = AreLegal list slot journal (length journal)
 
--- the session's number was given within the first so many entries of the policy list, and after these entries it doesn't live: it has ended
+-- the session's number was given within the first entries of the policy list, as many as the version says, and after these
+-- entries it doesn't live: it has ended
 pub record HasEnded (list : List Entry) (session version : ℕ) : Type 0 where
   pub given : session ≤ logins (take version list)
   pub ended : ¬ (IsLive (take version list) session)

@@ -134,8 +134,8 @@ access_rules entries session (Some permission) =
 abbrev pub load_rules : List Entry → (slot session : ℕ) → Rules Refusal
 load_rules entries slot session = access_rules entries session (Some (ToLoad, Slot slot))
 
--- what a session is answered that asks whether it may load the slot: what the load's entry is to bear, where the rules let pass;
--- else the refusal of the first that doesn't
+-- what a session is answered that asks whether it may load the slot: what the load's entry is to bear, where the rules
+-- let pass; else the refusal of the first that doesn't
 abbrev pub IsAdmitted : List Entry → (slot session : ℕ) → Result Stamp Refusal → Type 0
 IsAdmitted entries slot session answer =
     MatchResult answer (λ stamp. (stamp ≡ stamp_of entries session) × AllPass (load_rules entries slot session))

@@ -79,7 +79,8 @@ pub fn journals_are_legal()
         → Needs (take x.stamp.version list) slot x.stamp.session (command_of x.action) }
 {}
 
-/// Once the versions of a slot have reached the end of a session, no later entry of that slot is that session's.
+/// Once the versions of a slot have reached the end of a session, no later entry of that slot is
+/// that session's.
 pub fn ended_sessions_add_nothing()
     ensures { (list : List Entry) (slot session version early late : ℕ) (journal : List SlotEntry)
         (x y : SlotEntry)

@@ -456,9 +456,11 @@ fn check_access(
     Err(Refusal::Permission { operation, object })
 }
 
-/// Asks whether this session may load the slot, at the policy as it is. Answers what the load's entry is to bear.
+/// Asks whether this session may load the slot, at the policy as it is. Answers what the load's
+/// entry is to bear.
 ///
-/// What a load does after this needs no policy: `load_admitted` does it, however long its text takes.
+/// What a load does after this needs no policy: `load_admitted` does it, however long its text
+/// takes.
 ///
 /// # Errors
 ///
@@ -471,7 +473,8 @@ pub fn admit_load(policy: &Policy, slot: SlotNumber, session: SessionId) -> Resu
     Ok(stamp(policy, session))
 }
 
-/// Answers a load of the slot by what `admit_load` answered: as `decide_slot` answers it at that policy.
+/// Answers a load of the slot by what `admit_load` answered: as `decide_slot` answers it at that
+/// policy.
 pub fn load_admitted(
     admitted: Result<Stamp, Refusal>,
     slot: &mut Slot,

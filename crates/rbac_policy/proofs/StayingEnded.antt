@@ -1,8 +1,8 @@
 -- Sessions that have ended don't live again.
-use Rattle.std.proofs.Common.{◌≡◌, ℕ, ◌+◌, ◌≤◌, List, [], ◌∷◌, ◌++◌, inl, inr, arith, sym, subst}
+use Rattle.std.proofs.Common.{ℕ, ◌≤◌, List, [], ◌∷◌, ◌++◌, inl, inr, arith, sym, subst}
 use Rattle.std.proofs.lemmas.List.{append_assoc, append-nil}
 use Rattle.rbac_policy.specs.declared.commands.Entry.{Entry}
-use Rattle.rbac_policy.specs.Entries.{logins, is_login}
+use Rattle.rbac_policy.specs.Entries.{logins}
 use Rattle.rbac_policy.specs.Facts.{IsLive}
 use Rattle.rbac_policy.proofs.Lives.{lives_after}
 use Rattle.rbac_policy.proofs.Untouched.{logins_push}
@@ -19,6 +19,7 @@ pub stays_ended : (L more : List Entry) (session : ℕ) → session ≤ logins L
     → ¬ (IsLive (L ++ more) session)
 stays_ended L [] session given ended live = ended (subst (λ l. IsLive l session) (append-nil L) live)
 stays_ended L (e ∷ more) session given ended live =
-    let still : session ≤ logins (L ++ e ∷ []) = subst (λ n. session ≤ n) (sym (logins_push L e)) (omega (arith, given)) in
+    let still : session ≤ logins (L ++ e ∷ []) =
+    subst (λ n. session ≤ n) (sym (logins_push L e)) (omega (arith, given)) in
     stays_ended (L ++ e ∷ []) more session still (ended_push L e session given ended)
     (subst (λ l. IsLive l session) (sym (append_assoc L (e ∷ []) more)) live)

@@ -45,8 +45,8 @@ impl<J: Naming, const NUMBER: u8> Model for LockedSlot<J, NUMBER> {
     ghost invariant = { λ s. (s.core.number ≡ NUMBER) × IsLegal s.reader NUMBER s.core.journal };
 }
 
-/// Answers a command on the slot at the policy that is read, and ends the read. A load ends it before its text is read, since
-/// every change of the policy waits for a read to end.
+/// Answers a command on the slot at the policy that is read, and ends the read. A load ends it
+/// before its text is read, since every change of the policy waits for a read to end.
 fn decide_and_leave<J: Naming>(
     reading: Reading<J>,
     slot: &mut Slot,
