@@ -21,7 +21,7 @@ help:
 	@echo 'make client    the tests of the client and of the tutorial, on the program built WITHOUT proof'
 	@echo 'make socket    the tests of the server over its socket, on the program built WITHOUT proof'
 	@echo 'make gateway   the tests of the team'"'"'s gateway and its page, on the program built WITHOUT proof'
-	@echo 'make abro      the waves of ABRO, by the client, on the program built WITHOUT proof: about a minute, and at once from then on'
+	@echo 'make abro      the waves of ABRO, by the client, on the program built WITHOUT proof: a minute or two, and at once from then on'
 	@echo 'make install   put the proved program, the client, its page of the manual and completions under PREFIX (/usr/local)'
 	@echo 'make documents write the lists of docs/generated anew from the sources'
 	@echo 'make bench     prove and build, and then time commands, instants, texts, policies and the socket, and see how loads take memory'
