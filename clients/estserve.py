@@ -248,12 +248,15 @@ def add_neighbours(commands: Any, asked: str) -> None:
             add_neighbour(commands, name, package, asked)
 
 
+ADDERS = {"run": add_run, "test": add_test, "shell": add_shell, "apply": add_apply}
+
+
 def make_parser(asked: str = "") -> Parser:
-    """The words of the command line, whose first one is `asked`."""
+    """The words of the command line, with the one command that is asked for, or else with all."""
     parser = Parser(prog=TELLER.name, description="The client of estserve.")
     parser.add_argument("--version", action="version", version=f"estserve-client {__version__}")
     commands = parser.add_subparsers(dest="command", required=True, metavar="COMMAND")
-    for add in (add_run, add_test, add_shell, add_apply):
+    for add in [ADDERS[asked]] if asked in ADDERS else ADDERS.values():
         add(commands)
     add_neighbours(commands, asked)
     return parser

@@ -23,7 +23,7 @@ if TYPE_CHECKING:
 
 BATCH_BYTES = 20_000  # two batches of commands, each an instant over this, fit into a pipe
 MOST_AT_ONCE = 512  # instants of a batch
-SOON, LATE = 0.02, 0.1  # a batch is longer after one that took less, and shorter after one over
+SOON, LATE = 0.05, 0.1  # a batch is longer after one that took less, and shorter after one over
 OFFERED = rb'\{"ok":"offer","place":\d+,"version":\d+\}\n'
 STEPPED = rb'\{"instant":\d+,"ok":"step","place":\d+,"version":\d+\}\n'
 LOOKED = rb'\{"instant":\d+,"ok":"look","signals":(\[.*\]),"version":\d+\}\n'

@@ -83,7 +83,8 @@ class Drawing:
         """Shows the rows that came since it was called last."""
         if self.rows:
             rows, self.rows = self.rows, []
-            print("\n".join(rows), flush=True)
+            sys.stdout.write("\n".join(rows) + "\n")
+            sys.stdout.flush()
 
     def end(self) -> None:
         """Draws what stands at the end. Raises Failed."""
