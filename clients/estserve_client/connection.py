@@ -220,7 +220,11 @@ class Client:
         """Ends the connection. The server logs its session out."""
         self._close()
 
-    def _send(self, lines: bytes, count: int) -> None:
+    def _send(self, lines: List[bytes]) -> None:
+        """Sends lines of commands at once. Raises Disconnected."""
+        self._write(b"".join(lines), len(lines))
+
+    def _write(self, lines: bytes, count: int) -> None:
         """Sends this many lines of commands. Raises Disconnected."""
         self._cut = True
         self._owed += count
@@ -364,7 +368,7 @@ class Client:
         """Sends a command on this very connection, and gives its answer. Raises Refusal,
         Disconnected, TimedOut.
         """
-        self._send(line_of(command), 1)
+        self._send([line_of(command)])
         answer = self._receive(command["cmd"])
         if "code" in answer:
             raise Refusal(answer, command)
@@ -396,7 +400,7 @@ class Client:
         for asked, lines, count in batches:
             if stopped():
                 break
-            self._send(lines, count)
+            self._write(lines, count)
             waiting.append(asked)
             if len(waiting) > 1:
                 yield from answers_to(waiting.popleft())
