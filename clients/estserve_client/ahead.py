@@ -21,7 +21,9 @@ if TYPE_CHECKING:
     from .connection import Answer, Batch, Client
     from .pictures import Instant
 
-BATCH_BYTES = 20_000  # two batches of commands, each an instant over this, fit into a pipe
+# Two batches of this many bytes, each with one instant more, fit into a pipe: so no write waits for
+# a program that itself waits until its answers are read.
+BATCH_BYTES = 20_000
 MOST_AT_ONCE = 512  # instants of a batch
 SOON, LATE = 0.05, 0.1  # a batch is longer after one that took less, and shorter after one over
 OFFERED = rb'\{"ok":"offer","place":\d+,"version":\d+\}\n'
@@ -82,10 +84,11 @@ class Ahead:
         asked, lines, count, size = [], [], 0, 0
         for number, names in itertools.islice(self.left, self.size):
             turn = self.turn_of(names)
+            look = b'{"cmd":"look","instant":%d,"slot":0}\n' % number
             asked.append((number, turn))
-            lines += turn.lines, b'{"cmd":"look","instant":%d,"slot":0}\n' % number
+            lines += turn.lines, look
             count += turn.count
-            size += len(turn.lines)
+            size += len(turn.lines) + len(look)
             if size >= BATCH_BYTES:
                 break
         return asked, b"".join(lines), count

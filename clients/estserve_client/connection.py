@@ -421,14 +421,14 @@ class Client:
         An input that is pending already is left so. Where an offer or the step is refused, as each
         of them can be, the inputs that were offered before stay pending.
         """
+        from .instants import Instant
+
         for name in names_of(names):
             try:
                 self.offer(slot, name)
             except Refusal as refusal:
                 if refusal.fault != "AlreadyOffered":
                     raise
-        from .instants import Instant
-
         number = self.step(slot)["instant"]
         try:
             return Instant(number, dict(self.look(slot, number)["signals"]))

@@ -8,7 +8,7 @@ if TYPE_CHECKING:
 MOST = 4_096
 
 
-class Known(dict):  # type: ignore[type-arg]
+class Known(dict):
     """Values by their keys, at most MOST at a time: all are given up where one more comes."""
 
     def add(self, key: Any, value: Any) -> Any:

@@ -146,13 +146,15 @@ class Batches(unittest.TestCase):
         return [lines.decode().count(STEP) for lines in program.sent]
 
     def test_they_grow_while_they_are_answered_soon(self):
-        program = Program()
-        instants_of(program, [["A" * 48, "B" * 48]] * 5_000)
-        steps = self.steps(program)
-        self.assertEqual((steps[:5], sum(steps)), ([1, 1, 2, 4, 8], 5_000))
-        pairs = zip(program.sent, program.sent[1:])
-        self.assertLess(max(len(one) + len(other) for one, other in pairs), PIPE * 7 // 8)
-        self.assertLess(len(steps), 100)
+        for names in ([], ["A", "B"], [f"S{number:047}" for number in range(64)]):
+            program = Program()
+            with unittest.mock.patch("time.monotonic", lambda: 0):
+                instants_of(program, [names] * 3_000)
+            steps = self.steps(program)
+            self.assertEqual((steps[:2], sum(steps)), ([1, 1], 3_000))
+            self.assertGreater(len(max(program.sent, key=len)), 20_000)
+            pairs = zip(program.sent, program.sent[1:])
+            self.assertLess(max(len(one) + len(other) for one, other in pairs), PIPE * 7 // 8)
 
     def test_they_are_short_where_instants_take_long(self):
         program = Program()
