@@ -19,6 +19,8 @@ from .connection import (
     start,
 )
 
+# What `run` imports does without typing, dataclasses, pathlib and shutil, whose imports take longer
+# than all others of a run together. Readers of types take this name for that of typing.
 TYPE_CHECKING = False
 if TYPE_CHECKING:
     from .applying import Applied
