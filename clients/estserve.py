@@ -20,35 +20,30 @@ Each command of docs/PROTOCOL.md is a method of `estserve.Client`; a refusal is 
 from __future__ import annotations
 
 import argparse
-import importlib
 import os
-import pathlib
 import sys
-from typing import Any, List, Optional
 
 import estserve_client
 from estserve_client import (
-    Applied,
-    BadPolicy,
     CannotBeSent,
     Client,
     Disconnected,
-    Instant,
     NotText,
     Refusal,
     TimedOut,
     TooLong,
     connect,
-    sentence,
     start,
 )
-from estserve_client.applying import apply
 from estserve_client.connection import READS
-from estserve_client.running import run
-from estserve_client.shell import shell
 from estserve_client.telling import TELLER
-from estserve_client.testing import test
 from estserve_client.texts import Failed
+
+TYPE_CHECKING = False
+if TYPE_CHECKING:
+    from typing import Any, List, Optional
+
+    from estserve_client import Applied, BadPolicy, Instant, sentence
 
 __version__ = estserve_client.__version__
 __all__ = [
@@ -66,14 +61,48 @@ __all__ = [
     "sentence",
     "start",
 ]
-# packages beside this file, which may be there, with subcommands of their own
-NEIGHBOURS = ("estserve_team",)
+# subcommands of packages beside this file, which may be there
+NEIGHBOURS = (("team", "estserve_team"),)
 Parser = argparse.ArgumentParser
 STREAMS = (
     ("stdin", "r", "surrogateescape"),
     ("stdout", "w", "backslashreplace"),
     ("stderr", "w", ""),
 )
+
+
+def __getattr__(name: str) -> object:
+    """A name of the package that it imports when it is first asked for. Raises AttributeError."""
+    if name not in __all__:
+        raise AttributeError(f"module {__name__!r} has no attribute {name!r}")
+    return getattr(estserve_client, name)
+
+
+# What each command does is imported when it is asked for.
+
+
+def run(arguments: argparse.Namespace) -> None:
+    from estserve_client import running
+
+    running.run(arguments)
+
+
+def test(arguments: argparse.Namespace) -> int:
+    from estserve_client import testing
+
+    return testing.test(arguments)
+
+
+def shell(arguments: argparse.Namespace) -> int:
+    from estserve_client import shell
+
+    return shell.shell(arguments)
+
+
+def apply(arguments: argparse.Namespace) -> None:
+    from estserve_client import applying
+
+    applying.apply(arguments)
 
 
 def add_program(parser: Any) -> None:
@@ -197,22 +226,39 @@ def add_apply(commands: Any) -> None:
     parser.set_defaults(act=apply)
 
 
-def add_neighbours(commands: Any) -> None:
-    """Adds the subcommands of the packages beside this file: each whose folder is there has a
-    module `command`, with a function `add_parser(subparsers)`.
+def add_neighbour(commands: Any, name: str, package: str, asked: str) -> None:
+    """Adds the subcommand of a package beside this file. The package has its HELP, and a module
+    `command` with a function `add_parser(subparsers)`, which is imported where it is asked for.
     """
-    for package in NEIGHBOURS:
-        if (pathlib.Path(__file__).resolve().parent / package).is_dir():
-            importlib.import_module(package + ".command").add_parser(commands)
+    import importlib
+
+    if asked == name:
+        importlib.import_module(package + ".command").add_parser(commands)
+    else:
+        commands.add_parser(name, help=importlib.import_module(package).HELP)
 
 
-def make_parser() -> Parser:
-    """The words of the command line."""
+def add_neighbours(commands: Any, asked: str) -> None:
+    """Adds the subcommands of packages whose folders are there, unless one that is there already is
+    asked for.
+    """
+    here = os.path.dirname(os.path.realpath(__file__))
+    for name, package in NEIGHBOURS:
+        if asked not in commands.choices and os.path.isdir(os.path.join(here, package)):
+            add_neighbour(commands, name, package, asked)
+
+
+ADDERS = {"run": add_run, "test": add_test, "shell": add_shell, "apply": add_apply}
+
+
+def make_parser(asked: str = "") -> Parser:
+    """The words of the command line, with the one command that is asked for, or else with all."""
     parser = Parser(prog=TELLER.name, description="The client of estserve.")
     parser.add_argument("--version", action="version", version=f"estserve-client {__version__}")
     commands = parser.add_subparsers(dest="command", required=True, metavar="COMMAND")
-    for add in (add_run, add_test, add_shell, add_apply, add_neighbours):
+    for add in [ADDERS[asked]] if asked in ADDERS else ADDERS.values():
         add(commands)
+    add_neighbours(commands, asked)
     return parser
 
 
@@ -243,7 +289,8 @@ def main(words: Optional[List[str]] = None) -> int:
     """Does what the words say. Answers the status: 0, or another one with one message on standard
     error.
     """
-    arguments = make_parser().parse_args(words)
+    words = sys.argv[1:] if words is None else words
+    arguments = make_parser(*words[:1]).parse_args(words)
     prepare_streams()
     try:
         status = arguments.act(arguments)

@@ -9,36 +9,41 @@ as `TooLong`, one that is no text as `NotText`.
 from __future__ import annotations
 
 import collections
-import dataclasses
 import io
 import json
 import os
-import pathlib
-import select
-import shutil
-import socket
-import subprocess
 import sys
-from typing import (
-    TYPE_CHECKING,
-    Any,
-    BinaryIO,
-    Callable,
-    Deque,
-    Dict,
-    Iterable,
-    Iterator,
-    List,
-    Optional,
-    Tuple,
-    Union,
-    cast,
-)
 
+TYPE_CHECKING = False  # stands for typing's, which takes its time to import
 if TYPE_CHECKING:
-    from .applying import Applied
+    from re import Match, Pattern
+    from typing import (
+        Any,
+        BinaryIO,
+        Callable,
+        Deque,
+        Dict,
+        Iterable,
+        Iterator,
+        List,
+        Optional,
+        Tuple,
+        TypeVar,
+        Union,
+    )
 
-ROOT = pathlib.Path(__file__).resolve().parents[2]  # of the repository
+    from .applying import Applied
+    from .instants import Instant
+
+    Answer = Dict[str, Any]
+    Batch = Tuple[Any, bytes, int]  # what was asked, the lines that ask it, and how many they are
+    # answers, commands, and what ends both
+    Channel = Tuple[io.BufferedIOBase, BinaryIO, Callable[[], None]]
+    Path = Union[str, "os.PathLike[str]"]
+    Came = TypeVar("Came")
+
+# of the repository
+ROOT = os.path.dirname(os.path.dirname(os.path.dirname(os.path.realpath(__file__))))
 LINE_BYTES = 65_536  # a command's line may have this many bytes before its LF
 AHEAD_BYTES = 24_000  # commands are sent ahead in batches whose answers have about this many bytes
 END_SECONDS = (
@@ -46,9 +51,6 @@ END_SECONDS = (
 )
 READS = 1_000_000  # a connection ends after this many reads of the server
 READ_BYTES = 4_096  # what is sent at once may take the server a read for each of these
-
-Answer = Dict[str, Any]
-Path = Union[str, "os.PathLike[str]"]
 
 
 class Refusal(Exception):
@@ -137,26 +139,6 @@ def answer_of(line: bytes, cmd: Optional[str] = None) -> Answer:
     raise Disconnected(f"this is no answer of estserve: {line[:60].decode(errors='replace')!r}")
 
 
-@dataclasses.dataclass(frozen=True)
-class Instant:
-    """What came of an instant: its number from 1, and the signals that the session may observe, by
-    their names.
-    """
-
-    number: int
-    signals: Dict[str, bool]
-
-    @property
-    def present(self) -> List[str]:
-        """The names of the signals that were present, in declaration order."""
-        return [name for name, is_present in self.signals.items() if is_present]
-
-
-Channel = Tuple[
-    io.BufferedIOBase, BinaryIO, Callable[[], None]
-]  # answers, commands, and what ends both
-
-
 def names_of(names: Iterable[str]) -> List[str]:
     """A list of names. Raises TypeError where one name stands for the list."""
     if isinstance(names, str):
@@ -164,23 +146,23 @@ def names_of(names: Iterable[str]) -> List[str]:
     return list(names)
 
 
-def batches_of(groups: Iterable[List[Answer]]) -> Iterator[List[List[Answer]]]:
-    """Groups of commands, gathered into batches that are sent at once.
+def batches_of(commands: Iterable[Answer]) -> Iterator[Batch]:
+    """Commands, gathered into batches that are sent at once.
 
     Two batches and their answers fill no pipe: the answer to a look, which has each signal, is the
     longest.
     """
-    batch: List[List[Answer]] = []
+    batch: List[Answer] = []
     size = 0
-    for group in groups:
-        weight = sum(4_000 if command["cmd"] == "look" else 300 for command in group)
+    for command in commands:
+        weight = 4_000 if command["cmd"] == "look" else 300
         if batch and size + weight > AHEAD_BYTES:
-            yield batch
+            yield batch, b"".join(map(line_of, batch)), len(batch)
             batch, size = [], 0
-        batch.append(group)
+        batch.append(command)
         size += weight
     if batch:
-        yield batch
+        yield batch, b"".join(map(line_of, batch)), len(batch)
 
 
 class Client:
@@ -212,18 +194,18 @@ class Client:
         An answer is waited for `timeout` seconds, or for as long as it takes. The server ends a
         connection after `reads` reads: shortly before, `again()` makes a new one, where it is
         given, on which the same user logs in with the same roles. Then `when_renewed` is called
-        with the answer to that login.
+        with the answer to that login. `when_waiting` is called before each read.
         """
         self._reader, self._writer, self._close = reader, writer, close
         self.timeout, self._again, self.reads = timeout, again, reads
         self.when_renewed: Callable[[Answer], None] = lambda answer: None
+        self.when_waiting: Callable[[], None] = lambda: None
         self._login: Optional[Tuple[str, List[str]]] = None  # the user and the active roles
         self._begin()
 
     def _begin(self) -> None:
         """The counts of a connection on which nothing was sent yet."""
-        self._lines: Deque[bytes] = collections.deque()  # answers that were read
-        self._held = b""  # what was read after them
+        self._held, self._at = b"", 0  # what was read, and up to where it was given away
         self._owed = 0  # this many answers come still
         self._cut = False  # whether a command may have been sent in part
         self._used = 0  # this many reads, about, the server has made
@@ -239,12 +221,16 @@ class Client:
         self._close()
 
     def _send(self, lines: List[bytes]) -> None:
+        """Sends lines of commands at once. Raises Disconnected."""
+        self._write(b"".join(lines), len(lines))
+
+    def _write(self, lines: bytes, count: int) -> None:
+        """Sends this many lines of commands. Raises Disconnected."""
         self._cut = True
-        self._owed += len(lines)
-        sent = b"".join(lines)
-        self._used += 1 + len(sent) // READ_BYTES
+        self._owed += count
+        self._used += 1 + len(lines) // READ_BYTES
         try:
-            self._writer.write(sent)
+            self._writer.write(lines)
             self._writer.flush()
         except (OSError, ValueError) as fault:
             raise Disconnected("the server has gone away") from fault
@@ -258,19 +244,39 @@ class Client:
 
     def _read_line(self) -> bytes:
         """The next answer's line. Raises Disconnected, TimedOut."""
-        while not self._lines:
-            *lines, self._held = (self._held + self._read_more()).split(b"\n")
-            self._lines.extend(lines)
+        while (end := self._held.find(b"\n", self._at)) < 0:
+            self._hold_more()
+        line = self._held[self._at : end]
+        self._at = end + 1
         self._owed -= 1
-        return self._lines.popleft()
+        return line
+
+    def _hold_more(self) -> None:
+        """Reads once, and holds what comes. Raises Disconnected, TimedOut."""
+        more = self._read_more()
+        self._held, self._at = self._held[self._at :] + more, 0
+
+    def match_answers(self, form: Pattern[bytes], count: int) -> Optional[Match[bytes]]:
+        """Waits for this many answers, and gives the match where their lines have this form.
+
+        They are still to be received, or passed by `pass_answers`. Raises Disconnected, TimedOut.
+        """
+        while True:
+            found = form.match(self._held, self._at)
+            if found or self._held.count(b"\n", self._at) >= count:
+                return found
+            self._hold_more()
+
+    def pass_answers(self, found: Match[bytes], count: int) -> None:
+        """Takes this many answers as received, whose lines were matched."""
+        self._at = found.end()
+        self._owed -= count
 
     def _read_more(self) -> bytes:
         """The next bytes that come. Raises Disconnected, TimedOut."""
+        self.when_waiting()
         try:
-            if (
-                self.timeout is not None
-                and not select.select([self._reader], [], [], self.timeout)[0]
-            ):
+            if self.timeout is not None and not self._comes_within(self.timeout):
                 raise TimedOut(self.timeout)
             more = self._reader.read1(LINE_BYTES)
         except (OSError, ValueError) as fault:
@@ -278,6 +284,12 @@ class Client:
         if not more:
             raise Disconnected(self._ended())
         return more
+
+    def _comes_within(self, seconds: float) -> bool:
+        """Whether bytes come in this time."""
+        import select
+
+        return bool(select.select([self._reader], [], [], seconds)[0])
 
     def _ended(self) -> str:
         """What is said of a connection that the server has ended."""
@@ -369,38 +381,39 @@ class Client:
         Each command is a dictionary, with its name as `cmd`. Raises Disconnected, TimedOut,
         TooLong, NotText.
         """
-        groups = [[command] for command in commands]
-        return [answer for answers in self.ask_ahead(groups) for answer in answers]
+        return list(self.ask_ahead(batches_of(commands), self.answers_to))
 
     def ask_ahead(
-        self, groups: Iterable[List[Answer]], stopped: Callable[[], bool] = lambda: False
-    ) -> Iterator[List[Answer]]:
-        """Sends groups of commands ahead of their answers, and gives the answers to each group as
-        they come.
+        self,
+        batches: Iterable[Batch],
+        answers_to: Callable[[Any], Iterator[Came]],
+        stopped: Callable[[], bool] = lambda: False,
+    ) -> Iterator[Came]:
+        """Sends batches of commands, each before the answers to the one before are received, and
+        gives what `answers_to` makes of the answers to each.
 
         No more is sent once `stopped()`; what was sent is still answered. Raises as `ask_all`.
         """
         self._pass_over()
         self._renew_in_time()
-        waiting: Deque[List[List[Answer]]] = collections.deque()
-        for batch in batches_of(groups):
+        waiting: Deque[Any] = collections.deque()
+        for asked, lines, count in batches:
             if stopped():
                 break
-            self._send([line_of(command) for group in batch for command in group])
-            waiting.append(batch)
+            self._write(lines, count)
+            waiting.append(asked)
             if len(waiting) > 1:
-                yield from self._answers_to(waiting.popleft())
-        for batch in waiting:
-            yield from self._answers_to(batch)
+                yield from answers_to(waiting.popleft())
+        for asked in waiting:
+            yield from answers_to(asked)
 
-    def _answers_to(self, batch: List[List[Answer]]) -> Iterator[List[Answer]]:
-        """The answers to each group of a batch that was sent."""
-        for group in batch:
-            answers = [self._receive(command["cmd"]) for command in group]
-            for command, answer in zip(group, answers):
-                if command["cmd"] in LOGINS and "ok" in answer:
-                    self._keep_login(command)
-            yield answers
+    def answers_to(self, commands: List[Answer]) -> Iterator[Answer]:
+        """The answers to commands that were sent."""
+        for command in commands:
+            answer = self._receive(command["cmd"])
+            if command["cmd"] in LOGINS and "ok" in answer:
+                self._keep_login(command)
+            yield answer
 
     def instant(self, slot: int, names: Iterable[str] = ()) -> Instant:
         """Offers these inputs, steps, and gives the `Instant` that came of it.
@@ -408,6 +421,8 @@ class Client:
         An input that is pending already is left so. Where an offer or the step is refused, as each
         of them can be, the inputs that were offered before stay pending.
         """
+        from .instants import Instant
+
         for name in names_of(names):
             try:
                 self.offer(slot, name)
@@ -613,6 +628,8 @@ def close_all(files: Iterable[Any]) -> None:
 
 def open_socket(path: Path) -> Channel:
     """What a connection to the server at this path is. Raises Disconnected."""
+    import socket
+
     connection = socket.socket(socket.AF_UNIX, socket.SOCK_STREAM)
     try:
         connection.connect(os.fspath(path))
@@ -642,22 +659,26 @@ def find_program(named: Optional[Path] = None) -> Path:
     """
     if named or os.environ.get("ESTSERVE"):
         return named or os.environ["ESTSERVE"]
-    built = ROOT / "crates" / "estserve" / "out" / "estserve"
-    beside = pathlib.Path(sys.argv[0]).resolve().parent / "estserve"
-    program = (
-        str(built) if built.exists() else shutil.which("estserve") or shutil.which(str(beside))
-    )
-    if program is None:
+    program = os.path.join(ROOT, "crates", "estserve", "out", "estserve")
+    if os.path.exists(program):
+        return program
+    import shutil
+
+    beside = os.path.join(os.path.dirname(os.path.realpath(sys.argv[0])), "estserve")
+    found = shutil.which("estserve") or shutil.which(beside)
+    if found is None:
         raise Disconnected(
             "there is no program estserve: build it by `make build`, or name it by --program"
         )
-    return program
+    return found
 
 
 def unproved_program() -> Path:
     """The program, built without proof by scripts/trial.py, which keeps it. Raises Disconnected."""
+    import subprocess
+
     try:
-        words = [sys.executable, str(ROOT / "scripts" / "trial.py"), "--path"]
+        words = [sys.executable, os.path.join(ROOT, "scripts", "trial.py"), "--path"]
         ran = subprocess.run(words, stdout=subprocess.PIPE, text=True)
     except OSError as fault:
         raise Disconnected(f"scripts/trial.py cannot be run: {fault.strerror or fault}") from fault
@@ -673,6 +694,8 @@ def start(program: Optional[Path] = None, timeout: Optional[float] = None) -> Cl
     An answer is waited for `timeout` seconds, or for as long as it takes. The program is in a
     process group of its own, so that Ctrl-C interrupts the client and not the program.
     """
+    import subprocess
+
     command = [find_program(program), "script"]
     try:
         child = subprocess.Popen(
@@ -692,5 +715,5 @@ def start(program: Optional[Path] = None, timeout: Optional[float] = None) -> Cl
             child.kill()
             child.wait()
 
-    answers, commands = cast(io.BufferedIOBase, child.stdout), cast(BinaryIO, child.stdin)
-    return Client(answers, commands, close, timeout)
+    assert isinstance(child.stdout, io.BufferedReader) and child.stdin
+    return Client(child.stdout, child.stdin, close, timeout)

@@ -1,14 +1,18 @@
 """How a run is drawn while its instants come, and at its end."""
 from __future__ import annotations
 
-import shutil
 import sys
 import time
-from typing import FrozenSet, List, Optional, TextIO
 
-from .pictures import Instant, Seen, Table, vcd_lines, wave_lines
-from .stage import Scenario
+from .pictures import Table, vcd_lines, wave_lines
 from .texts import write_lines
+
+TYPE_CHECKING = False
+if TYPE_CHECKING:
+    from typing import FrozenSet, Iterable, List, Optional, TextIO
+
+    from .pictures import Instant, Seen
+    from .stage import Scenario
 
 PATIENCE, RENEWED = 1.0, 0.2  # seconds until progress is shown, and between two of its lines
 
@@ -26,6 +30,8 @@ def waves_for(stream: TextIO, seen: Seen) -> List[str]:
     """The lines of waves, as the stream can show them: within its columns, where it is a
     terminal.
     """
+    import shutil
+
     columns = shutil.get_terminal_size().columns if stream.isatty() else None
     return wave_lines(seen, is_plain(stream), columns)
 
@@ -41,23 +47,25 @@ def table_for(seen: Seen, scenario: Scenario, hidden: FrozenSet[str] = frozenset
     """
     shown = [name for name in scenario.module.kinds() if name not in hidden]
     table = Table(seen)
-    table.widen([instant_of(shown, offers.names) for offers in scenario.instants])
+    inputs = {tuple(offers.names) for offers in scenario.instants}
+    table.widen(instant_of(shown, names) for names in inputs)
     return table
 
 
-def instant_of(shown: List[str], present: List[str]) -> Instant:
+def instant_of(shown: List[str], present: Iterable[str]) -> Instant:
     """What would be observed of the inputs of an instant."""
     return {name: name in present for name in shown}
 
 
 class Drawing:
-    """Draws the instants as they come into what is `seen`: a table at once, waves and a VCD file at
-    the end.
+    """Draws the instants as they come into what is `seen`: rows of a table whenever `show` is
+    called, waves and a VCD file at the end.
     """
 
     def __init__(self, seen: Seen, wave: bool = False, vcd: Optional[str] = None) -> None:
         self.seen, self.wave, self.vcd = seen, wave, vcd
         self.table: Optional[Table] = None
+        self.rows: List[str] = []  # that are still to be shown
 
     def begin(self, scenario: Scenario, hidden: FrozenSet[str] = frozenset()) -> None:
         """Draws what stands before the first instant."""
@@ -69,10 +77,18 @@ class Drawing:
         """Adds an instant."""
         self.seen.instants.append(instant)
         if self.table:
-            print(self.table.row(len(self.seen.instants), instant), flush=True)
+            self.rows.append(self.table.row(len(self.seen.instants), instant))
+
+    def show(self) -> None:
+        """Shows the rows that came since it was called last."""
+        if self.rows:
+            rows, self.rows = self.rows, []
+            sys.stdout.write("\n".join(rows) + "\n")
+            sys.stdout.flush()
 
     def end(self) -> None:
         """Draws what stands at the end. Raises Failed."""
+        self.show()
         if self.vcd:
             write_vcd(self.vcd, self.seen)
         elif self.wave:

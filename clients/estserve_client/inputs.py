@@ -6,27 +6,34 @@ unless no instant with names or `;` comes after it; a line with nothing but a co
 """
 from __future__ import annotations
 
-import dataclasses
-from typing import List
+TYPE_CHECKING = False
+if TYPE_CHECKING:
+    from typing import Dict, List
 
 
-@dataclasses.dataclass
 class Offers:
     """The inputs of one instant, each once, and the line of the list that they stand in, from 1."""
 
-    names: List[str]
-    line: int
+    __slots__ = ("names", "line")
+
+    def __init__(self, names: List[str], line: int) -> None:
+        self.names, self.line = names, line
 
 
-def offers_of_line(text: str, line: int) -> List[Offers]:
-    """The instants of one line."""
+def names_of_line(text: str) -> List[List[str]]:
+    """The inputs of each instant of one line."""
     written, comment, _ = text.partition("%")
     if comment and not written.strip():
         return []
     pieces = written.split(";")
     if len(pieces) > 1 and not pieces[-1].strip():
         pieces.pop()
-    return [Offers(list(dict.fromkeys(piece.split())), line) for piece in pieces]
+    return [list(dict.fromkeys(piece.split())) for piece in pieces]
+
+
+def offers_of_line(text: str, line: int) -> List[Offers]:
+    """The instants of one line."""
+    return [Offers(names, line) for names in names_of_line(text)]
 
 
 def is_blank(text: str) -> bool:
@@ -35,10 +42,9 @@ def is_blank(text: str) -> bool:
 
 
 def read_inputs(text: str) -> List[Offers]:
-    """The instants of a list of inputs, in their order."""
+    """The instants of a list of inputs, in their order. Lines that are alike are read once."""
     lines = text.split("\n")
     while lines and is_blank(lines[-1]):
         lines.pop()
-    return [
-        offers for line, written in enumerate(lines, 1) for offers in offers_of_line(written, line)
-    ]
+    read: Dict[str, List[List[str]]] = {text: names_of_line(text) for text in set(lines)}
+    return [Offers(names, line) for line, text in enumerate(lines, 1) for names in read[text]]

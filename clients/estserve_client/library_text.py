@@ -3,16 +3,16 @@ of its lines.
 """
 from __future__ import annotations
 
-import dataclasses
-from typing import List, Sequence, Tuple
+TYPE_CHECKING = False
+if TYPE_CHECKING:
+    from typing import List, Sequence, Tuple
 
 
-@dataclasses.dataclass
 class LibraryText:
     """The joined text, and of each file its path and the line of the text that is its first."""
 
-    text: str
-    begins: List[Tuple[str, int]]
+    def __init__(self, text: str, begins: List[Tuple[str, int]]) -> None:
+        self.text, self.begins = text, begins
 
     def place(self, line: int) -> Tuple[str, int]:
         """The file, and the line in it, of a line of the text."""

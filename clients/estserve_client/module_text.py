@@ -6,24 +6,25 @@ declares.
 """
 from __future__ import annotations
 
-import dataclasses
 import re
-from typing import Dict, List, Optional, Tuple
+
+TYPE_CHECKING = False
+if TYPE_CHECKING:
+    from typing import Dict, List, Optional, Tuple
 
 TOKEN = re.compile(r"%\{.*?\}%|%[^\n]*|\s+|[A-Za-z][A-Za-z0-9_]*|\|\||=>|.", re.DOTALL)
 KEPT = re.compile(r"[^\s%]")
 
 
-@dataclasses.dataclass
 class Module:
     """A module: its name, its signals in declaration order as pairs of a name and `input` or
     `output`, its relations by their text, and what it runs.
     """
 
-    name: str
-    signals: List[Tuple[str, str]]
-    relations: List[str]
-    runs: List[str]
+    def __init__(
+        self, name: str, signals: List[Tuple[str, str]], relations: List[str], runs: List[str]
+    ) -> None:
+        self.name, self.signals, self.relations, self.runs = name, signals, relations, runs
 
     def kinds(self) -> Dict[str, str]:
         """The kind of each signal, by its name."""

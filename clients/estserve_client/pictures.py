@@ -7,20 +7,23 @@ not be observed: it shows as `.`, and a VCD file leaves it out where no instant 
 """
 from __future__ import annotations
 
-import dataclasses
-from typing import Dict, List, Optional, Tuple
+from .known import Known
 
-from .scopes import Scope
+TYPE_CHECKING = False
+if TYPE_CHECKING:
+    from typing import Dict, Iterable, List, Optional, Tuple
+
+    from .scopes import Scope
+
+    Instant = Dict[str, bool]
+    Signals = List[Tuple[str, str]]
 
 HIGH, LOW, HIDDEN = "_/‾\\", "____", "...."
 PLAIN_HIGH = "_/^\\"
-Instant = Dict[str, bool]
-Signals = List[Tuple[str, str]]
 STEP = 10  # an instant of a VCD file takes this many units of time: instant n begins at n * STEP
 TICK = "tick"  # the wire that goes up with each instant, and down in its middle
 
 
-@dataclasses.dataclass
 class Seen:
     """What was seen of a module: its name, its signals, its instants, and the number of the first
     of these.
@@ -30,11 +33,16 @@ class Seen:
     are known.
     """
 
-    module: str
-    signals: Signals
-    instants: List[Instant]
-    first: int = 1
-    scopes: Optional[List[Scope]] = None
+    def __init__(
+        self,
+        module: str,
+        signals: Signals,
+        instants: List[Instant],
+        first: int = 1,
+        scopes: Optional[List[Scope]] = None,
+    ) -> None:
+        self.module, self.signals, self.instants = module, signals, instants
+        self.first, self.scopes = first, scopes
 
     def kinds(self) -> Tuple[str, ...]:
         """The kinds of signals that are told apart."""
@@ -62,11 +70,13 @@ class Table:
         self.kinds = [seen.of_kind(kind) for kind in seen.kinds()]
         self.heads = [kind + "s" for kind in seen.kinds()]
         self.wide = max(wide, len(self.heads[0]))
+        self.drawn = Known()  # instants, each with its cells as they are drawn, by its identity
 
-    def widen(self, instants: List[Instant]) -> None:
+    def widen(self, instants: Iterable[Instant]) -> None:
         """Makes room for what these instants show."""
         widths = [len(present_of(self.kinds[0], instant)) for instant in instants]
         self.wide = max([self.wide, *widths])
+        self.drawn.clear()
 
     def line(self, number: str, cells: List[str]) -> str:
         return "  ".join([f"{number:>7}", f"{cells[0]:<{self.wide}}", *cells[1:]]).rstrip()
@@ -76,8 +86,16 @@ class Table:
         return self.line("instant", self.heads)
 
     def row(self, number: int, instant: Instant) -> str:
-        """The line of an instant."""
-        return self.line(str(number), [present_of(names, instant) for names in self.kinds])
+        """The line of an instant, which is not changed afterwards."""
+        # Instants that are alike are mostly one object, and it takes long to hash a dictionary.
+        # While an object is kept here, no other one has its identity.
+        _, cells = self.drawn.get(id(instant)) or self.draw(instant)
+        return f"{number:>7}{cells}"
+
+    def draw(self, instant: Instant) -> Tuple[Instant, str]:
+        """An instant with its cells, as they stand after its number."""
+        line = self.line("", [present_of(names, instant) for names in self.kinds])
+        return self.drawn.add(id(instant), (instant, line[7:]))
 
 
 def table_lines(seen: Seen) -> List[str]:

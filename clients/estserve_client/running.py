@@ -1,23 +1,25 @@
 """The command `run`: a module, a list of inputs, a picture."""
 from __future__ import annotations
 
-import argparse
 import contextlib
 import sys
-from typing import Callable, Iterator, List, Optional, Union
 
-from .connection import Client, Disconnected, Refusal, start, unproved_program
+from .connection import Refusal, start, unproved_program
 from .drawing import Drawing, Progress
-from .expecting import first_difference, outcome_lines, read_expected, update
 from .inputs import read_inputs
-from .library_text import LibraryText
-from .module_text import Module, main_of
-from .pictures import Instant, Seen, Signals
-from .scopes import scopes_of
-from .session import session_of
+from .module_text import main_of
+from .pictures import Seen
 from .stage import Refused, Scenario, SharedSlot, Stage, fault_of_inputs, stopping
 from .texts import Failed, Interrupted, read_library, read_text
-from .watching import watch_files
+
+TYPE_CHECKING = False
+if TYPE_CHECKING:
+    import argparse
+    from typing import Callable, Iterator, List, Optional, Union
+
+    from .module_text import Module
+    from .pictures import Instant, Signals
+    from .scopes import Scope
 
 
 def program_of(arguments: argparse.Namespace) -> Optional[str]:
@@ -51,6 +53,8 @@ def chosen(module: Module, named: Optional[List[str]]) -> Signals:
 def place_to_run(arguments: argparse.Namespace) -> Iterator[Union[Stage, SharedSlot]]:
     """Where the module runs: a slot of the server that is named, or a program of its own."""
     if arguments.socket:
+        from .session import session_of
+
         with session_of(arguments) as (client, _), SharedSlot(
             client, arguments.slot, not arguments.loaded
         ) as slot:
@@ -87,6 +91,13 @@ def play(
     return None
 
 
+def scopes_in(scenario: Scenario) -> List[Scope]:
+    """The scopes of what the main module runs, which take a reader of the whole language."""
+    from .scopes import scopes_of
+
+    return scopes_of(scenario.library.text, scenario.module.name)
+
+
 def draw_run(
     arguments: argparse.Namespace, place: Union[Stage, SharedSlot], scenario: Scenario
 ) -> None:
@@ -95,10 +106,12 @@ def draw_run(
     """
     module = scenario.module
     signals = chosen(module, arguments.signals)
-    scopes = scopes_of(scenario.library.text, module.name) if arguments.vcd else None
+    scopes = scopes_in(scenario) if arguments.vcd else None
     drawing = Drawing(Seen(module.name, signals, [], 1, scopes), arguments.wave, arguments.vcd)
     hidden = place.hidden(module) if isinstance(place, SharedSlot) else ()
     drawing.begin(scenario, frozenset(hidden))
+    assert place.client
+    place.client.when_waiting = drawing.show
     is_silent = bool(arguments.wave or arguments.vcd) or not sys.stdout.isatty()
     try:
         refusal = play(place, scenario, drawing.add, Progress(len(scenario.instants), is_silent))
@@ -114,6 +127,8 @@ def hold_run(
     """Runs the module that is loaded, and holds it against what is expected. Raises Failed where it
     differs.
     """
+    from .expecting import first_difference, outcome_lines, read_expected, update
+
     seen = Seen(scenario.module.name, chosen(scenario.module, arguments.signals), [])
     refusal = play(place, scenario, seen.instants.append, Progress(len(scenario.instants), True))
     lines = outcome_lines(seen, refusal.told if refusal else None)
@@ -178,6 +193,8 @@ def run(arguments: argparse.Namespace) -> None:
     """
     check_words(arguments)
     if arguments.watch:
+        from .watching import watch_files
+
         files = [
             *arguments.file,
             arguments.inputs,

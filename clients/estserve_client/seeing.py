@@ -1,11 +1,14 @@
 """What a session may see of the instants of a slot."""
 from __future__ import annotations
 
-from typing import List, Optional
+from typing import TYPE_CHECKING, List, Optional
 
 from .connection import Client, Refusal
 from .module_text import Module
-from .pictures import Instant, Seen
+from .pictures import Seen
+
+if TYPE_CHECKING:
+    from .pictures import Instant
 
 
 def instants_from(client: Client, slot: int, first: int) -> List[Instant]:

@@ -5,9 +5,12 @@ import argparse
 import contextlib
 import sys
 import threading
-from typing import Iterator, List, Tuple
+from typing import TYPE_CHECKING, Iterator, List, Tuple
 
-from .connection import Answer, Client, connect, start
+from .connection import Client, connect, start
+
+if TYPE_CHECKING:
+    from .connection import Answer
 
 PATIENCE = 2.0  # seconds after which a person is told that the server is waited for
 

@@ -9,9 +9,10 @@ import sys
 import time
 from typing import Any, Dict, Iterable, List, Set, Tuple
 
-from .connection import CannotBeSent, Client, Instant, Refusal, TimedOut
+from .connection import CannotBeSent, Client, Refusal, TimedOut
 from .drawing import waves_for, write_vcd
 from .inputs import offers_of_line
+from .instants import Instant
 from .library_text import LibraryText
 from .load_faults import load_fault
 from .module_text import Module, main_of

@@ -2,34 +2,34 @@
 from __future__ import annotations
 
 import contextlib
-import dataclasses
 import signal
 import threading
-import types
-from typing import Any, Callable, Dict, Iterator, List, Optional, Set, Tuple
 
-from .connection import Answer, Client, Refusal, TooLong
-from .inputs import Offers
-from .library_text import LibraryText
-from .load_faults import load_fault
-from .module_text import Module
-from .pictures import Instant
-from .sentences import sentence
-from .stuck_chains import chain_lines
+from .ahead import Ahead
+from .connection import Refusal, TooLong
 from .texts import Failed
+
+TYPE_CHECKING = False
+if TYPE_CHECKING:
+    import types
+    from typing import Any, Callable, Dict, Iterator, List, Optional, Set, Tuple
+
+    from .connection import Answer, Client
+    from .inputs import Offers
+    from .library_text import LibraryText
+    from .module_text import Module
+    from .pictures import Instant
 
 GRANTS = 250  # about this many permissions are granted on one program
 ENTRIES = 65_000  # about this many entries a slot's journal has
 LOGIN = {"cmd": "login", "user": "root", "roles": ["root"]}
 
 
-@dataclasses.dataclass
 class Scenario:
     """A module, the text that it stands in, and the inputs of its instants."""
 
-    library: LibraryText
-    module: Module
-    instants: List[Offers]
+    def __init__(self, library: LibraryText, module: Module, instants: List[Offers]) -> None:
+        self.library, self.module, self.instants = library, module, instants
 
     def entries(self) -> int:
         """How many entries of a journal it takes."""
@@ -48,10 +48,20 @@ class Refused(Failed):
 
 def refused(refusal: Refusal, number: int, scenario: Scenario) -> Refused:
     """What a run ends with at an instant that was refused."""
+    from .sentences import sentence
+    from .stuck_chains import chain_lines
+
     module = scenario.module
     undecided = refusal.fields.get("undecided", ())
     more = chain_lines(scenario.library, module.name, undecided) if undecided else []
     return Refused(number, sentence(refusal, module.relations), more)
+
+
+def not_loaded(refusal: Refusal, scenario: Scenario) -> Failed:
+    """What a run ends with whose load was refused for its text."""
+    from .load_faults import load_fault
+
+    return load_fault(refusal, scenario.library, scenario.module.name)
 
 
 def grants_of(module: Module, slot: int = 0) -> List[Answer]:
@@ -70,19 +80,12 @@ def grants_of(module: Module, slot: int = 0) -> List[Answer]:
 def fault_of_inputs(scenario: Scenario) -> Optional[str]:
     """What is said of the first name that is no input of the module; None where each is one."""
     kinds = scenario.module.kinds()
+    inputs = {name for name, kind in kinds.items() if kind == "input"}
     for offers in scenario.instants:
-        wrong = [name for name in offers.names if kinds.get(name) != "input"]
-        if wrong:
-            return (
-                f"line {offers.line} of the inputs: {scenario.module.name} has no input {wrong[0]}"
-            )
+        if not inputs.issuperset(offers.names):
+            wrong = next(name for name in offers.names if name not in inputs)
+            return f"line {offers.line} of the inputs: {scenario.module.name} has no input {wrong}"
     return None
-
-
-def commands_of(offers: Offers, number: int) -> List[Answer]:
-    """The commands of one instant: its offers, the step, and a look at it."""
-    offered = [{"cmd": "offer", "slot": 0, "signal": name} for name in offers.names]
-    return [*offered, {"cmd": "step", "slot": 0}, {"cmd": "look", "slot": 0, "instant": number}]
 
 
 def never() -> bool:
@@ -155,8 +158,10 @@ class Stage:
         ]
         loads = [refusal for refusal in refusals if refusal.command["cmd"] == "load"]
         if loads and loads[0].fault not in ("NoSession", "Permission"):
-            raise load_fault(loads[0], scenario.library, scenario.module.name)
+            raise not_loaded(loads[0], scenario)
         if refusals:
+            from .sentences import sentence
+
             raise Failed(f"root cannot load the module: {sentence(refusals[0])}")
 
     def play(self, scenario: Scenario, stopped: Callable[[], bool] = never) -> Iterator[Instant]:
@@ -164,15 +169,11 @@ class Stage:
         Failed.
         """
         assert self.client is not None
-        groups = (commands_of(offers, at) for at, offers in enumerate(scenario.instants, 1))
-        for number, answers in enumerate(self.client.ask_ahead(groups, stopped), 1):
-            asked = commands_of(scenario.instants[number - 1], number)
-            wrong = [
-                Refusal(told, command) for told, command in zip(answers, asked) if "code" in told
-            ]
-            if wrong:
-                raise refused(wrong[0], number, scenario)
-            yield dict(answers[-1]["signals"])
+        ahead = Ahead(self.client, [offers.names for offers in scenario.instants])
+        try:
+            yield from ahead.instants(stopped)
+        except Refusal as refusal:
+            raise refused(refusal, ahead.number, scenario) from refusal
 
 
 class SharedSlot:
@@ -209,7 +210,7 @@ class SharedSlot:
             raise Failed(f"{scenario.library.paths[0]}: the text is too long: {fault}") from fault
         except Refusal as refusal:
             if 70 <= refusal.code <= 80:
-                raise load_fault(refusal, scenario.library, scenario.module.name) from refusal
+                raise not_loaded(refusal, scenario) from refusal
             raise
 
     def hidden(self, module: Module) -> Set[str]:

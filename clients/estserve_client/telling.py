@@ -4,8 +4,16 @@ from __future__ import annotations
 import sys
 
 from .connection import Refusal
-from .sentences import sentence
 from .texts import Placed
+
+
+def text_of(told: object) -> str:
+    """A message as text: of a refusal its sentence."""
+    if not isinstance(told, Refusal):
+        return str(told)
+    from .sentences import sentence
+
+    return sentence(told)
 
 
 class Teller:
@@ -18,7 +26,7 @@ class Teller:
         """Tells one message, and gives this status. One that begins with a place stands as it is,
         for editors.
         """
-        text = sentence(told) if isinstance(told, Refusal) else str(told)
+        text = text_of(told)
         print(
             text if isinstance(told, Placed) else f"{self.name}: {text}",
             file=sys.stderr,

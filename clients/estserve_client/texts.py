@@ -1,11 +1,15 @@
 """Files and standard input, as texts; and the ends of a command that is given up."""
 from __future__ import annotations
 
-import pathlib
 import sys
-from typing import Iterable, List, Union
 
 from .library_text import LibraryText, join_texts
+
+TYPE_CHECKING = False
+if TYPE_CHECKING:
+    from typing import Iterable, List
+
+    from .connection import Path
 
 
 class Failed(Exception):
@@ -33,10 +37,16 @@ def read_stdin(what: str) -> bytes:
     return sys.stdin.buffer.read()
 
 
-def read_text(path: Union[str, pathlib.Path], what: str) -> str:
+def read_file(path: Path) -> bytes:
+    """All bytes of a file. Raises OSError, ValueError."""
+    with open(path, "rb") as file:
+        return file.read()
+
+
+def read_text(path: Path, what: str) -> str:
     """The text of a file, or of standard input where the path is `-`. Raises Failed."""
     try:
-        data = read_stdin(what) if str(path) == "-" else pathlib.Path(path).read_bytes()
+        data = read_stdin(what) if str(path) == "-" else read_file(path)
     except (OSError, ValueError) as fault:
         told = getattr(fault, "strerror", None) or fault
         raise Failed(f"{what} {path} cannot be read: {told}") from fault
@@ -46,15 +56,16 @@ def read_text(path: Union[str, pathlib.Path], what: str) -> str:
         raise Failed(f"{what} {path} is not UTF-8: byte {fault.start + 1}") from fault
 
 
-def read_library(paths: Iterable[Union[str, pathlib.Path]]) -> LibraryText:
+def read_library(paths: Iterable[Path]) -> LibraryText:
     """The modules of one file or more, as one text. Raises Failed."""
     return join_texts([(str(path), read_text(path, "the module text")) for path in paths])
 
 
-def write_lines(path: Union[str, pathlib.Path], lines: List[str], encoding: str = "utf-8") -> None:
+def write_lines(path: Path, lines: List[str], encoding: str = "utf-8") -> None:
     """Writes lines into a file. Raises Failed."""
     try:
-        pathlib.Path(path).write_text("".join(line + "\n" for line in lines), encoding=encoding)
+        with open(path, "w", encoding=encoding) as file:
+            file.write("".join(line + "\n" for line in lines))
     except (OSError, ValueError) as fault:
         told = getattr(fault, "strerror", None) or fault
         raise Failed(f"{path} cannot be written: {told}") from fault

@@ -4,3 +4,5 @@ of each entry.
 Nothing here is proved. It changes no state but by asking the proved program, and docs/GATEWAY.md
 says what it promises.
 """
+
+HELP = "serve a team: who speaks is known, and nothing that was answered is lost"

@@ -10,7 +10,7 @@ from typing import Any, List, Set
 from estserve_client.connection import find_program
 from estserve_client.policy_file import BadPolicy
 
-from . import web
+from . import HELP, web
 from .gateway import Gateway
 from .people import People, read_people
 from .places import Failed, Places, bind_socket
@@ -24,9 +24,7 @@ from .unix_clients import LineClient, TeamClient, WordClient
 def add_parser(subparsers: Any) -> None:
     """Adds `team` to the commands of the client: by itself it serves, with a word it asks a gateway
     that runs."""
-    parser = subparsers.add_parser(
-        "team", help="serve a team: who speaks is known, and nothing that was answered is lost"
-    )
+    parser = subparsers.add_parser("team", help=HELP)
     parser.add_argument("--state", metavar="DIR", type=pathlib.Path, help="the team's folder")
     parser.add_argument(
         "--people",

@@ -8,6 +8,13 @@ import unittest
 
 from support import CLIENTS
 
+# runs a command of the client, and tells what it has imported
+IMPORTED = """import sys, estserve
+try:
+    estserve.main(sys.argv[1:])
+finally:
+    print(*sys.modules, file=sys.stderr)
+"""
 COMMAND = '''"""A command that tells its name."""
 
 
@@ -40,6 +47,33 @@ class Neighbours(unittest.TestCase):
         status, printed, told = self.run_team()
         self.assertEqual((status, printed), (2, ""))
         self.assertIn("invalid choice: 'team'", told[0])
+
+
+class Imports(unittest.TestCase):
+    """A command imports what it needs, and the help imports no command."""
+
+    def imported(self, *words):
+        """The modules of the client and the gateway that a command has imported."""
+        ran = subprocess.run(
+            [sys.executable, "-B", "-c", IMPORTED, *words],
+            capture_output=True,
+            text=True,
+            cwd=CLIENTS,
+            timeout=60,
+        )
+        return {name for name in ran.stderr.split() if name.startswith("estserve_")}
+
+    def test_the_help_imports_no_command(self):
+        names = self.imported("--help")
+        self.assertIn("estserve_team", names)
+        self.assertFalse([name for name in names if name.startswith("estserve_team.")])
+        self.assertFalse(names & {f"estserve_client.{name}" for name in ("running", "shell")})
+
+    def test_a_run_imports_no_more_than_it_needs(self):
+        names = self.imported("run", "none")
+        self.assertIn("estserve_client.running", names)
+        others = ("shell", "applying", "session", "scopes", "syntax_tree", "sentences", "expecting")
+        self.assertFalse(names & {"estserve_team", *(f"estserve_client.{name}" for name in others)})
 
 
 if __name__ == "__main__":
