@@ -1,5 +1,5 @@
 -- The policy step: for each command the rules of refusal in their order, and the entry where all of them let pass.
-use Rattle.std.specs.Prelude.{◌≡◌, ℕ, Bool, true, false, List, [], ◌∷◌, ◌++◌, Option, None, Result, Ok, Err, Contains}
+use Rattle.std.specs.Prelude.{◌≡◌, ℕ, List, [], ◌∷◌, ◌++◌, Option, None, Result, Ok, Err, Contains}
 use Rattle.refusal_rules.specs.Rules.{Rule, Rules, Says, Unless, Naming, accept, ◌▸◌, Answers}
 use Rattle.rbac_policy.specs.declared.objects.Operation.TheVariants.{Administer}
 use Rattle.rbac_policy.specs.declared.objects.Object.TheVariants.{Policy}
@@ -106,11 +106,3 @@ policy_rules entries s (DropActiveRole role) =
 abbrev pub PolicyStep : List Entry → Option ℕ → AdminCommand → Result Entry Refusal → Type 0
 PolicyStep entries session command answer =
     Answers (policy_rules entries session command) (λ refusal. answer ≡ Err refusal) (answer ≡ Ok (entry_of session command))
-
--- the commands that only a session may give which has the right to administer the policy
-abbrev pub is_administrative : AdminCommand → Bool
-is_administrative (CreateSession user roles) = false
-is_administrative DeleteSession = false
-is_administrative (AddActiveRole role) = false
-is_administrative (DropActiveRole role) = false
-is_administrative _ = true
