@@ -3,7 +3,6 @@ pub mod Moving
 pub mod Placing
 pub mod Rising
 pub mod Changes
-pub mod Copying
 pub mod Versions
 pub mod Ending
 pub mod Histories

@@ -4,12 +4,10 @@ ghost use Rattle.access_events.specs.Runs.{EndsIn, EventStep, wants_memory};
 
 use crate::event::{Event, Seat};
 use crate::hall::Hall;
-use access_core::command::SlotCommand;
 use access_core::refusal::Refusal;
 use access_core::reply::Reply;
 use access_core::slot::Slot;
 use rbac_policy::commands::Entry;
-use reactor_core::text::Text;
 use std::alloc::{AllocError, Global};
 
 /// What a run leaves: the policy list, the slots and what the seats have seen, and the reply to each event.
@@ -49,24 +47,6 @@ impl World {
     }
 }
 
-/// A copy of the command, or the error where memory was refused.
-fn copy_command(alloc: Global, command: &SlotCommand) -> Result<SlotCommand, AllocError>
-    ensures { IfOk result (λ copy. copy ≡ command.now) }
-{
-    match command {
-        SlotCommand::Load { main, text } => {
-            let text = Text::copied(alloc, text.as_str())?;
-            Ok(SlotCommand::Load { main: *main, text })
-        }
-        SlotCommand::Offer { signal } => Ok(SlotCommand::Offer { signal: *signal }),
-        SlotCommand::Discard => Ok(SlotCommand::Discard),
-        SlotCommand::Step => Ok(SlotCommand::Step),
-        SlotCommand::Unload => Ok(SlotCommand::Unload),
-        SlotCommand::Look { instant } => Ok(SlotCommand::Look { instant: *instant }),
-        SlotCommand::Audit => Ok(SlotCommand::Audit),
-    }
-}
-
 /// Whether the reply is that memory was refused.
 fn wants_memory(reply: &Reply) -> bool
     ensures { result ≡ wants_memory reply.now }
@@ -83,7 +63,7 @@ fn answer_event(alloc: Global, hall: &mut Hall, event: &Event) -> Result<Reply, 
             seat,
             session,
             command,
-        } => Ok(hall.admin(*seat, *session, command.clone()?)),
+        } => Ok(hall.admin(*seat, *session, command.try_clone()?)),
         Event::OnSlot {
             seat,
             version,
@@ -91,7 +71,7 @@ fn answer_event(alloc: Global, hall: &mut Hall, event: &Event) -> Result<Reply, 
             session,
             command,
         } => {
-            let command = copy_command(alloc, command)?;
+            let command = command.try_clone(alloc)?;
             Ok(hall.on_slot(*seat, *version, *slot, *session, command))
         }
     }

@@ -8,7 +8,7 @@ use Rattle.seat_receipts.specs.declared.receipt.Asked.{Asked}
 use Rattle.seat_receipts.specs.declared.receipt.Asked.TheVariants.{Load, Offer, Discard, Step, Unload}
 use Rattle.seat_receipts.specs.declared.receipt.SlotReceipt.{SlotReceipt}
 use Rattle.seat_receipts.specs.declared.receipt.Kept.{Kept}
-use Rattle.history_merge.specs.declared.order.TheConstants.{OPENING_ENTRIES}
+use Rattle.rbac_policy.specs.declared.sizes.TheConstants.{OPENING_ENTRIES}
 use Rattle.history_merge.specs.declared.order.Rank.TheVariants as rank
 use Rattle.history_merge.specs.Order.{part_at, IsOver, InOrder}
 use Rattle.history_merge.specs.Events.{Event, of_seat, of_policy, of_slot}

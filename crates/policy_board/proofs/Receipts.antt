@@ -1,18 +1,19 @@
 -- What a receipt tells, and the seat of a command that is answered.
 use Rattle.std.proofs.Common.{◌≡◌, ℕ, ◌≤◌, max, List, ◌++◌, length, sym, ap, ◌∙◌, subst, arith}
 use Rattle.std.specs.Prelude.{Option, Result, Ok, Err, MatchResult}
-use Rattle.refusal_rules.specs.Rules.{accept, ◌▸◌, Answers}
+use Rattle.refusal_rules.specs.Rules.{accept, MayRefuse, ◌▸◌, Answers}
 use Rattle.refusal_rules.proofs.RuleLemmas.{all_passed}
 use Rattle.rbac_policy.specs.declared.commands.AdminCommand.{AdminCommand}
 use Rattle.rbac_policy.specs.declared.commands.Entry.{Entry}
 use Rattle.rbac_admin.specs.declared.refusals.Refusal.{Refusal as PolicyRefusal}
 use Rattle.rbac_admin.specs.PolicyLists.{Begins}
+use Rattle.rbac_admin.specs.Room.{list_full}
 use Rattle.policy_board.specs.SeatState.{SeatState}
-use Rattle.policy_board.specs.PolicyCommands.{AdminStep, IsPublished, IsRefused, SeatAfter, admin_receipt, list_full, no_memory, seat_after}
+use Rattle.policy_board.specs.PolicyCommands.{AdminStep, IsPublished, IsRefused, SeatAfter, admin_receipt, seat_after}
 use Rattle.policy_board.specs.Inner.Keeping.{KeepsAnswer}
 use Rattle.seat_receipts.specs.declared.receipt.Kept.{Kept}
 use Rattle.policy_board.specs.declared.refusal.Refusal.{Refusal}
-use Rattle.policy_board.specs.declared.refusal.Refusal.TheVariants.{Policy}
+use Rattle.policy_board.specs.declared.refusal.Refusal.TheVariants.{Policy, JournalFull, Memory}
 use Rattle.policy_board.specs.declared.seat.Receipt.{Receipt}
 use Rattle.policy_board.proofs.Beginnings.{begins_push, begins_length}
 
@@ -29,11 +30,11 @@ module _ {J : Type 0} where
 
   replied_tells : (before : List Entry) (receipt : Receipt J) (after : List Entry) (decided : Result Entry PolicyRefusal)
       → MatchResult decided
-      (λ e. Answers (list_full before e ▸ no_memory ▸ accept) (λ r. IsRefused r before (Ok receipt) after) (IsPublished e before (Ok receipt) after))
+      (λ e. Answers (list_full JournalFull before e ▸ MayRefuse Memory ▸ accept) (λ r. IsRefused r before (Ok receipt) after) (IsPublished e before (Ok receipt) after))
       (λ r. IsRefused (Policy r) before (Ok receipt) after)
       → Tells before receipt after
   replied_tells before receipt after (Ok e) h =
-      let all = all_passed (list_full before e ▸ no_memory ▸ accept) (λ (r : Refusal). IsRefused r before (Ok receipt) after) (IsPublished e before (Ok receipt) after)
+      let all = all_passed (list_full JournalFull before e ▸ MayRefuse Memory ▸ accept) (λ (r : Refusal). IsRefused r before (Ok receipt) after) (IsPublished e before (Ok receipt) after)
       (λ r refused. let is = refused.answered in absurd cc) h in
       published_tells before receipt after e all.1
   replied_tells before receipt after (Err r) h = let is = h.answered in absurd cc
@@ -43,7 +44,7 @@ module _ {J : Type 0} where
       → AdminStep before session command answer after → answer ≡ Ok receipt → Tells before receipt after
   receipt_tells before session command answer after receipt step is =
       let step' : AdminStep before session command (Ok receipt) after = subst (λ a. AdminStep before session command a after) is step in
-      replied_tells before receipt after step'.decided step'.replied
+      replied_tells before receipt after step'.answer step'.replied
 
 -- a seat that knows a list, keeps an answer's receipt, and then knows the longer list that the answer leaves, is as
 -- the command leaves it

@@ -2,9 +2,9 @@
 ghost use Rattle.std.specs.Prelude.{◌≡◌, ◌++◌, ◌∷◌, [], ◌<◌, List, Some, IsNone, length, IfOk, MatchResult};
 ghost use Rattle.rbac_policy.specs.declared.commands.Entry.{Entry};
 ghost use Rattle.rbac_policy.specs.StandsFor.{StandsFor};
-ghost use Rattle.refusal_rules.specs.Rules.{accept, ◌▸◌, Answers};
+ghost use Rattle.refusal_rules.specs.Rules.{accept, MayRefuse, ◌▸◌, Answers};
 ghost use Rattle.rbac_admin.specs.PolicyLists.{Begins, IsAccepted, IsPolicyList};
-ghost use Rattle.policy_board.specs.PolicyCommands.{AdminStep, IsPublished, IsRefused, SeatAfter, no_memory, session_made};
+ghost use Rattle.policy_board.specs.PolicyCommands.{AdminStep, IsPublished, IsRefused, SeatAfter, session_made};
 ghost use Rattle.policy_board.specs.Inner.Keeping.{KeepsAnswer};
 ghost use Rattle.seat_receipts.specs.declared.mismatch.TheConstants.{POLICY_LIST};
 ghost use Rattle.seat_receipts.specs.declared.mismatch.Mismatch.TheVariants.{Count};
@@ -68,23 +68,10 @@ fn session_made(policy: &Policy, entry: &Entry) -> Option<SessionId>
     ensures { (before : List Entry) → StandsFor policy.now (before ++ entry.now ∷ [])
         → result ≡ session_made before entry.now }
 {
-    match &entry.command {
-        AdminCommand::CreateSession { .. } => Some(SessionId::new(policy.logins())),
-        AdminCommand::AddUser { .. }
-        | AdminCommand::DeleteUser { .. }
-        | AdminCommand::AddRole { .. }
-        | AdminCommand::DeleteRole { .. }
-        | AdminCommand::AssignUser { .. }
-        | AdminCommand::DeassignUser { .. }
-        | AdminCommand::GrantPermission { .. }
-        | AdminCommand::RevokePermission { .. }
-        | AdminCommand::AddInheritance { .. }
-        | AdminCommand::DeleteInheritance { .. }
-        | AdminCommand::CreateDsdSet { .. }
-        | AdminCommand::DeleteDsdSet { .. }
-        | AdminCommand::DeleteSession
-        | AdminCommand::AddActiveRole { .. }
-        | AdminCommand::DropActiveRole { .. } => None,
+    if entry.command.is_login() {
+        Some(SessionId::new(policy.logins()))
+    } else {
+        None
     }
 }
 
@@ -109,7 +96,7 @@ impl<J: Naming> Desk<J> {
         entry: Entry,
     ) -> Result<Receipt<J>, Refusal>
         requires { IsAccepted self.old entry }
-        ensures answer { Answers (no_memory ▸ accept) (λ refusal. IsRefused refusal self.old result
+        ensures answer { Answers (MayRefuse Refusal.Memory ▸ accept) (λ refusal. IsRefused refusal self.old result
             self.new) (IsPublished entry self.old result self.new) }
         ensures seat { KeepsAnswer seat.old result self.new seat.new }
     {

@@ -1,4 +1,5 @@
 pub mod Conditions
 pub mod PolicyStep
 pub mod Room
+pub mod AdminSteps
 pub mod PolicyLists

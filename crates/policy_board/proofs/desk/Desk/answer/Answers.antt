@@ -33,7 +33,7 @@ returns-clause-step g c =
     subst (λ (l : List Entry). PolicyStep l c.args.session c.args.command (Ok e)) c.self.view_is (c.in-Ok.ensures journal stands) in
     let room : HasRoomFor e.command journal = subst (HasRoomFor e.command) c.entries.ensures (c.has_room.ensures.0 (search (rules, c.if-not-has_room.false))) in
     record {
-      decided = Ok e;
+      answer = Ok e;
       given = step;
       replied = pass (subst (HasRoomFor e.command) c.self.view_is room) c.append.ensures.answer;
     }
