@@ -18,6 +18,7 @@ use crate::refusal::Refusal;
 use crate::reply::{Change, Reply};
 use crate::slot::{Slot, decide_slot};
 use rbac_admin::decisions::decide;
+use rbac_admin::refusals::Refusal as PolicyRefusal;
 use rbac_policy::commands::{AdminCommand, Entry, SessionId};
 use rbac_policy::journal::PolicyJournal;
 use rbac_policy::objects::{Object, Operation, SLOTS, SlotNumber};
@@ -201,7 +202,7 @@ fn answer_slot(
         (record { entries = entries; slots = slots.new }) }
 {
     if !policy.lives(session) {
-        return Reply::Refused(Refusal::NoSession);
+        return Reply::Refused(Refusal::Policy(PolicyRefusal::NoSession));
     }
     let Some(place) = find_slot(number) else {
         return Reply::Refused(Refusal::NoSlot);
@@ -280,7 +281,7 @@ impl Single {
     {
         match decide(&self.policy, session, command) {
             Ok(entry) => self.append(entry),
-            Err(refusal) => Reply::Refused(refusal.into()),
+            Err(refusal) => Reply::Refused(Refusal::Policy(refusal)),
         }
     }
 
