@@ -18,6 +18,7 @@ use crate::reply::{Change, Reply};
 use crate::slot::{Slot, decide_slot};
 use rbac_admin::decisions::decide;
 use rbac_admin::room::has_room;
+use rbac_admin::refusals::Refusal as PolicyRefusal;
 use rbac_policy::commands::{AdminCommand, Entry, SessionId};
 use rbac_policy::journal::PolicyJournal;
 use rbac_policy::objects::{Object, Operation, SLOTS, SlotNumber};
@@ -171,7 +172,7 @@ fn answer_slot(
         (record { entries = entries; slots = slots.new }) }
 {
     if !policy.lives(session) {
-        return Reply::Refused(Refusal::NoSession);
+        return Reply::Refused(Refusal::Policy(PolicyRefusal::NoSession));
     }
     let Some(place) = find_slot(number) else {
         return Reply::Refused(Refusal::NoSlot);
@@ -249,7 +250,7 @@ impl Single {
     {
         match decide(&self.policy, session, command) {
             Ok(entry) => self.append(entry),
-            Err(refusal) => Reply::Refused(refusal.into()),
+            Err(refusal) => Reply::Refused(Refusal::Policy(refusal)),
         }
     }
 

@@ -12,9 +12,9 @@ use Rattle.rbac_admin.proofs.Accepted.{accepted_administers}
 use Rattle.reactor_core.specs.Meaning.{entry}
 use Rattle.access_core.specs.declared.command.SlotCommand.{SlotCommand}
 use Rattle.access_core.specs.declared.refusal.Refusal.{Refusal}
+use Rattle.access_core.specs.declared.refusal.Refusal.TheVariants.{Policy}
 use Rattle.access_core.specs.declared.reply.Change.{Change}
 use Rattle.access_core.specs.Answering.{IsRefused, ByRules, no_memory}
-use Rattle.access_core.specs.Conversions.{of_policy}
 use Rattle.access_core.specs.Needs.{IsAccepted}
 use Rattle.access_core.specs.SlotState.{SlotState}
 use Rattle.access_core.specs.SlotStep.{no_session}
@@ -113,7 +113,7 @@ module _ (m : Moment) where
     by_answer : (answer : Result Entry PolicyRefusal) → PolicyStep m.before.entries session command answer
         → MatchResult answer
         (λ e. ByRules (list_full m.before.entries e ▸ no_memory ▸ accept) (Appends e) (desk_of m.before) m.reply (desk_of m.after))
-        (λ refusal. IsRefused (of_policy refusal) (desk_of m.before) m.reply (desk_of m.after))
+        (λ refusal. IsRefused (Policy refusal) (desk_of m.before) m.reply (desk_of m.after))
         → Changes (Admin seat session command) m
     by_answer (Ok e) given replied =
         ⊎_elim
@@ -121,7 +121,7 @@ module _ (m : Moment) where
         (λ passed. appends e given passed.1)
         (first_or_none (list_full m.before.entries e ▸ no_memory ▸ accept) (λ refusal. IsRefused refusal (desk_of m.before) m.reply (desk_of m.after))
         (Appends e (desk_of m.before) m.reply (desk_of m.after)) replied)
-    by_answer (Err refusal) given replied = stays (of_policy refusal) replied
+    by_answer (Err refusal) given replied = stays (Policy refusal) replied
 
   pub by_event : (event : Event) → EventStep event m.before m.reply m.after → Changes event m
   by_event (Admin seat session command) h = administered seat session command h.step

@@ -4,18 +4,19 @@ use Rattle.est_kernel.specs.Interfaces.{inputs_of}
 use Rattle.est_kernel.specs.Term.{Term}
 use Rattle.est_kernel.specs.declared.interface.Declaration.{Declaration}
 use Rattle.est_relations.specs.Offers.{place_of, IsSignalName, IsOutputName, IsPendingName, IsFirstExcluded}
+use Rattle.rbac_admin.specs.declared.refusals.Refusal.TheVariants as policy
 use Rattle.reactor_core.specs.declared.entry.SlotEntry.{SlotEntry}
 use Rattle.reactor_core.specs.Instants.{IsOutcome}
 use Rattle.reactor_core.specs.Meaning.{Running, pending_of}
-use Rattle.access_core.specs.declared.refusal.Refusal.TheVariants.{Behind, SessionsExhausted, Full, JournalFull, TooLarge, Memory}
+use Rattle.access_core.specs.declared.refusal.Refusal.TheVariants.{Policy, Behind, JournalFull, TooLarge, Memory}
 use Rattle.access_core.specs.declared.reply.Reply.{Reply}
 use Rattle.access_core.specs.declared.reply.Reply.TheVariants.{Refused}
 
 -- the reply tells of no version behind, of no list, table, number or text at its limit, and of no want of memory
 abbrev pub MeetsNoLimit : Reply → Type 0
 MeetsNoLimit (Refused (Behind found seen)) = ⊥
-MeetsNoLimit (Refused SessionsExhausted) = ⊥
-MeetsNoLimit (Refused (Full table)) = ⊥
+MeetsNoLimit (Refused (Policy policy.SessionsExhausted)) = ⊥
+MeetsNoLimit (Refused (Policy (policy.Full table))) = ⊥
 MeetsNoLimit (Refused JournalFull) = ⊥
 MeetsNoLimit (Refused (TooLarge limit)) = ⊥
 MeetsNoLimit (Refused Memory) = ⊥

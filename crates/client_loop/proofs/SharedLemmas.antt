@@ -12,14 +12,13 @@ use Rattle.rbac_admin.specs.declared.refusals.Refusal.{Refusal as PolicyRefusal}
 use Rattle.rbac_admin.specs.Room as room
 use Rattle.rbac_admin.specs.declared.refusals.Refusal.TheVariants as policy
 use Rattle.rbac_admin.specs.PolicyStep.{PolicyStep, entry_of}
-use Rattle.access_core.specs.declared.refusal.Refusal.TheVariants.{JournalFull, Memory, NoSession}
+use Rattle.access_core.specs.declared.refusal.Refusal.TheVariants.{Policy, JournalFull, Memory}
 use Rattle.client_loop.specs.Asking.{IsLogoutReply}
 use Rattle.access_core.specs.declared.reply.Change.{Change}
 use Rattle.access_core.specs.declared.reply.Reply.{Reply}
 use Rattle.access_core.specs.declared.reply.Reply.TheVariants.{Refused, Login, Changed}
 use Rattle.access_core.specs.Answering.{ByRules, IsRefused, no_memory}
-use Rattle.access_core.specs.Conversions.{of_policy}
-use Rattle.access_core.specs.Desk.{DeskState, AdminStep, Appends, list_full, change_of, accepted_reply, reply_of_change}
+use Rattle.access_core.specs.Desk.{DeskState, AdminStep, Appends, HasRoomFor as DeskHasRoomFor, list_full, change_of, accepted_reply, reply_of_change}
 use Rattle.access_core.specs.SlotState.{SlotState}
 use Rattle.policy_board.specs.declared.refusal.Refusal.{Refusal}
 use Rattle.policy_board.specs.declared.refusal.Refusal.TheVariants as board
@@ -147,7 +146,7 @@ module _ {J : Type 0} where
         (λ refusal. board_step.IsRefused (board.Policy refusal) old answer new)
         → MatchResult decided
         (λ entry. ByRules (list_full old entry ▸ no_memory ▸ accept) (Appends entry) (desk_with old slots) given (desk_with new slots))
-        (λ refusal. IsRefused (of_policy refusal) (desk_with old slots) given (desk_with new slots))
+        (λ refusal. IsRefused (Policy refusal) (desk_with old slots) given (desk_with new slots))
     decided_same refused accepted (Err refusal) h = refused_same (board.Policy refusal) (refused (board.Policy refusal) h.answered) h.stays
     decided_same refused accepted (Ok entry) (inl r) =
         let replied : given ≡ Refused JournalFull = refused r.refusal r.answered.answered ∙ ap (λ (x : Refusal). Refused (of_board x)) r.given.0 in
@@ -190,7 +189,7 @@ logout_reply session before given after step = by_policy step.given step.replied
   Replied : Result Entry PolicyRefusal → Type 0
   Replied answer = MatchResult answer
       (λ entry. ByRules (list_full before.entries entry ▸ no_memory ▸ accept) (Appends entry) before given after)
-      (λ refusal. IsRefused (of_policy refusal) before given after)
+      (λ refusal. IsRefused (Policy refusal) before given after)
 
   accepted : (entry : Entry) → entry.command ≡ DeleteSession → ByRules (list_full before.entries entry ▸ no_memory ▸ accept) (Appends entry) before given after → IsLogoutReply given
   accepted entry is (inl r) = absurd (r.given.1 (inl is))
@@ -202,5 +201,5 @@ logout_reply session before given after step = by_policy step.given step.replied
   by_policy : PolicyStep before.entries session DeleteSession step.answer → Replied step.answer → IsLogoutReply given
   by_policy (inl r) replied =
       let refused : step.answer ≡ Err policy.NoSession = r.answered ∙ ap (λ x. Err x) r.given.0 in
-      of_reply (Refused NoSession) tt (subst Replied refused replied).replied
+      of_reply (Refused (Policy policy.NoSession)) tt (subst Replied refused replied).replied
   by_policy (inr p) replied = accepted (entry_of session DeleteSession) refl (subst Replied p.next replied)

@@ -1,8 +1,9 @@
 -- One line of a connection: what it is answered, and the desk and the connection's login afterwards (this project's own form).
 use Rattle.std.specs.Prelude.{◌≡◌, ℕ, ◌<◌, ◌≤◌, ◌⊎◌, List, Option, Some, None, Err, length}
 use Rattle.rbac_policy.specs.declared.commands.AdminCommand.TheVariants.{CreateSession, DeleteSession}
+use Rattle.rbac_admin.specs.declared.refusals.Refusal.TheVariants as policy
 use Rattle.access_core.specs.declared.refusal.Refusal.{Refusal}
-use Rattle.access_core.specs.declared.refusal.Refusal.TheVariants.{TooLong, NoSession, AlreadyLoggedIn}
+use Rattle.access_core.specs.declared.refusal.Refusal.TheVariants.{Policy, TooLong, AlreadyLoggedIn}
 use Rattle.access_core.specs.declared.reply.Reply.{Reply}
 use Rattle.access_core.specs.declared.reply.Reply.TheVariants as reply
 use Rattle.access_core.specs.Answering.{IsRefused}
@@ -27,7 +28,7 @@ Unheld answers (Some session) ask before given after = IsRefused AlreadyLoggedIn
 
 -- any other request is asked by the session of the login, and refused where none is held
 abbrev pub Held : {D : Type 0} → (answers : D → Ask → Reply → D → Type 0) → (login : Option ℕ) → (ℕ → Ask) → (before : D) → Reply → (after : D) → Type 0
-Held answers None ask before given after = IsRefused NoSession before given after
+Held answers None ask before given after = IsRefused (Policy policy.NoSession) before given after
 Held answers (Some session) ask before given after = answers before (ask session) given after
 
 -- what is answered to a request on a connection with this login, and the desk afterwards

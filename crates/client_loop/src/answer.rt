@@ -12,6 +12,7 @@ use access_core::command::SlotCommand;
 use access_core::refusal::Refusal;
 use access_core::reply::Reply;
 use line_reader::lines::LINE_BYTES;
+use rbac_admin::refusals::Refusal as PolicyRefusal;
 use rbac_policy::commands::{AdminCommand, SessionId};
 use rbac_policy::names::{Name, RoleNames};
 use rbac_policy::objects::{Object, Operation};
@@ -32,7 +33,7 @@ fn administer<D: Desk>(desk: &mut D, held: &Option<SessionId>, command: AdminCom
 {
     match held {
         Some(session) => desk.admin(Some(*session), command),
-        None => Reply::Refused(Refusal::NoSession),
+        None => Reply::Refused(Refusal::Policy(PolicyRefusal::NoSession)),
     }
 }
 
@@ -48,7 +49,7 @@ fn command_slot<D: Desk>(
 {
     match held {
         Some(session) => desk.slot(*session, slot, command),
-        None => Reply::Refused(Refusal::NoSession),
+        None => Reply::Refused(Refusal::Policy(PolicyRefusal::NoSession)),
     }
 }
 
@@ -64,7 +65,7 @@ fn check_permission<D: Desk>(
 {
     match held {
         Some(session) => desk.check(*session, operation, object),
-        None => Reply::Refused(Refusal::NoSession),
+        None => Reply::Refused(Refusal::Policy(PolicyRefusal::NoSession)),
     }
 }
 
@@ -100,7 +101,7 @@ fn ask_logout<D: Desk>(desk: &mut D, login: Option<Login>) -> Turn
             Turn { reply, login }
         }
         None => Turn {
-            reply: Reply::Refused(Refusal::NoSession),
+            reply: Reply::Refused(Refusal::Policy(PolicyRefusal::NoSession)),
             login: None,
         },
     }

@@ -6,6 +6,7 @@ use access_core::reply::{Reply, ShownSignals};
 use access_events::event::{Event, Seat};
 use access_events::run::{World, run_events};
 use est_text::identifier::Identifier;
+use rbac_admin::refusals::Refusal as PolicyRefusal;
 use rbac_policy::commands::{AdminCommand, SessionId};
 use rbac_policy::names::{LISTED_ROLES, Name, RoleNames};
 use rbac_policy::objects::{Object, Operation};
@@ -273,14 +274,18 @@ fn is_violation(rt: &impl Abort, set: &Name, violator: SessionId, words: &[&str]
 fn is_refused(rt: &impl Abort, refusal: &Refusal, words: &[&str]) -> bool {
     match refusal {
         Refusal::Behind { found, seen } => are(rt, words, "Behind", &[*found, *seen]),
-        Refusal::Permission {
-            operation: op,
-            object: on,
-        } => is_permission(rt, *op, on, words),
-        Refusal::DsdViolated {
-            set,
-            session: violator,
-        } => is_violation(rt, set, *violator, words),
+        Refusal::Policy(
+            PolicyRefusal::Permission {
+                operation: op,
+                object: on,
+            },
+        ) => is_permission(rt, *op, on, words),
+        Refusal::Policy(
+            PolicyRefusal::DsdViolated {
+                set,
+                session: violator,
+            },
+        ) => is_violation(rt, set, *violator, words),
         other => match words {
             [name] => other.name() == *name,
             _ => false,

@@ -1,3 +1,4 @@
+pub mod Refusals
 pub mod Conditions
 pub mod PolicyStep
 pub mod Room

@@ -20,6 +20,7 @@ use policy_board::board::Board;
 use policy_board::history::Naming;
 use policy_board::reader::SlotReader;
 use policy_board::seat::Seat;
+use rbac_admin::refusals::Refusal as PolicyRefusal;
 use rbac_policy::commands::SessionId;
 use rbac_policy::objects::SLOTS;
 use reactor_core::journal::Journal;
@@ -88,7 +89,7 @@ fn refuse_number<J: Naming>(seat: &mut Seat<J>, session: SessionId, slot: u64) -
 {
     match seat.lives(session) {
         Ok(true) => Reply::Refused(Refusal::NoSlot),
-        Ok(false) => Reply::Refused(Refusal::NoSession),
+        Ok(false) => Reply::Refused(Refusal::Policy(PolicyRefusal::NoSession)),
         Err(refusal) => Reply::Refused(of_board(refusal)),
     }
 }

@@ -8,6 +8,7 @@ use access_core::reply::Reply;
 use est_text::identifier::Identifier;
 use policy_board::history::{Fresh, Naming};
 use policy_board::seat::Seat;
+use rbac_admin::refusals::Refusal as PolicyRefusal;
 use seat_receipts::receipt::{Asked, Kept, SlotReceipt};
 use std::alloc::Global;
 use std::marker::Brand;
@@ -86,7 +87,12 @@ fn keep<J: Naming, R: Wait + Abort>(rt: &R, alloc: Global, fresh: Fresh) -> usiz
     );
     assert!(rt; matches!(reply, Reply::Look { instant: 1, .. }));
     let reply = ask(rt, &board, &table, &mut seat, 2, SlotCommand::Step);
-    assert!(rt; matches!(reply, Reply::Refused(Refusal::Permission { .. })));
+    assert!(rt;
+        matches!(
+            reply,
+            Reply::Refused(Refusal::Policy(PolicyRefusal::Permission { .. }))
+        )
+    );
     let reply = ask(rt, &board, &table, &mut seat, 16, SlotCommand::Step);
     assert!(rt; matches!(reply, Reply::Refused(Refusal::NoSlot)));
     assert_eq!(rt; seat.kept().len(), 7);

@@ -12,6 +12,7 @@ use policy_board::board::Board;
 use policy_board::history::{Fresh, Naming};
 use policy_board::reader::SlotReader;
 use policy_board::seat::{Receipt, Seat};
+use rbac_admin::refusals::Refusal as PolicyRefusal;
 use rbac_policy::commands::{AdminCommand, SessionId};
 use rbac_policy::names::Name;
 use rbac_policy::objects::{Operation, SlotNumber};
@@ -148,7 +149,12 @@ fn play_round<
     let revoked = revoke(role, Operation::Step, slot);
     let (mut seats, told) = change_at_once(rt, board, table, seats, revoked);
     let reply = step(rt, board, table.lent(), &mut seats.asker, ann());
-    assert!(rt; matches!(reply, Reply::Refused(Refusal::Permission { .. })));
+    assert!(rt;
+        matches!(
+            reply,
+            Reply::Refused(Refusal::Policy(PolicyRefusal::Permission { .. }))
+        )
+    );
     assert_eq!(rt; seats.asker.seen(), told);
     seats
 }
@@ -170,7 +176,12 @@ fn play<J: Naming + Send + Sync, T: Lends<SlotTable<J>> + Sync, R: Threads + Wai
     };
     let (mut seats, told) = change_at_once(rt, board, table, seats, removed);
     let reply = step(rt, board, table.lent(), &mut seats.asker, ann());
-    assert!(rt; matches!(reply, Reply::Refused(Refusal::NoSession)));
+    assert!(rt;
+        matches!(
+            reply,
+            Reply::Refused(Refusal::Policy(PolicyRefusal::NoSession))
+        )
+    );
     assert_eq!(rt; seats.asker.seen(), told);
     seats
 }
