@@ -13,4 +13,5 @@ pub mod Enterings
 pub mod Accepting
 pub mod Denying
 pub mod Showing
+pub mod Looking
 pub mod OneRun

@@ -4,8 +4,13 @@ use Rattle.est_kernel.specs.Interfaces.{inputs_of}
 use Rattle.est_kernel.specs.Term.{Term}
 use Rattle.est_kernel.specs.declared.interface.Declaration.{Declaration}
 use Rattle.est_relations.specs.Offers.{place_of, IsSignalName, IsOutputName, IsPendingName, IsFirstExcluded}
+<<<<<<< HEAD
 use Rattle.rbac_admin.specs.declared.refusals.Refusal.TheVariants as policy
+=======
+use Rattle.reactor_core.specs.declared.entry.PastInstant.{PastInstant}
+>>>>>>> 29ba94c374a689f60b9ee423b10b507520808999
 use Rattle.reactor_core.specs.declared.entry.SlotEntry.{SlotEntry}
+use Rattle.reactor_core.specs.Answers.{IsInstant}
 use Rattle.reactor_core.specs.Instants.{IsOutcome}
 use Rattle.reactor_core.specs.Meaning.{Running, pending_of}
 use Rattle.access_core.specs.declared.refusal.Refusal.TheVariants.{Policy, Behind, JournalFull, TooLarge, Memory}
@@ -38,6 +43,10 @@ pub record CanOffer (running : Running) (name : List ℕ) : Type 0 where
   pub input : ¬ (IsOutputName running.interface name)
   pub new : ¬ (IsPendingName running.interface running.pending name)
   pub kept : ¬ (IsExcluded running name)
+
+-- the n-th instant since the load is there
+abbrev pub HasInstant : List SlotEntry → (n : ℕ) → Type 0
+HasInstant journal n = (i : PastInstant) × IsInstant journal n i
 
 -- the term that is left of the running module has a constructive reaction to the pending inputs
 abbrev pub HasReaction : List SlotEntry → Type 0

@@ -122,7 +122,7 @@ fn change<J: Naming, R: Wait + Abort>(
 }
 
 /// A board with so many seats, and its readers.
-pub(crate) fn open<J: Naming, R: Abort>(
+pub(crate) fn open<J: Naming, R: Wait + Abort>(
     rt: &R,
     alloc: Global,
     fresh: Fresh,
@@ -135,7 +135,7 @@ pub(crate) fn open<J: Naming, R: Abort>(
         board,
         seats,
         readers,
-    } = Board::<J>::open(alloc, fresh, count)
+    } = Board::<J>::open(rt, alloc, fresh, count)
         .ok()
         .expect(rt, "a board");
     (board, seats, readers)

@@ -3,7 +3,7 @@ use Rattle.std.specs.Prelude.{◌≡◌, ℕ, List, ◌⊎◌, Option, Result, O
 use Rattle.std.specs.Io.KnownBytes.{Keeps}
 use Rattle.access_core.specs.Desk.{DeskState, opening_desk}
 use Rattle.access_core.specs.SlotState.{SlotState}
-use Rattle.line_reader.specs.Meters.{IsStopped}
+use Rattle.line_reader.specs.Meters.{IsStopped, has_failed}
 use Rattle.line_reader.specs.declared.serving.Why.{Why}
 use Rattle.line_reader.specs.declared.serving.Why.TheVariants as why
 use Rattle.client_loop.specs.Asking.{DeskAnswers}
@@ -34,6 +34,11 @@ pub record NeverOpens (answer : Result ⊤ Fault) (written after : Option (List 
 abbrev pub Finishes : (report : Bool) → DeskState → Result ⊤ Fault → (written after : Option (List ℕ)) → Type 0
 Finishes true desk answer written after = Reports desk.entries (map (λ (s : SlotState). s.journal) desk.slots) written answer after
 Finishes false desk answer written after = (answer ≡ Ok tt) × (after ≡ written)
+
+-- what can't be written is no fault of a writer that worked: it failed in the connection, after which no more is written; or later
+abbrev pub CannotWrite : Why → (before after : ℕ) → Type 0
+CannotWrite why.WriteFault before after = after ≡ before
+CannotWrite other before after = has_failed before after ≡ true
 
 -- what the end of a connection means for the program, which has written so much by then: a fault, or what follows it
 abbrev pub EndsSo : (report : Bool) → Why → DeskState → Result ⊤ Fault → (written after : Option (List ℕ)) → Type 0
@@ -82,7 +87,7 @@ abbrev pub status_after : Result ⊤ Fault → ℕ
 status_after (Ok _) = 0
 status_after (Err given) = status_of given
 
--- a fault of a device is told only where that device failed, or was read too often
+-- a fault of a device is told only where that device failed in the run, or was read too often
 pub record NamesDevices (answer : Result ⊤ Fault) (reader_failed : Bool) (reads_left : ℕ) (writer_failed : Bool) : Type 0 where
   pub read : answer ≡ Err fault.Read → IsStopped reader_failed reads_left
   pub write : answer ≡ Err fault.Write → writer_failed ≡ true

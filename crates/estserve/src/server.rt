@@ -1,6 +1,7 @@
 //! The connections of a socket, served side by side over one policy and one table of slots.
 ghost use Rattle.std.specs.Prelude.{◌≡◌, ◌≤◌, Err, true, vec_len};
 ghost use Rattle.seat_receipts.specs.declared.receipts.TheConstants.{SEATS};
+ghost use Rattle.line_reader.specs.Meters.{has_failed};
 ghost use Rattle.estserve.specs.declared.fault.Fault.TheVariants as fault;
 ghost use Rattle.estserve.specs.Serving.{ClosesSo, ServesSocket};
 
@@ -36,7 +37,8 @@ fn close<J: Naming, R: Wait, O: Write>(
     requires { vec_len seats ≤ SEATS }
     ensures closes { ClosesSo seats.items result (O.contents output.old.device)
         (O.contents output.new.device) }
-    ensures failed { result ≡ Err fault.Write → output.new.failed ≡ true }
+    ensures failed { result ≡ Err fault.Write →
+        has_failed output.old.faults output.new.faults ≡ true }
 {
     match table.close(rt, alloc, board, seats) {
         Ok(histories) => write_report(alloc, &histories.policy, &histories.slots, output),
@@ -56,7 +58,8 @@ fn serve_source<J: Naming + Send + Sync, R: Threads + Wait + Sync, O: Write>(
     requires { fresh.seen.book ≡ J.book }
     ensures serves { ServesSocket workers result (O.contents output.old.device)
         (O.contents output.new.device) }
-    ensures failed { result ≡ Err fault.Write → output.new.failed ≡ true }
+    ensures failed { result ≡ Err fault.Write →
+        has_failed output.old.faults output.new.faults ≡ true }
 {
     let Ok(
         Opened {
@@ -64,7 +67,7 @@ fn serve_source<J: Naming + Send + Sync, R: Threads + Wait + Sync, O: Write>(
             seats,
             readers,
         },
-    ) = Board::<J>::open(alloc, fresh, workers.count())
+    ) = Board::<J>::open(rt, alloc, fresh, workers.count())
     else {
         return Err(Fault::Memory);
     };
@@ -90,7 +93,8 @@ fn serve_socket<R: Threads + Wait + Sync, O: Write>(
 ) -> Result<(), Fault>
     ensures serves { ServesSocket service.now.workers result (O.contents output.old.device)
         (O.contents output.new.device) }
-    ensures failed { result ≡ Err fault.Write → output.new.failed ≡ true }
+    ensures failed { result ≡ Err fault.Write →
+        has_failed output.old.faults output.new.faults ≡ true }
 {
     let workers = service.workers;
     match SocketSource::new(alloc, socket, workers.count(), service.connections) {
@@ -119,7 +123,8 @@ pub fn serve<R: Threads + Wait + Net + Files + Sync, O: Write>(
 ) -> Result<(), Fault>
     ensures serves { ServesSocket service.now.workers result (O.contents output.old.device)
         (O.contents output.new.device) }
-    ensures failed { result ≡ Err fault.Write → output.new.failed ≡ true }
+    ensures failed { result ≡ Err fault.Write →
+        has_failed output.old.faults output.new.faults ≡ true }
 {
     let socket = Socket::bind(rt, service.path)?;
     let answer = serve_socket(rt, alloc, &socket, service, output);

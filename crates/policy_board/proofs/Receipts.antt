@@ -58,5 +58,6 @@ seat_answered seat known kept new l m answer b first keeps last =
     record {
       known = ap (λ (s : SeatState). s.known) last;
       seen = omega (arith, le, seen, now, keeps.seen);
+      read = ap (λ (s : SeatState). s.read) last ∙ (keeps.read ∙ ap (λ (s : SeatState). s.read) first);
       kept = ap (λ (s : SeatState). s.kept) last ∙ (keeps.kept ∙ ap (λ (ks : List Kept). ks ++ admin_receipt answer m) was);
     }

@@ -54,8 +54,9 @@ module _ {J : Type 0} where
   admin_receipt (Err refusal) after = []
 
   -- the seat knows the whole list as the policy command leaves it, whatever the answer. The receipt of an accepted
-  -- one stands at the end of its receipts; a refused one leaves them
+  -- one stands at the end of its receipts; a refused one leaves them. Its own reader has no part in it
   pub record SeatAfter (old : SeatState) (answer : Result (Receipt J) Refusal) (after : List Entry) (new : SeatState) : Type 0 where
     pub known : new.known ≡ after
     pub seen : new.seen ≡ max old.seen (length after)
+    pub read : new.read ≡ old.read
     pub kept : new.kept ≡ old.kept ++ admin_receipt answer after

@@ -1,5 +1,5 @@
 //! A new board, with its seats and readers.
-ghost use Rattle.std.specs.Prelude.{◌≡◌, ◌≤◌, [], drop, replicate, vec_capacity, IfOk, IfErr};
+ghost use Rattle.std.specs.Prelude.{◌≡◌, ◌≤◌, [], drop, replicate, vec_capacity, IfOk, IfErr, IfSome};
 ghost use Rattle.rbac_policy.specs.Opening.{opening_entries};
 ghost use Rattle.rbac_policy.specs.declared.objects.TheConstants.{SLOTS};
 ghost use Rattle.seat_receipts.specs.declared.receipts.TheConstants.{SEATS};
@@ -20,6 +20,7 @@ use rbac_policy::objects::SLOTS;
 use rbac_policy::policy::Policy;
 use seat_receipts::receipts::SEATS;
 use std::alloc::{AllocError, Global};
+use std::sync::Wait;
 
 /// A board with its seats, and a reader for each slot.
 pub struct Opened<J: Naming> {
@@ -52,45 +53,56 @@ fn open_writer<J: Naming>(
     Ok(writer)
 }
 
-// So many readers, in room that was made for them.
+// So many readers, in room that was made for them, where there is a place for each.
 fn fill_readers<J: Naming>(
     room: Vec<SlotReader<J>>,
     publisher: &Publisher<J>,
     opening: &Front<J>,
     count: usize,
-) -> Vec<SlotReader<J>>
+) -> Option<Vec<SlotReader<J>>>
     requires opening { opening.now ≡ opening_entries }
     requires room { (room.items ≡ []) × (count ≤ vec_capacity room) }
-    ensures { result.items ≡ replicate count opening_entries }
+    ensures { IfSome result (λ readers. readers.items ≡ replicate count opening_entries) }
 {
     let mut readers = room;
     while readers.len() < count {
-        readers.push_reserved(publisher.reader(opening));
+        let Some(reader) = publisher.reader(opening) else {
+            return None;
+        };
+        readers.push_reserved(reader);
     }
-    readers
+    Some(readers)
 }
 
-// So many seats, in room that was made for them.
+// So many seats, in room that was made for them, where there is a place for the reader of each.
 fn fill_seats<J: Naming>(
     alloc: Global,
     room: Vec<Seat<J>>,
     publisher: &Publisher<J>,
     opening: &Front<J>,
     count: usize,
-) -> Vec<Seat<J>>
+) -> Option<Vec<Seat<J>>>
     requires opening { opening.now ≡ opening_entries }
     requires room { (room.items ≡ []) × (count ≤ vec_capacity room) }
-    ensures { result.items ≡ replicate count new_seat }
+    ensures { IfSome result (λ seats. seats.items ≡ replicate count new_seat) }
 {
     let mut seats = room;
     while seats.len() < count {
-        seats.push_reserved(Seat::new(alloc, publisher.reader(opening)));
+        let Some(reader) = publisher.reader(opening) else {
+            return None;
+        };
+        seats.push_reserved(Seat::new(alloc, reader));
     }
-    seats
+    Some(seats)
 }
 
-// The parts of a new board. All room is made before there is a writer, which only a wait could end.
-fn open_parts<J: Naming>(alloc: Global, fresh: Fresh, seats: usize) -> Result<Opened<J>, AllocError>
+// The parts of a new board. All room is made before there is a writer, which only a wait can end.
+fn open_parts<J: Naming, R: Wait>(
+    rt: &R,
+    alloc: Global,
+    fresh: Fresh,
+    seats: usize,
+) -> Result<Opened<J>, AllocError>
     requires name { fresh.seen.book ≡ J.book }
     requires seats { (1 ≤ seats) × (seats ≤ SEATS) }
     ensures { IfOk result (λ o. (o.seats.items ≡ replicate seats new_seat)
@@ -101,9 +113,20 @@ fn open_parts<J: Naming>(alloc: Global, fresh: Fresh, seats: usize) -> Result<Op
     let journal = PolicyJournal::opening(alloc)?;
     let seat_room = Vec::with_capacity(alloc, seats)?;
     let reader_room = Vec::with_capacity(alloc, slots)?;
-    let publisher = Publisher::new(open_writer(alloc, &opening, seats + slots)?, head);
+    let writer = open_writer(alloc, &opening, seats + slots)?;
+    let publisher = match Publisher::new(writer, head) {
+        Ok(publisher) => publisher,
+        Err(writer) => {
+            writer.take(rt);
+            return Err(AllocError);
+        }
+    };
     let seats = fill_seats(alloc, seat_room, &publisher, &opening, seats);
     let readers = fill_readers(reader_room, &publisher, &opening, slots);
+    let (Some(seats), Some(readers)) = (seats, readers) else {
+        publisher.take(rt);
+        return Err(AllocError);
+    };
     Ok(Opened {
         board: Board::new(Desk::new(publisher, journal)),
         seats,
@@ -112,19 +135,25 @@ fn open_parts<J: Naming>(alloc: Global, fresh: Fresh, seats: usize) -> Result<Op
 }
 
 impl<J: Naming> Board<J> {
-    /// A board under the name of a fresh list, with so many seats, and a reader for each slot. None has seen more than the opening entries.
+    /// A board under the name of a fresh list, with so many seats, and a reader for each slot. Each can read, and none has seen more than the
+    /// opening entries.
     ///
     /// # Errors
     ///
-    /// Memory, where memory was refused.
-    pub fn open(alloc: Global, fresh: Fresh, seats: usize) -> Result<Opened<J>, Refusal>
+    /// Memory, where memory was refused, or `left_right` gave no reader.
+    pub fn open<R: Wait>(
+        rt: &R,
+        alloc: Global,
+        fresh: Fresh,
+        seats: usize,
+    ) -> Result<Opened<J>, Refusal>
         requires name { fresh.seen.book ≡ J.book }
         requires seats { (1 ≤ seats) × (seats ≤ SEATS) }
         ensures opened { IfOk result (λ o. (o.seats.items ≡ replicate seats new_seat)
             × (o.readers.items ≡ replicate SLOTS opening_entries)) }
         ensures refused { IfErr result (λ refusal. refusal ≡ Memory) }
     {
-        match open_parts(alloc, fresh, seats) {
+        match open_parts(rt, alloc, fresh, seats) {
             Ok(opened) => Ok(opened),
             Err(_) => Err(Refusal::Memory),
         }

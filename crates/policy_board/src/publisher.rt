@@ -1,5 +1,5 @@
 //! The one writer of the policy, with the list of what it has published.
-ghost use Rattle.std.specs.Prelude.{◌≡◌, [], ◌∷◌, ◌++◌, ◌<◌, drop, length};
+ghost use Rattle.std.specs.Prelude.{◌≡◌, [], ◌∷◌, ◌++◌, ◌<◌, drop, length, IfOk, IfSome};
 ghost use Rattle.rbac_policy.specs.Opening.{opening_entries};
 ghost use Rattle.rbac_policy.specs.StandsFor.{StandsFor};
 ghost use Rattle.rbac_admin.specs.PolicyLists.{Begins, IsAccepted};
@@ -34,7 +34,7 @@ impl<J: Naming> Model for Publisher<J> {
         p.writer.desk.shown.value.trace (drop p.writer.behind p.writer.log.items) };
 }
 
-// Has the writer take the operation up. It waits where memory is refused, of which `Publisher::new` made the room.
+// Has the writer take the operation up. It would wait where memory is refused, but `Publisher::new` made the room.
 fn append<J: Naming, R: Wait>(
     rt: &R,
     writer: PolicyWriter<J>,
@@ -98,15 +98,22 @@ fn show<J: Naming, R: Wait>(
 }
 
 impl<J: Naming> Publisher<J> {
-    /// Of a writer that shows the opening policy. It makes the room for what will wait to be published, where memory isn't refused.
-    pub fn new(writer: PolicyWriter<J>, head: Head<J>) -> Publisher<J>
+    /// Of a writer that shows the opening policy. It makes the room for what will wait to be published: one operation, since
+    /// each is published before the next comes.
+    ///
+    /// # Errors
+    ///
+    /// The writer, where memory was refused for that.
+    pub fn new(writer: PolicyWriter<J>, head: Head<J>) -> Result<Publisher<J>, PolicyWriter<J>>
         requires { IsPublishing J.book writer.desk.shown.value.policy writer.desk.shown.value.trace
             (drop writer.behind writer.log.items) }
-        ensures { result ≡ writer.desk.shown.value.trace.list }
+        ensures { IfOk result (λ publisher. publisher ≡ writer.desk.shown.value.trace.list) }
     {
         let mut writer = writer;
-        let _room = writer.append(Operation::Room);
-        Publisher { writer, head }
+        match writer.append(Operation::Room) {
+            Ok(()) => Ok(Publisher { writer, head }),
+            Err(_) => Err(writer),
+        }
     }
 
     /// The policy that is published.
@@ -123,10 +130,10 @@ impl<J: Naming> Publisher<J> {
         Front::of(&self.writer.published().trace)
     }
 
-    /// A reader that has seen the opening entries.
-    pub fn reader(&self, opening: &Front<J>) -> SlotReader<J>
+    /// A reader that has seen the opening entries, where `left_right` has a place for it.
+    pub fn reader(&self, opening: &Front<J>) -> Option<SlotReader<J>>
         requires { opening.now ≡ opening_entries }
-        ensures { result ≡ opening_entries }
+        ensures { IfSome result (λ reader. reader ≡ opening_entries) }
     {
         SlotReader::new(&self.writer, opening)
     }

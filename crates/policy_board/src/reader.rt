@@ -1,5 +1,5 @@
 //! A reader of the policy. It waits for nobody, and never goes back.
-ghost use Rattle.std.specs.Prelude.{◌≡◌, MatchResult};
+ghost use Rattle.std.specs.Prelude.{◌≡◌, IfSome, MatchResult};
 ghost use Rattle.rbac_policy.specs.Opening.{opening_entries};
 ghost use Rattle.rbac_policy.specs.StandsFor.{StandsFor};
 ghost use Rattle.rbac_admin.specs.PolicyLists.{Begins};
@@ -12,16 +12,15 @@ use rbac_policy::policy::Policy;
 use std::collections::LinkedList;
 use std::marker::Model;
 
-/// A reader that is not reading. A contract sees the policy list that it has seen.
+/// A reader that is not reading. Each can read: there is none that could not be asked to. A contract sees the policy list that it has seen.
 #[derive(Drop)]
 pub struct SlotReader<J: Naming> {
-    // None where `left_right` gave none: each read is then refused.
-    reader: Option<PolicyReader<J>>,
+    reader: PolicyReader<J>,
     front: Front<J>,
 }
 
 impl<J: Naming> Model for SlotReader<J> {
-    ghost use Rattle.std.specs.Prelude.{◌≡◌, List, IfSome};
+    ghost use Rattle.std.specs.Prelude.{◌≡◌, List};
     ghost use Rattle.rbac_policy.specs.declared.commands.Entry.{Entry};
     ghost use Rattle.left_right.specs.Sides.{view as seen_at};
 
@@ -29,7 +28,7 @@ impl<J: Naming> Model for SlotReader<J> {
 
     ghost view = { λ s. s.front };
 
-    ghost invariant = { λ s. IfSome s.reader (λ r. seen_at r.place ≡ s.front) };
+    ghost invariant = { λ s. seen_at s.reader.place ≡ s.front };
 }
 
 /// A read. A contract sees the policy list that the policy stands for. End it by `leave`: a publication waits for it.
@@ -53,24 +52,17 @@ impl<J: Naming> Model for Reading<J> {
 }
 
 impl<J: Naming> SlotReader<J> {
-    /// A reader that has seen the opening entries.
-    pub(crate) fn new(writer: &PolicyWriter<J>, opening: &Front<J>) -> SlotReader<J>
+    /// A reader that has seen the opening entries, where `left_right` has a place for it.
+    pub(crate) fn new(writer: &PolicyWriter<J>, opening: &Front<J>) -> Option<SlotReader<J>>
         requires { opening.now ≡ opening_entries }
-        ensures { result ≡ opening_entries }
+        ensures { IfSome result (λ reader. reader ≡ opening_entries) }
     {
-        SlotReader {
-            reader: writer.factory().reader().ok(),
-            front: opening.again(),
-        }
-    }
-
-    /// A reader that has seen this much, and whose reads are refused: it keeps the place of one that is reading.
-    pub fn vacant(front: Front<J>) -> SlotReader<J>
-        ensures { result ≡ front }
-    {
-        SlotReader {
-            reader: None,
-            front,
+        match writer.factory().reader() {
+            Ok(reader) => Some(SlotReader {
+                reader,
+                front: opening.again(),
+            }),
+            Err(_) => None,
         }
     }
 
@@ -83,21 +75,12 @@ impl<J: Naming> SlotReader<J> {
         ensures { MatchResult result (λ reading. Begins self reading) (λ reader. reader ≡ self) }
     {
         let SlotReader { reader, front } = self;
-        let Some(reader) = reader else {
-            return Err(SlotReader {
-                reader: None,
-                front,
-            });
-        };
         match reader.enter_as::<Sees<J>>() {
             Ok(reading) => {
                 let front = Front::of(&reading.get().trace);
                 Ok(Reading { reading, front })
             }
-            Err(reader) => Err(SlotReader {
-                reader: Some(reader),
-                front,
-            }),
+            Err(reader) => Err(SlotReader { reader, front }),
         }
     }
 
@@ -130,7 +113,7 @@ impl<J: Naming> Reading<J> {
     {
         let Reading { reading, front } = self;
         SlotReader {
-            reader: Some(reading.leave()),
+            reader: reading.leave(),
             front,
         }
     }

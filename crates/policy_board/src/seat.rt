@@ -3,7 +3,8 @@ ghost use Rattle.std.specs.Prelude.{◌≡◌, ◌⊎◌, ◌≤◌, max, length
 ghost use Rattle.rbac_policy.specs.Facts.{IsLive, May};
 ghost use Rattle.rbac_policy.specs.Opening.{opening_entries};
 ghost use Rattle.rbac_admin.specs.PolicyLists.{Begins, IsPolicyList};
-ghost use Rattle.policy_board.specs.Reads.{Asks, HasRead, IsUnread};
+ghost use Rattle.policy_board.specs.Reads.{Asks};
+ghost use Rattle.policy_board.specs.Inner.Reading.{IsRead, IsNotRead};
 ghost use Rattle.policy_board.specs.PolicyCommands.{seat_after};
 ghost use Rattle.policy_board.specs.Receipts.{HasRoom, seat_keeping};
 ghost use Rattle.policy_board.specs.SeatState.{KeepsReceipts, new_seat};
@@ -18,7 +19,6 @@ use seat_receipts::receipt::Kept;
 use seat_receipts::receipts::Receipts;
 use std::alloc::Global;
 use std::marker::Model;
-use std::mem::replace;
 
 /// What an accepted policy command leaves its caller: its entry, the list that ends with it, and the session that it made, if it is a login.
 #[derive(Drop)]
@@ -62,14 +62,15 @@ impl<J: Naming> Receipt<J> {
 /// It keeps the receipts of its calls that added an entry, in their order.
 #[derive(Drop)]
 pub struct Seat<J: Naming> {
-    reader: SlotReader<J>,
+    // It is away only while a call of the seat reads.
+    reader: Option<SlotReader<J>>,
     known: Front<J>,
     seen: u64,
     kept: Vec<Kept>,
 }
 
 impl<J: Naming> Model for Seat<J> {
-    ghost use Rattle.std.specs.Prelude.{◌≤◌, max, length, vec_capacity};
+    ghost use Rattle.std.specs.Prelude.{◌≤◌, [], max, length, unwrap_or, vec_capacity, IsSome};
     ghost use Rattle.rbac_policy.specs.Opening.{opening_entries};
     ghost use Rattle.policy_board.specs.SeatState.{SeatState};
 
@@ -77,12 +78,43 @@ impl<J: Naming> Model for Seat<J> {
 
     ghost view = { λ s. record {
       known = s.known;
+      read = unwrap_or s.reader [];
       seen = s.seen;
       kept = s.kept.items;
       room = vec_capacity s.kept;
     } };
 
-    ghost invariant = { λ s. length s.known ≤ max s.seen (length opening_entries) };
+    ghost invariant = { λ s. IsSome s.reader
+        × (length s.known ≤ max s.seen (length opening_entries)) };
+}
+
+// Reads. What is read is then known, unless it is older than what was seen. A refused read hands the reader back.
+fn read_newer<J: Naming>(
+    reader: SlotReader<J>,
+    known: &mut Front<J>,
+    seen: &mut u64,
+) -> Result<Reading<J>, (Refusal, SlotReader<J>)>
+    requires { length known.old ≤ max seen.old (length opening_entries) }
+    ensures { MatchResult result
+        (λ reading. IsRead reader (record { known = known.old; seen = seen.old }) reading
+        (record { known = known.new; seen = seen.new }))
+        (λ left. IsNotRead reader (record { known = known.old; seen = seen.old }) left.0 left.1
+        (record { known = known.new; seen = seen.new })) }
+{
+    let reading = match reader.enter() {
+        Ok(reading) => reading,
+        Err(reader) => return Err((Refusal::Memory, reader)),
+    };
+    let front = reading.front().again();
+    let found = front.version();
+    if found < *seen {
+        let refusal = Refusal::Behind { found, seen: *seen };
+        return Err((refusal, reading.leave()));
+    }
+    known.compare(&front);
+    *known = front;
+    *seen = found;
+    Ok(reading)
 }
 
 impl<J: Naming> Seat<J> {
@@ -93,7 +125,7 @@ impl<J: Naming> Seat<J> {
     {
         Seat {
             known: reader.front().again(),
-            reader,
+            reader: Some(reader),
             seen: 0,
             kept: Vec::new(alloc),
         }
@@ -187,6 +219,7 @@ impl<J: Naming> Seat<J> {
         ensures told { Begins receipt.list self.new.known }
         ensures one { (self.new.known ≡ self.old.known) ⊎ (self.new.known ≡ receipt.list) }
         ensures seen { self.new.seen ≡ max self.old.seen (length receipt.list) }
+        ensures read { self.new.read ≡ self.old.read }
         ensures kept { KeepsReceipts self.old self.new }
     {
         let Receipt { list, .. } = receipt;
@@ -194,35 +227,6 @@ impl<J: Naming> Seat<J> {
         if self.known.begins(&list) {
             self.known = list;
         }
-    }
-
-    // Begins a read. The seat has its reader again once what it gives is left, and put back.
-    fn enter(&mut self) -> Result<Reading<J>, Refusal>
-        ensures { MatchResult result
-            (λ reading. HasRead self.old reading self.new)
-            (λ refusal. IsUnread self.old refusal self.new) }
-    {
-        let away = SlotReader::vacant(self.known.again());
-        let reading = match replace(&mut self.reader, away).enter() {
-            Ok(reading) => reading,
-            Err(reader) => {
-                self.reader = reader;
-                return Err(Refusal::Memory);
-            }
-        };
-        let front = reading.front().again();
-        let found = front.version();
-        if found < self.seen {
-            self.reader = reading.leave();
-            return Err(Refusal::Behind {
-                found,
-                seen: self.seen,
-            });
-        }
-        self.known.compare(&front);
-        self.known = front;
-        self.seen = found;
-        Ok(reading)
     }
 
     /// Whether the session may do the operation on the object. It waits for nobody.
@@ -240,10 +244,18 @@ impl<J: Naming> Seat<J> {
         ensures { Asks (λ entries. May entries session operation object.now) self.old result
             self.new }
     {
-        let reading = self.enter()?;
-        let allowed = reading.policy().may(session, &operation, object);
-        self.reader = reading.leave();
-        Ok(allowed)
+        let reader = self.reader.take().unwrap();
+        match read_newer(reader, &mut self.known, &mut self.seen) {
+            Ok(reading) => {
+                let allowed = reading.policy().may(session, &operation, object);
+                self.reader = Some(reading.leave());
+                Ok(allowed)
+            }
+            Err((refusal, reader)) => {
+                self.reader = Some(reader);
+                Err(refusal)
+            }
+        }
     }
 
     /// Whether the session lives. It waits for nobody.
@@ -254,9 +266,17 @@ impl<J: Naming> Seat<J> {
     pub fn lives(&mut self, session: SessionId) -> Result<bool, Refusal>
         ensures { Asks (λ entries. IsLive entries session) self.old result self.new }
     {
-        let reading = self.enter()?;
-        let lives = reading.policy().lives(session);
-        self.reader = reading.leave();
-        Ok(lives)
+        let reader = self.reader.take().unwrap();
+        match read_newer(reader, &mut self.known, &mut self.seen) {
+            Ok(reading) => {
+                let lives = reading.policy().lives(session);
+                self.reader = Some(reading.leave());
+                Ok(lives)
+            }
+            Err((refusal, reader)) => {
+                self.reader = Some(reader);
+                Err(refusal)
+            }
+        }
     }
 }

@@ -22,7 +22,6 @@ use reactor_core::journal::Journal;
 use seat_receipts::mismatch::Mismatch;
 use std::alloc::Global;
 use std::marker::Model;
-use std::mem::replace;
 use std::sync::Wait;
 
 /// The slot of this number with its reader. A contract sees its journal, and the policy list that the reader has seen. The journal is legal
@@ -30,19 +29,21 @@ use std::sync::Wait;
 #[derive(Drop)]
 pub struct LockedSlot<J: Naming, const NUMBER: u8> {
     core: Slot,
-    reader: SlotReader<J>,
+    // It is away only while a command reads.
+    reader: Option<SlotReader<J>>,
 }
 
 impl<J: Naming, const NUMBER: u8> Model for LockedSlot<J, NUMBER> {
-    ghost use Rattle.std.specs.Prelude.{◌≡◌};
+    ghost use Rattle.std.specs.Prelude.{◌≡◌, [], unwrap_or, IsSome};
     ghost use Rattle.access_core.specs.Journals.{IsLegal};
     ghost use Rattle.slot_table.specs.LockedState.{LockedState};
 
     ghost Value = { LockedState };
 
-    ghost view = { λ s. record { list = s.reader; journal = s.core.journal } };
+    ghost view = { λ s. record { list = unwrap_or s.reader []; journal = s.core.journal } };
 
-    ghost invariant = { λ s. (s.core.number ≡ NUMBER) × IsLegal s.reader NUMBER s.core.journal };
+    ghost invariant = { λ s. IsSome s.reader × (s.core.number ≡ NUMBER)
+        × IsLegal (unwrap_or s.reader []) NUMBER s.core.journal };
 }
 
 /// Answers a command on the slot at the policy that is read, and ends the read. A load ends it
@@ -67,6 +68,42 @@ fn decide_and_leave<J: Naming>(
     (reply, reading.leave())
 }
 
+/// Answers a command on the slot of this number as this reader of its own reads the policy, and hands the reader back. The seat keeps a receipt
+/// of a reply that tells a place.
+fn read_and_decide<J: Naming, const NUMBER: u8, R: Wait>(
+    rt: &R,
+    board: &Board<J>,
+    seat: &mut Seat<J>,
+    slot: &mut Slot,
+    reader: SlotReader<J>,
+    session: SessionId,
+    command: SlotCommand,
+) -> (Reply, SlotReader<J>)
+    requires { slot.old.number ≡ NUMBER }
+    ensures number { slot.new.number ≡ NUMBER }
+    ensures command { LockedCommand NUMBER session command
+        (record { list = reader; journal = slot.old.journal }) seat.old result.0
+        (record { list = result.1; journal = slot.new.journal }) seat.new }
+{
+    let Ok(()) = seat.room() else {
+        return (Reply::Refused(Refusal::Memory), reader);
+    };
+    let reading = match reader.enter() {
+        Ok(reading) => reading,
+        Err(reader) => return (Reply::Refused(Refusal::Memory), reader),
+    };
+    let (found, seen) = (reading.front().version(), seat.seen());
+    if found < seen {
+        let behind = Refusal::Behind { found, seen };
+        return (Reply::Refused(behind), reading.leave());
+    }
+    seat.saw_list(reading.front());
+    let asked = asked_by(&command);
+    let (reply, reader) = decide_and_leave(reading, slot, session, command);
+    keep(rt, board, seat, NUMBER, session, asked, &reply);
+    (reply, reader)
+}
+
 impl<J: Naming, const NUMBER: u8> LockedSlot<J, NUMBER> {
     /// An empty slot, whose reader has seen what it has.
     pub fn new(alloc: Global, reader: SlotReader<J>) -> LockedSlot<J, NUMBER>
@@ -75,7 +112,7 @@ impl<J: Naming, const NUMBER: u8> LockedSlot<J, NUMBER> {
     {
         LockedSlot {
             core: Slot::new(alloc, SlotNumber::new(NUMBER).unwrap()),
-            reader,
+            reader: Some(reader),
         }
     }
 
@@ -93,27 +130,17 @@ impl<J: Naming, const NUMBER: u8> LockedSlot<J, NUMBER> {
         ensures command { LockedCommand NUMBER session command self.old seat.old result self.new
             seat.new }
     {
-        let away = SlotReader::vacant(self.reader.front().again());
-        let Ok(()) = seat.room() else {
-            return Reply::Refused(Refusal::Memory);
-        };
-        let reading = match replace(&mut self.reader, away).enter() {
-            Ok(reading) => reading,
-            Err(reader) => {
-                self.reader = reader;
-                return Reply::Refused(Refusal::Memory);
-            }
-        };
-        let (found, seen) = (reading.front().version(), seat.seen());
-        if found < seen {
-            self.reader = reading.leave();
-            return Reply::Refused(Refusal::Behind { found, seen });
-        }
-        seat.saw_list(reading.front());
-        let asked = asked_by(&command);
-        let (reply, reader) = decide_and_leave(reading, &mut self.core, session, command);
-        self.reader = reader;
-        keep(rt, board, seat, NUMBER, session, asked, &reply);
+        let reader = self.reader.take().unwrap();
+        let (reply, reader) = read_and_decide::<J, NUMBER, R>(
+            rt,
+            board,
+            seat,
+            &mut self.core,
+            reader,
+            session,
+            command,
+        );
+        self.reader = Some(reader);
         reply
     }
 
@@ -129,7 +156,7 @@ impl<J: Naming, const NUMBER: u8> LockedSlot<J, NUMBER> {
         ensures board { board.new.desk ≡ board.old.desk }
     {
         let LockedSlot { core, reader } = self;
-        let handed = board.reader(reader);
+        let handed = board.reader(reader.unwrap());
         (core.into_journal(), handed)
     }
 }

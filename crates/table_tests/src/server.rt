@@ -79,7 +79,7 @@ pub(crate) fn load<R: Abort>(rt: &R, alloc: Global) -> SlotCommand {
 }
 
 /// A board with so many seats, and its slots.
-pub(crate) fn open<J: Naming, R: Abort>(
+pub(crate) fn open<J: Naming, R: Wait + Abort>(
     rt: &R,
     alloc: Global,
     fresh: Fresh,
@@ -92,7 +92,7 @@ pub(crate) fn open<J: Naming, R: Abort>(
         board,
         seats,
         readers,
-    } = Board::<J>::open(alloc, fresh, count)
+    } = Board::<J>::open(rt, alloc, fresh, count)
         .ok()
         .expect(rt, "a board");
     Server {

@@ -9,6 +9,7 @@ use seat_receipts::receipts::SEATS;
 use slot_table::table::SlotTable;
 use std::alloc::Global;
 use std::process::Abort;
+use std::sync::Wait;
 
 /// A board with its seats, and the slots of its readers.
 pub(crate) struct Server<J: Naming> {
@@ -18,7 +19,7 @@ pub(crate) struct Server<J: Naming> {
 }
 
 /// A board with so many seats, and its slots.
-pub(crate) fn open<J: Naming, R: Abort>(
+pub(crate) fn open<J: Naming, R: Wait + Abort>(
     rt: &R,
     alloc: Global,
     fresh: Fresh,
@@ -31,7 +32,7 @@ pub(crate) fn open<J: Naming, R: Abort>(
         board,
         seats,
         readers,
-    } = Board::<J>::open(alloc, fresh, count)
+    } = Board::<J>::open(rt, alloc, fresh, count)
         .ok()
         .expect(rt, "a board");
     Server {

@@ -10,4 +10,5 @@ use Rattle.policy_board.specs.declared.seat.Receipt.{Receipt}
 pub record KeepsAnswer {J : Type 0} (old : SeatState) (answer : Result (Receipt J) Refusal) (after : List Entry) (new : SeatState) : Type 0 where
   pub known : new.known ≡ old.known
   pub seen : new.seen ≡ old.seen
+  pub read : new.read ≡ old.read
   pub kept : new.kept ≡ old.kept ++ admin_receipt answer after
