@@ -47,7 +47,7 @@ pub record AreSlots (slots : List SlotState) : Type 0 where
 
 -- how the desk tells why a policy command adds no entry
 abbrev pub list_refusals : ListRefusals Refusal
-list_refusals = record { told = of_policy; full = JournalFull; memory = Memory }
+list_refusals = record { told = Policy; full = JournalFull; memory = Memory }
 
 -- refuses where the policy list has no room for the entry's command
 abbrev pub list_full : List Entry → Entry → Rule Refusal

@@ -4,11 +4,8 @@ use Rattle.est_kernel.specs.Interfaces.{inputs_of}
 use Rattle.est_kernel.specs.Term.{Term}
 use Rattle.est_kernel.specs.declared.interface.Declaration.{Declaration}
 use Rattle.est_relations.specs.Offers.{place_of, IsSignalName, IsOutputName, IsPendingName, IsFirstExcluded}
-<<<<<<< HEAD
 use Rattle.rbac_admin.specs.declared.refusals.Refusal.TheVariants as policy
-=======
 use Rattle.reactor_core.specs.declared.entry.PastInstant.{PastInstant}
->>>>>>> 29ba94c374a689f60b9ee423b10b507520808999
 use Rattle.reactor_core.specs.declared.entry.SlotEntry.{SlotEntry}
 use Rattle.reactor_core.specs.Answers.{IsInstant}
 use Rattle.reactor_core.specs.Instants.{IsOutcome}

@@ -49,25 +49,25 @@ login_makes_session DeleteSession session is = absurd cc
 login_makes_session (AddActiveRole role) session is = absurd cc
 login_makes_session (DropActiveRole role) session is = absurd cc
 
-module _ {J : Type 0} where
+module _ {B : Type 0} where
   -- what a receipt of a published entry tells
-  record Tells (receipt : Receipt J) (entry : Entry) (before : List Entry) : Type 0 where
+  record Tells (receipt : Receipt B) (entry : Entry) (before : List Entry) : Type 0 where
     pub entry_is : receipt.entry ≡ entry
     pub version : length receipt.list ≡ length before + 1
     pub session : receipt.session ≡ session_made before entry
 
-  published_tells : (receipt : Receipt J) (entry : Entry) (before after : List Entry) → IsPublished entry before (Ok receipt) after → Tells receipt entry before
+  published_tells : (receipt : Receipt B) (entry : Entry) (before after : List Entry) → IsPublished entry before (Ok receipt) after → Tells receipt entry before
   published_tells receipt entry before after p =
       let same : receipt ≡ p.receipt = (let is = p.answered in cc) in
-      let list : receipt.list ≡ before ++ entry ∷ [] = ap (λ (r : Receipt J). r.list) same ∙ (p.list_is ∙ p.appended) in
+      let list : receipt.list ≡ before ++ entry ∷ [] = ap (λ (r : Receipt B). r.list) same ∙ (p.list_is ∙ p.appended) in
       record {
-        entry_is = ap (λ (r : Receipt J). r.entry) same ∙ p.entry_is;
+        entry_is = ap (λ (r : Receipt B). r.entry) same ∙ p.entry_is;
         version = ap (λ (l : List Entry). length l) list ∙ length-append before (entry ∷ []);
-        session = ap (λ (r : Receipt J). r.session) same ∙ p.session_is;
+        session = ap (λ (r : Receipt B). r.session) same ∙ p.session_is;
       }
 
   -- the reply to a receipt whose command makes this change
-  pub reply_changed : (receipt : Receipt J) (entry : Entry) (before after : List Entry) (change : Change) → IsPublished entry before (Ok receipt) after
+  pub reply_changed : (receipt : Receipt B) (entry : Entry) (before after : List Entry) (change : Change) → IsPublished entry before (Ok receipt) after
       → change_of receipt.entry.command ≡ Some change → Changed change (length receipt.list) ≡ accepted_reply before entry.command
   reply_changed receipt entry before after change p is =
       let t = published_tells receipt entry before after p in
@@ -75,7 +75,7 @@ module _ {J : Type 0} where
       ap (λ n. Changed change n) t.version ∙ sym (ap (λ c. reply_of_change c before) made)
 
   -- a receipt of a login has the session that it made
-  pub session_of_login : (receipt : Receipt J) (entry : Entry) (before after : List Entry) → IsPublished entry before (Ok receipt) after
+  pub session_of_login : (receipt : Receipt B) (entry : Entry) (before after : List Entry) → IsPublished entry before (Ok receipt) after
       → change_of receipt.entry.command ≡ None → receipt.session ≡ Some (logins before + 1)
   session_of_login receipt entry before after p is =
       let t = published_tells receipt entry before after p in
@@ -83,7 +83,7 @@ module _ {J : Type 0} where
       t.session ∙ ap (λ b. if b then Some (logins before + 1) else None) (login_makes_session entry.command entry.session made)
 
   -- the reply to a receipt of a login
-  pub reply_login : (receipt : Receipt J) (entry : Entry) (before after : List Entry) (session : ℕ) → IsPublished entry before (Ok receipt) after
+  pub reply_login : (receipt : Receipt B) (entry : Entry) (before after : List Entry) (session : ℕ) → IsPublished entry before (Ok receipt) after
       → change_of receipt.entry.command ≡ None → receipt.session ≡ Some session → Login session (length receipt.list) ≡ accepted_reply before entry.command
   reply_login receipt entry before after session p is made =
       let t = published_tells receipt entry before after p in
@@ -92,7 +92,7 @@ module _ {J : Type 0} where
       ap (λ n. Login n (length receipt.list)) number ∙ (ap (λ n. Login (logins before + 1) n) t.version ∙ sym (ap (λ c. reply_of_change c before) none))
 
   -- an accepted command published an entry
-  published_by : (old new : List Entry) (receipt : Receipt J) (decided : Result Entry PolicyRefusal)
+  published_by : (old new : List Entry) (receipt : Receipt B) (decided : Result Entry PolicyRefusal)
       → MatchResult decided
       (λ entry. Answers (room.list_full board.JournalFull old entry ▸ MayRefuse board.Memory ▸ accept) (λ refusal. board_step.IsRefused refusal old (Ok receipt) new) (IsPublished entry old (Ok receipt) new))
       (λ refusal. board_step.IsRefused (board.Policy refusal) old (Ok receipt) new)
@@ -104,7 +104,7 @@ module _ {J : Type 0} where
   published_by old new receipt (Err r) h = let is = h.answered in absurd cc
 
   -- a refused command left the list
-  stayed_by : (old new : List Entry) (answer : Result (Receipt J) Refusal) (refusal : Refusal) (decided : Result Entry PolicyRefusal) → answer ≡ Err refusal
+  stayed_by : (old new : List Entry) (answer : Result (Receipt B) Refusal) (refusal : Refusal) (decided : Result Entry PolicyRefusal) → answer ≡ Err refusal
       → MatchResult decided
       (λ entry. Answers (room.list_full board.JournalFull old entry ▸ MayRefuse board.Memory ▸ accept) (λ r. board_step.IsRefused r old answer new) (IsPublished entry old answer new))
       (λ r. board_step.IsRefused (board.Policy r) old answer new)
@@ -117,7 +117,7 @@ module _ {J : Type 0} where
   stayed_by old new answer refusal (Err r) is h = h.stays
 
   -- the seat keeps the receipt of the entry that the command added, if it added one
-  pub keeps_added : (old new : List Entry) (answer : Result (Receipt J) Refusal) (seat after : SeatState) (session : Option ℕ) (command : AdminCommand)
+  pub keeps_added : (old new : List Entry) (answer : Result (Receipt B) Refusal) (seat after : SeatState) (session : Option ℕ) (command : AdminCommand)
       → board_step.AdminStep old session command answer new → board_step.SeatAfter seat answer new after → KeepsAdded old new seat after
   keeps_added old new (Ok receipt) seat after session command step keeps =
       let p = published_by old new receipt step.answer step.replied in
@@ -127,13 +127,13 @@ module _ {J : Type 0} where
       inl (stayed_by old new (Err refusal) refusal step.answer refl step.replied, keeps.kept ∙ append-nil seat.kept)
 
   -- the receipt, if the answer is one, is of a published entry
-  pub published : (session : Option ℕ) (command : AdminCommand) (old new : List Entry) (answer : Result (Receipt J) Refusal)
+  pub published : (session : Option ℕ) (command : AdminCommand) (old new : List Entry) (answer : Result (Receipt B) Refusal)
       → board_step.AdminStep old session command answer new
       → IfOk answer (λ receipt. (entry : Entry) × (o : List Entry) × (n : List Entry) × IsPublished entry o (Ok receipt) n)
   published session command old new (Ok receipt) step = let p = published_by old new receipt step.answer step.replied in (p.0, old, new, p.1)
   published session command old new (Err refusal) step = tt
 
-  module _ (slots : List SlotState) (old new : List Entry) (answer : Result (Receipt J) Refusal) (given : Reply) where
+  module _ (slots : List SlotState) (old new : List Entry) (answer : Result (Receipt B) Refusal) (given : Reply) where
     refused_same : (refusal : Refusal) → given ≡ Refused (of_board refusal) → new ≡ old
         → IsRefused (of_board refusal) (desk_with old slots) given (desk_with new slots)
     refused_same refusal replied stays = record { replied = replied; stays = ap (λ l. desk_with l slots) stays }
@@ -167,7 +167,7 @@ module _ {J : Type 0} where
       })
 
     refused_at : IfErr answer (λ refusal. given ≡ Refused (of_board refusal)) → (refusal : Refusal) → answer ≡ Err refusal → given ≡ Refused (of_board refusal)
-    refused_at h refusal is = subst (λ (a : Result (Receipt J) Refusal). IfErr a (λ r. given ≡ Refused (of_board r))) is h
+    refused_at h refusal is = subst (λ (a : Result (Receipt B) Refusal). IfErr a (λ r. given ≡ Refused (of_board r))) is h
 
     -- the board's answer to a policy command is a desk's, where the reply is made so of it
     pub step_same : (session : Option ℕ) (command : AdminCommand)

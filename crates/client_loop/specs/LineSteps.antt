@@ -3,7 +3,7 @@ use Rattle.std.specs.Prelude.{◌≡◌, ℕ, ◌<◌, ◌≤◌, ◌⊎◌, Lis
 use Rattle.rbac_policy.specs.declared.commands.AdminCommand.TheVariants.{CreateSession, DeleteSession}
 use Rattle.rbac_admin.specs.declared.refusals.Refusal.TheVariants as policy
 use Rattle.access_core.specs.declared.refusal.Refusal.{Refusal}
-use Rattle.access_core.specs.declared.refusal.Refusal.TheVariants.{Policy, TooLong, AlreadyLoggedIn}
+use Rattle.access_core.specs.declared.refusal.Refusal.TheVariants as fault
 use Rattle.access_core.specs.declared.reply.Reply.{Reply}
 use Rattle.access_core.specs.declared.reply.Reply.TheVariants as reply
 use Rattle.access_core.specs.Answering.{IsRefused}
@@ -24,11 +24,11 @@ ask_of (Check operation object) session = to_check session operation object
 -- a login is asked where none is held, and refused while one is
 abbrev pub Unheld : {D : Type 0} → (answers : D → Ask → Reply → D → Type 0) → (login : Option ℕ) → Ask → (before : D) → Reply → (after : D) → Type 0
 Unheld answers None ask before given after = answers before ask given after
-Unheld answers (Some session) ask before given after = IsRefused AlreadyLoggedIn before given after
+Unheld answers (Some session) ask before given after = IsRefused fault.AlreadyLoggedIn before given after
 
 -- any other request is asked by the session of the login, and refused where none is held
 abbrev pub Held : {D : Type 0} → (answers : D → Ask → Reply → D → Type 0) → (login : Option ℕ) → (ℕ → Ask) → (before : D) → Reply → (after : D) → Type 0
-Held answers None ask before given after = IsRefused (Policy policy.NoSession) before given after
+Held answers None ask before given after = IsRefused (fault.Policy policy.NoSession) before given after
 Held answers (Some session) ask before given after = answers before (ask session) given after
 
 -- what is answered to a request on a connection with this login, and the desk afterwards
@@ -61,7 +61,7 @@ pub record AnswersRequest {D : Type 0} (answers : D → Ask → Reply → D → 
 
 -- why a line is refused before anything is asked: it is over the limit, or it reads as no request
 pub data IsNoRequest (line : List ℕ) (refusal : Refusal) : Type 0 where
-  too_long : LINE_BYTES < length line → refusal ≡ TooLong → IsNoRequest line refusal
+  too_long : LINE_BYTES < length line → refusal ≡ fault.TooLong → IsNoRequest line refusal
   not_read : length line ≤ LINE_BYTES → IsReadAs line (Err refusal) → IsNoRequest line refusal
 
 -- the line is refused before anything is asked, and nothing is changed

@@ -13,7 +13,7 @@ use client_loop::workers::run_workers;
 use command_line::order::{Service, WorkerCount};
 use line_reader::meter::MeteredWriter;
 use policy_board::board::Board;
-use policy_board::history::{Fresh, Naming};
+use policy_board::history::{Fresh, BoardName};
 use policy_board::opening::Opened;
 use policy_board::seat::Seat;
 use slot_table::table::SlotTable;
@@ -26,12 +26,12 @@ use std::sync::Wait;
 use std::thread::Threads;
 
 /// Closes a server whose workers have left its seats so, and writes the report on its journals.
-fn close<J: Naming, R: Wait, O: Write>(
+fn close<B: BoardName, R: Wait, O: Write>(
     rt: &R,
     alloc: Global,
-    board: Board<J>,
-    table: SlotTable<J>,
-    seats: Vec<Seat<J>>,
+    board: Board<B>,
+    table: SlotTable<B>,
+    seats: Vec<Seat<B>>,
     output: &mut MeteredWriter<O>,
 ) -> Result<(), Fault>
     requires { vec_len seats ≤ SEATS }
@@ -47,7 +47,7 @@ fn close<J: Naming, R: Wait, O: Write>(
 }
 
 /// Serves the connections of a source over a board of this name as it opens, at a seat for each worker, and closes the server.
-fn serve_source<J: Naming + Send + Sync, R: Threads + Wait + Sync, O: Write>(
+fn serve_source<B: BoardName + Send + Sync, R: Threads + Wait + Sync, O: Write>(
     rt: &R,
     alloc: Global,
     fresh: Fresh,
@@ -55,7 +55,7 @@ fn serve_source<J: Naming + Send + Sync, R: Threads + Wait + Sync, O: Write>(
     source: &SocketSource<'_, '_>,
     output: &mut MeteredWriter<O>,
 ) -> Result<(), Fault>
-    requires { fresh.seen.book ≡ J.book }
+    requires { fresh.seen.book ≡ B.book }
     ensures serves { ServesSocket workers result (O.contents output.old.device)
         (O.contents output.new.device) }
     ensures failed { result ≡ Err fault.Write →
@@ -67,7 +67,7 @@ fn serve_source<J: Naming + Send + Sync, R: Threads + Wait + Sync, O: Write>(
             seats,
             readers,
         },
-    ) = Board::<J>::open(rt, alloc, fresh, workers.count())
+    ) = Board::<B>::open(rt, alloc, fresh, workers.count())
     else {
         return Err(Fault::Memory);
     };

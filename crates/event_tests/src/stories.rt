@@ -3,7 +3,7 @@
 use access_core::command::SlotCommand;
 use access_core::refusal::Refusal;
 use access_core::reply::{Reply, ShownSignals};
-use access_events::event::{Event, Seat};
+use access_events::event::{Event, SeatNumber};
 use access_events::run::{World, run_events};
 use est_text::identifier::Identifier;
 use rbac_admin::refusals::Refusal as PolicyRefusal;
@@ -42,9 +42,9 @@ fn session(rt: &impl Abort, text: &str) -> SessionId {
     SessionId::new(text.parse::<u16>().ok().expect(rt, "a number"))
 }
 
-fn seat(rt: &impl Abort, text: &str) -> Seat {
+fn seat(rt: &impl Abort, text: &str) -> SeatNumber {
     let number = text.parse::<u8>().ok().expect(rt, "a number");
-    Seat::new(number).expect(rt, "a seat")
+    SeatNumber::new(number).expect(rt, "a seat")
 }
 
 fn name(rt: &impl Abort, text: &str) -> Name {

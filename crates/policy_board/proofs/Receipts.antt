@@ -17,18 +17,18 @@ use Rattle.policy_board.specs.declared.refusal.Refusal.TheVariants.{Policy, Jour
 use Rattle.policy_board.specs.declared.seat.Receipt.{Receipt}
 use Rattle.policy_board.proofs.Beginnings.{begins_push, begins_length}
 
-module _ {J : Type 0} where
+module _ {B : Type 0} where
   -- what a receipt of this step tells of the list
-  pub record Tells (before : List Entry) (receipt : Receipt J) (after : List Entry) : Type 0 where
+  pub record Tells (before : List Entry) (receipt : Receipt B) (after : List Entry) : Type 0 where
     pub list_is : receipt.list ≡ after
     pub later : Begins before after
 
-  published_tells : (before : List Entry) (receipt : Receipt J) (after : List Entry) (e : Entry) → IsPublished e before (Ok receipt) after → Tells before receipt after
+  published_tells : (before : List Entry) (receipt : Receipt B) (after : List Entry) (e : Entry) → IsPublished e before (Ok receipt) after → Tells before receipt after
   published_tells before receipt after e p =
       let same : receipt ≡ p.receipt = (let is = p.answered in cc) in
-      record { list_is = ap (λ (r : Receipt J). r.list) same ∙ p.list_is; later = subst (Begins before) (sym p.appended) (begins_push before e) }
+      record { list_is = ap (λ (r : Receipt B). r.list) same ∙ p.list_is; later = subst (Begins before) (sym p.appended) (begins_push before e) }
 
-  replied_tells : (before : List Entry) (receipt : Receipt J) (after : List Entry) (decided : Result Entry PolicyRefusal)
+  replied_tells : (before : List Entry) (receipt : Receipt B) (after : List Entry) (decided : Result Entry PolicyRefusal)
       → MatchResult decided
       (λ e. Answers (list_full JournalFull before e ▸ MayRefuse Memory ▸ accept) (λ r. IsRefused r before (Ok receipt) after) (IsPublished e before (Ok receipt) after))
       (λ r. IsRefused (Policy r) before (Ok receipt) after)
@@ -40,7 +40,7 @@ module _ {J : Type 0} where
   replied_tells before receipt after (Err r) h = let is = h.answered in absurd cc
 
   -- the receipt of an accepted command has the list after it, which begins with the list before it
-  pub receipt_tells : (before : List Entry) (session : Option ℕ) (command : AdminCommand) (answer : Result (Receipt J) Refusal) (after : List Entry) (receipt : Receipt J)
+  pub receipt_tells : (before : List Entry) (session : Option ℕ) (command : AdminCommand) (answer : Result (Receipt B) Refusal) (after : List Entry) (receipt : Receipt B)
       → AdminStep before session command answer after → answer ≡ Ok receipt → Tells before receipt after
   receipt_tells before session command answer after receipt step is =
       let step' : AdminStep before session command (Ok receipt) after = subst (λ a. AdminStep before session command a after) is step in
@@ -48,7 +48,7 @@ module _ {J : Type 0} where
 
 -- a seat that knows a list, keeps an answer's receipt, and then knows the longer list that the answer leaves, is as
 -- the command leaves it
-pub seat_answered : {J : Type 0} (seat known kept new : SeatState) (l m : List Entry) (answer : Result (Receipt J) Refusal) → Begins l m → known ≡ seat_after seat l
+pub seat_answered : {B : Type 0} (seat known kept new : SeatState) (l m : List Entry) (answer : Result (Receipt B) Refusal) → Begins l m → known ≡ seat_after seat l
     → KeepsAnswer known answer m kept → new ≡ seat_after kept m → SeatAfter seat answer m new
 seat_answered seat known kept new l m answer b first keeps last =
     let le : length l ≤ length m = begins_length b in

@@ -19,16 +19,16 @@ list_refusals = record { told = Policy; full = JournalFull; memory = Memory }
 abbrev pub session_made : List Entry → Entry → Option ℕ
 session_made before entry = if is_login entry then Some (logins before + 1) else None
 
-module _ {J : Type 0} where
+module _ {B : Type 0} where
   -- the answer is this refusal, and the list stays
-  pub record IsRefused (refusal : Refusal) (before : List Entry) (answer : Result (Receipt J) Refusal) (after : List Entry) : Type 0 where
+  pub record IsRefused (refusal : Refusal) (before : List Entry) (answer : Result (Receipt B) Refusal) (after : List Entry) : Type 0 where
     pub answered : answer ≡ Err refusal
     pub stays : after ≡ before
 
   -- the entry, and no other, is put at the end of the list. The answer is its receipt, with the list that ends with it, and with the session
   -- that it makes
-  pub record IsPublished (entry : Entry) (before : List Entry) (answer : Result (Receipt J) Refusal) (after : List Entry) : Type 0 where
-    pub receipt : Receipt J
+  pub record IsPublished (entry : Entry) (before : List Entry) (answer : Result (Receipt B) Refusal) (after : List Entry) : Type 0 where
+    pub receipt : Receipt B
     pub answered : answer ≡ Ok receipt
     pub entry_is : receipt.entry ≡ entry
     pub list_is : receipt.list ≡ after
@@ -37,7 +37,7 @@ module _ {J : Type 0} where
 
   -- what the policy step answers on the list: its refusal, which leaves the list; or its entry, which is published, unless the list is full
   -- or memory is refused, which leave the list too
-  abbrev pub AdminStep : (before : List Entry) → Option ℕ → AdminCommand → (answer : Result (Receipt J) Refusal) → (after : List Entry) → Type 0
+  abbrev pub AdminStep : (before : List Entry) → Option ℕ → AdminCommand → (answer : Result (Receipt B) Refusal) → (after : List Entry) → Type 0
   AdminStep before session command answer after =
       StepsOnList list_refusals before session command (λ refusal. IsRefused refusal before answer after)
       (λ entry. IsPublished entry before answer after)
@@ -46,16 +46,16 @@ module _ {J : Type 0} where
 abbrev pub seat_after : SeatState → List Entry → SeatState
 seat_after old list = record old { known = list; seen = max old.seen (length list) }
 
-module _ {J : Type 0} where
+module _ {B : Type 0} where
   -- the receipt that is kept of a policy command with this answer, which leaves this list: of an accepted one its
   -- entry, and the version of the policy with it
-  abbrev pub admin_receipt : (answer : Result (Receipt J) Refusal) → (after : List Entry) → List Kept
+  abbrev pub admin_receipt : (answer : Result (Receipt B) Refusal) → (after : List Entry) → List Kept
   admin_receipt (Ok receipt) after = Admin (length after) receipt.entry ∷ []
   admin_receipt (Err refusal) after = []
 
   -- the seat knows the whole list as the policy command leaves it, whatever the answer. The receipt of an accepted
   -- one stands at the end of its receipts; a refused one leaves them. Its own reader has no part in it
-  pub record SeatAfter (old : SeatState) (answer : Result (Receipt J) Refusal) (after : List Entry) (new : SeatState) : Type 0 where
+  pub record SeatAfter (old : SeatState) (answer : Result (Receipt B) Refusal) (after : List Entry) (new : SeatState) : Type 0 where
     pub known : new.known ≡ after
     pub seen : new.seen ≡ max old.seen (length after)
     pub read : new.read ≡ old.read

@@ -10,7 +10,7 @@
 #![tactic(auto)]
 
 pub mod board;
-mod desk;
+mod locked_policy;
 pub mod history;
 pub mod opening;
 mod publisher;

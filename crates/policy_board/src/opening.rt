@@ -8,8 +8,8 @@ ghost use Rattle.policy_board.specs.Inner.Publishing.{IsPublishing};
 ghost use Rattle.policy_board.specs.declared.refusal.Refusal.TheVariants.{Memory};
 
 use crate::board::Board;
-use crate::desk::Desk;
-use crate::history::{Fresh, Front, Naming};
+use crate::locked_policy::LockedPolicy;
+use crate::history::{Fresh, Front, BoardName};
 use crate::publisher::Publisher;
 use crate::reader::SlotReader;
 use crate::refusal::Refusal;
@@ -23,22 +23,22 @@ use std::alloc::{AllocError, Global};
 use std::sync::Wait;
 
 /// A board with its seats, and a reader for each slot.
-pub struct Opened<J: Naming> {
-    pub board: Board<J>,
-    pub seats: Vec<Seat<J>>,
-    pub readers: Vec<SlotReader<J>>,
+pub struct Opened<B: BoardName> {
+    pub board: Board<B>,
+    pub seats: Vec<Seat<B>>,
+    pub readers: Vec<SlotReader<B>>,
 }
 
 // A writer that shows the opening policy, with room for so many readers.
-fn open_writer<J: Naming>(
+fn open_writer<B: BoardName>(
     alloc: Global,
-    opening: &Front<J>,
+    opening: &Front<B>,
     readers: usize,
-) -> Result<PolicyWriter<J>, AllocError>
+) -> Result<PolicyWriter<B>, AllocError>
     requires opening { opening.now ≡ opening_entries }
     requires readers { (1 ≤ readers) × (readers ≤ 1024) }
     ensures { IfOk result (λ w. (w.desk.shown.value.trace.list ≡ opening_entries)
-        × IsPublishing J.book w.desk.shown.value.policy w.desk.shown.value.trace
+        × IsPublishing B.book w.desk.shown.value.policy w.desk.shown.value.trace
         (drop w.behind w.log.items)) }
 {
     let first = Shown {
@@ -49,17 +49,17 @@ fn open_writer<J: Naming>(
         policy: Policy::opening(),
         trace: opening.trace(),
     };
-    let writer = PolicyWriter::<J>::new(alloc, first, second, readers)?;
+    let writer = PolicyWriter::<B>::new(alloc, first, second, readers)?;
     Ok(writer)
 }
 
 // So many readers, in room that was made for them, where there is a place for each.
-fn fill_readers<J: Naming>(
-    room: Vec<SlotReader<J>>,
-    publisher: &Publisher<J>,
-    opening: &Front<J>,
+fn fill_readers<B: BoardName>(
+    room: Vec<SlotReader<B>>,
+    publisher: &Publisher<B>,
+    opening: &Front<B>,
     count: usize,
-) -> Option<Vec<SlotReader<J>>>
+) -> Option<Vec<SlotReader<B>>>
     requires opening { opening.now ≡ opening_entries }
     requires room { (room.items ≡ []) × (count ≤ vec_capacity room) }
     ensures { IfSome result (λ readers. readers.items ≡ replicate count opening_entries) }
@@ -75,13 +75,13 @@ fn fill_readers<J: Naming>(
 }
 
 // So many seats, in room that was made for them, where there is a place for the reader of each.
-fn fill_seats<J: Naming>(
+fn fill_seats<B: BoardName>(
     alloc: Global,
-    room: Vec<Seat<J>>,
-    publisher: &Publisher<J>,
-    opening: &Front<J>,
+    room: Vec<Seat<B>>,
+    publisher: &Publisher<B>,
+    opening: &Front<B>,
     count: usize,
-) -> Option<Vec<Seat<J>>>
+) -> Option<Vec<Seat<B>>>
     requires opening { opening.now ≡ opening_entries }
     requires room { (room.items ≡ []) × (count ≤ vec_capacity room) }
     ensures { IfSome result (λ seats. seats.items ≡ replicate count new_seat) }
@@ -97,18 +97,18 @@ fn fill_seats<J: Naming>(
 }
 
 // The parts of a new board. All room is made before there is a writer, which only a wait can end.
-fn open_parts<J: Naming, R: Wait>(
+fn open_parts<B: BoardName, R: Wait>(
     rt: &R,
     alloc: Global,
     fresh: Fresh,
     seats: usize,
-) -> Result<Opened<J>, AllocError>
-    requires name { fresh.seen.book ≡ J.book }
+) -> Result<Opened<B>, AllocError>
+    requires name { fresh.seen.book ≡ B.book }
     requires seats { (1 ≤ seats) × (seats ≤ SEATS) }
     ensures { IfOk result (λ o. (o.seats.items ≡ replicate seats new_seat)
         × (o.readers.items ≡ replicate SLOTS opening_entries)) }
 {
-    let (head, opening) = fresh.named::<J>();
+    let (head, opening) = fresh.named::<B>();
     let slots = usize::from(SLOTS);
     let journal = PolicyJournal::opening(alloc)?;
     let seat_room = Vec::with_capacity(alloc, seats)?;
@@ -128,13 +128,13 @@ fn open_parts<J: Naming, R: Wait>(
         return Err(AllocError);
     };
     Ok(Opened {
-        board: Board::new(Desk::new(publisher, journal)),
+        board: Board::new(LockedPolicy::new(publisher, journal)),
         seats,
         readers,
     })
 }
 
-impl<J: Naming> Board<J> {
+impl<B: BoardName> Board<B> {
     /// A board under the name of a fresh list, with so many seats, and a reader for each slot. Each can read, and none has seen more than the
     /// opening entries.
     ///
@@ -146,8 +146,8 @@ impl<J: Naming> Board<J> {
         alloc: Global,
         fresh: Fresh,
         seats: usize,
-    ) -> Result<Opened<J>, Refusal>
-        requires name { fresh.seen.book ≡ J.book }
+    ) -> Result<Opened<B>, Refusal>
+        requires name { fresh.seen.book ≡ B.book }
         requires seats { (1 ≤ seats) × (seats ≤ SEATS) }
         ensures opened { IfOk result (λ o. (o.seats.items ≡ replicate seats new_seat)
             × (o.readers.items ≡ replicate SLOTS opening_entries)) }

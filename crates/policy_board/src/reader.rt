@@ -4,7 +4,7 @@ ghost use Rattle.rbac_policy.specs.Opening.{opening_entries};
 ghost use Rattle.rbac_policy.specs.StandsFor.{StandsFor};
 ghost use Rattle.rbac_admin.specs.PolicyLists.{Begins};
 
-use crate::history::{Front, Naming};
+use crate::history::{Front, BoardName};
 use crate::shown::{PolicyReader, PolicyWriter, Published, Sees, Shown};
 use left_right::reader;
 use rbac_policy::commands::Entry;
@@ -14,12 +14,12 @@ use std::marker::Model;
 
 /// A reader that is not reading. Each can read: there is none that could not be asked to. A contract sees the policy list that it has seen.
 #[derive(Drop)]
-pub struct SlotReader<J: Naming> {
-    reader: PolicyReader<J>,
-    front: Front<J>,
+pub struct SlotReader<B: BoardName> {
+    reader: PolicyReader<B>,
+    front: Front<B>,
 }
 
-impl<J: Naming> Model for SlotReader<J> {
+impl<B: BoardName> Model for SlotReader<B> {
     ghost use Rattle.std.specs.Prelude.{◌≡◌, List};
     ghost use Rattle.rbac_policy.specs.declared.commands.Entry.{Entry};
     ghost use Rattle.left_right.specs.Sides.{view as seen_at};
@@ -32,12 +32,12 @@ impl<J: Naming> Model for SlotReader<J> {
 }
 
 /// A read. A contract sees the policy list that the policy stands for. End it by `leave`: a publication waits for it.
-pub struct Reading<J: Naming> {
-    reading: reader::Reading<Shown, LinkedList<Entry>, Published<J>>,
-    front: Front<J>,
+pub struct Reading<B: BoardName> {
+    reading: reader::Reading<Shown, LinkedList<Entry>, Published<B>>,
+    front: Front<B>,
 }
 
-impl<J: Naming> Model for Reading<J> {
+impl<B: BoardName> Model for Reading<B> {
     ghost use Rattle.std.specs.Prelude.{◌≡◌, List};
     ghost use Rattle.rbac_policy.specs.declared.commands.Entry.{Entry};
     ghost use Rattle.rbac_policy.specs.StandsFor.{StandsFor};
@@ -51,9 +51,9 @@ impl<J: Naming> Model for Reading<J> {
         × StandsFor s.reading.part.value.policy s.front };
 }
 
-impl<J: Naming> SlotReader<J> {
+impl<B: BoardName> SlotReader<B> {
     /// A reader that has seen the opening entries, where `left_right` has a place for it.
-    pub(crate) fn new(writer: &PolicyWriter<J>, opening: &Front<J>) -> Option<SlotReader<J>>
+    pub(crate) fn new(writer: &PolicyWriter<B>, opening: &Front<B>) -> Option<SlotReader<B>>
         requires { opening.now ≡ opening_entries }
         ensures { IfSome result (λ reader. reader ≡ opening_entries) }
     {
@@ -71,11 +71,11 @@ impl<J: Naming> SlotReader<J> {
     /// # Errors
     ///
     /// The reader as it was, where `left_right` refuses the read.
-    pub fn enter(self) -> Result<Reading<J>, SlotReader<J>>
+    pub fn enter(self) -> Result<Reading<B>, SlotReader<B>>
         ensures { MatchResult result (λ reading. Begins self reading) (λ reader. reader ≡ self) }
     {
         let SlotReader { reader, front } = self;
-        match reader.enter_as::<Sees<J>>() {
+        match reader.enter_as::<Sees<B>>() {
             Ok(reading) => {
                 let front = Front::of(&reading.get().trace);
                 Ok(Reading { reading, front })
@@ -85,14 +85,14 @@ impl<J: Naming> SlotReader<J> {
     }
 
     /// The list that it has seen.
-    pub fn front(&self) -> &Front<J>
+    pub fn front(&self) -> &Front<B>
         ensures { result.now ≡ self.now }
     {
         &self.front
     }
 }
 
-impl<J: Naming> Reading<J> {
+impl<B: BoardName> Reading<B> {
     /// The policy that is read.
     pub fn policy(&self) -> &Policy
         ensures { StandsFor result.now self.now }
@@ -101,14 +101,14 @@ impl<J: Naming> Reading<J> {
     }
 
     /// The list that the policy stands for.
-    pub fn front(&self) -> &Front<J>
+    pub fn front(&self) -> &Front<B>
         ensures { result.now ≡ self.now }
     {
         &self.front
     }
 
     /// Ends the read.
-    pub fn leave(self) -> SlotReader<J>
+    pub fn leave(self) -> SlotReader<B>
         ensures { result ≡ self }
     {
         let Reading { reading, front } = self;

@@ -10,7 +10,7 @@ ghost use Rattle.policy_board.specs.Receipts.{HasRoom, seat_keeping};
 ghost use Rattle.policy_board.specs.SeatState.{KeepsReceipts, new_seat};
 ghost use Rattle.policy_board.specs.declared.refusal.Refusal.TheVariants.{Memory};
 
-use crate::history::{Front, Naming};
+use crate::history::{Front, BoardName};
 use crate::reader::{Reading, SlotReader};
 use crate::refusal::Refusal;
 use rbac_policy::commands::{Entry, SessionId};
@@ -22,13 +22,13 @@ use std::marker::Model;
 
 /// What an accepted policy command leaves its caller: its entry, the list that ends with it, and the session that it made, if it is a login.
 #[derive(Drop)]
-pub struct Receipt<J: Naming> {
+pub struct Receipt<B: BoardName> {
     pub(crate) entry: Entry,
-    pub(crate) list: Front<J>,
+    pub(crate) list: Front<B>,
     pub(crate) session: Option<SessionId>,
 }
 
-impl<J: Naming> Receipt<J> {
+impl<B: BoardName> Receipt<B> {
     /// The entry.
     pub fn entry(&self) -> &Entry
         ensures { result.now ≡ self.now.entry }
@@ -51,7 +51,7 @@ impl<J: Naming> Receipt<J> {
     }
 
     /// The list that ends with the entry: a note that another seat may learn.
-    pub fn list(&self) -> &Front<J>
+    pub fn list(&self) -> &Front<B>
         ensures { result.now ≡ self.now.list }
     {
         &self.list
@@ -61,15 +61,15 @@ impl<J: Naming> Receipt<J> {
 /// A caller's place. What it asks is answered for a policy that is no older than any that it has seen or was told of.
 /// It keeps the receipts of its calls that added an entry, in their order.
 #[derive(Drop)]
-pub struct Seat<J: Naming> {
+pub struct Seat<B: BoardName> {
     // It is away only while a call of the seat reads.
-    reader: Option<SlotReader<J>>,
-    known: Front<J>,
+    reader: Option<SlotReader<B>>,
+    known: Front<B>,
     seen: u64,
     kept: Vec<Kept>,
 }
 
-impl<J: Naming> Model for Seat<J> {
+impl<B: BoardName> Model for Seat<B> {
     ghost use Rattle.std.specs.Prelude.{◌≤◌, [], max, length, unwrap_or, vec_capacity, IsSome};
     ghost use Rattle.rbac_policy.specs.Opening.{opening_entries};
     ghost use Rattle.policy_board.specs.SeatState.{SeatState};
@@ -89,11 +89,11 @@ impl<J: Naming> Model for Seat<J> {
 }
 
 // Reads. What is read is then known, unless it is older than what was seen. A refused read hands the reader back.
-fn read_newer<J: Naming>(
-    reader: SlotReader<J>,
-    known: &mut Front<J>,
+fn read_newer<B: BoardName>(
+    reader: SlotReader<B>,
+    known: &mut Front<B>,
     seen: &mut u64,
-) -> Result<Reading<J>, (Refusal, SlotReader<J>)>
+) -> Result<Reading<B>, (Refusal, SlotReader<B>)>
     requires { length known.old ≤ max seen.old (length opening_entries) }
     ensures { MatchResult result
         (λ reading. IsRead reader (record { known = known.old; seen = seen.old }) reading
@@ -117,9 +117,9 @@ fn read_newer<J: Naming>(
     Ok(reading)
 }
 
-impl<J: Naming> Seat<J> {
+impl<B: BoardName> Seat<B> {
     /// A seat that has seen nothing but the opening entries.
-    pub(crate) fn new(alloc: Global, reader: SlotReader<J>) -> Seat<J>
+    pub(crate) fn new(alloc: Global, reader: SlotReader<B>) -> Seat<B>
         requires { reader ≡ opening_entries }
         ensures { result ≡ new_seat }
     {
@@ -185,7 +185,7 @@ impl<J: Naming> Seat<J> {
     }
 
     /// It has seen this list, which is no shorter than its seen number: so the list begins with all that it knew.
-    pub fn saw_list(&mut self, list: &Front<J>)
+    pub fn saw_list(&mut self, list: &Front<B>)
         requires { self.old.seen ≤ length list.now }
         ensures later { Begins self.old.known list.now }
         ensures list { IsPolicyList list.now }
@@ -198,14 +198,14 @@ impl<J: Naming> Seat<J> {
     }
 
     /// The longest list that it has read or was told of.
-    pub(crate) fn known(&self) -> &Front<J>
+    pub(crate) fn known(&self) -> &Front<B>
         ensures { result.now ≡ self.now.known }
     {
         &self.known
     }
 
     /// It knows this list, which begins with what it knew.
-    pub(crate) fn know(&mut self, list: &Front<J>)
+    pub(crate) fn know(&mut self, list: &Front<B>)
         requires { Begins self.old.known list.now }
         ensures { self.new ≡ seat_after self.old list.now }
     {
@@ -214,7 +214,7 @@ impl<J: Naming> Seat<J> {
     }
 
     /// It is told of the receipt's list: from now on it is answered for no shorter one.
-    pub fn learn(&mut self, receipt: Receipt<J>)
+    pub fn learn(&mut self, receipt: Receipt<B>)
         ensures before { Begins self.old.known self.new.known }
         ensures told { Begins receipt.list self.new.known }
         ensures one { (self.new.known ≡ self.old.known) ⊎ (self.new.known ≡ receipt.list) }

@@ -13,7 +13,7 @@ use access_core::refusal::Refusal;
 use access_core::reply::Reply;
 use access_core::slot::{Slot, admit_load, decide_slot, load_admitted};
 use policy_board::board::{Board, Closed};
-use policy_board::history::Naming;
+use policy_board::history::BoardName;
 use policy_board::reader::{Reading, SlotReader};
 use policy_board::seat::Seat;
 use rbac_policy::commands::SessionId;
@@ -27,13 +27,13 @@ use std::sync::Wait;
 /// The slot of this number with its reader. A contract sees its journal, and the policy list that the reader has seen. The journal is legal
 /// over that list.
 #[derive(Drop)]
-pub struct LockedSlot<J: Naming, const NUMBER: u8> {
+pub struct LockedSlot<B: BoardName, const NUMBER: u8> {
     core: Slot,
     // It is away only while a command reads.
-    reader: Option<SlotReader<J>>,
+    reader: Option<SlotReader<B>>,
 }
 
-impl<J: Naming, const NUMBER: u8> Model for LockedSlot<J, NUMBER> {
+impl<B: BoardName, const NUMBER: u8> Model for LockedSlot<B, NUMBER> {
     ghost use Rattle.std.specs.Prelude.{◌≡◌, [], unwrap_or, IsSome};
     ghost use Rattle.access_core.specs.Journals.{IsLegal};
     ghost use Rattle.slot_table.specs.LockedState.{LockedState};
@@ -48,12 +48,12 @@ impl<J: Naming, const NUMBER: u8> Model for LockedSlot<J, NUMBER> {
 
 /// Answers a command on the slot at the policy that is read, and ends the read. A load ends it
 /// before its text is read, since every change of the policy waits for a read to end.
-fn decide_and_leave<J: Naming>(
-    reading: Reading<J>,
+fn decide_and_leave<B: BoardName>(
+    reading: Reading<B>,
     slot: &mut Slot,
     session: SessionId,
     command: SlotCommand,
-) -> (Reply, SlotReader<J>)
+) -> (Reply, SlotReader<B>)
     ensures number { slot.new.number ≡ slot.old.number }
     ensures step { SlotStep reading slot.old.number session command slot.old.journal result.0
         slot.new.journal }
@@ -70,15 +70,15 @@ fn decide_and_leave<J: Naming>(
 
 /// Answers a command on the slot of this number as this reader of its own reads the policy, and hands the reader back. The seat keeps a receipt
 /// of a reply that tells a place.
-fn read_and_decide<J: Naming, const NUMBER: u8, R: Wait>(
+fn read_and_decide<B: BoardName, const NUMBER: u8, R: Wait>(
     rt: &R,
-    board: &Board<J>,
-    seat: &mut Seat<J>,
+    board: &Board<B>,
+    seat: &mut Seat<B>,
     slot: &mut Slot,
-    reader: SlotReader<J>,
+    reader: SlotReader<B>,
     session: SessionId,
     command: SlotCommand,
-) -> (Reply, SlotReader<J>)
+) -> (Reply, SlotReader<B>)
     requires { slot.old.number ≡ NUMBER }
     ensures number { slot.new.number ≡ NUMBER }
     ensures command { LockedCommand NUMBER session command
@@ -104,9 +104,9 @@ fn read_and_decide<J: Naming, const NUMBER: u8, R: Wait>(
     (reply, reader)
 }
 
-impl<J: Naming, const NUMBER: u8> LockedSlot<J, NUMBER> {
+impl<B: BoardName, const NUMBER: u8> LockedSlot<B, NUMBER> {
     /// An empty slot, whose reader has seen what it has.
-    pub fn new(alloc: Global, reader: SlotReader<J>) -> LockedSlot<J, NUMBER>
+    pub fn new(alloc: Global, reader: SlotReader<B>) -> LockedSlot<B, NUMBER>
         requires { NUMBER < SLOTS }
         ensures { result ≡ record { list = reader; journal = [] } }
     {
@@ -120,8 +120,8 @@ impl<J: Naming, const NUMBER: u8> LockedSlot<J, NUMBER> {
     pub fn command<R: Wait>(
         &mut self,
         rt: &R,
-        board: &Board<J>,
-        seat: &mut Seat<J>,
+        board: &Board<B>,
+        seat: &mut Seat<B>,
         session: SessionId,
         command: SlotCommand,
     ) -> Reply
@@ -131,7 +131,7 @@ impl<J: Naming, const NUMBER: u8> LockedSlot<J, NUMBER> {
             seat.new }
     {
         let reader = self.reader.take().unwrap();
-        let (reply, reader) = read_and_decide::<J, NUMBER, R>(
+        let (reply, reader) = read_and_decide::<B, NUMBER, R>(
             rt,
             board,
             seat,
@@ -146,7 +146,7 @@ impl<J: Naming, const NUMBER: u8> LockedSlot<J, NUMBER> {
 
     /// Hands the reader back to the board, and gives the journal. It is legal over the policy list, or the reader has
     /// seen more of that.
-    pub fn end(self, board: &mut Closed<J>) -> (Journal, Result<(), Mismatch>)
+    pub fn end(self, board: &mut Closed<B>) -> (Journal, Result<(), Mismatch>)
         ensures journal { result.0 ≡ self.journal }
         ensures seen { IsLegal self.list NUMBER self.journal }
         ensures handed { MatchResult result.1

@@ -5,7 +5,7 @@ use crate::server::{Server, ask, begin, enter, give, load, open, revoke, root};
 use access_core::command::SlotCommand;
 use access_core::refusal::Refusal;
 use access_core::reply::Reply;
-use policy_board::history::{Fresh, Naming};
+use policy_board::history::{Fresh, BoardName};
 use rbac_admin::refusals::Refusal as PolicyRefusal;
 use rbac_policy::objects::{Operation, SlotNumber};
 use std::alloc::Global;
@@ -15,14 +15,14 @@ use std::sync::Wait;
 use std::test::Fail;
 
 /// Refusals on the table.
-fn refuse<J: Naming, R: Wait + Abort>(rt: &R, alloc: Global, fresh: Fresh) -> usize
-    requires { fresh.seen.book ≡ J.book }
+fn refuse<B: BoardName, R: Wait + Abort>(rt: &R, alloc: Global, fresh: Fresh) -> usize
+    requires { fresh.seen.book ≡ B.book }
 {
     let Server {
         board,
         mut seats,
         table,
-    } = open::<J, R>(rt, alloc, fresh, 2);
+    } = open::<B, R>(rt, alloc, fresh, 2);
     let mut seat = seats.pop().expect(rt, "a seat");
     let mut other = seats.pop().expect(rt, "a seat");
     let slot = SlotNumber::new(0).expect(rt, "a slot");

@@ -5,7 +5,7 @@ use Rattle.rbac_admin.specs.PolicyLists.{Begins}
 use Rattle.policy_board.specs.SeatState.{SeatState}
 use Rattle.policy_board.specs.PolicyCommands.{seat_after}
 use Rattle.policy_board.proofs.Receipts.{receipt_tells, seat_answered}
-use Rattle.policy_board.proofs.desk.Desk.admin.Goals as goal
+use Rattle.policy_board.proofs.locked_policy.LockedPolicy.admin.Goals as goal
 
 pub know-requires-in-Ok : goal.know-requires-in-Ok
 know-requires-in-Ok g c =

@@ -3,7 +3,7 @@ use Rattle.refusal_rules.proofs.RuleLemmas.{pass}
 use Rattle.rbac_policy.specs.declared.commands.Entry.{Entry}
 use Rattle.rbac_policy.specs.StandsFor.{StandsFor}
 use Rattle.policy_board.specs.PolicyCommands.{session_made}
-use Rattle.policy_board.proofs.desk.Desk.append.Goals as goal
+use Rattle.policy_board.proofs.locked_policy.LockedPolicy.append.Goals as goal
 
 pub returns-clause-answer : goal.returns-clause-answer
 returns-clause-answer g c =

@@ -2,7 +2,7 @@ use Rattle.std.proofs.Common.{◌≡◌, List, length, sym, ◌∙◌, ap, subst
 use Rattle.rbac_policy.specs.declared.commands.Entry.{Entry}
 use Rattle.access_core.specs.Desk.{DeskState, AdminStep}
 use Rattle.access_events.specs.Runs.{desk_of, has_seen}
-use Rattle.access_events.proofs.hall.Hall.admin.Goals as goal
+use Rattle.access_events.proofs.event_desk.EventDesk.admin.Goals as goal
 
 pub returns : goal.returns
 returns c =

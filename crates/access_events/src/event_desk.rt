@@ -3,7 +3,7 @@ ghost use Rattle.std.specs.Prelude.{◌≡◌, IfOk, slice_get, slice_index_or};
 ghost use Rattle.access_events.specs.Runs.{opening_world, journal_in, last_version, newest_known, has_seen, EventStep};
 ghost use Rattle.access_events.specs.declared.event.Event.TheVariants as event;
 
-use crate::event::{SEATS, Seat};
+use crate::event::{SEATS, SeatNumber};
 use access_core::command::SlotCommand;
 use access_core::refusal::Refusal;
 use access_core::reply::Reply;
@@ -17,12 +17,12 @@ use std::marker::Model;
 
 /// A desk, and for each seat the newest version that it has seen. A contract sees the policy list, the slots and what was seen.
 #[derive(Drop)]
-pub struct Hall {
+pub struct EventDesk {
     desk: Single,
     seen: [u64; SEATS as usize],
 }
 
-impl Model for Hall {
+impl Model for EventDesk {
     ghost use Rattle.std.specs.Coded.{codes};
     ghost use Rattle.access_events.specs.Runs.{WorldState};
     ghost use Rattle.reactor_core.specs.contracts.entry.SlotEntry as entry;
@@ -54,12 +54,12 @@ fn slot_version(slots: &[Slot], number: u64) -> u64
     last_version(slots[number as usize].journal().entries())
 }
 
-impl Hall {
+impl EventDesk {
     /// The opening entries, sixteen empty slots, and seats that have seen nothing.
-    pub(crate) fn opening(alloc: Global) -> Result<Hall, AllocError>
-        ensures { IfOk result (λ hall. hall ≡ opening_world) }
+    pub(crate) fn opening(alloc: Global) -> Result<EventDesk, AllocError>
+        ensures { IfOk result (λ desk. desk ≡ opening_world) }
     {
-        Ok(Hall {
+        Ok(EventDesk {
             desk: Single::new(alloc)?,
             seen: [0; SEATS as usize],
         })
@@ -80,21 +80,21 @@ impl Hall {
     }
 
     /// The newest version that the seat has seen.
-    pub(crate) fn seen(&self, seat: Seat) -> u64
+    pub(crate) fn seen(&self, seat: SeatNumber) -> u64
         ensures { result ≡ slice_index_or self.now.seen seat 0 }
     {
         self.seen[seat.number() as usize]
     }
 
     /// The newest version that the slot's last entry bears or the seat has seen.
-    fn newest_known(&self, seat: Seat, slot: u64) -> u64
+    fn newest_known(&self, seat: SeatNumber, slot: u64) -> u64
         ensures { result ≡ newest_known self.now seat slot }
     {
         slot_version(self.desk.slots(), slot).max(self.seen(seat))
     }
 
     /// The seat has seen this version, too.
-    fn note(&mut self, seat: Seat, version: u64)
+    fn note(&mut self, seat: SeatNumber, version: u64)
         ensures entries { self.new.entries ≡ self.old.entries }
         ensures slots { self.new.slots ≡ self.old.slots }
         ensures seen { self.new.seen ≡ has_seen seat version self.old.seen }
@@ -106,7 +106,7 @@ impl Hall {
     /// Answers a policy command, which comes by this seat.
     pub(crate) fn admin(
         &mut self,
-        seat: Seat,
+        seat: SeatNumber,
         session: Option<SessionId>,
         command: AdminCommand,
     ) -> Reply
@@ -121,7 +121,7 @@ impl Hall {
     /// Answers a command on a slot, which comes by this seat and is judged at this version.
     pub(crate) fn on_slot(
         &mut self,
-        seat: Seat,
+        seat: SeatNumber,
         version: u64,
         slot: u64,
         session: SessionId,

@@ -3,7 +3,7 @@ use Rattle.std.specs.Prelude.{◌==◌}
 use Rattle.std.proofs.lemmas.Bool.{cases_lt, false≢true}
 use Rattle.std.proofs.lemmas.Bool.Decides.{Decides-eqb}
 use Rattle.access_events.proofs.Versions.{last_is}
-use Rattle.access_events.proofs.hall.last_version.Goals as goal
+use Rattle.access_events.proofs.event_desk.last_version.Goals as goal
 
 pub returns : goal.returns
 returns c =

@@ -9,7 +9,7 @@ ghost use Rattle.policy_board.specs.Inner.Keeping.{KeepsAnswer};
 ghost use Rattle.seat_receipts.specs.declared.mismatch.TheConstants.{POLICY_LIST};
 ghost use Rattle.seat_receipts.specs.declared.mismatch.Mismatch.TheVariants.{Count};
 
-use crate::history::Naming;
+use crate::history::BoardName;
 use crate::publisher::Publisher;
 use crate::reader::SlotReader;
 use crate::refusal::Refusal;
@@ -26,12 +26,12 @@ use std::marker::Model;
 use std::sync::Wait;
 
 /// The writer and the journal. A contract sees the journal, which is all that is published.
-pub struct Desk<J: Naming> {
-    publisher: Option<Publisher<J>>,
+pub struct LockedPolicy<B: BoardName> {
+    publisher: Option<Publisher<B>>,
     journal: PolicyJournal,
 }
 
-impl<J: Naming> Model for Desk<J> {
+impl<B: BoardName> Model for LockedPolicy<B> {
     ghost use Rattle.std.specs.Prelude.{◌≡◌, List, Some};
     ghost use Rattle.rbac_policy.specs.declared.commands.Entry.{Entry};
 
@@ -75,13 +75,13 @@ fn session_made(policy: &Policy, entry: &Entry) -> Option<SessionId>
     }
 }
 
-impl<J: Naming> Desk<J> {
+impl<B: BoardName> LockedPolicy<B> {
     /// Of a writer that shows the list of the journal.
-    pub fn new(publisher: Publisher<J>, journal: PolicyJournal) -> Desk<J>
+    pub fn new(publisher: Publisher<B>, journal: PolicyJournal) -> LockedPolicy<B>
         requires { publisher ≡ journal }
         ensures { result ≡ journal }
     {
-        Desk {
+        LockedPolicy {
             publisher: Some(publisher),
             journal,
         }
@@ -92,9 +92,9 @@ impl<J: Naming> Desk<J> {
     fn append<R: Wait>(
         &mut self,
         rt: &R,
-        seat: &mut Seat<J>,
+        seat: &mut Seat<B>,
         entry: Entry,
-    ) -> Result<Receipt<J>, Refusal>
+    ) -> Result<Receipt<B>, Refusal>
         requires { IsAccepted self.old entry }
         ensures answer { Answers (MayRefuse Refusal.Memory ▸ accept) (λ refusal. IsRefused refusal self.old result
             self.new) (IsPublished entry self.old result self.new) }
@@ -125,10 +125,10 @@ impl<J: Naming> Desk<J> {
     fn answer<R: Wait>(
         &mut self,
         rt: &R,
-        seat: &mut Seat<J>,
+        seat: &mut Seat<B>,
         session: Option<SessionId>,
         command: AdminCommand,
-    ) -> Result<Receipt<J>, Refusal>
+    ) -> Result<Receipt<B>, Refusal>
         ensures step { AdminStep self.old session command result self.new }
         ensures seat { KeepsAnswer seat.old result self.new seat.new }
     {
@@ -148,10 +148,10 @@ impl<J: Naming> Desk<J> {
     pub fn admin<R: Wait>(
         &mut self,
         rt: &R,
-        seat: &mut Seat<J>,
+        seat: &mut Seat<B>,
         session: Option<SessionId>,
         command: AdminCommand,
-    ) -> Result<Receipt<J>, Refusal>
+    ) -> Result<Receipt<B>, Refusal>
         ensures known { Begins seat.old.known self.old }
         ensures list { IsPolicyList self.old }
         ensures step { AdminStep self.old session command result self.new }
@@ -168,7 +168,7 @@ impl<J: Naming> Desk<J> {
     }
 
     /// Whether what the reader saw is a beginning of the journal.
-    pub fn compare(&self, reader: &SlotReader<J>) -> Result<(), Mismatch>
+    pub fn compare(&self, reader: &SlotReader<B>) -> Result<(), Mismatch>
         ensures { MatchResult result
             (λ _. Begins reader.now self.now)
             (λ mismatch. (mismatch ≡ Count POLICY_LIST) × (length self.now < length reader.now)) }
@@ -187,7 +187,7 @@ impl<J: Naming> Desk<J> {
         ensures same { result ≡ self }
         ensures list { IsPolicyList self }
     {
-        let Desk { publisher, journal } = self;
+        let LockedPolicy { publisher, journal } = self;
         publisher.unwrap().take(rt);
         journal
     }
