@@ -13,13 +13,12 @@ use Rattle.rbac_admin.specs.Room as room
 use Rattle.reactor_core.specs.declared.entry.SlotEntry.{SlotEntry}
 use Rattle.access_core.specs.declared.command.SlotCommand.{SlotCommand}
 use Rattle.access_core.specs.declared.refusal.Refusal.{Refusal}
-use Rattle.access_core.specs.declared.refusal.Refusal.TheVariants.{Policy, NoSlot, JournalFull}
+use Rattle.access_core.specs.declared.refusal.Refusal.TheVariants.{Policy, NoSlot, JournalFull, Memory}
 use Rattle.access_core.specs.declared.reply.Change.{Change}
 use Rattle.access_core.specs.declared.reply.Change.TheVariants as change
 use Rattle.access_core.specs.declared.reply.Reply.{Reply}
 use Rattle.access_core.specs.declared.reply.Reply.TheVariants.{Login, Changed}
-use Rattle.access_core.specs.declared.single.TheConstants.{POLICY_ENTRIES, ENDING_ENTRIES}
-use Rattle.access_core.specs.Answering.{IsRefused, ByRules, no_memory}
+use Rattle.access_core.specs.Answering.{IsRefused, ByRules}
 use Rattle.access_core.specs.SlotState.{SlotState}
 use Rattle.access_core.specs.SlotStep.{SlotStep, no_session}
 
@@ -88,12 +87,10 @@ pub record Appends (entry : Entry) (before : DeskState) (reply : Reply) (after :
   pub appended : after ≡ record before { entries = before.entries ++ entry ∷ [] }
 
 -- the reply to a policy command, which this session gives, and the desk afterwards: the policy step's, or a refusal for want of room
-pub record AdminStep (session : Option ℕ) (command : AdminCommand) (before : DeskState) (reply : Reply) (after : DeskState) : Type 0 where
-  pub answer : Result Entry PolicyRefusal
-  pub given : PolicyStep before.entries session command answer
-  pub replied : MatchResult answer
-      (λ entry. ByRules (list_full before.entries entry ▸ no_memory ▸ accept) (Appends entry) before reply after)
-      (λ refusal. IsRefused (Policy refusal) before reply after)
+abbrev pub AdminStep : (session : Option ℕ) → AdminCommand → (before : DeskState) → Reply → (after : DeskState) → Type 0
+AdminStep session command before reply after =
+    StepsOnList list_refusals before.entries session command (λ refusal. IsRefused refusal before reply after)
+    (λ entry. Appends entry before reply after)
 
 -- refuses where there is no slot of this number
 abbrev pub no_slot : ℕ → Rule Refusal

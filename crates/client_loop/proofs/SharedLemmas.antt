@@ -18,7 +18,7 @@ use Rattle.access_core.specs.declared.reply.Change.{Change}
 use Rattle.access_core.specs.declared.reply.Reply.{Reply}
 use Rattle.access_core.specs.declared.reply.Reply.TheVariants.{Refused, Login, Changed}
 use Rattle.access_core.specs.Answering.{ByRules, IsRefused, no_memory}
-use Rattle.access_core.specs.Desk.{DeskState, AdminStep, Appends, HasRoomFor as DeskHasRoomFor, list_full, change_of, accepted_reply, reply_of_change}
+use Rattle.access_core.specs.Desk.{DeskState, AdminStep, Appends, list_full, change_of, accepted_reply, reply_of_change}
 use Rattle.access_core.specs.SlotState.{SlotState}
 use Rattle.policy_board.specs.declared.refusal.Refusal.{Refusal}
 use Rattle.policy_board.specs.declared.refusal.Refusal.TheVariants as board
