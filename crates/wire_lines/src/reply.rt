@@ -57,120 +57,125 @@ fn shown(alloc: Global, signals: &[ShownSignal]) -> Result<Value, AllocError>
 }
 
 /// A refusal that names nothing.
-fn plain(alloc: Global, label: (u8, &str)) -> Result<Value, AllocError>
-    ensures { IfOk result (λ v. view v ≡ object (refused_with label.0 label.1.now no_members)) }
+fn plain(alloc: Global, code: u8, fault: &str) -> Result<Value, AllocError>
+    ensures { IfOk result (λ v. view v ≡ object (refused_with code fault.now no_members)) }
 {
-    let (code, fault) = label;
     json!(in alloc; {"code": code, "fault": fault})
 }
 
 /// A refusal that names a text under a key that comes after `fault`.
-fn with_text(alloc: Global, label: (u8, &str), key: &str, text: &str) -> Result<Value, AllocError>
-    requires code { slice_cmp nat_cmp key.now (codes "code") ≡ Ordering.Greater }
-    requires fault { slice_cmp nat_cmp key.now (codes "fault") ≡ Ordering.Greater }
-    ensures { IfOk result (λ v. view v ≡ object (refused_with label.0 label.1.now
+fn with_text(
+    alloc: Global,
+    code: u8,
+    fault: &str,
+    key: &str,
+    text: &str,
+) -> Result<Value, AllocError>
+    requires after_code { slice_cmp nat_cmp key.now (codes "code") ≡ Ordering.Greater }
+    requires after_fault { slice_cmp nat_cmp key.now (codes "fault") ≡ Ordering.Greater }
+    ensures { IfOk result (λ v. view v ≡ object (refused_with code fault.now
         (text_member key.now text.now no_members))) }
 {
-    let (code, fault) = label;
     json!(in alloc; {"code": code, "fault": fault, key: text})
 }
 
 /// A refusal of a permission.
 fn permission(
     alloc: Global,
-    label: (u8, &str),
+    code: u8,
+    fault: &str,
     operation: &Operation,
     on: &Object,
 ) -> Result<Value, AllocError>
-    ensures { IfOk result (λ v. view v ≡ object (refused_with label.0 label.1.now
+    ensures { IfOk result (λ v. view v ≡ object (refused_with code fault.now
         (text_member (codes "object") (object_text on.now) (text_member (codes "op")
         (operation_text operation.now) no_members)))) }
 {
-    let (code, fault) = label;
     let on = on.text(alloc)?;
     json!(in alloc; {"code": code, "fault": fault, "object": on.as_str(), "op": operation.text()})
 }
 
 /// A refusal at a place of a module text.
-fn at_place(alloc: Global, label: (u8, &str), place: &Place) -> Result<Value, AllocError>
-    ensures { IfOk result (λ v. view v ≡ object (number_member (codes "code") label.0
+fn at_place(alloc: Global, code: u8, fault: &str, place: &Place) -> Result<Value, AllocError>
+    ensures { IfOk result (λ v. view v ≡ object (number_member (codes "code") code
         (number_member (codes "column") place.now.column (text_member (codes "fault")
-        label.1.now (number_member (codes "line") place.now.line no_members))))) }
+        fault.now (number_member (codes "line") place.now.line no_members))))) }
 {
-    let (code, fault) = label;
     json!(in alloc; {"code": code, "column": place.column, "fault": fault, "line": place.line})
 }
 
 /// A refusal of a separation set.
 fn separation(
     alloc: Global,
-    label: (u8, &str),
+    code: u8,
+    fault: &str,
     session: &SessionId,
     set: &Name,
 ) -> Result<Value, AllocError>
-    ensures { IfOk result (λ v. view v ≡ object (refused_with label.0 label.1.now
+    ensures { IfOk result (λ v. view v ≡ object (refused_with code fault.now
         (number_member (codes "session") session.now (text_member (codes "set") set.now
         no_members)))) }
 {
-    let (code, fault) = label;
     json!(in alloc; {"code": code, "fault": fault, "session": session.number(), "set": set.as_str()})
 }
 
 /// A refusal of a relation that excludes a signal.
 fn excluded(
     alloc: Global,
-    label: (u8, &str),
+    code: u8,
+    fault: &str,
     relation: u8,
     signal: &Identifier,
 ) -> Result<Value, AllocError>
-    ensures { IfOk result (λ v. view v ≡ object (refused_with label.0 label.1.now
+    ensures { IfOk result (λ v. view v ≡ object (refused_with code fault.now
         (number_member (codes "relation") relation (text_member (codes "signal") signal.now
         no_members)))) }
 {
-    let (code, fault) = label;
     json!(in alloc; {"code": code, "fault": fault, "relation": relation, "signal": signal.as_str()})
 }
 
 /// A refusal of a relation that misses a signal.
 fn implied(
     alloc: Global,
-    label: (u8, &str),
+    code: u8,
+    fault: &str,
     relation: u8,
     missing: &Identifier,
 ) -> Result<Value, AllocError>
-    ensures { IfOk result (λ v. view v ≡ object (refused_with label.0 label.1.now
+    ensures { IfOk result (λ v. view v ≡ object (refused_with code fault.now
         (text_member (codes "missing") missing.now (number_member (codes "relation") relation
         no_members)))) }
 {
-    let (code, fault) = label;
     json!(in alloc; {"code": code, "fault": fault, "missing": missing.as_str(), "relation": relation})
 }
 
 /// A refusal that names a relation alone.
-fn semantics(alloc: Global, label: (u8, &str), relation: u64) -> Result<Value, AllocError>
-    ensures { IfOk result (λ v. view v ≡ object (refused_with label.0 label.1.now
+fn semantics(alloc: Global, code: u8, fault: &str, relation: u64) -> Result<Value, AllocError>
+    ensures { IfOk result (λ v. view v ≡ object (refused_with code fault.now
         (number_member (codes "relation") relation no_members))) }
 {
-    let (code, fault) = label;
     json!(in alloc; {"code": code, "fault": fault, "relation": relation})
 }
 
 /// A refusal that names undecided signals.
-fn stuck(alloc: Global, label: (u8, &str), undecided: &[Identifier]) -> Result<Value, AllocError>
-    ensures { IfOk result (λ v. view v ≡ object (refused_with label.0 label.1.now
+fn stuck(
+    alloc: Global,
+    code: u8,
+    fault: &str,
+    undecided: &[Identifier],
+) -> Result<Value, AllocError>
+    ensures { IfOk result (λ v. view v ≡ object (refused_with code fault.now
         (texts_member (codes "undecided") undecided.now no_members))) }
 {
-    let (code, fault) = label;
     let undecided = names(alloc, undecided)?;
     json!(in alloc; {"code": code, "fault": fault, "undecided": undecided})
 }
 
 /// A refusal of a version.
-fn behind(alloc: Global, label: (u8, &str), found: u64, seen: u64) -> Result<Value, AllocError>
-    ensures { IfOk result (λ v. view v ≡ object (refused_with label.0 label.1.now
+fn behind(alloc: Global, code: u8, fault: &str, found: u64, seen: u64) -> Result<Value, AllocError>
+    ensures { IfOk result (λ v. view v ≡ object (refused_with code fault.now
         (number_member (codes "found") found (number_member (codes "seen") seen no_members)))) }
 {
-    let (code, fault) = label;
     json!(in alloc; {"code": code, "fault": fault, "found": found, "seen": seen})
 }
 
@@ -179,24 +184,30 @@ fn refused_by_policy(alloc: Global, refusal: &PolicyRefusal) -> Result<Value, Al
     ensures { IfOk result (λ v. view v ≡ object (refused_with (policy_code refusal.now)
         (policy_name refusal.now) (named_by_policy refusal.now))) }
 {
-    let label = refusal.label();
+    let (code, fault) = refusal.label();
     match refusal {
         PolicyRefusal::Permission { operation, object } => {
-            permission(alloc, label, operation, object)
+            permission(alloc, code, fault, operation, object)
         }
-        PolicyRefusal::DsdViolated { set, session } => separation(alloc, label, session, set),
+        PolicyRefusal::DsdViolated { set, session } => separation(alloc, code, fault, session, set),
         PolicyRefusal::NotAuthorized { role }
         | PolicyRefusal::AlreadyActive { role }
         | PolicyRefusal::NotActive { role }
         | PolicyRefusal::UnknownRole { role }
-        | PolicyRefusal::RoleExists { role } => with_text(alloc, label, "role", role.as_str()),
+        | PolicyRefusal::RoleExists { role } => with_text(
+            alloc,
+            code,
+            fault,
+            "role",
+            role.as_str(),
+        ),
         PolicyRefusal::UnknownUser { user } | PolicyRefusal::UserExists { user } => {
-            with_text(alloc, label, "user", user.as_str())
+            with_text(alloc, code, fault, "user", user.as_str())
         }
         PolicyRefusal::DsdExists { set }
         | PolicyRefusal::NoDsd { set }
-        | PolicyRefusal::RoleInDsd { set } => with_text(alloc, label, "set", set.as_str()),
-        PolicyRefusal::Full { table } => with_text(alloc, label, "table", table_text(table)),
+        | PolicyRefusal::RoleInDsd { set } => with_text(alloc, code, fault, "set", set.as_str()),
+        PolicyRefusal::Full { table } => with_text(alloc, code, fault, "table", table_text(table)),
         PolicyRefusal::NoSession
         | PolicyRefusal::SessionsExhausted
         | PolicyRefusal::Cycle
@@ -206,7 +217,7 @@ fn refused_by_policy(alloc: Global, refusal: &PolicyRefusal) -> Result<Value, Al
         | PolicyRefusal::NotGranted
         | PolicyRefusal::EdgeExists
         | PolicyRefusal::NoEdge
-        | PolicyRefusal::DsdShape => plain(alloc, label),
+        | PolicyRefusal::DsdShape => plain(alloc, code, fault),
     }
 }
 
@@ -214,22 +225,24 @@ fn refused_by_policy(alloc: Global, refusal: &PolicyRefusal) -> Result<Value, Al
 fn refused(alloc: Global, refusal: &Refusal) -> Result<Value, AllocError>
     ensures { IfOk result (λ v. view v ≡ object (refusal_members refusal.now)) }
 {
-    let label = refusal.label();
+    let (code, fault) = refusal.label();
     match refusal {
         Refusal::Policy(refusal) => refused_by_policy(alloc, refusal),
-        Refusal::Excluded { relation, signal } => excluded(alloc, label, *relation, signal),
-        Refusal::Implied { relation, missing } => implied(alloc, label, *relation, missing),
-        Refusal::Stuck { undecided } => stuck(alloc, label, undecided.as_slice()),
-        Refusal::Behind { found, seen } => behind(alloc, label, *found, *seen),
-        Refusal::Lexical { place } | Refusal::Syntax { place } => at_place(alloc, label, place),
+        Refusal::Excluded { relation, signal } => excluded(alloc, code, fault, *relation, signal),
+        Refusal::Implied { relation, missing } => implied(alloc, code, fault, *relation, missing),
+        Refusal::Stuck { undecided } => stuck(alloc, code, fault, undecided.as_slice()),
+        Refusal::Behind { found, seen } => behind(alloc, code, fault, *found, *seen),
+        Refusal::Lexical { place } | Refusal::Syntax { place } => at_place(
+            alloc, code, fault, place,
+        ),
         Refusal::UnknownModule { name }
         | Refusal::RecursiveRun { name }
         | Refusal::UnknownName { name }
         | Refusal::DuplicateName { name }
         | Refusal::EmitInput { name }
-        | Refusal::BadRename { name } => with_text(alloc, label, "name", name.as_str()),
-        Refusal::TooLarge { limit } => with_text(alloc, label, "limit", limit_text(limit)),
-        Refusal::Semantics { relation } => semantics(alloc, label, *relation),
+        | Refusal::BadRename { name } => with_text(alloc, code, fault, "name", name.as_str()),
+        Refusal::TooLarge { limit } => with_text(alloc, code, fault, "limit", limit_text(limit)),
+        Refusal::Semantics { relation } => semantics(alloc, code, fault, *relation),
         Refusal::TooLong
         | Refusal::NotJson
         | Refusal::NotARequest
@@ -243,7 +256,7 @@ fn refused(alloc: Global, refusal: &Refusal) -> Result<Value, AllocError>
         | Refusal::NoInstant
         | Refusal::InstantLoop
         | Refusal::JournalFull
-        | Refusal::Memory => plain(alloc, label),
+        | Refusal::Memory => plain(alloc, code, fault),
     }
 }
 
