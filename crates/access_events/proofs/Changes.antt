@@ -9,6 +9,7 @@ use Rattle.rbac_policy.specs.declared.commands.AdminCommand.TheVariants.{AddUser
 use Rattle.rbac_policy.specs.declared.commands.Entry.{Entry}
 use Rattle.rbac_admin.specs.declared.refusals.Refusal.{Refusal as PolicyRefusal}
 use Rattle.rbac_admin.specs.PolicyStep.{PolicyStep, entry_of, policy_rules}
+use Rattle.rbac_admin.specs.Room.{HasRoomFor}
 use Rattle.rbac_admin.proofs.Accepted.{accepted_administers}
 use Rattle.reactor_core.specs.Meaning.{entry}
 use Rattle.access_core.specs.declared.command.SlotCommand.{SlotCommand}
@@ -19,7 +20,7 @@ use Rattle.access_core.specs.Answering.{IsRefused, ByRules, no_memory}
 use Rattle.access_core.specs.Needs.{IsAccepted}
 use Rattle.access_core.specs.SlotState.{SlotState}
 use Rattle.access_core.specs.SlotStep.{no_session}
-use Rattle.access_core.specs.Desk.{DeskState, desk_at, AdminStep, HasRoomFor, InSlot, Appends, list_full, no_slot, accepted_reply, reply_of_change, change_of}
+use Rattle.access_core.specs.Desk.{DeskState, desk_at, AdminStep, InSlot, Appends, list_full, no_slot, accepted_reply, reply_of_change, change_of}
 use Rattle.access_core.proofs.Unchanged.{accepted_is_allowed}
 use Rattle.access_events.specs.declared.event.Event.{Event}
 use Rattle.access_events.specs.declared.event.Event.TheVariants.{Admin, OnSlot}

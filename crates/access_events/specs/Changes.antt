@@ -2,13 +2,15 @@
 use Rattle.std.specs.Prelude.{◌≡◌, ◌⊎◌, ℕ, ◌≤◌, [], ◌∷◌, ◌++◌, Option, Some, Ok, IsTrue, length, take, slice_get, slice_set}
 use Rattle.rbac_policy.specs.declared.commands.AdminCommand.{AdminCommand}
 use Rattle.rbac_policy.specs.declared.commands.Entry.{Entry}
+use Rattle.rbac_policy.specs.Entries.{is_administrative}
 use Rattle.rbac_admin.specs.Conditions.{Administers}
-use Rattle.rbac_admin.specs.PolicyStep.{PolicyStep, entry_of, is_administrative}
+use Rattle.rbac_admin.specs.PolicyStep.{PolicyStep, entry_of}
+use Rattle.rbac_admin.specs.Room.{HasRoomFor}
 use Rattle.reactor_core.specs.declared.entry.Action.{Action}
 use Rattle.reactor_core.specs.Answers.{HasRoom}
 use Rattle.reactor_core.specs.Meaning.{entry}
 use Rattle.access_core.specs.declared.command.SlotCommand.{SlotCommand}
-use Rattle.access_core.specs.Desk.{HasRoomFor, accepted_reply}
+use Rattle.access_core.specs.Desk.{accepted_reply}
 use Rattle.access_core.specs.Needs.{Needs, IsAccepted}
 use Rattle.access_core.specs.SlotState.{SlotState}
 use Rattle.access_events.specs.declared.event.Event.{Event}
