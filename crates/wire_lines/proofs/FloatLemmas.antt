@@ -4,6 +4,7 @@ use Rattle.serde_json.specs.Data.{string}
 use Rattle.serde_json.specs.View.{items_of}
 use Rattle.serde_json.specs.Written.{has_float, items_have_float, members_have_float}
 use Rattle.rbac_admin.specs.declared.refusals.Refusal.{Refusal as PolicyRefusal}
+use Rattle.rbac_admin.specs.declared.refusals.Refusal.TheVariants as policy
 use Rattle.access_core.specs.declared.refusal.Refusal.{Refusal}
 use Rattle.access_core.specs.declared.refusal.Refusal.TheVariants as refusal
 use Rattle.access_core.specs.declared.reply.ShownSignal.{ShownSignal}
@@ -20,6 +21,7 @@ texts_have_no_float [] = refl
 texts_have_no_float (t ∷ ts) = texts_have_no_float ts
 
 named_has_no_float : (r : PolicyRefusal) → members_have_float (named_by_policy r) ≡ false
+named_has_no_float (policy.Permission operation on) = refl
 named_has_no_float _ = refl
 
 refusal_has_no_float : (r : Refusal) → members_have_float (refusal_members r) ≡ false
