@@ -156,7 +156,8 @@ impl<B: BoardName, const NUMBER: u8> LockedSlot<B, NUMBER> {
         ensures board { board.new.desk ≡ board.old.desk }
     {
         let LockedSlot { core, reader } = self;
-        let handed = board.reader(reader.unwrap());
+        let reader = reader.unwrap();
+        let handed = board.reader(reader);
         (core.into_journal(), handed)
     }
 }

@@ -1,0 +1,25 @@
+use Rattle.std.proofs.Common.{◌∙◌, List, [], sym, subst, refl}
+use Rattle.std.specs.Prelude.{Option, unwrap_or}
+use Rattle.rbac_policy.specs.declared.commands.Entry.{Entry}
+use Rattle.access_core.specs.Journals.{IsLegal}
+use Rattle.slot_table.specs.LockedState.{LockedState}
+use Rattle.slot_table.proofs.Legality.{command_legal}
+use Rattle.slot_table.proofs.slot.LockedSlot.command.Goals as goal
+
+pub invariant_of-self : goal.invariant_of-self
+invariant_of-self g c = (
+  refl,
+  c.read_and_decide-reply.ensures.number,
+  (command_legal _ _ _ _ _ _ _ _ c.read_and_decide-reply.ensures.command
+  (subst (λ (held : Option (List Entry)). IsLegal (unwrap_or held []) g.row.NUMBER c.self.inside.core.journal)
+  (sym c.take.ensures.value ∙ c.unwrap-reader.ensures) c.self.invariant.2)).2,
+)
+
+pub returns-clause-before : goal.returns-clause-before
+returns-clause-before g c = subst (λ (s : LockedState). IsLegal s.list g.row.NUMBER s.journal) c.self.view_is c.self.invariant.2
+
+pub returns-clause-after : goal.returns-clause-after
+returns-clause-after g c =
+    (command_legal _ _ _ _ _ _ _ _ c.read_and_decide-reply.ensures.command
+    (subst (λ (held : Option (List Entry)). IsLegal (unwrap_or held []) g.row.NUMBER c.self.inside.core.journal)
+    (sym c.take.ensures.value ∙ c.unwrap-reader.ensures) c.self.invariant.2)).2
