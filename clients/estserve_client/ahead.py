@@ -1,5 +1,5 @@
-"""Instants of slot 0 that are asked for ahead of their answers, so that a long run takes little
-more than the program's own time.
+"""Instants of slot 0 that are asked for ahead of their answers, so that client and program work at
+the same time.
 
 Nearly all answers of a run have one form, and few of its instants differ from all others. So the
 answers to an instant are held against that form at once, and are read one by one where they have
