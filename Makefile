@@ -9,18 +9,23 @@ PREFIX ?= /usr/local
 # rt ci proves as many crates side by side as RT_JOBS says, each by one job: a second job at one crate costs more than it saves.
 CORES := $(shell nproc)
 
-.PHONY: help try run build abro examples client socket gateway documents test bench faults times install
+.PHONY: help try run build abro examples client socket gateway hostile soak documents test check bench faults times install
 
 help:
 	@echo 'make try       run the opening script on the program as it stands, built WITHOUT proof: about a minute'
 	@echo 'make run       prove what is needed, a line for each crate, and run the opening script on the proved program'
 	@echo 'make test      the gate: documents, examples, the client, the server, what must not compile, and then all proofs,'
 	@echo '               wrong bodies, tests and stored runs; the last line is "N passed, M failed"'
+	@echo 'make check CRATE=NAME  after a change of one crate: its proof and its wrong bodies, and the proofs and tests of all above it;'
+	@echo '               says first how long that takes'
 	@echo 'make build     as make run, without the script'
 	@echo 'make examples  run each script and controller of examples on the program, built without proof, and compare its answers'
 	@echo 'make client    the tests of the client and of the tutorial, on the program built WITHOUT proof'
 	@echo 'make socket    the tests of the server over its socket, on the program built WITHOUT proof'
 	@echo 'make gateway   the tests of the team'"'"'s gateway and its page, on the program built WITHOUT proof'
+	@echo 'make hostile   lines that are cut or wrong, full journals and clients that go away, on the program built WITHOUT proof'
+	@echo 'make soak      the same, with all journals filled and a soak of ten minutes; make build, and then'
+	@echo '               make soak ESTSERVE=$$PWD/$(PROGRAM) takes the proved program; no part of make test'
 	@echo 'make abro      the waves of ABRO, by the client, on the program built WITHOUT proof: a minute or two, and at once from then on'
 	@echo 'make install   put the proved program, the client, its page of the manual and completions under PREFIX (/usr/local)'
 	@echo 'make documents write the lists of docs/generated anew from the sources'
@@ -57,6 +62,12 @@ socket:
 gateway:
 	tests/gateway/run
 
+hostile:
+	tests/hostile/run
+
+soak:
+	tests/hostile/run --long
+
 documents:
 	python3 scripts/reading_list.py
 	python3 scripts/wrong_bodies.py
@@ -65,10 +76,13 @@ documents:
 test:
 	python3 tests/documents.py
 	$(MAKE) --no-print-directory examples
-	python3 scripts/trial.py sh -c 'clients/tests/run && tests/socket/run && tests/journals/walk && tests/gateway/run'
+	python3 scripts/trial.py sh -c 'clients/tests/run && tests/socket/run && tests/journals/walk && tests/gateway/run && tests/hostile/run'
 	python3 tests/journals/run
 	python3 tests/must-not-compile/run
 	RT_JOBS=$(CORES) rt ci
+
+check:
+	@python3 scripts/check.py $(CRATE)
 
 bench: build
 	python3 bench/commands.py $(PROGRAM)

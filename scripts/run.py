@@ -7,31 +7,11 @@ The crates that PROGRAM stands on are proved lowest first; what was proved befor
 standard error, the long text of the proofs to crates/PROGRAM/out/proofs.log, which each run begins anew. Standard output has what the
 program wrote, and nothing else.
 """
-import pathlib
 import subprocess
 import sys
 import time
 
-ROOT = pathlib.Path(__file__).resolve().parent.parent
-
-
-def libraries():
-    """The libraries of each crate that crates.txt lists."""
-    lines = [line.split("#")[0] for line in (ROOT / "crates.txt").read_text().splitlines()]
-    parts = [line.split(":") for line in lines if line.strip()]
-    return {head.split()[0]: below.split() for head, below in parts}
-
-
-def lowest_first(name, below, found):
-    """Puts the crates of this repository that a crate stands on, and then the crate, behind those found before."""
-    for library in below[name]:
-        if library in below and library not in found:
-            lowest_first(library, below, found)
-    found.append(name)
-
-
-def say(text, end="\n"):
-    print(text, end=end, file=sys.stderr, flush=True)
+from crates import ROOT, add_lowest_first, libraries, say
 
 
 def prove(crate, log):
@@ -50,7 +30,7 @@ def prove_and_run(program, arguments, log):
 def main():
     program, arguments = sys.argv[1], sys.argv[2:]
     crates = []
-    lowest_first(program, libraries(), crates)
+    add_lowest_first(program, libraries(), crates)
     path = ROOT / "crates" / program / "out" / "proofs.log"
     path.parent.mkdir(exist_ok=True)
     say(f"{len(crates)} crates; the long text goes into {path.relative_to(ROOT)}")

@@ -1,13 +1,17 @@
-"""Many teams on one machine: the command line of the systemd unit is started for each, and what an
-idle one takes is measured.
+"""The systemd units. Many teams on one machine: the command line of the gateway's unit is started
+for each, and what an idle one takes is measured. The words of the server's unit are run too, and
+systemd-analyze reads both units, where it is installed.
 
-The variable GATEWAY_TEAMS says how many teams. This tests the unit's words, and not systemd.
+The variable GATEWAY_TEAMS says how many teams. This tests the units' words, and not systemd.
 """
 import os
 import pathlib
 import re
 import shlex
+import shutil
 import signal
+import socket
+import stat
 import statistics
 import subprocess
 import sys
@@ -19,25 +23,31 @@ import teams
 
 TEAMS = int(os.environ.get("GATEWAY_TEAMS", "8"))
 AT_ONCE = 4  # are started beside each other
-UNIT = teams.ROOT / "packaging" / "estserve-team@.service"
+PACKAGING = teams.ROOT / "packaging"
+UNIT = PACKAGING / "estserve-team@.service"
+SERVER_UNIT = PACKAGING / "estserve@.service"
 INSTALLED = {
     "/usr/bin/python3": sys.executable,
     "/usr/lib/estserve/clients": str(teams.ROOT / "clients"),
 }
 
 
-def setting(name):
-    """A setting of the unit."""
-    return re.search(rf"^{name}=(.*)$", UNIT.read_text(), re.MULTILINE).group(1)
+def setting(name, unit=UNIT):
+    """A setting of a unit."""
+    return re.search(rf"^{name}=(.*)$", unit.read_text(), re.MULTILINE).group(1)
+
+
+def installed_here(text):
+    """A text of a unit, with the paths of this machine."""
+    for path, here in {**INSTALLED, "/usr/lib/estserve/estserve": teams.program_file()}.items():
+        text = text.replace(path, here)
+    return text
 
 
 def words_of(state):
-    """The unit's command line for one team, with the paths of this machine, and no further
-    words."""
+    """The gateway's command line for one team, and no further words."""
     line = setting("ExecStart").replace("${STATE_DIRECTORY}", str(state)).replace("$TEAM_WORDS", "")
-    for path, here in {**INSTALLED, "/usr/lib/estserve/estserve": teams.program_file()}.items():
-        line = line.replace(path, here)
-    return shlex.split(line)
+    return shlex.split(installed_here(line))
 
 
 def memory_of(process):
@@ -121,8 +131,6 @@ class ManyTeams(unittest.TestCase):
         self.assertEqual(setting("StateDirectoryMode"), "0750")
 
     def test_it_is_told_that_the_gateway_is_ready(self):
-        import socket
-
         with tempfile.TemporaryDirectory(prefix="gateway-") as folder:
             path = pathlib.Path(folder) / "notify"
             with socket.socket(socket.AF_UNIX, socket.SOCK_DGRAM) as told:
@@ -133,6 +141,50 @@ class ManyTeams(unittest.TestCase):
                         self.assertEqual(told.recv(100), b"READY=1")
                 finally:
                     del os.environ["NOTIFY_SOCKET"]
+
+
+class ServerAlone(unittest.TestCase):
+    """The words of the server's unit."""
+
+    def words(self, name, folder):
+        """The words of a command of the unit, where this is its runtime folder."""
+        line = setting(name, SERVER_UNIT).replace("${RUNTIME_DIRECTORY}", folder)
+        return shlex.split(installed_here(line))
+
+    def test_a_stale_socket_goes_and_the_team_alone_may_connect(self):
+        with tempfile.TemporaryDirectory(prefix="gateway-") as folder:
+            path = pathlib.Path(folder) / "estserve.sock"
+            with socket.socket(socket.AF_UNIX) as stale:
+                stale.bind(str(path))
+            subprocess.run(self.words("ExecStartPre", folder), check=True)
+            self.assertFalse(path.exists())
+            umask = int(setting("UMask", SERVER_UNIT), 8)
+            server = subprocess.Popen(self.words("ExecStart", folder), umask=umask)
+            try:
+                teams.wait_for(lambda: teams.programs.is_listening(path, server.pid))
+                self.assertEqual(stat.S_IMODE(path.stat().st_mode), 0o770)
+                with teams.connect(path) as client:
+                    self.assertEqual(client.login("root", ["root"])["version"], 5)
+            finally:
+                server.terminate()
+                self.assertEqual(server.wait(teams.WAIT_SECONDS), -signal.SIGTERM)
+
+    def test_want_of_memory_is_answered_before_the_server_is_killed(self):
+        limits = [setting(name, SERVER_UNIT) for name in ("LimitAS", "MemoryMax")]
+        self.assertTrue(all(limit.endswith("G") for limit in limits))
+        self.assertLess(*(int(limit[:-1]) for limit in limits))
+
+
+@unittest.skipUnless(shutil.which("systemd-analyze"), "systemd-analyze is not installed")
+class Verified(unittest.TestCase):
+    def test_systemd_finds_nothing_wrong(self):
+        for unit in (UNIT, SERVER_UNIT):
+            with self.subTest(unit.name), tempfile.TemporaryDirectory(prefix="gateway-") as folder:
+                copy = pathlib.Path(folder) / unit.name.replace("@", "@blue")
+                copy.write_text(installed_here(unit.read_text()))
+                words = ["systemd-analyze", "verify", "--man=no", str(copy)]
+                ran = subprocess.run(words, capture_output=True, text=True)
+                self.assertEqual((ran.returncode, ran.stderr), (0, ""))
 
 
 if __name__ == "__main__":

@@ -1,8 +1,8 @@
-"""A dialogue that fills the journal of a slot: a load, then offers, steps and discards up to the limit, and what is answered then."""
-
-import json
+"""Two dialogues that fill the journal of a slot, and what is answered then: a load, and offers, steps and discards up to the limit;
+and a load, and offers and discards, of which the last is an offer."""
 
 from slots import MOST_ENTRIES
+from wire import written
 
 TEXT = "module M: input I; output O; every I do emit O end end module"
 GRANTED = {"load": "0", "step": "0", "offer": "0.I", "observe": "0.O", "audit": "policy"}
@@ -49,11 +49,30 @@ def closing():
 REPORT = f"policy: {VERSION + 1} entries\nslot 0: {MOST_ENTRIES} entries, 1 loads, {INSTANTS} instants\ncheck: ok\n"
 
 
-def written(value):
-    return json.dumps(value, separators=(",", ":"), sort_keys=True) + "\n"
+def waiting():
+    """A load, and behind it an offer and a discard in turn. The last place is an offer's, which waits for a step for ever."""
+    yield {"cmd": "load", "main": "M", "slot": 0, "text": TEXT}, {"ok": "load", "place": 1, "version": VERSION}
+    for place in range(2, MOST_ENTRIES + 1):
+        line = {"cmd": "discard", "slot": 0} if place % 2 else {"cmd": "offer", "signal": "I", "slot": 0}
+        yield line, {"ok": line["cmd"], "place": place, "version": VERSION}
+    yield {"cmd": "discard", "slot": 0}, FULL
+    yield {"cmd": "offer", "signal": "I", "slot": 0}, {"code": 65, "fault": "AlreadyOffered"}
+    yield {"cmd": "step", "slot": 0}, FULL
+    yield {"cmd": "unload", "slot": 0}, FULL
+    yield {"cmd": "look", "instant": 1, "slot": 0}, {"code": 66, "fault": "NoInstant"}
+    yield {"cmd": "audit", "slot": 0}, {"entries": MOST_ENTRIES, "instants": 0, "ok": "audit", "version": VERSION}
+    yield {"cmd": "logout"}, {"ok": "logout", "version": VERSION + 1}
+
+
+WAITING_REPORT = f"policy: {VERSION + 1} entries\nslot 0: {MOST_ENTRIES} entries, 1 loads, 0 instants\ncheck: ok\n"
+
+
+def lines_of_waiting():
+    """The second dialogue: each line with its answer, in bytes."""
+    return ((written(line), written(answer)) for part in (opening(), waiting()) for line, answer in part)
 
 
 def dialogue():
-    """The lines, and their answers."""
+    """The first dialogue: its lines, and their answers."""
     pairs = [*opening(), *filling(), *closing()]
-    return "".join(written(line) for line, _ in pairs), "".join(written(answer) for _, answer in pairs)
+    return tuple(b"".join(written(pair[side]) for pair in pairs).decode() for side in (0, 1))

@@ -38,6 +38,14 @@ class Policy:
         self.sets = {}
         self.sessions = {}
 
+    def copied(self):
+        """A policy of its own with the same facts."""
+        after = copy.copy(self)
+        for facts in ("users", "roles", "assigned", "granted", "edges", "sets"):
+            setattr(after, facts, getattr(self, facts).copy())
+        after.sessions = {number: Session(session.user, session.active) for number, session in self.sessions.items()}
+        return after
+
     def below(self, roles, edges=None):
         """The roles, and all to which chains of edges lead from them."""
         edges = self.edges if edges is None else edges
@@ -201,7 +209,7 @@ class Policy:
             self.need(session in self.sessions, 4)
         if command not in ("login", "logout", "activate", "drop"):
             self.need(self.may(session, "administer", "policy"), 10, object="policy", op="administer")
-        after = copy.deepcopy(self)
+        after = self.copied()
         getattr(after, command)(session, **keys)
         self.need(command == "logout" or self.entries < MOST_ENTRIES, 67)
         after.end_sessions()

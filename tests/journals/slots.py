@@ -3,19 +3,40 @@
 import re
 
 from policy import Refused
+from wire import IDENTIFIER
 
 MOST_ENTRIES = 65_536
+LIMITS = {"nesting", "signals", "relations", "statements", "loops", "traps", "locals"}
 # refusals that only the language decides, each behind those that are judged here: faults of a text, and a step without a reaction
 OF_TEXTS = set(range(70, 81))
 OF_STEPS = {50}
+
+
+def is_place(keys, text):
+    """Whether these keys name a place of the text, or the one just after its last byte."""
+    lines = text.encode(errors="surrogatepass").split(b"\n")
+    line, column = keys["line"], keys["column"]
+    return 1 <= line <= len(lines) and 1 <= column <= len(lines[line - 1]) + 1
+
+
+def is_fault_of(answer, text):
+    """Whether a refusal of this text has the keys of its number, with values that can be."""
+    keys = {key: value for key, value in answer.items() if key not in ("code", "fault")}
+    code = answer["code"]
+    if code in (70, 71):
+        return set(keys) == {"line", "column"} and is_place(keys, text)
+    if 72 <= code <= 77:
+        return set(keys) == {"name"} and bool(IDENTIFIER.match(keys["name"]))
+    if code == 79:
+        return set(keys) == {"limit"} and keys["limit"] in LIMITS
+    return set(keys) == {"relation"} and keys["relation"] >= 1 if code == 80 else not keys
 
 
 class Module:
     """The interface and the relations of the main module of a text that was accepted."""
 
     def __init__(self, main, text):
-        text = re.sub(r"%\{.*?\}%", " ", text, flags=re.DOTALL)
-        text = re.sub(r"%[^\n]*", " ", text)
+        text = re.sub(r"%\{(?:.|\n)*?\}%|%[^\n]*", " ", text)
         body = re.search(rf"\bmodule\s+{main}\s*:(.*)", text, re.DOTALL)[1]
         self.signals, self.inputs, self.relations = [], set(), []
         while found := re.match(r"\s*(input|output|relation)\b([^;]*);", body):

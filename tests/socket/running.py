@@ -153,9 +153,9 @@ class Server:
         client.login("root", ["root"])
         return client
 
-    def end(self):
-        """Waits for the program's end: its status, and what it wrote on standard output and standard error."""
-        told = self.process.communicate(timeout=WAIT_SECONDS)
+    def end(self, seconds=WAIT_SECONDS):
+        """Waits so long for the program's end: its status, and what it wrote on standard output and standard error."""
+        told = self.process.communicate(timeout=seconds)
         return self.process.returncode, *told
 
 

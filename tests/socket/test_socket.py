@@ -182,6 +182,11 @@ class PathsAndWords(unittest.TestCase):
                 self.assertEqual((status, printed), (2, b""))
                 self.assertIn(b"Usage" if not words or words == ["--log"] else b"invalid value", told)
 
+    def test_a_word_that_is_not_utf_8(self):
+        for words in ([b"\xff"], ["script", b"--\xe9"], ["serve", "--socket", b"/nowhere/\xc3\x28"]):
+            with self.subTest(words):
+                self.assertEqual(run(*words), (2, b"", b"estserve: a word is not UTF-8\n"))
+
 
 if __name__ == "__main__":
     unittest.main()

@@ -5,7 +5,6 @@ pub mod Stepping
 mod Entries
 pub mod Desks
 pub mod Unchanged
-pub mod Leaving
 pub mod Settling
 pub mod OneNaming
 pub mod OneSlotStep

@@ -11,11 +11,12 @@ use Rattle.reactor_core.specs.declared.refusal.Refusal.{Refusal as ReactorRefusa
 use Rattle.access_core.specs.declared.command.SlotCommand.{SlotCommand}
 use Rattle.access_core.specs.declared.command.SlotCommand.TheVariants.{Load, Offer, Discard, Step, Unload, Look, Audit}
 use Rattle.access_core.specs.declared.refusal.Refusal.{Refusal}
+use Rattle.access_core.specs.declared.refusal.Refusal.TheVariants.{Policy}
 use Rattle.access_core.specs.declared.reply.Change.{Change}
 use Rattle.access_core.specs.declared.reply.Reply.{Reply}
 use Rattle.access_core.specs.declared.reply.Reply.TheVariants.{Refused, Load as Loaded, Offer as Offered}
 use Rattle.access_core.specs.Answering.{IsRefused, ByRules, no_memory}
-use Rattle.access_core.specs.Conversions.{of_policy, of_reactor}
+use Rattle.access_core.specs.Conversions.{of_reactor}
 use Rattle.access_core.specs.SlotState.{SlotState}
 use Rattle.access_core.specs.SlotStep.{SlotStep, slot_rules, Does, no_session}
 use Rattle.access_core.specs.Needs.{Needs, IsAccepted}
@@ -39,7 +40,7 @@ appends_nothing entry before refusal after appends = absurd (not_accepted (chang
 admin_replied : (answer : Result Entry PolicyRefusal) (before : DeskState) (refusal : Refusal) (after : DeskState)
     → MatchResult answer
     (λ entry. ByRules (list_full before.entries entry ▸ no_memory ▸ accept) (Appends entry) before (Refused refusal) after)
-    (λ given. IsRefused (of_policy given) before (Refused refusal) after)
+    (λ given. IsRefused (Policy given) before (Refused refusal) after)
     → after ≡ before
 admin_replied (Ok entry) before refusal after h =
     answered (list_full before.entries entry ▸ no_memory ▸ accept) (λ given. IsRefused given before (Refused refusal) after)

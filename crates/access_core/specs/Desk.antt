@@ -8,19 +8,17 @@ use Rattle.rbac_policy.specs.declared.commands.Entry.{Entry}
 use Rattle.rbac_policy.specs.declared.objects.TheConstants.{SLOTS}
 use Rattle.rbac_policy.specs.Entries.{logins}
 use Rattle.rbac_policy.specs.Opening.{opening_entries}
-use Rattle.rbac_admin.specs.declared.refusals.Refusal.{Refusal as PolicyRefusal}
-use Rattle.rbac_admin.specs.PolicyStep.{PolicyStep}
+use Rattle.rbac_admin.specs.AdminSteps.{ListRefusals, StepsOnList}
+use Rattle.rbac_admin.specs.Room as room
 use Rattle.reactor_core.specs.declared.entry.SlotEntry.{SlotEntry}
 use Rattle.access_core.specs.declared.command.SlotCommand.{SlotCommand}
 use Rattle.access_core.specs.declared.refusal.Refusal.{Refusal}
-use Rattle.access_core.specs.declared.refusal.Refusal.TheVariants.{NoSlot, JournalFull}
+use Rattle.access_core.specs.declared.refusal.Refusal.TheVariants.{Policy, NoSlot, JournalFull, Memory}
 use Rattle.access_core.specs.declared.reply.Change.{Change}
 use Rattle.access_core.specs.declared.reply.Change.TheVariants as change
 use Rattle.access_core.specs.declared.reply.Reply.{Reply}
 use Rattle.access_core.specs.declared.reply.Reply.TheVariants.{Login, Changed}
-use Rattle.access_core.specs.declared.single.TheConstants.{POLICY_ENTRIES, ENDING_ENTRIES}
-use Rattle.access_core.specs.Answering.{IsRefused, ByRules, no_memory}
-use Rattle.access_core.specs.Conversions.{of_policy}
+use Rattle.access_core.specs.Answering.{IsRefused, ByRules}
 use Rattle.access_core.specs.SlotState.{SlotState}
 use Rattle.access_core.specs.SlotStep.{SlotStep, no_session}
 
@@ -46,18 +44,13 @@ pub record AreSlots (slots : List SlotState) : Type 0 where
   pub sixteen : length slots ≡ SLOTS
   pub numbered : (number : ℕ) (slot : SlotState) → slice_get slots number ≡ Some slot → slot.number ≡ number
 
--- the policy list has room for the command: a logout always has, since a place is kept for that of each session that may live
-abbrev pub HasRoomFor : AdminCommand → List Entry → Type 0
-HasRoomFor DeleteSession entries = Unit {0}
-HasRoomFor _ entries = length entries < POLICY_ENTRIES
+-- how the desk tells why a policy command adds no entry
+abbrev pub list_refusals : ListRefusals Refusal
+list_refusals = record { told = Policy; full = JournalFull; memory = Memory }
 
 -- refuses where the policy list has no room for the entry's command
 abbrev pub list_full : List Entry → Entry → Rule Refusal
-list_full entries entry = Unless (HasRoomFor entry.command entries) JournalFull
-
--- the most entries of the policy list, the places that are kept for logouts among them
-abbrev pub most_entries : ℕ
-most_entries = POLICY_ENTRIES + ENDING_ENTRIES
+list_full = room.list_full JournalFull
 
 -- which change of the policy the command is; a login is none of them
 abbrev pub change_of : AdminCommand → Option Change
@@ -94,12 +87,10 @@ pub record Appends (entry : Entry) (before : DeskState) (reply : Reply) (after :
   pub appended : after ≡ record before { entries = before.entries ++ entry ∷ [] }
 
 -- the reply to a policy command, which this session gives, and the desk afterwards: the policy step's, or a refusal for want of room
-pub record AdminStep (session : Option ℕ) (command : AdminCommand) (before : DeskState) (reply : Reply) (after : DeskState) : Type 0 where
-  pub answer : Result Entry PolicyRefusal
-  pub given : PolicyStep before.entries session command answer
-  pub replied : MatchResult answer
-      (λ entry. ByRules (list_full before.entries entry ▸ no_memory ▸ accept) (Appends entry) before reply after)
-      (λ refusal. IsRefused (of_policy refusal) before reply after)
+abbrev pub AdminStep : (session : Option ℕ) → AdminCommand → (before : DeskState) → Reply → (after : DeskState) → Type 0
+AdminStep session command before reply after =
+    StepsOnList list_refusals before.entries session command (λ refusal. IsRefused refusal before reply after)
+    (λ entry. Appends entry before reply after)
 
 -- refuses where there is no slot of this number
 abbrev pub no_slot : ℕ → Rule Refusal

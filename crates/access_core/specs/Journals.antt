@@ -41,8 +41,8 @@ pub record Adds (judged : List Entry) (slot : ℕ) (before : List SlotEntry) (en
   pub accepted : IsAccepted reply
   pub step : Judges judged slot before entry reply (before ++ added ∷ [])
 
--- the entry is legal after those before it: its version rises, and the slot step on so many entries of the policy list adds this very
--- entry
+-- the entry is legal after the earlier ones: its version is no lower than theirs and no higher than the list's
+-- length, and the slot step at that version adds this very entry
 pub record IsLegalEntry (list : List Entry) (slot : ℕ) (before : List SlotEntry) (entry : SlotEntry) : Type 0 where
   pub version : HasRightVersion list before entry
   pub added : Adds (take entry.stamp.version list) slot before entry entry

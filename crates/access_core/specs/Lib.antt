@@ -10,4 +10,3 @@ pub mod SlotStep
 pub mod StuckSteps
 pub mod Desk
 pub mod Journals
-pub mod Inner

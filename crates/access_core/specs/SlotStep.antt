@@ -9,6 +9,7 @@ use Rattle.rbac_policy.specs.declared.objects.Object.{Object}
 use Rattle.rbac_policy.specs.declared.objects.Operation.TheVariants.{Load as ToLoad}
 use Rattle.rbac_policy.specs.declared.objects.Object.TheVariants.{Slot}
 use Rattle.rbac_policy.specs.Facts.{IsLive, May}
+use Rattle.rbac_admin.specs.declared.refusals.Refusal.TheVariants as policy
 use Rattle.reactor_core.specs.declared.entry.Stamp.{Stamp}
 use Rattle.reactor_core.specs.declared.entry.PastInstant.{PastInstant}
 use Rattle.reactor_core.specs.declared.entry.Action.{Action}
@@ -21,7 +22,7 @@ use Rattle.reactor_core.specs.Instants.{IsOutcome, HasNoOutcome, AddsInstant, no
 use Rattle.access_core.specs.declared.command.SlotCommand.{SlotCommand}
 use Rattle.access_core.specs.declared.command.SlotCommand.TheVariants.{Load, Offer, Discard, Step, Unload, Look, Audit}
 use Rattle.access_core.specs.declared.refusal.Refusal.{Refusal}
-use Rattle.access_core.specs.declared.refusal.Refusal.TheVariants.{NoSession, Permission, Implied, Stuck, Occupied, Empty, NoInstant, JournalFull}
+use Rattle.access_core.specs.declared.refusal.Refusal.TheVariants.{Policy, Implied, Stuck, Occupied, Empty, NoInstant, JournalFull}
 use Rattle.access_core.specs.declared.reply.Reply.{Reply}
 use Rattle.access_core.specs.declared.reply.Reply.TheVariants.{Load as Loaded, Offer as Offered, Discard as Discarded, Step as Stepped, Unload as Unloaded, Look as Shown, Audit as Audited}
 use Rattle.access_core.specs.Answering.{IsRefused, ByRules, no_memory}
@@ -31,11 +32,11 @@ use Rattle.access_core.specs.Shown.{Sees, shown_of, names_of}
 
 -- refuses a session that doesn't live
 abbrev pub no_session : List Entry → (session : ℕ) → Rule Refusal
-no_session entries session = Unless (IsLive entries session) NoSession
+no_session entries session = Unless (IsLive entries session) (Policy policy.NoSession)
 
 -- refuses a session that may not do the operation on the object
 abbrev pub no_permission : List Entry → (session : ℕ) → Operation → Object → Rule Refusal
-no_permission entries session operation object = Unless (May entries session operation object) (Permission operation object)
+no_permission entries session operation object = Unless (May entries session operation object) (Policy (policy.Permission operation object))
 
 -- refuses where a module runs in the slot
 abbrev pub occupied : List SlotEntry → Rule Refusal

@@ -1,6 +1,9 @@
 //! Commands on slots.
+ghost use Rattle.std.specs.Prelude.{◌≡◌, IfOk};
+
 use est_text::identifier::Identifier;
 use reactor_core::text::Text;
+use std::alloc::{AllocError, Global};
 
 /// What a slot command asks for.
 #[derive(Drop)]
@@ -19,4 +22,24 @@ pub enum SlotCommand {
     Look { instant: u64 },
     /// Tells how many entries the journal has, and how many instants there were since the load.
     Audit,
+}
+
+impl SlotCommand {
+    /// A copy of the command, or the error where memory was refused.
+    pub fn try_clone(&self, alloc: Global) -> Result<SlotCommand, AllocError>
+        ensures { IfOk result (λ copy. copy ≡ self.now) }
+    {
+        match self {
+            SlotCommand::Load { main, text } => {
+                let text = Text::copied(alloc, text.as_str())?;
+                Ok(SlotCommand::Load { main: *main, text })
+            }
+            SlotCommand::Offer { signal } => Ok(SlotCommand::Offer { signal: *signal }),
+            SlotCommand::Discard => Ok(SlotCommand::Discard),
+            SlotCommand::Step => Ok(SlotCommand::Step),
+            SlotCommand::Unload => Ok(SlotCommand::Unload),
+            SlotCommand::Look { instant } => Ok(SlotCommand::Look { instant: *instant }),
+            SlotCommand::Audit => Ok(SlotCommand::Audit),
+        }
+    }
 }

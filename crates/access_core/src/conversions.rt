@@ -1,48 +1,9 @@
-//! The refusals of the crates below, as those of a request.
+//! The refusals of a reactor, as those of a request.
 ghost use Rattle.std.specs.Prelude.{◌≡◌};
 ghost use Rattle.access_core.specs.Conversions.{of_reactor};
 
 use crate::refusal::Refusal;
-use rbac_admin::refusals::Refusal as PolicyRefusal;
 use reactor_core::refusal::Refusal as ReactorRefusal;
-
-impl From<PolicyRefusal> for Refusal {
-    ghost use Rattle.std.specs.Prelude.{◌≡◌};
-    ghost use Rattle.access_core.specs.Conversions.{of_policy};
-
-    ghost from_gives = { λ refusal result. result ≡ of_policy refusal };
-
-    fn from(refusal: PolicyRefusal) -> Refusal {
-        match refusal {
-            PolicyRefusal::NoSession => Refusal::NoSession,
-            PolicyRefusal::SessionsExhausted => Refusal::SessionsExhausted,
-            PolicyRefusal::Permission { operation, object } => Refusal::Permission {
-                operation,
-                object,
-            },
-            PolicyRefusal::DsdViolated { set, session } => Refusal::DsdViolated { session, set },
-            PolicyRefusal::NotAuthorized { role } => Refusal::NotAuthorized { role },
-            PolicyRefusal::AlreadyActive { role } => Refusal::AlreadyActive { role },
-            PolicyRefusal::NotActive { role } => Refusal::NotActive { role },
-            PolicyRefusal::Cycle => Refusal::Cycle,
-            PolicyRefusal::UnknownUser { user } => Refusal::UnknownUser { user },
-            PolicyRefusal::UnknownRole { role } => Refusal::UnknownRole { role },
-            PolicyRefusal::UserExists { user } => Refusal::UserExists { user },
-            PolicyRefusal::RoleExists { role } => Refusal::RoleExists { role },
-            PolicyRefusal::AlreadyAssigned => Refusal::AlreadyAssigned,
-            PolicyRefusal::NotAssigned => Refusal::NotAssigned,
-            PolicyRefusal::AlreadyGranted => Refusal::AlreadyGranted,
-            PolicyRefusal::NotGranted => Refusal::NotGranted,
-            PolicyRefusal::EdgeExists => Refusal::EdgeExists,
-            PolicyRefusal::NoEdge => Refusal::NoEdge,
-            PolicyRefusal::DsdExists { set } => Refusal::DsdExists { set },
-            PolicyRefusal::NoDsd { set } => Refusal::NoDsd { set },
-            PolicyRefusal::DsdShape => Refusal::DsdShape,
-            PolicyRefusal::RoleInDsd { set } => Refusal::RoleInDsd { set },
-            PolicyRefusal::Full { table } => Refusal::Full { table },
-        }
-    }
-}
 
 /// The refusal of a reactor.
 pub fn of_reactor(refusal: ReactorRefusal) -> Refusal

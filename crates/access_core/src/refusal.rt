@@ -1,13 +1,12 @@
 //! Every refusal that a line can be answered by, with its number and its name.
-ghost use Rattle.std.specs.Prelude.{◌≡◌, ◌<◌};
+ghost use Rattle.std.specs.Prelude.{◌≡◌};
 ghost use Rattle.access_core.specs.Refusals.{code_of, name_of, limit_text, table_text};
 
 use crate::reply::SignalNames;
 use est_text::identifier::Identifier;
 use est_text::place::Place;
-use rbac_policy::commands::{SessionId, Table};
-use rbac_policy::names::Name;
-use rbac_policy::objects::{Object, Operation};
+use rbac_admin::refusals::Refusal as PolicyRefusal;
+use rbac_policy::commands::Table;
 use reactor_core::refusal::Limit;
 
 /// Why a line was refused. A refusal leaves policy, slots, journals and pending signals as they were.
@@ -19,84 +18,16 @@ pub enum Refusal {
     NotJson,
     /// The line is a JSON value, but no request.
     NotARequest,
-    /// There is no login on this connection, or its session has ended.
-    NoSession,
     /// There is a login on this connection already.
     AlreadyLoggedIn,
-    /// Every session number was used.
-    SessionsExhausted,
-    /// No active role has this permission.
-    Permission {
-        operation: Operation,
-        object: Object,
-    },
-    /// This session would violate this separation set.
-    DsdViolated {
-        session: SessionId,
-        set: Name,
-    },
-    /// The user is not authorized for this role.
-    NotAuthorized {
-        role: Name,
-    },
-    /// The role is active already, or listed twice.
-    AlreadyActive {
-        role: Name,
-    },
-    /// The role is not active.
-    NotActive {
-        role: Name,
-    },
-    /// The senior role equals the junior one or lies below it.
-    Cycle,
-    UnknownUser {
-        user: Name,
-    },
-    UnknownRole {
-        role: Name,
-    },
-    UserExists {
-        user: Name,
-    },
-    RoleExists {
-        role: Name,
-    },
-    AlreadyAssigned,
-    NotAssigned,
-    AlreadyGranted,
-    NotGranted,
-    EdgeExists,
-    NoEdge,
-    DsdExists {
-        set: Name,
-    },
-    NoDsd {
-        set: Name,
-    },
-    /// A separation set lists a role twice, or its number is under 2 or over the count of its roles.
-    DsdShape,
-    /// The role is a member of this separation set.
-    RoleInDsd {
-        set: Name,
-    },
-    /// The table has as many members as it may have.
-    Full {
-        table: Table,
-    },
+    /// The policy refuses the command; NoSession is also where there is no login on this connection.
+    Policy(PolicyRefusal),
     /// By this relation, counted from 1, this pending signal excludes the one that is offered.
-    Excluded {
-        relation: u8,
-        signal: Identifier,
-    },
+    Excluded { relation: u8, signal: Identifier },
     /// This relation, counted from 1, asks for a signal that is missing.
-    Implied {
-        relation: u8,
-        missing: Identifier,
-    },
+    Implied { relation: u8, missing: Identifier },
     /// The inputs have no constructive reaction. Those undecided outputs are named that the session may observe.
-    Stuck {
-        undecided: SignalNames,
-    },
+    Stuck { undecided: SignalNames },
     /// There is no slot of this number.
     NoSlot,
     /// The slot holds a module.
@@ -113,81 +44,39 @@ pub enum Refusal {
     /// The journal has as many entries as it may have.
     JournalFull,
     /// A version was found that is older than one seen before, or newer than the policy list.
-    Behind {
-        found: u64,
-        seen: u64,
-    },
+    Behind { found: u64, seen: u64 },
     /// Here begins no token of a module text.
-    Lexical {
-        place: Place,
-    },
+    Lexical { place: Place },
     /// The first token with which the tokens so far begin no module.
-    Syntax {
-        place: Place,
-    },
-    UnknownModule {
-        name: Identifier,
-    },
-    RecursiveRun {
-        name: Identifier,
-    },
-    UnknownName {
-        name: Identifier,
-    },
-    DuplicateName {
-        name: Identifier,
-    },
-    EmitInput {
-        name: Identifier,
-    },
-    BadRename {
-        name: Identifier,
-    },
+    Syntax { place: Place },
+    UnknownModule { name: Identifier },
+    RecursiveRun { name: Identifier },
+    UnknownName { name: Identifier },
+    DuplicateName { name: Identifier },
+    EmitInput { name: Identifier },
+    BadRename { name: Identifier },
     /// The body of a loop may end in the instant in which it begins.
     InstantLoop,
     /// The text or its module is beyond this limit.
-    TooLarge {
-        limit: Limit,
-    },
+    TooLarge { limit: Limit },
     /// This relation, counted from 1, is over a signal that is no input.
-    Semantics {
-        relation: u64,
-    },
+    Semantics { relation: u64 },
     /// Memory was refused.
     Memory,
 }
 
 impl Refusal {
-    /// Number and name of what is refused of a module text, or for want of memory.
-    fn label_of_text(&self) -> (u8, &'static str)
-        requires { 69 < code_of self.now }
+    /// Its number and its name.
+    pub fn label(&self) -> (u8, &'static str)
         ensures code { result.0 ≡ code_of self.now }
         ensures name { result.1.now ≡ name_of self.now }
     {
         match self {
-            Refusal::Lexical { .. } => (70, "Lexical"),
-            Refusal::Syntax { .. } => (71, "Syntax"),
-            Refusal::UnknownModule { .. } => (72, "UnknownModule"),
-            Refusal::RecursiveRun { .. } => (73, "RecursiveRun"),
-            Refusal::UnknownName { .. } => (74, "UnknownName"),
-            Refusal::DuplicateName { .. } => (75, "DuplicateName"),
-            Refusal::EmitInput { .. } => (76, "EmitInput"),
-            Refusal::BadRename { .. } => (77, "BadRename"),
-            Refusal::InstantLoop => (78, "InstantLoop"),
-            Refusal::TooLarge { .. } => (79, "TooLarge"),
-            Refusal::Semantics { .. } => (80, "Semantics"),
-            Refusal::Memory => (90, "Memory"),
-            _ => unreachable!(),
-        }
-    }
-
-    /// Number and name of what a slot refuses, or of what comes after that in the table.
-    fn label_of_slot(&self) -> (u8, &'static str)
-        requires { 39 < code_of self.now }
-        ensures code { result.0 ≡ code_of self.now }
-        ensures name { result.1.now ≡ name_of self.now }
-    {
-        match self {
+            Refusal::TooLong => (1, "TooLong"),
+            Refusal::NotJson => (2, "NotJson"),
+            Refusal::NotARequest => (3, "NotARequest"),
+            Refusal::AlreadyLoggedIn => (5, "AlreadyLoggedIn"),
+            Refusal::Policy(refusal) => refusal.label(),
             Refusal::Excluded { .. } => (40, "Excluded"),
             Refusal::Implied { .. } => (41, "Implied"),
             Refusal::Stuck { .. } => (50, "Stuck"),
@@ -200,55 +89,18 @@ impl Refusal {
             Refusal::NoInstant => (66, "NoInstant"),
             Refusal::JournalFull => (67, "JournalFull"),
             Refusal::Behind { .. } => (68, "Behind"),
-            _ => self.label_of_text(),
-        }
-    }
-
-    /// Number and name of what the policy refuses, or of what comes after that in the table.
-    fn label_of_policy(&self) -> (u8, &'static str)
-        requires { 9 < code_of self.now }
-        ensures code { result.0 ≡ code_of self.now }
-        ensures name { result.1.now ≡ name_of self.now }
-    {
-        match self {
-            Refusal::Permission { .. } => (10, "Permission"),
-            Refusal::DsdViolated { .. } => (20, "DsdViolated"),
-            Refusal::NotAuthorized { .. } => (21, "NotAuthorized"),
-            Refusal::AlreadyActive { .. } => (22, "AlreadyActive"),
-            Refusal::NotActive { .. } => (23, "NotActive"),
-            Refusal::Cycle => (24, "Cycle"),
-            Refusal::UnknownUser { .. } => (25, "UnknownUser"),
-            Refusal::UnknownRole { .. } => (26, "UnknownRole"),
-            Refusal::UserExists { .. } => (27, "UserExists"),
-            Refusal::RoleExists { .. } => (28, "RoleExists"),
-            Refusal::AlreadyAssigned => (29, "AlreadyAssigned"),
-            Refusal::NotAssigned => (30, "NotAssigned"),
-            Refusal::AlreadyGranted => (31, "AlreadyGranted"),
-            Refusal::NotGranted => (32, "NotGranted"),
-            Refusal::EdgeExists => (33, "EdgeExists"),
-            Refusal::NoEdge => (34, "NoEdge"),
-            Refusal::DsdExists { .. } => (35, "DsdExists"),
-            Refusal::NoDsd { .. } => (36, "NoDsd"),
-            Refusal::DsdShape => (37, "DsdShape"),
-            Refusal::RoleInDsd { .. } => (38, "RoleInDsd"),
-            Refusal::Full { .. } => (39, "Full"),
-            _ => self.label_of_slot(),
-        }
-    }
-
-    /// Its number and its name.
-    fn label(&self) -> (u8, &'static str)
-        ensures code { result.0 ≡ code_of self.now }
-        ensures name { result.1.now ≡ name_of self.now }
-    {
-        match self {
-            Refusal::TooLong => (1, "TooLong"),
-            Refusal::NotJson => (2, "NotJson"),
-            Refusal::NotARequest => (3, "NotARequest"),
-            Refusal::NoSession => (4, "NoSession"),
-            Refusal::AlreadyLoggedIn => (5, "AlreadyLoggedIn"),
-            Refusal::SessionsExhausted => (6, "SessionsExhausted"),
-            _ => self.label_of_policy(),
+            Refusal::Lexical { .. } => (70, "Lexical"),
+            Refusal::Syntax { .. } => (71, "Syntax"),
+            Refusal::UnknownModule { .. } => (72, "UnknownModule"),
+            Refusal::RecursiveRun { .. } => (73, "RecursiveRun"),
+            Refusal::UnknownName { .. } => (74, "UnknownName"),
+            Refusal::DuplicateName { .. } => (75, "DuplicateName"),
+            Refusal::EmitInput { .. } => (76, "EmitInput"),
+            Refusal::BadRename { .. } => (77, "BadRename"),
+            Refusal::InstantLoop => (78, "InstantLoop"),
+            Refusal::TooLarge { .. } => (79, "TooLarge"),
+            Refusal::Semantics { .. } => (80, "Semantics"),
+            Refusal::Memory => (90, "Memory"),
         }
     }
 

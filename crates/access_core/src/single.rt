@@ -1,37 +1,31 @@
 //! A policy with its list, and sixteen slots, in one hand.
-ghost use Rattle.std.specs.Prelude.{◌≡◌, ◌↔◌, ◌<◌, ◌≤◌, ◌++◌, ◌∷◌, [], List, IsTrue, IfOk, MatchOption, MatchResult};
+ghost use Rattle.std.specs.Prelude.{◌≡◌, ◌↔◌, ◌<◌, ◌≤◌, ◌++◌, ◌∷◌, [], List, IsTrue, Ok, IfOk, MatchOption, MatchResult};
 ghost use Rattle.std.specs.Prelude.{length, map, take};
 ghost use Rattle.rbac_policy.specs.declared.commands.Entry.{Entry};
 ghost use Rattle.rbac_policy.specs.Change.{absorbed, policy_of};
 ghost use Rattle.rbac_policy.specs.Facts.{May};
-ghost use Rattle.rbac_policy.specs.Fits.{Fits};
 ghost use Rattle.rbac_policy.specs.StandsFor.{StandsFor};
 ghost use Rattle.refusal_rules.specs.Rules.{accept, ◌▸◌};
+ghost use Rattle.rbac_admin.specs.PolicyStep.{PolicyStep};
 ghost use Rattle.access_core.specs.Answering.{ByRules, no_memory};
 ghost use Rattle.access_core.specs.SlotState.{SlotState};
-ghost use Rattle.access_core.specs.Inner.Ending.{EndsLiving};
 ghost use Rattle.access_core.specs.Desk.{DeskState, AreSlots, opening_desk, desk_at, empty_slot, change_of};
-ghost use Rattle.access_core.specs.Desk.{accepted_reply, HasRoomFor, list_full, Appends, AdminStep, DeskStep};
+ghost use Rattle.access_core.specs.Desk.{accepted_reply, list_full, Appends, AdminStep, DeskStep};
 
 use crate::command::SlotCommand;
 use crate::refusal::Refusal;
 use crate::reply::{Change, Reply};
 use crate::slot::{Slot, decide_slot};
 use rbac_admin::decisions::decide;
+use rbac_admin::refusals::Refusal as PolicyRefusal;
+use rbac_admin::room::has_room;
 use rbac_policy::commands::{AdminCommand, Entry, SessionId};
 use rbac_policy::journal::PolicyJournal;
 use rbac_policy::objects::{Object, Operation, SLOTS, SlotNumber};
 use rbac_policy::policy::Policy;
-use rbac_policy::sizes::LAST_VERSION;
 use reactor_core::journal::Journal;
 use std::alloc::{AllocError, Global};
 use std::marker::Model;
-
-/// The most entries that the policy list takes, but for DeleteSession.
-pub const POLICY_ENTRIES: usize = 262_080;
-
-/// The further places of the policy list, which are for DeleteSession alone: one for each session that may live.
-pub const ENDING_ENTRIES: usize = 64;
 
 /// A policy with the list of its accepted entries, and sixteen slots. A contract sees the list and the slots.
 #[derive(Drop)]
@@ -53,7 +47,8 @@ impl Model for Single {
     ghost use Rattle.rbac_policy.specs.Fits.{AllFit};
     ghost use Rattle.rbac_policy.specs.StandsFor.{StandsFor};
     ghost use Rattle.rbac_policy.specs.Leaving.{LeavesRoom};
-    ghost use Rattle.access_core.specs.Desk.{AreSlots, most_entries};
+    ghost use Rattle.rbac_admin.specs.Room.{most_entries};
+    ghost use Rattle.access_core.specs.Desk.{AreSlots};
 
     ghost view = { λ s. record { entries = s.entries; slots = s.slots } };
 
@@ -82,30 +77,6 @@ pub fn change_of(command: &AdminCommand) -> Option<Change>
         AdminCommand::DeleteSession => Some(Change::DeleteSession),
         AdminCommand::AddActiveRole { .. } => Some(Change::AddActiveRole),
         AdminCommand::DropActiveRole { .. } => Some(Change::DropActiveRole),
-    }
-}
-
-/// Whether the policy list has room for the command. A logout always has.
-fn has_room(entries: &[Entry], command: &AdminCommand) -> bool
-    ensures { IsTrue result ↔ HasRoomFor command.now entries.now }
-{
-    match command {
-        AdminCommand::DeleteSession => true,
-        AdminCommand::AddUser { .. }
-        | AdminCommand::DeleteUser { .. }
-        | AdminCommand::AddRole { .. }
-        | AdminCommand::DeleteRole { .. }
-        | AdminCommand::AssignUser { .. }
-        | AdminCommand::DeassignUser { .. }
-        | AdminCommand::GrantPermission { .. }
-        | AdminCommand::RevokePermission { .. }
-        | AdminCommand::AddInheritance { .. }
-        | AdminCommand::DeleteInheritance { .. }
-        | AdminCommand::CreateDsdSet { .. }
-        | AdminCommand::DeleteDsdSet { .. }
-        | AdminCommand::CreateSession { .. }
-        | AdminCommand::AddActiveRole { .. }
-        | AdminCommand::DropActiveRole { .. } => entries.len() < POLICY_ENTRIES,
     }
 }
 
@@ -201,7 +172,7 @@ fn answer_slot(
         (record { entries = entries; slots = slots.new }) }
 {
     if !policy.lives(session) {
-        return Reply::Refused(Refusal::NoSession);
+        return Reply::Refused(Refusal::Policy(PolicyRefusal::NoSession));
     }
     let Some(place) = find_slot(number) else {
         return Reply::Refused(Refusal::NoSlot);
@@ -259,8 +230,7 @@ impl Single {
 
     // Adds an entry to the list and takes it into the policy, or refuses it as JournalFull or Memory.
     fn append(&mut self, entry: Entry) -> Reply
-        requires fits { length self.old.entries < LAST_VERSION → Fits self.old.entries entry }
-        requires logout { EndsLiving self.old.entries entry }
+        requires { PolicyStep self.old.entries entry.session entry.command (Ok entry) }
         ensures { ByRules (list_full self.old.entries entry ▸ no_memory ▸ accept) (Appends entry)
             self.old result self.new }
     {
@@ -280,7 +250,7 @@ impl Single {
     {
         match decide(&self.policy, session, command) {
             Ok(entry) => self.append(entry),
-            Err(refusal) => Reply::Refused(refusal.into()),
+            Err(refusal) => Reply::Refused(Refusal::Policy(refusal)),
         }
     }
 

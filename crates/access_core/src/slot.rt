@@ -25,6 +25,7 @@ use crate::reply::Reply;
 use crate::shown::{find_observed, keep_seen, list_names, list_statuses};
 use est_kernel::state::Stuck;
 use est_text::identifier::Identifier;
+use rbac_admin::refusals::Refusal as PolicyRefusal;
 use rbac_policy::commands::SessionId;
 use rbac_policy::objects::{Object, Operation, SlotNumber};
 use rbac_policy::policy::Policy;
@@ -445,7 +446,7 @@ fn check_access(
         → TestsAll (access_rules entries session needed) result }
 {
     if !policy.lives(session) {
-        return Err(Refusal::NoSession);
+        return Err(Refusal::Policy(PolicyRefusal::NoSession));
     }
     let Some((operation, object)) = needed else {
         return Ok(());
@@ -453,7 +454,7 @@ fn check_access(
     if policy.may(session, &operation, &object) {
         return Ok(());
     }
-    Err(Refusal::Permission { operation, object })
+    Err(Refusal::Policy(PolicyRefusal::Permission { operation, object }))
 }
 
 /// Asks whether this session may load the slot, at the policy as it is. Answers what the load's

@@ -3,22 +3,24 @@ use Rattle.std.proofs.Common.{◌≡◌, ℕ, zero, suc, ◌≤◌, List, [], �
 use Rattle.std.specs.Prelude.{Option, Some, None, Result, Ok, Err, MatchResult, slice_get, slice_set}
 use Rattle.std.proofs.lemmas.List.{length-take-le}
 use Rattle.refusal_rules.specs.Rules.{accept, ◌▸◌}
-use Rattle.refusal_rules.proofs.RuleLemmas.{first_or_none}
+use Rattle.refusal_rules.proofs.RuleLemmas.{all_passed, first_or_none}
 use Rattle.rbac_policy.specs.declared.commands.AdminCommand.{AdminCommand}
+use Rattle.rbac_policy.specs.declared.commands.AdminCommand.TheVariants.{AddUser, DeleteUser, AddRole, DeleteRole, AssignUser, DeassignUser, GrantPermission, RevokePermission, AddInheritance, DeleteInheritance, CreateDsdSet, DeleteDsdSet, CreateSession, DeleteSession, AddActiveRole, DropActiveRole}
 use Rattle.rbac_policy.specs.declared.commands.Entry.{Entry}
 use Rattle.rbac_admin.specs.declared.refusals.Refusal.{Refusal as PolicyRefusal}
-use Rattle.rbac_admin.specs.PolicyStep.{PolicyStep}
+use Rattle.rbac_admin.specs.PolicyStep.{PolicyStep, entry_of, policy_rules}
+use Rattle.rbac_admin.specs.Room.{HasRoomFor}
 use Rattle.rbac_admin.proofs.Accepted.{accepted_administers}
 use Rattle.reactor_core.specs.Meaning.{entry}
 use Rattle.access_core.specs.declared.command.SlotCommand.{SlotCommand}
 use Rattle.access_core.specs.declared.refusal.Refusal.{Refusal}
+use Rattle.access_core.specs.declared.refusal.Refusal.TheVariants.{Policy}
 use Rattle.access_core.specs.declared.reply.Change.{Change}
 use Rattle.access_core.specs.Answering.{IsRefused, ByRules, no_memory}
-use Rattle.access_core.specs.Conversions.{of_policy}
 use Rattle.access_core.specs.Needs.{IsAccepted}
 use Rattle.access_core.specs.SlotState.{SlotState}
 use Rattle.access_core.specs.SlotStep.{no_session}
-use Rattle.access_core.specs.Desk.{DeskState, desk_at, AdminStep, InSlot, Appends, list_full, no_slot, reply_of_change, change_of}
+use Rattle.access_core.specs.Desk.{DeskState, desk_at, AdminStep, InSlot, Appends, list_full, no_slot, accepted_reply, reply_of_change, change_of}
 use Rattle.access_core.proofs.Unchanged.{accepted_is_allowed}
 use Rattle.access_events.specs.declared.event.Event.{Event}
 use Rattle.access_events.specs.declared.event.Event.TheVariants.{Admin, OnSlot}
@@ -38,6 +40,39 @@ same_place (first ∷ others) (suc number) slot there = ap (λ slots. first ∷ 
 pub accepted_change : (change : Option Change) (entries : List Entry) → IsAccepted (reply_of_change change entries)
 accepted_change None entries = tt
 accepted_change (Some change) entries = tt
+
+no_refusal : (e : Entry) (refusal : PolicyRefusal) → (let r : Result Entry PolicyRefusal = Ok e in r) ≡ Err refusal → ⊥
+no_refusal e refusal is = absurd cc
+
+same_entry : (e given : Entry) → (let r : Result Entry PolicyRefusal = Ok e in r) ≡ Ok given → e ≡ given
+same_entry e given is = cc
+
+-- the entry of an accepted policy command is its own, with the session that gave it
+own_entry : (entries : List Entry) (session : Option ℕ) (command : AdminCommand) (e : Entry) → PolicyStep entries session command (Ok e)
+    → e ≡ entry_of session command
+own_entry entries session command e step =
+    same_entry e (entry_of session command)
+    (all_passed (policy_rules entries session command) (λ refusal. (let r : Result Entry PolicyRefusal = Ok e in r) ≡ Err refusal)
+    ((let r : Result Entry PolicyRefusal = Ok e in r) ≡ Ok (entry_of session command)) (no_refusal e) step).1
+
+-- the entry of a command has this command
+own_command : (session : Option ℕ) (command : AdminCommand) → (entry_of session command).command ≡ command
+own_command session (CreateSession user roles) = refl
+own_command session (AddUser user) = refl
+own_command session (DeleteUser user) = refl
+own_command session (AddRole role) = refl
+own_command session (DeleteRole role) = refl
+own_command session (AssignUser user role) = refl
+own_command session (DeassignUser user role) = refl
+own_command session (GrantPermission role operation object) = refl
+own_command session (RevokePermission role operation object) = refl
+own_command session (AddInheritance senior junior) = refl
+own_command session (DeleteInheritance senior junior) = refl
+own_command session (CreateDsdSet set count roles) = refl
+own_command session (DeleteDsdSet set) = refl
+own_command session DeleteSession = refl
+own_command session (AddActiveRole role) = refl
+own_command session (DropActiveRole role) = refl
 
 module _ (m : Moment) where
   in_slot : (seat version slot session : ℕ) (command : SlotCommand) → version ≤ length m.before.entries
@@ -60,6 +95,7 @@ module _ (m : Moment) where
                 there = i.there;
                 does = a.does;
                 is = a.is;
+                room = a.room;
                 added = slots ∙ ap (λ j. slice_set m.before.slots slot (record i.slot { journal = j })) added;
                 told = subst (λ j. Tells command version j m.reply) added (subst (λ v. Tells command v i.journal m.reply) long a.told);
                 entries = h.entries;
@@ -97,31 +133,36 @@ module _ (m : Moment) where
       record { entries = ap (λ (d : DeskState). d.entries) h.stays; slots = ap (λ (d : DeskState). d.slots) h.stays },
     )
 
-    appends : (e : Entry) → PolicyStep m.before.entries session command (Ok e) → Appends e (desk_of m.before) m.reply (desk_of m.after)
-        → Changes (Admin seat session command) m
-    appends e given h = inl (
-      subst IsAccepted (sym h.replied) (accepted_change (change_of e.command) m.before.entries),
-      record {
-        entry = e;
-        accepted = given;
-        allowed = λ administrative. accepted_administers m.before.entries session command e administrative given;
-        added = ap (λ (d : DeskState). d.entries) h.appended;
-        slots = ap (λ (d : DeskState). d.slots) h.appended;
-      },
-    )
+    appends : (e : Entry) → PolicyStep m.before.entries session command (Ok e) → HasRoomFor e.command m.before.entries
+        → Appends e (desk_of m.before) m.reply (desk_of m.after) → Changes (Admin seat session command) m
+    appends e given room h =
+        let is : e ≡ entry_of session command = own_entry m.before.entries session command e given in
+        let gives : e.command ≡ command = ap (λ (x : Entry). x.command) is ∙ own_command session command in inl (
+          subst IsAccepted (sym h.replied) (accepted_change (change_of e.command) m.before.entries),
+          record {
+            entry = e;
+            is = is;
+            accepted = given;
+            allowed = λ administrative. accepted_administers m.before.entries session command e administrative given;
+            room = subst (λ c. HasRoomFor c m.before.entries) gives room;
+            added = ap (λ (d : DeskState). d.entries) h.appended;
+            told = h.replied ∙ ap (accepted_reply m.before.entries) gives;
+            slots = ap (λ (d : DeskState). d.slots) h.appended;
+          },
+        )
 
     by_answer : (answer : Result Entry PolicyRefusal) → PolicyStep m.before.entries session command answer
         → MatchResult answer
         (λ e. ByRules (list_full m.before.entries e ▸ no_memory ▸ accept) (Appends e) (desk_of m.before) m.reply (desk_of m.after))
-        (λ refusal. IsRefused (of_policy refusal) (desk_of m.before) m.reply (desk_of m.after))
+        (λ refusal. IsRefused (Policy refusal) (desk_of m.before) m.reply (desk_of m.after))
         → Changes (Admin seat session command) m
     by_answer (Ok e) given replied =
         ⊎_elim
         (λ first. stays first.0 first.2)
-        (λ passed. appends e given passed.1)
+        (λ passed. appends e given passed.0.0 passed.1)
         (first_or_none (list_full m.before.entries e ▸ no_memory ▸ accept) (λ refusal. IsRefused refusal (desk_of m.before) m.reply (desk_of m.after))
         (Appends e (desk_of m.before) m.reply (desk_of m.after)) replied)
-    by_answer (Err refusal) given replied = stays (of_policy refusal) replied
+    by_answer (Err refusal) given replied = stays (Policy refusal) replied
 
   pub by_event : (event : Event) → EventStep event m.before m.reply m.after → Changes event m
   by_event (Admin seat session command) h = administered seat session command h.step

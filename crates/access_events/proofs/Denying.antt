@@ -19,11 +19,11 @@ use Rattle.reactor_core.specs.Meaning.{Running, pending_of}
 use Rattle.access_core.specs.declared.command.SlotCommand.{SlotCommand}
 use Rattle.access_core.specs.declared.command.SlotCommand.TheVariants.{Load, Offer, Discard, Step, Unload, Look, Audit}
 use Rattle.access_core.specs.declared.refusal.Refusal.{Refusal}
-use Rattle.access_core.specs.declared.refusal.Refusal.TheVariants.{JournalFull, Memory}
+use Rattle.access_core.specs.declared.refusal.Refusal.TheVariants.{Policy, JournalFull, Memory}
 use Rattle.access_core.specs.declared.reply.Reply.{Reply}
 use Rattle.access_core.specs.declared.reply.Reply.TheVariants.{Refused, Load as Loaded, Offer as Offered}
 use Rattle.access_core.specs.Answering.{IsRefused, ByRules, no_memory}
-use Rattle.access_core.specs.Conversions.{of_policy, of_reactor}
+use Rattle.access_core.specs.Conversions.{of_reactor}
 use Rattle.access_core.specs.Desk.{desk_at, AdminStep, DeskStep, InSlot, Appends, list_full, change_of}
 use Rattle.access_core.specs.Needs.{IsAccepted}
 use Rattle.access_core.specs.SlotStep.{SlotStep, Loads, Offers, AddsEntry, Audits, stamp_of, journal_full, entry_rules as slot_entry_rules}
@@ -187,7 +187,7 @@ module _ (m : Moment) (ample : ¬ (m.reply ≡ Refused Memory)) where
 
   -- the answer to a policy command
   policy_named : (session : Option ℕ) (command : AdminCommand) → AdminStep session command (desk_of m.before) m.reply (desk_of m.after)
-      → Named (all_told_as of_policy (policy_rules m.before.entries session command) ▸▸ list_full m.before.entries (entry_of session command) ▸ accept) m.reply
+      → Named (all_told_as Policy (policy_rules m.before.entries session command) ▸▸ list_full m.before.entries (entry_of session command) ▸ accept) m.reply
   policy_named session command h = by_answer h.answer h.given h.replied where
     rules : Rules PolicyRefusal
     rules = policy_rules m.before.entries session command
@@ -198,11 +198,11 @@ module _ (m : Moment) (ample : ¬ (m.reply ≡ Refused Memory)) where
     by_answer : (answer : Result Entry PolicyRefusal) → PolicyStep m.before.entries session command answer
         → MatchResult answer
         (λ entry. ByRules (list_full m.before.entries entry ▸ no_memory ▸ accept) (Appends entry) (desk_of m.before) m.reply (desk_of m.after))
-        (λ refusal. IsRefused (of_policy refusal) (desk_of m.before) m.reply (desk_of m.after))
-        → Named (all_told_as of_policy rules ▸▸ later) m.reply
+        (λ refusal. IsRefused (Policy refusal) (desk_of m.before) m.reply (desk_of m.after))
+        → Named (all_told_as Policy rules ▸▸ later) m.reply
     by_answer (Ok entry) given replied =
-        append (all_told_as of_policy rules) later _ _
-        (told of_policy rules _ _ _ _ (λ refusal e. no_err entry refusal e) (λ e. room (same_ok entry _ e) replied) given) where
+        append (all_told_as Policy rules) later _ _
+        (told Policy rules _ _ _ _ (λ refusal e. no_err entry refusal e) (λ e. room (same_ok entry _ e) replied) given) where
           room : entry ≡ entry_of session command
               → ByRules (list_full m.before.entries entry ▸ no_memory ▸ accept) (Appends entry) (desk_of m.before) m.reply (desk_of m.after)
               → Named later m.reply
@@ -214,8 +214,8 @@ module _ (m : Moment) (ample : ¬ (m.reply ≡ Refused Memory)) where
                 by_memory (inr p) =
                     subst IsAccepted (sym p.next.replied) (accepted_change (change_of (entry_of session command).command) m.before.entries)
     by_answer (Err refusal) given replied =
-        append (all_told_as of_policy rules) later _ _
-        (told of_policy rules _ _ _ _ (λ x e. replied.replied ∙ ap (λ y. Refused (of_policy y)) (same_err refusal x e)) (λ e. no_ok refusal _ e) given)
+        append (all_told_as Policy rules) later _ _
+        (told Policy rules _ _ _ _ (λ x e. replied.replied ∙ ap (λ y. Refused (Policy y)) (same_err refusal x e)) (λ e. no_ok refusal _ e) given)
 
   event_named : (event : Event) → EventStep event m.before m.reply m.after → Named (rules_of event m.before) m.reply
   event_named (Admin seat session command) h = policy_named session command h.step

@@ -3,7 +3,6 @@ pub mod Moving
 pub mod Placing
 pub mod Rising
 pub mod Changes
-pub mod Copying
 pub mod Versions
 pub mod Ending
 pub mod Histories
@@ -14,4 +13,5 @@ pub mod Enterings
 pub mod Accepting
 pub mod Denying
 pub mod Showing
+pub mod Looking
 pub mod OneRun

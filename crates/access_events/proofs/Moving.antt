@@ -7,7 +7,7 @@ use Rattle.rbac_policy.specs.declared.commands.Entry.{Entry}
 use Rattle.reactor_core.specs.declared.entry.SlotEntry.{SlotEntry}
 use Rattle.reactor_core.specs.declared.refusal.Refusal.{Refusal as ReactorRefusal}
 use Rattle.reactor_core.specs.Meaning.{is_loaded}
-use Rattle.reactor_core.specs.Answers.{LoadAnswer, OfferAnswer, AddsLoad, load_rules, offer_rules}
+use Rattle.reactor_core.specs.Answers.{HasRoom, LoadAnswer, OfferAnswer, AddsLoad, load_rules, offer_rules}
 use Rattle.reactor_core.specs.Instants.{KeepsRelations}
 use Rattle.access_core.specs.declared.command.SlotCommand.{SlotCommand}
 use Rattle.access_core.specs.declared.command.SlotCommand.TheVariants.{Load, Offer, Discard, Step, Unload, Look, Audit}
@@ -48,6 +48,7 @@ module _ (entries : List Entry) (slot session : ℕ) (before : List SlotEntry) (
           accepted = subst IsAccepted (sym replied.1) tt;
           does = _;
           is = record { empty = none; given = adds.given; gives = adds.gives; is = refl };
+          room = passed.0.1.0;
           added = replied.0 ∙ same ∙ adds.added;
           told = replied.1;
         })
@@ -77,16 +78,18 @@ module _ (entries : List Entry) (slot session : ℕ) (before : List SlotEntry) (
             };
             is = refl;
           };
+          room = passed.0.1.1.1.1.0;
           added = passed.1.1;
           told = replied;
         })
     by_answer (Err refusal) given replied = refused (Offer signal) _ replied
 
-  steps : KeepsRelations before → Steps (stamp_of entries session) before reply after → Moves entries session Step before reply after
-  steps lawful h = inl (record {
+  steps : KeepsRelations before → HasRoom before → Steps (stamp_of entries session) before reply after → Moves entries session Step before reply after
+  steps lawful room h = inl (record {
     accepted = subst IsAccepted (sym h.replied) tt;
     does = _;
     is = record { lawful = lawful; outputs = h.outputs; next = h.next; outcome = h.adds.outcome; is = refl };
+    room = room;
     added = h.adds.appended;
     told = h.replied;
   })
@@ -100,14 +103,16 @@ module _ (entries : List Entry) (slot session : ℕ) (before : List SlotEntry) (
     accepted = subst IsAccepted (sym h.replied) tt;
     does = _;
     is = record { loaded = all.1.1.0; is = refl };
+    room = all.1.1.1.0;
     added = h.added;
     told = h.replied;
   })
-  does Step all h = steps all.1.1.1.0 h
+  does Step all h = steps all.1.1.1.0 all.1.1.1.1.1.1.0 h
   does Unload all h = inl (record {
     accepted = subst IsAccepted (sym h.replied) tt;
     does = _;
     is = record { loaded = all.1.1.0; is = refl };
+    room = all.1.1.1.0;
     added = h.added;
     told = h.replied;
   })

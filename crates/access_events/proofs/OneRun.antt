@@ -11,11 +11,10 @@ use Rattle.reactor_core.specs.declared.entry.SlotEntry.{SlotEntry}
 use Rattle.reactor_core.proofs.OneMeaning.{OneModule}
 use Rattle.access_core.specs.declared.command.SlotCommand.{SlotCommand}
 use Rattle.access_core.specs.declared.refusal.Refusal.{Refusal}
-use Rattle.access_core.specs.declared.refusal.Refusal.TheVariants.{Memory}
+use Rattle.access_core.specs.declared.refusal.Refusal.TheVariants.{Policy, Memory}
 use Rattle.access_core.specs.declared.reply.Reply.{Reply}
 use Rattle.access_core.specs.declared.reply.Reply.TheVariants.{Refused}
 use Rattle.access_core.specs.Answering.{IsRefused, ByRules, no_memory}
-use Rattle.access_core.specs.Conversions.{of_policy}
 use Rattle.access_core.specs.Desk.{DeskState, desk_at, AdminStep, DeskStep, InSlot, Appends, list_full, no_slot}
 use Rattle.access_core.specs.SlotState.{SlotState}
 use Rattle.access_core.specs.SlotStep.{SlotStep, no_session}
@@ -84,7 +83,7 @@ module _ (modules : OneModule) (one_load : OneLoad) (r s : Reply) (ample : r ≡
     Replied reply after answer =
         MatchResult answer
         (λ entry. ByRules (list_full before.entries entry ▸ no_memory ▸ accept) (Appends entry) before reply after)
-        (λ refusal. IsRefused (of_policy refusal) before reply after)
+        (λ refusal. IsRefused (Policy refusal) before reply after)
 
     other : Replied s b x.answer
     other = subst (Replied s b) (one_answer before.entries session command y.answer x.answer y.given x.given) y.replied

@@ -12,10 +12,10 @@ use Rattle.rbac_admin.specs.declared.refusals.Refusal.{Refusal as PolicyRefusal}
 use Rattle.reactor_core.specs.declared.entry.SlotEntry.{SlotEntry}
 use Rattle.access_core.specs.declared.command.SlotCommand.{SlotCommand}
 use Rattle.access_core.specs.declared.refusal.Refusal.{Refusal}
+use Rattle.access_core.specs.declared.refusal.Refusal.TheVariants.{Policy}
 use Rattle.access_core.specs.declared.reply.Reply.{Reply}
 use Rattle.access_core.specs.declared.reply.Reply.TheVariants.{Refused}
 use Rattle.access_core.specs.Answering.{IsRefused, ByRules, no_memory}
-use Rattle.access_core.specs.Conversions.{of_policy}
 use Rattle.access_core.specs.SlotState.{SlotState}
 use Rattle.access_core.specs.SlotStep.{no_session}
 use Rattle.access_core.specs.Desk.{DeskState, desk_at, AdminStep, DeskStep, InSlot, Appends, list_full, no_slot, empty_slot}
@@ -79,7 +79,7 @@ slots_stay session command before reply after h = by_answer h.answer h.replied w
   by_answer : (answer : Result Entry PolicyRefusal)
       → MatchResult answer
       (λ entry. ByRules (list_full before.entries entry ▸ no_memory ▸ accept) (Appends entry) before reply after)
-      (λ refusal. IsRefused (of_policy refusal) before reply after)
+      (λ refusal. IsRefused (Policy refusal) before reply after)
       → after.slots ≡ before.slots
   by_answer (Ok entry) =
       answered (list_full before.entries entry ▸ no_memory ▸ accept) (λ refusal. IsRefused refusal before reply after)
@@ -102,7 +102,7 @@ entries_stay session command before reply after h = by_answer h.answer h.replied
   by_answer : (answer : Result Entry PolicyRefusal)
       → MatchResult answer
       (λ entry. ByRules (list_full before.entries entry ▸ no_memory ▸ accept) (Appends entry) before reply after)
-      (λ refusal. IsRefused (of_policy refusal) before reply after)
+      (λ refusal. IsRefused (Policy refusal) before reply after)
       → Lengthens before.entries after.entries
   by_answer (Ok entry) =
       answered (list_full before.entries entry ▸ no_memory ▸ accept) (λ refusal. IsRefused refusal before reply after)

@@ -1,11 +1,12 @@
 -- A look shows the reaction of the step that it asks for.
-use Rattle.std.proofs.Common.{◌≡◌, ◌↔◌, ℕ, ◌-◌, ◌≤◌, List, [], ◌∷◌, ◌++◌, length, take, refl, sym, ◌∙◌, ap, inl, inr, subst, arith}
+use Rattle.std.proofs.Common.{◌≡◌, ◌↔◌, ℕ, ◌-◌, ◌≤◌, List, [], ◌∷◌, ◌++◌, length, take, true, refl, sym, ◌∙◌, ap, inl, inr, subst, arith}
 use Rattle.std.specs.Prelude.{Some, None, slice_get}
 use Rattle.std.proofs.lemmas.List.{length-take-le, length_push}
 use Rattle.std.proofs.lemmas.Option.{same_Some, slice_get_within}
 use Rattle.est_kernel.specs.Term.{Term}
 use Rattle.est_kernel.specs.declared.interface.Declaration.{Declaration}
 use Rattle.rbac_policy.specs.declared.commands.Entry.{Entry}
+use Rattle.rbac_policy.specs.Facts.{IsLive}
 use Rattle.rbac_policy.proofs.Steps.{get_push, take_front, take_whole}
 use Rattle.reactor_core.specs.declared.entry.Action.{Action}
 use Rattle.reactor_core.specs.declared.entry.Action.TheVariants as action
@@ -13,7 +14,7 @@ use Rattle.reactor_core.specs.declared.entry.Load.{Load as LoadEntry}
 use Rattle.reactor_core.specs.declared.entry.PastInstant.{PastInstant}
 use Rattle.reactor_core.specs.declared.entry.Stamp.{Stamp}
 use Rattle.reactor_core.specs.declared.entry.SlotEntry.{SlotEntry}
-use Rattle.reactor_core.specs.Meaning.{entry, instant, last_load, load_after, instants_of, instants_after, offers_of, mask_of, ModuleOf, Running, Runs, Leaves, loaded, offered, discarded, stepped}
+use Rattle.reactor_core.specs.Meaning.{entry, instant, is_loaded, last_load, load_after, instants_of, instants_after, offers_of, mask_of, ModuleOf, Running, Runs, Leaves, loaded, offered, discarded, stepped}
 use Rattle.reactor_core.specs.Reacting.{ReactsWith}
 use Rattle.reactor_core.proofs.OneMeaning.{OneModule, one_term, same_running}
 use Rattle.reactor_core.proofs.Steps.{after_snoc}
@@ -232,12 +233,14 @@ known_slots : OneModule → (past : List Moment) (m : Moment) → Comes past m �
 known_slots modules = slotwise KnownSlot idle (grows modules) (λ slot r runs. let none = runs.last in absurd cc)
 
 -- the instant that an accepted look shows, by the slot step
-record Looked (m : Moment) (version slot session n : ℕ) : Type 0 where
-  known : version ≤ length m.before.entries
-  journal : List SlotEntry
-  looks : Looks (take version m.before.entries) slot session n (journal_at m.before slot) m.reply journal
+pub record Looked (m : Moment) (version slot session n : ℕ) : Type 0 where
+  pub known : version ≤ length m.before.entries
+  pub lives : IsLive (take version m.before.entries) session
+  pub holds : is_loaded (journal_at m.before slot) ≡ true
+  pub journal : List SlotEntry
+  pub looks : Looks (take version m.before.entries) slot session n (journal_at m.before slot) m.reply journal
 
-looked : (m : Moment) (seat version slot session n : ℕ) → IsAccepted m.reply
+pub looked : (m : Moment) (seat version slot session n : ℕ) → IsAccepted m.reply
     → EventStep (OnSlot seat version slot session (Look n)) m.before m.reply m.after → Looked m version slot session n
 looked m seat version slot session n accepted step =
     let entries : List Entry = take version m.before.entries in
@@ -253,7 +256,7 @@ looked m seat version slot session n accepted step =
     let answered = all_passed (slot_rules entries slot session (Look n) (journal_at m.before slot))
     (λ refusal. IsRefused refusal (journal_at m.before slot) m.reply s.journal) (Looks entries slot session n (journal_at m.before slot) m.reply s.journal)
     (λ refusal h. not_accepted m.reply refusal h.replied accepted) slot_step in
-    record { known = judged.0.1.0; journal = s.journal; looks = answered.1 }
+    record { known = judged.0.1.0; lives = inside.0.0; holds = answered.0.1.0; journal = s.journal; looks = answered.1 }
 
 -- the inputs of a step are what was offered before it
 step_inputs : OneModule → (past : List Moment) (m : Moment) (slot n : ℕ) (interface : List Declaration) (i : PastInstant) → Comes past m → WasStep slot n interface i m

@@ -4,18 +4,21 @@ use Rattle.est_kernel.specs.Interfaces.{inputs_of}
 use Rattle.est_kernel.specs.Term.{Term}
 use Rattle.est_kernel.specs.declared.interface.Declaration.{Declaration}
 use Rattle.est_relations.specs.Offers.{place_of, IsSignalName, IsOutputName, IsPendingName, IsFirstExcluded}
+use Rattle.rbac_admin.specs.declared.refusals.Refusal.TheVariants as policy
+use Rattle.reactor_core.specs.declared.entry.PastInstant.{PastInstant}
 use Rattle.reactor_core.specs.declared.entry.SlotEntry.{SlotEntry}
+use Rattle.reactor_core.specs.Answers.{IsInstant}
 use Rattle.reactor_core.specs.Instants.{IsOutcome}
 use Rattle.reactor_core.specs.Meaning.{Running, pending_of}
-use Rattle.access_core.specs.declared.refusal.Refusal.TheVariants.{Behind, SessionsExhausted, Full, JournalFull, TooLarge, Memory}
+use Rattle.access_core.specs.declared.refusal.Refusal.TheVariants.{Policy, Behind, JournalFull, TooLarge, Memory}
 use Rattle.access_core.specs.declared.reply.Reply.{Reply}
 use Rattle.access_core.specs.declared.reply.Reply.TheVariants.{Refused}
 
--- the reply tells of no version behind, of no list, table, number or text at its limit, and of no want of memory
+-- the reply is none of Behind, SessionsExhausted, Full, JournalFull, TooLarge, Memory
 abbrev pub MeetsNoLimit : Reply → Type 0
 MeetsNoLimit (Refused (Behind found seen)) = ⊥
-MeetsNoLimit (Refused SessionsExhausted) = ⊥
-MeetsNoLimit (Refused (Full table)) = ⊥
+MeetsNoLimit (Refused (Policy policy.SessionsExhausted)) = ⊥
+MeetsNoLimit (Refused (Policy (policy.Full table))) = ⊥
 MeetsNoLimit (Refused JournalFull) = ⊥
 MeetsNoLimit (Refused (TooLarge limit)) = ⊥
 MeetsNoLimit (Refused Memory) = ⊥
@@ -37,6 +40,10 @@ pub record CanOffer (running : Running) (name : List ℕ) : Type 0 where
   pub input : ¬ (IsOutputName running.interface name)
   pub new : ¬ (IsPendingName running.interface running.pending name)
   pub kept : ¬ (IsExcluded running name)
+
+-- the n-th instant since the load is there
+abbrev pub HasInstant : List SlotEntry → (n : ℕ) → Type 0
+HasInstant journal n = (i : PastInstant) × IsInstant journal n i
 
 -- the term that is left of the running module has a constructive reaction to the pending inputs
 abbrev pub HasReaction : List SlotEntry → Type 0

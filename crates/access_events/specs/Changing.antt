@@ -7,7 +7,7 @@ use Rattle.reactor_core.specs.declared.entry.Action.TheVariants as action
 use Rattle.reactor_core.specs.declared.entry.SlotEntry.{SlotEntry}
 use Rattle.reactor_core.specs.Loading.{GivenModule, Gives}
 use Rattle.reactor_core.specs.Meaning.{entry, instant, Running, Runs, is_loaded, instants_of}
-use Rattle.reactor_core.specs.Answers.{load_of}
+use Rattle.reactor_core.specs.Answers.{HasRoom, load_of}
 use Rattle.reactor_core.specs.Instants.{IsOutcome, KeepsRelations}
 use Rattle.access_core.specs.declared.command.SlotCommand.{SlotCommand}
 use Rattle.access_core.specs.declared.command.SlotCommand.TheVariants.{Load, Offer, Discard, Step, Unload, Look, Audit}
@@ -69,11 +69,12 @@ Tells Unload version after reply = reply ≡ Unloaded (length after) version
 Tells (Look n) version after reply = ⊥
 Tells Audit version after reply = ⊥
 
--- the command is accepted, and one entry of what it asks for is added
+-- the command is accepted, and one entry of what it asks for is added, for which there is room
 pub record AddsAction (entries : List Entry) (session : ℕ) (command : SlotCommand) (before : List SlotEntry) (reply : Reply) (after : List SlotEntry) : Type 0 where
   pub accepted : IsAccepted reply
   pub does : Action
   pub is : IsActionOf command before does
+  pub room : HasRoom before
   pub added : after ≡ before ++ entry (stamp_of entries session) does ∷ []
   pub told : Tells command (length entries) after reply
 

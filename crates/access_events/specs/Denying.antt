@@ -16,10 +16,10 @@ use Rattle.reactor_core.specs.Meaning.{Running, Runs, pending_of}
 use Rattle.access_core.specs.declared.command.SlotCommand.{SlotCommand}
 use Rattle.access_core.specs.declared.command.SlotCommand.TheVariants.{Load, Offer, Discard, Step, Unload, Look, Audit}
 use Rattle.access_core.specs.declared.refusal.Refusal.{Refusal}
-use Rattle.access_core.specs.declared.refusal.Refusal.TheVariants.{Implied}
+use Rattle.access_core.specs.declared.refusal.Refusal.TheVariants.{Policy as OfPolicy, Implied}
 use Rattle.access_core.specs.declared.reply.Reply.{Reply}
 use Rattle.access_core.specs.declared.reply.Reply.TheVariants.{Refused}
-use Rattle.access_core.specs.Conversions.{of_policy, of_reactor}
+use Rattle.access_core.specs.Conversions.{of_reactor}
 use Rattle.access_core.specs.Desk.{no_slot, list_full}
 use Rattle.access_core.specs.SlotStep.{no_session, no_permission, occupied, empty, no_instant, no_reaction, journal_full}
 use Rattle.access_events.specs.declared.event.Event.{Event}
@@ -72,7 +72,7 @@ command_rules entries slot session command journal =
 -- the rules of an event, in their order; memory apart
 abbrev pub rules_of : Event → WorldState → Rules Refusal
 rules_of (Admin seat session command) world =
-    all_told_as of_policy (policy_rules world.entries session command) ▸▸ list_full world.entries (entry_of session command) ▸ accept
+    all_told_as OfPolicy (policy_rules world.entries session command) ▸▸ list_full world.entries (entry_of session command) ▸ accept
 rules_of (OnSlot seat version slot session command) world =
     version_rules world seat version slot ▸▸ command_rules (take version world.entries) slot session command (journal_at world slot)
 

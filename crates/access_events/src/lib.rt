@@ -5,6 +5,6 @@
 #![tactic(auto)]
 
 pub mod event;
-mod hall;
+mod event_desk;
 pub mod laws;
 pub mod run;

@@ -2,43 +2,41 @@
 ghost use Rattle.std.specs.Prelude.{◌≡◌, IfOk, slice_index_or};
 ghost use Rattle.access_events.specs.Runs.{EndsIn, EventStep, wants_memory};
 
-use crate::event::{Event, Seat};
-use crate::hall::Hall;
-use access_core::command::SlotCommand;
+use crate::event::{Event, SeatNumber};
+use crate::event_desk::EventDesk;
 use access_core::refusal::Refusal;
 use access_core::reply::Reply;
 use access_core::slot::Slot;
 use rbac_policy::commands::Entry;
-use reactor_core::text::Text;
 use std::alloc::{AllocError, Global};
 
 /// What a run leaves: the policy list, the slots and what the seats have seen, and the reply to each event.
 #[derive(Drop)]
 pub struct World {
-    hall: Hall,
+    desk: EventDesk,
     replies: Vec<Reply>,
 }
 
 impl World {
     /// The accepted policy entries, the oldest first.
     pub fn entries(&self) -> &[Entry]
-        ensures { result.now ≡ self.now.hall.entries }
+        ensures { result.now ≡ self.now.desk.entries }
     {
-        self.hall.entries()
+        self.desk.entries()
     }
 
     /// The slots, by number.
     pub fn slots(&self) -> &[Slot]
-        ensures { result.now ≡ self.now.hall.slots }
+        ensures { result.now ≡ self.now.desk.slots }
     {
-        self.hall.slots()
+        self.desk.slots()
     }
 
     /// The newest version that the seat has seen.
-    pub fn seen(&self, seat: Seat) -> u64
-        ensures { result ≡ slice_index_or self.now.hall.seen seat 0 }
+    pub fn seen(&self, seat: SeatNumber) -> u64
+        ensures { result ≡ slice_index_or self.now.desk.seen seat 0 }
     {
-        self.hall.seen(seat)
+        self.desk.seen(seat)
     }
 
     /// The reply to each event, in their order.
@@ -49,24 +47,6 @@ impl World {
     }
 }
 
-/// A copy of the command, or the error where memory was refused.
-fn copy_command(alloc: Global, command: &SlotCommand) -> Result<SlotCommand, AllocError>
-    ensures { IfOk result (λ copy. copy ≡ command.now) }
-{
-    match command {
-        SlotCommand::Load { main, text } => {
-            let text = Text::copied(alloc, text.as_str())?;
-            Ok(SlotCommand::Load { main: *main, text })
-        }
-        SlotCommand::Offer { signal } => Ok(SlotCommand::Offer { signal: *signal }),
-        SlotCommand::Discard => Ok(SlotCommand::Discard),
-        SlotCommand::Step => Ok(SlotCommand::Step),
-        SlotCommand::Unload => Ok(SlotCommand::Unload),
-        SlotCommand::Look { instant } => Ok(SlotCommand::Look { instant: *instant }),
-        SlotCommand::Audit => Ok(SlotCommand::Audit),
-    }
-}
-
 /// Whether the reply is that memory was refused.
 fn wants_memory(reply: &Reply) -> bool
     ensures { result ≡ wants_memory reply.now }
@@ -74,16 +54,16 @@ fn wants_memory(reply: &Reply) -> bool
     matches!(reply, Reply::Refused(Refusal::Memory))
 }
 
-/// Answers the event. The error, where memory was refused for a copy of its command, leaves the hall as it was.
-fn answer_event(alloc: Global, hall: &mut Hall, event: &Event) -> Result<Reply, AllocError>
-    ensures { IfOk result (λ reply. EventStep event.now hall.old reply hall.new) }
+/// Answers the event. The error, where memory was refused for a copy of its command, leaves the desk as it was.
+fn answer_event(alloc: Global, desk: &mut EventDesk, event: &Event) -> Result<Reply, AllocError>
+    ensures { IfOk result (λ reply. EventStep event.now desk.old reply desk.new) }
 {
     match event {
         Event::Admin {
             seat,
             session,
             command,
-        } => Ok(hall.admin(*seat, *session, command.clone()?)),
+        } => Ok(desk.admin(*seat, *session, command.try_clone()?)),
         Event::OnSlot {
             seat,
             version,
@@ -91,8 +71,8 @@ fn answer_event(alloc: Global, hall: &mut Hall, event: &Event) -> Result<Reply, 
             session,
             command,
         } => {
-            let command = copy_command(alloc, command)?;
-            Ok(hall.on_slot(*seat, *version, *slot, *session, command))
+            let command = command.try_clone(alloc)?;
+            Ok(desk.on_slot(*seat, *version, *slot, *session, command))
         }
     }
 }
@@ -103,16 +83,16 @@ fn answer_event(alloc: Global, hall: &mut Hall, event: &Event) -> Result<Reply, 
 ///
 /// Where memory was refused, to an event or for what is kept of the run.
 pub fn run_events(alloc: Global, events: &[Event]) -> Result<World, AllocError>
-    ensures { IfOk result (λ world. EndsIn events.now world.replies.items world.hall) }
+    ensures { IfOk result (λ world. EndsIn events.now world.replies.items world.desk) }
 {
-    let mut hall = Hall::opening(alloc)?;
+    let mut desk = EventDesk::opening(alloc)?;
     let mut replies = Vec::new(alloc);
     for event in events {
-        let reply = answer_event(alloc, &mut hall, event)?;
+        let reply = answer_event(alloc, &mut desk, event)?;
         if wants_memory(&reply) {
             return Err(AllocError);
         }
         replies.push(reply)?;
     }
-    Ok(World { hall, replies })
+    Ok(World { desk, replies })
 }

@@ -4,6 +4,7 @@ use access_core::refusal::Refusal;
 use access_core::reply::Reply;
 use access_core::slot::{Slot, decide_slot};
 use est_text::identifier::Identifier;
+use rbac_admin::refusals::Refusal as PolicyRefusal;
 use rbac_policy::commands::{AdminCommand, Entry, SessionId};
 use rbac_policy::names::{Name, RoleNames};
 use rbac_policy::objects::{Object, Operation, SlotNumber};
@@ -60,7 +61,12 @@ fn play(rt: &impl Abort, policy: &mut Policy, slot: &mut Slot, load: SlotCommand
     assert!(rt; matches!(step, Reply::Step { instant: 1, .. }));
     take_the_role(policy);
     let step = decide_slot(policy, slot, root, SlotCommand::Step);
-    assert!(rt; matches!(step, Reply::Refused(Refusal::NoSession)));
+    assert!(rt;
+        matches!(
+            step,
+            Reply::Refused(Refusal::Policy(PolicyRefusal::NoSession))
+        )
+    );
     assert_eq!(rt; slot.journal().len(), 2);
 }
 

@@ -5,6 +5,7 @@ use access_core::command::SlotCommand;
 use access_core::refusal::Refusal;
 use access_core::reply::{Change, Reply, ShownSignals, SignalNames};
 use access_core::single::Single;
+use rbac_admin::refusals::Refusal as PolicyRefusal;
 use rbac_policy::commands::{AdminCommand, SessionId};
 use rbac_policy::names::{Name, RoleNames};
 use rbac_policy::objects::{Object, Operation};
@@ -94,10 +95,12 @@ fn are_named(names: &SignalNames, words: &[&str]) -> bool {
 fn is_refused(rt: &impl Abort, refusal: &Refusal, words: &[&str]) -> bool {
     match (refusal, words) {
         (
-            Refusal::Permission {
-                operation: op,
-                object: on,
-            },
+            Refusal::Policy(
+                PolicyRefusal::Permission {
+                    operation: op,
+                    object: on,
+                },
+            ),
             ["Permission", wanted, wanted_on],
         ) => { *op == operation(rt, wanted) && *on == object(rt, wanted_on) }
         (Refusal::Stuck { undecided }, ["Stuck", names @ ..]) => are_named(undecided, names),

@@ -14,10 +14,8 @@ use rbac_policy::commands::{AdminCommand, Entry, SessionId};
 use rbac_policy::names::Name;
 use rbac_policy::objects::{Object, Operation};
 use rbac_policy::policy::Policy;
+use rbac_policy::sizes::OPENING_ENTRIES;
 use std::alloc::AllocError;
-
-/// How many entries a policy list opens with.
-const OPENING_ENTRIES: usize = 4;
 
 /// Whether the name is `root`.
 fn is_root(name: &Name) -> bool

@@ -9,7 +9,7 @@ use line_reader::replies::{Replies, WriteFault};
 use line_reader::serving::{Answerer, Why, serve};
 use std::alloc::{AllocError, Global};
 use std::io;
-use std::io::Read;
+use std::io::{ErrorKind, Read, Write};
 use std::test::Fail;
 
 /// Gives `x` and LF by turns, a byte at once, without end.
@@ -138,7 +138,7 @@ fn a_million_reads(rt: HostRuntime) -> Result<(), Fail> {
     assert!(rt; lines.next_line(&mut reader) == Err(LineFault::Read));
     assert!(rt; lines.next_line(&mut reader) == Err(LineFault::Read));
     assert!(rt; reader.reads_left() == 0);
-    assert!(rt; !reader.has_failed());
+    assert!(rt; reader.faults() == 0);
     Ok(())
 }
 
@@ -162,7 +162,7 @@ fn replies_are_written_in_order(rt: HostRuntime) -> Result<(), Fail> {
         }
         let end = replies.write_out(&mut writer);
         assert!(rt; end == if fails { Err(WriteFault) } else { Ok(()) });
-        assert!(rt; writer.has_failed() == fails);
+        assert!(rt; (writer.faults() == 1) == fails);
         let sink = writer.into_device();
         assert!(rt; sink.written.as_slice() == written.as_bytes());
     }
@@ -269,5 +269,83 @@ fn connections_end(rt: HostRuntime) -> Result<(), Fail> {
     let end = echoed(alloc, reader, AMPLE);
     assert!(rt; end.0 == Why::TooLong);
     assert!(rt; end.1.as_slice() == b"a.\ntoo long\n".as_slice());
+    Ok(())
+}
+
+/// Gives its bytes, but fails at its first call.
+#[derive(Drop)]
+struct LateReader<'a> {
+    left: TwoParts<'a>,
+    has_failed: bool,
+}
+
+impl Read for LateReader<'_> {
+    fn read(&mut self, buf: &mut [u8]) -> io::Result<usize> {
+        if self.has_failed {
+            return self.left.read(buf);
+        }
+        self.has_failed = true;
+        Err(io::Error::from(ErrorKind::Other))
+    }
+}
+
+/// Takes its bytes, but fails at its first call.
+#[derive(Drop)]
+struct LateWriter {
+    taken: Sink,
+    has_failed: bool,
+}
+
+impl Write for LateWriter {
+    fn write(&mut self, buf: &[u8]) -> io::Result<usize> {
+        if self.has_failed {
+            return self.taken.write(buf);
+        }
+        self.has_failed = true;
+        Err(io::Error::from(ErrorKind::Other))
+    }
+
+    fn flush(&mut self) -> io::Result<()> {
+        Ok(())
+    }
+}
+
+#[test]
+fn faults_before_a_connection_are_none_of_its_own(rt: HostRuntime) -> Result<(), Fail> {
+    let alloc = rt.alloc();
+    let left = TwoParts {
+        first: b"a\n",
+        second: b"b\n",
+        calls_that_work: AMPLE,
+    };
+    let mut reader = MeteredReader::new(LateReader {
+        left,
+        has_failed: false,
+    });
+    let taken = Sink {
+        written: Vec::new(alloc),
+        step: 3,
+        room: AMPLE,
+    };
+    let mut writer = MeteredWriter::new(LateWriter {
+        taken,
+        has_failed: false,
+    });
+    let mut memory = MeteredMemory::new(alloc);
+    assert!(rt; reader.read(&mut [0; 4]) == None);
+    assert!(rt; writer.write(b"lost") == None);
+    assert!(rt; memory.zeros(usize::MAX / 2).is_err());
+    let why = serve(
+        &mut memory,
+        &mut reader,
+        &mut writer,
+        &mut Echo,
+        &mut (),
+        b"too long\n",
+    );
+    assert!(rt; why == Why::Closed);
+    assert!(rt; (reader.faults(), writer.faults(), memory.refusals()) == (1, 1, 1));
+    let written = writer.into_device().taken.written;
+    assert!(rt; written.as_slice() == b"a.\nb.\n".as_slice());
     Ok(())
 }

@@ -3,7 +3,7 @@ ghost use Rattle.std.specs.Prelude.{◌≡◌};
 
 use crate::sharing::{close, enter, give, grant, login, may_audit, open, revoke};
 use policy_board::board::Board;
-use policy_board::history::{Fresh, Naming};
+use policy_board::history::{BoardName, Fresh};
 use policy_board::seat::Seat;
 use rbac_policy::commands::{AdminCommand, SessionId};
 use rbac_policy::journal::PolicyJournal;
@@ -15,8 +15,8 @@ use std::sync::Wait;
 use std::test::Fail;
 
 /// Whether the seat keeps, at this place, the receipt of a policy command with this version and this command.
-fn keeps_admin<J: Naming>(
-    seat: &Seat<J>,
+fn keeps_admin<B: BoardName>(
+    seat: &Seat<B>,
     place: usize,
     version: u64,
     command: &AdminCommand,
@@ -28,7 +28,7 @@ fn keeps_admin<J: Naming>(
 }
 
 /// The number of the slot command whose receipt the seat keeps at this place: the second of slot 3, a step.
-fn counted<J: Naming>(seat: &Seat<J>, place: usize) -> Option<u64> {
+fn counted<B: BoardName>(seat: &Seat<B>, place: usize) -> Option<u64> {
     match seat.kept().get(place)? {
         Kept::Slot(
             SlotReceipt {
@@ -45,7 +45,7 @@ fn counted<J: Naming>(seat: &Seat<J>, place: usize) -> Option<u64> {
 }
 
 /// Counts a step, which was the second command of slot 3.
-fn count<J: Naming, R: Wait + Abort>(rt: &R, board: &Board<J>, seat: &mut Seat<J>) {
+fn count<B: BoardName, R: Wait + Abort>(rt: &R, board: &Board<B>, seat: &mut Seat<B>) {
     match seat.room() {
         Ok(()) => board.count(
             rt,
@@ -64,10 +64,10 @@ fn count<J: Naming, R: Wait + Abort>(rt: &R, board: &Board<J>, seat: &mut Seat<J
 }
 
 /// A seat keeps what it was given, and no refusal: a command before it has a session, a login, a grant, and the same grant again.
-fn command<J: Naming, R: Wait + Abort>(rt: &R, alloc: Global, fresh: Fresh) -> PolicyJournal
-    requires { fresh.seen.book ≡ J.book }
+fn command<B: BoardName, R: Wait + Abort>(rt: &R, alloc: Global, fresh: Fresh) -> PolicyJournal
+    requires { fresh.seen.book ≡ B.book }
 {
-    let (board, mut seats, readers) = open::<J, R>(rt, alloc, fresh, 2);
+    let (board, mut seats, readers) = open::<B, R>(rt, alloc, fresh, 2);
     let mut seat = seats.pop().expect(rt, "a seat");
     let mut other = seats.pop().expect(rt, "a seat");
     assert!(rt;
@@ -95,10 +95,10 @@ fn command<J: Naming, R: Wait + Abort>(rt: &R, alloc: Global, fresh: Fresh) -> P
 
 /// Whatever is refused, a seat keeps a receipt for each entry and no other. It gives a login, grants and revokes, and
 /// passes over refusals.
-fn give_all<J: Naming, R: Wait + Abort>(rt: &R, alloc: Global, fresh: Fresh) -> PolicyJournal
-    requires { fresh.seen.book ≡ J.book }
+fn give_all<B: BoardName, R: Wait + Abort>(rt: &R, alloc: Global, fresh: Fresh) -> PolicyJournal
+    requires { fresh.seen.book ≡ B.book }
 {
-    let (board, mut seats, readers) = open::<J, R>(rt, alloc, fresh, 1);
+    let (board, mut seats, readers) = open::<B, R>(rt, alloc, fresh, 1);
     let mut seat = seats.pop().expect(rt, "a seat");
     if let Ok(command) = login(alloc) {
         let _answer = board.admin(rt, &mut seat, None, command);
@@ -113,10 +113,10 @@ fn give_all<J: Naming, R: Wait + Abort>(rt: &R, alloc: Global, fresh: Fresh) -> 
 }
 
 /// A seat that is told of a grant has seen its version, keeps no receipt of it, and finds it.
-fn learn<J: Naming, R: Wait + Abort>(rt: &R, alloc: Global, fresh: Fresh) -> PolicyJournal
-    requires { fresh.seen.book ≡ J.book }
+fn learn<B: BoardName, R: Wait + Abort>(rt: &R, alloc: Global, fresh: Fresh) -> PolicyJournal
+    requires { fresh.seen.book ≡ B.book }
 {
-    let (board, mut seats, readers) = open::<J, R>(rt, alloc, fresh, 2);
+    let (board, mut seats, readers) = open::<B, R>(rt, alloc, fresh, 2);
     let mut giver = seats.pop().expect(rt, "a seat");
     let mut asker = seats.pop().expect(rt, "a seat");
     assert!(rt; matches!(may_audit(&board, &mut asker), Ok(false)));
@@ -131,10 +131,10 @@ fn learn<J: Naming, R: Wait + Abort>(rt: &R, alloc: Global, fresh: Fresh) -> Pol
 }
 
 /// Slot commands are counted from 1, whichever seat keeps them, and stand among the policy commands of their seat.
-fn count_three<J: Naming, R: Wait + Abort>(rt: &R, alloc: Global, fresh: Fresh) -> PolicyJournal
-    requires { fresh.seen.book ≡ J.book }
+fn count_three<B: BoardName, R: Wait + Abort>(rt: &R, alloc: Global, fresh: Fresh) -> PolicyJournal
+    requires { fresh.seen.book ≡ B.book }
 {
-    let (board, mut seats, readers) = open::<J, R>(rt, alloc, fresh, 2);
+    let (board, mut seats, readers) = open::<B, R>(rt, alloc, fresh, 2);
     let mut seat = seats.pop().expect(rt, "a seat");
     let mut other = seats.pop().expect(rt, "a seat");
     enter(rt, alloc, &board, &mut seat);

@@ -2,7 +2,7 @@
 ghost use Rattle.std.specs.Prelude.{◌≡◌, ◌≤◌};
 
 use policy_board::board::Board;
-use policy_board::history::{Fresh, Naming};
+use policy_board::history::{BoardName, Fresh};
 use policy_board::opening::Opened;
 use policy_board::reader::SlotReader;
 use policy_board::refusal::Refusal;
@@ -47,16 +47,19 @@ pub(crate) fn revoke() -> AdminCommand {
 }
 
 /// Whether the first session may audit the policy, as this seat reads it.
-pub(crate) fn may_audit<J: Naming>(board: &Board<J>, seat: &mut Seat<J>) -> Result<bool, Refusal> {
+pub(crate) fn may_audit<B: BoardName>(
+    board: &Board<B>,
+    seat: &mut Seat<B>,
+) -> Result<bool, Refusal> {
     board.check_access(seat, SessionId::new(1), Operation::Audit, &Object::Policy)
 }
 
 /// Logs root in, whose session is the first.
-pub(crate) fn enter<J: Naming, R: Wait + Abort>(
+pub(crate) fn enter<B: BoardName, R: Wait + Abort>(
     rt: &R,
     alloc: Global,
-    board: &Board<J>,
-    seat: &mut Seat<J>,
+    board: &Board<B>,
+    seat: &mut Seat<B>,
 ) {
     let command = login(alloc).expect(rt, "room");
     match board.admin(rt, seat, None, command) {
@@ -69,12 +72,12 @@ pub(crate) fn enter<J: Naming, R: Wait + Abort>(
 }
 
 /// The receipt of a command that the first session gives, and which is accepted.
-pub(crate) fn give<J: Naming, R: Wait + Abort>(
+pub(crate) fn give<B: BoardName, R: Wait + Abort>(
     rt: &R,
-    board: &Board<J>,
-    seat: &mut Seat<J>,
+    board: &Board<B>,
+    seat: &mut Seat<B>,
     command: AdminCommand,
-) -> Receipt<J> {
+) -> Receipt<B> {
     board
         .admin(rt, seat, Some(SessionId::new(1)), command)
         .ok()
@@ -82,7 +85,7 @@ pub(crate) fn give<J: Naming, R: Wait + Abort>(
 }
 
 /// Asks again and again what may change meanwhile. What the seat has seen never falls.
-fn ask<J: Naming, R: Abort>(rt: &R, board: &Board<J>, mut seat: Seat<J>) -> Seat<J> {
+fn ask<B: BoardName, R: Abort>(rt: &R, board: &Board<B>, mut seat: Seat<B>) -> Seat<B> {
     for _ in 0..200u32 {
         let before = seat.seen();
         assert!(rt; may_audit(board, &mut seat).is_ok());
@@ -92,24 +95,24 @@ fn ask<J: Naming, R: Abort>(rt: &R, board: &Board<J>, mut seat: Seat<J>) -> Seat
 }
 
 /// Logs root in, and grants.
-fn grant_once<J: Naming, R: Wait + Abort>(
+fn grant_once<B: BoardName, R: Wait + Abort>(
     rt: &R,
     alloc: Global,
-    board: &Board<J>,
-    mut seat: Seat<J>,
-) -> (Seat<J>, Receipt<J>) {
+    board: &Board<B>,
+    mut seat: Seat<B>,
+) -> (Seat<B>, Receipt<B>) {
     enter(rt, alloc, board, &mut seat);
     let receipt = give(rt, board, &mut seat, grant());
     (seat, receipt)
 }
 
 /// Logs root in, and grants and revokes in turn.
-fn change<J: Naming, R: Wait + Abort>(
+fn change<B: BoardName, R: Wait + Abort>(
     rt: &R,
     alloc: Global,
-    board: &Board<J>,
-    mut seat: Seat<J>,
-) -> Seat<J> {
+    board: &Board<B>,
+    mut seat: Seat<B>,
+) -> Seat<B> {
     enter(rt, alloc, board, &mut seat);
     for _ in 0..50u32 {
         let receipt = give(rt, board, &mut seat, grant());
@@ -122,30 +125,30 @@ fn change<J: Naming, R: Wait + Abort>(
 }
 
 /// A board with so many seats, and its readers.
-pub(crate) fn open<J: Naming, R: Abort>(
+pub(crate) fn open<B: BoardName, R: Wait + Abort>(
     rt: &R,
     alloc: Global,
     fresh: Fresh,
     count: usize,
-) -> (Board<J>, Vec<Seat<J>>, Vec<SlotReader<J>>)
-    requires name { fresh.seen.book ≡ J.book }
+) -> (Board<B>, Vec<Seat<B>>, Vec<SlotReader<B>>)
+    requires name { fresh.seen.book ≡ B.book }
     requires count { (1 ≤ count) × (count ≤ SEATS) }
 {
     let Opened {
         board,
         seats,
         readers,
-    } = Board::<J>::open(alloc, fresh, count)
+    } = Board::<B>::open(rt, alloc, fresh, count)
         .ok()
         .expect(rt, "a board");
     (board, seats, readers)
 }
 
 /// Closes the board: its readers saw beginnings of the journal.
-pub(crate) fn close<J: Naming, R: Wait + Abort>(
+pub(crate) fn close<B: BoardName, R: Wait + Abort>(
     rt: &R,
-    board: Board<J>,
-    readers: Vec<SlotReader<J>>,
+    board: Board<B>,
+    readers: Vec<SlotReader<B>>,
 ) -> PolicyJournal {
     let mut closed = board.close();
     for reader in readers {
@@ -155,14 +158,14 @@ pub(crate) fn close<J: Naming, R: Wait + Abort>(
 }
 
 /// A second seat, which asks in a thread of its own, sees the grant once it has learned the receipt.
-fn tell<J: Naming + Send + Sync, R: Threads + Wait + Abort + Sync>(
+fn tell<B: BoardName + Send + Sync, R: Threads + Wait + Abort + Sync>(
     rt: &R,
     alloc: Global,
     fresh: Fresh,
 ) -> PolicyJournal
-    requires { fresh.seen.book ≡ J.book }
+    requires { fresh.seen.book ≡ B.book }
 {
-    let (board, mut seats, readers) = open::<J, R>(rt, alloc, fresh, 2);
+    let (board, mut seats, readers) = open::<B, R>(rt, alloc, fresh, 2);
     let giver = seats.pop().expect(rt, "a seat");
     let mut asker = seats.pop().expect(rt, "a seat");
     assert!(rt; matches!(may_audit(&board, &mut asker), Ok(false)));
@@ -180,7 +183,7 @@ fn tell<J: Naming + Send + Sync, R: Threads + Wait + Abort + Sync>(
 }
 
 /// The grant is seen.
-fn ask_granted<J: Naming, R: Abort>(rt: &R, board: &Board<J>, mut seat: Seat<J>) -> Seat<J> {
+fn ask_granted<B: BoardName, R: Abort>(rt: &R, board: &Board<B>, mut seat: Seat<B>) -> Seat<B> {
     assert!(rt; matches!(may_audit(board, &mut seat), Ok(true)));
     assert!(rt; matches!(seat.lives(SessionId::new(1)), Ok(true)));
     assert!(rt; matches!(seat.lives(SessionId::new(2)), Ok(false)));
@@ -188,14 +191,14 @@ fn ask_granted<J: Naming, R: Abort>(rt: &R, board: &Board<J>, mut seat: Seat<J>)
 }
 
 /// Two seats ask while a third changes what they ask.
-fn share<J: Naming + Send + Sync, R: Threads + Wait + Abort + Sync>(
+fn share<B: BoardName + Send + Sync, R: Threads + Wait + Abort + Sync>(
     rt: &R,
     alloc: Global,
     fresh: Fresh,
 ) -> PolicyJournal
-    requires { fresh.seen.book ≡ J.book }
+    requires { fresh.seen.book ≡ B.book }
 {
-    let (board, mut seats, readers) = open::<J, R>(rt, alloc, fresh, 3);
+    let (board, mut seats, readers) = open::<B, R>(rt, alloc, fresh, 3);
     let changer = seats.pop().expect(rt, "a seat");
     let one = seats.pop().expect(rt, "a seat");
     let other = seats.pop().expect(rt, "a seat");
@@ -208,10 +211,10 @@ fn share<J: Naming + Send + Sync, R: Threads + Wait + Abort + Sync>(
 }
 
 /// Refusals, which leave the list.
-fn refuse<J: Naming, R: Wait + Abort>(rt: &R, alloc: Global, fresh: Fresh) -> PolicyJournal
-    requires { fresh.seen.book ≡ J.book }
+fn refuse<B: BoardName, R: Wait + Abort>(rt: &R, alloc: Global, fresh: Fresh) -> PolicyJournal
+    requires { fresh.seen.book ≡ B.book }
 {
-    let (board, mut seats, readers) = open::<J, R>(rt, alloc, fresh, 2);
+    let (board, mut seats, readers) = open::<B, R>(rt, alloc, fresh, 2);
     let mut seat = seats.pop().expect(rt, "a seat");
     let mut other = seats.pop().expect(rt, "a seat");
     assert_eq!(rt; seat.seen(), 0);

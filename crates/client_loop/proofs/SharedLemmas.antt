@@ -1,7 +1,7 @@
 -- What the board answers, as the reply of a desk of one client.
 use Rattle.std.proofs.Common.{◌≡◌, ◌∙◌, inl, inr, ℕ, ◌+◌, List, [], ◌∷◌, ◌++◌, length, refl, sym, ap, subst, Option, Some, None, Result, Ok, Err, MatchResult, if◌then◌else◌, true}
 use Rattle.std.proofs.lemmas.List.{append-nil, length-append}
-use Rattle.refusal_rules.specs.Rules.{accept, ◌▸◌, Answers}
+use Rattle.refusal_rules.specs.Rules.{accept, MayRefuse, ◌▸◌, Answers}
 use Rattle.refusal_rules.proofs.RuleLemmas.{all_passed}
 use Rattle.std.specs.Prelude.{IfOk, IfErr}
 use Rattle.rbac_policy.specs.declared.commands.AdminCommand.{AdminCommand}
@@ -9,17 +9,16 @@ use Rattle.rbac_policy.specs.declared.commands.AdminCommand.TheVariants.{AddUser
 use Rattle.rbac_policy.specs.declared.commands.Entry.{Entry}
 use Rattle.rbac_policy.specs.Entries.{is_login, logins}
 use Rattle.rbac_admin.specs.declared.refusals.Refusal.{Refusal as PolicyRefusal}
-use Rattle.rbac_admin.specs.Room.{HasRoomFor}
+use Rattle.rbac_admin.specs.Room as room
 use Rattle.rbac_admin.specs.declared.refusals.Refusal.TheVariants as policy
 use Rattle.rbac_admin.specs.PolicyStep.{PolicyStep, entry_of}
-use Rattle.access_core.specs.declared.refusal.Refusal.TheVariants.{JournalFull, Memory, NoSession}
+use Rattle.access_core.specs.declared.refusal.Refusal.TheVariants.{Policy, JournalFull, Memory}
 use Rattle.client_loop.specs.Asking.{IsLogoutReply}
 use Rattle.access_core.specs.declared.reply.Change.{Change}
 use Rattle.access_core.specs.declared.reply.Reply.{Reply}
 use Rattle.access_core.specs.declared.reply.Reply.TheVariants.{Refused, Login, Changed}
 use Rattle.access_core.specs.Answering.{ByRules, IsRefused, no_memory}
-use Rattle.access_core.specs.Conversions.{of_policy}
-use Rattle.access_core.specs.Desk.{DeskState, AdminStep, Appends, HasRoomFor as DeskHasRoomFor, list_full, change_of, accepted_reply, reply_of_change}
+use Rattle.access_core.specs.Desk.{DeskState, AdminStep, Appends, list_full, change_of, accepted_reply, reply_of_change}
 use Rattle.access_core.specs.SlotState.{SlotState}
 use Rattle.policy_board.specs.declared.refusal.Refusal.{Refusal}
 use Rattle.policy_board.specs.declared.refusal.Refusal.TheVariants as board
@@ -30,43 +29,6 @@ use Rattle.policy_board.specs.SeatState.{SeatState}
 use Rattle.seat_receipts.specs.declared.receipt.Kept.TheVariants.{Admin}
 use Rattle.slot_table.specs.Conversions.{of_board}
 use Rattle.client_loop.specs.SharedAnswers.{KeepsAdded, desk_with}
-
--- the room of a policy list is the same for board and desk
-room_there : (command : AdminCommand) (list : List Entry) → HasRoomFor command list → DeskHasRoomFor command list
-room_there (AddUser user) list room = room
-room_there (DeleteUser user) list room = room
-room_there (AddRole role) list room = room
-room_there (DeleteRole role) list room = room
-room_there (AssignUser user role) list room = room
-room_there (DeassignUser user role) list room = room
-room_there (GrantPermission role operation object) list room = room
-room_there (RevokePermission role operation object) list room = room
-room_there (AddInheritance senior junior) list room = room
-room_there (DeleteInheritance senior junior) list room = room
-room_there (CreateDsdSet set count roles) list room = room
-room_there (DeleteDsdSet set) list room = room
-room_there (CreateSession user roles) list room = room
-room_there DeleteSession list room = room
-room_there (AddActiveRole role) list room = room
-room_there (DropActiveRole role) list room = room
-
-room_here : (command : AdminCommand) (list : List Entry) → DeskHasRoomFor command list → HasRoomFor command list
-room_here (AddUser user) list room = room
-room_here (DeleteUser user) list room = room
-room_here (AddRole role) list room = room
-room_here (DeleteRole role) list room = room
-room_here (AssignUser user role) list room = room
-room_here (DeassignUser user role) list room = room
-room_here (GrantPermission role operation object) list room = room
-room_here (RevokePermission role operation object) list room = room
-room_here (AddInheritance senior junior) list room = room
-room_here (DeleteInheritance senior junior) list room = room
-room_here (CreateDsdSet set count roles) list room = room
-room_here (DeleteDsdSet set) list room = room
-room_here (CreateSession user roles) list room = room
-room_here DeleteSession list room = room
-room_here (AddActiveRole role) list room = room
-room_here (DropActiveRole role) list room = room
 
 -- only a login makes no change
 login_makes_session : (command : AdminCommand) (session : Option ℕ) → change_of command ≡ None → is_login (record { session = session; command = command }) ≡ true
@@ -87,25 +49,25 @@ login_makes_session DeleteSession session is = absurd cc
 login_makes_session (AddActiveRole role) session is = absurd cc
 login_makes_session (DropActiveRole role) session is = absurd cc
 
-module _ {J : Type 0} where
+module _ {B : Type 0} where
   -- what a receipt of a published entry tells
-  record Tells (receipt : Receipt J) (entry : Entry) (before : List Entry) : Type 0 where
+  record Tells (receipt : Receipt B) (entry : Entry) (before : List Entry) : Type 0 where
     pub entry_is : receipt.entry ≡ entry
     pub version : length receipt.list ≡ length before + 1
     pub session : receipt.session ≡ session_made before entry
 
-  published_tells : (receipt : Receipt J) (entry : Entry) (before after : List Entry) → IsPublished entry before (Ok receipt) after → Tells receipt entry before
+  published_tells : (receipt : Receipt B) (entry : Entry) (before after : List Entry) → IsPublished entry before (Ok receipt) after → Tells receipt entry before
   published_tells receipt entry before after p =
       let same : receipt ≡ p.receipt = (let is = p.answered in cc) in
-      let list : receipt.list ≡ before ++ entry ∷ [] = ap (λ (r : Receipt J). r.list) same ∙ (p.list_is ∙ p.appended) in
+      let list : receipt.list ≡ before ++ entry ∷ [] = ap (λ (r : Receipt B). r.list) same ∙ (p.list_is ∙ p.appended) in
       record {
-        entry_is = ap (λ (r : Receipt J). r.entry) same ∙ p.entry_is;
+        entry_is = ap (λ (r : Receipt B). r.entry) same ∙ p.entry_is;
         version = ap (λ (l : List Entry). length l) list ∙ length-append before (entry ∷ []);
-        session = ap (λ (r : Receipt J). r.session) same ∙ p.session_is;
+        session = ap (λ (r : Receipt B). r.session) same ∙ p.session_is;
       }
 
   -- the reply to a receipt whose command makes this change
-  pub reply_changed : (receipt : Receipt J) (entry : Entry) (before after : List Entry) (change : Change) → IsPublished entry before (Ok receipt) after
+  pub reply_changed : (receipt : Receipt B) (entry : Entry) (before after : List Entry) (change : Change) → IsPublished entry before (Ok receipt) after
       → change_of receipt.entry.command ≡ Some change → Changed change (length receipt.list) ≡ accepted_reply before entry.command
   reply_changed receipt entry before after change p is =
       let t = published_tells receipt entry before after p in
@@ -113,7 +75,7 @@ module _ {J : Type 0} where
       ap (λ n. Changed change n) t.version ∙ sym (ap (λ c. reply_of_change c before) made)
 
   -- a receipt of a login has the session that it made
-  pub session_of_login : (receipt : Receipt J) (entry : Entry) (before after : List Entry) → IsPublished entry before (Ok receipt) after
+  pub session_of_login : (receipt : Receipt B) (entry : Entry) (before after : List Entry) → IsPublished entry before (Ok receipt) after
       → change_of receipt.entry.command ≡ None → receipt.session ≡ Some (logins before + 1)
   session_of_login receipt entry before after p is =
       let t = published_tells receipt entry before after p in
@@ -121,7 +83,7 @@ module _ {J : Type 0} where
       t.session ∙ ap (λ b. if b then Some (logins before + 1) else None) (login_makes_session entry.command entry.session made)
 
   -- the reply to a receipt of a login
-  pub reply_login : (receipt : Receipt J) (entry : Entry) (before after : List Entry) (session : ℕ) → IsPublished entry before (Ok receipt) after
+  pub reply_login : (receipt : Receipt B) (entry : Entry) (before after : List Entry) (session : ℕ) → IsPublished entry before (Ok receipt) after
       → change_of receipt.entry.command ≡ None → receipt.session ≡ Some session → Login session (length receipt.list) ≡ accepted_reply before entry.command
   reply_login receipt entry before after session p is made =
       let t = published_tells receipt entry before after p in
@@ -130,48 +92,48 @@ module _ {J : Type 0} where
       ap (λ n. Login n (length receipt.list)) number ∙ (ap (λ n. Login (logins before + 1) n) t.version ∙ sym (ap (λ c. reply_of_change c before) none))
 
   -- an accepted command published an entry
-  published_by : (old new : List Entry) (receipt : Receipt J) (decided : Result Entry PolicyRefusal)
+  published_by : (old new : List Entry) (receipt : Receipt B) (decided : Result Entry PolicyRefusal)
       → MatchResult decided
-      (λ entry. Answers (board_step.list_full old entry ▸ board_step.no_memory ▸ accept) (λ refusal. board_step.IsRefused refusal old (Ok receipt) new) (IsPublished entry old (Ok receipt) new))
+      (λ entry. Answers (room.list_full board.JournalFull old entry ▸ MayRefuse board.Memory ▸ accept) (λ refusal. board_step.IsRefused refusal old (Ok receipt) new) (IsPublished entry old (Ok receipt) new))
       (λ refusal. board_step.IsRefused (board.Policy refusal) old (Ok receipt) new)
       → (entry : Entry) × IsPublished entry old (Ok receipt) new
   published_by old new receipt (Ok e) h =
-      let all = all_passed (board_step.list_full old e ▸ board_step.no_memory ▸ accept) (λ (r : Refusal). board_step.IsRefused r old (Ok receipt) new) (IsPublished e old (Ok receipt) new)
+      let all = all_passed (room.list_full board.JournalFull old e ▸ MayRefuse board.Memory ▸ accept) (λ (r : Refusal). board_step.IsRefused r old (Ok receipt) new) (IsPublished e old (Ok receipt) new)
       (λ r refused. let is = refused.answered in absurd cc) h in
       (e, all.1)
   published_by old new receipt (Err r) h = let is = h.answered in absurd cc
 
   -- a refused command left the list
-  stayed_by : (old new : List Entry) (answer : Result (Receipt J) Refusal) (refusal : Refusal) (decided : Result Entry PolicyRefusal) → answer ≡ Err refusal
+  stayed_by : (old new : List Entry) (answer : Result (Receipt B) Refusal) (refusal : Refusal) (decided : Result Entry PolicyRefusal) → answer ≡ Err refusal
       → MatchResult decided
-      (λ entry. Answers (board_step.list_full old entry ▸ board_step.no_memory ▸ accept) (λ r. board_step.IsRefused r old answer new) (IsPublished entry old answer new))
+      (λ entry. Answers (room.list_full board.JournalFull old entry ▸ MayRefuse board.Memory ▸ accept) (λ r. board_step.IsRefused r old answer new) (IsPublished entry old answer new))
       (λ r. board_step.IsRefused (board.Policy r) old answer new)
       → new ≡ old
   stayed_by old new answer refusal (Ok e) is (inl r) = r.answered.stays
   stayed_by old new answer refusal (Ok e) is (inr p) = later p.next where
-    later : Answers (board_step.no_memory ▸ accept) (λ r. board_step.IsRefused r old answer new) (IsPublished e old answer new) → new ≡ old
+    later : Answers (MayRefuse board.Memory ▸ accept) (λ r. board_step.IsRefused r old answer new) (IsPublished e old answer new) → new ≡ old
     later (inl m) = m.answered.stays
     later (inr q) = let was = q.next.answered in absurd cc
   stayed_by old new answer refusal (Err r) is h = h.stays
 
   -- the seat keeps the receipt of the entry that the command added, if it added one
-  pub keeps_added : (old new : List Entry) (answer : Result (Receipt J) Refusal) (seat after : SeatState) (session : Option ℕ) (command : AdminCommand)
+  pub keeps_added : (old new : List Entry) (answer : Result (Receipt B) Refusal) (seat after : SeatState) (session : Option ℕ) (command : AdminCommand)
       → board_step.AdminStep old session command answer new → board_step.SeatAfter seat answer new after → KeepsAdded old new seat after
   keeps_added old new (Ok receipt) seat after session command step keeps =
-      let p = published_by old new receipt step.decided step.replied in
+      let p = published_by old new receipt step.answer step.replied in
       let entry : receipt.entry ≡ p.0 = (published_tells receipt p.0 old new p.1).entry_is in
       inr (p.0, p.1.appended, keeps.kept ∙ ap (λ (e : Entry). seat.kept ++ Admin (length new) e ∷ []) entry)
   keeps_added old new (Err refusal) seat after session command step keeps =
-      inl (stayed_by old new (Err refusal) refusal step.decided refl step.replied, keeps.kept ∙ append-nil seat.kept)
+      inl (stayed_by old new (Err refusal) refusal step.answer refl step.replied, keeps.kept ∙ append-nil seat.kept)
 
   -- the receipt, if the answer is one, is of a published entry
-  pub published : (session : Option ℕ) (command : AdminCommand) (old new : List Entry) (answer : Result (Receipt J) Refusal)
+  pub published : (session : Option ℕ) (command : AdminCommand) (old new : List Entry) (answer : Result (Receipt B) Refusal)
       → board_step.AdminStep old session command answer new
       → IfOk answer (λ receipt. (entry : Entry) × (o : List Entry) × (n : List Entry) × IsPublished entry o (Ok receipt) n)
-  published session command old new (Ok receipt) step = let p = published_by old new receipt step.decided step.replied in (p.0, old, new, p.1)
+  published session command old new (Ok receipt) step = let p = published_by old new receipt step.answer step.replied in (p.0, old, new, p.1)
   published session command old new (Err refusal) step = tt
 
-  module _ (slots : List SlotState) (old new : List Entry) (answer : Result (Receipt J) Refusal) (given : Reply) where
+  module _ (slots : List SlotState) (old new : List Entry) (answer : Result (Receipt B) Refusal) (given : Reply) where
     refused_same : (refusal : Refusal) → given ≡ Refused (of_board refusal) → new ≡ old
         → IsRefused (of_board refusal) (desk_with old slots) given (desk_with new slots)
     refused_same refusal replied stays = record { replied = replied; stays = ap (λ l. desk_with l slots) stays }
@@ -180,21 +142,21 @@ module _ {J : Type 0} where
         → ((entry : Entry) → IsPublished entry old answer new → given ≡ accepted_reply old entry.command)
         → (decided : Result Entry PolicyRefusal)
         → MatchResult decided
-        (λ entry. Answers (board_step.list_full old entry ▸ board_step.no_memory ▸ accept) (λ refusal. board_step.IsRefused refusal old answer new) (IsPublished entry old answer new))
+        (λ entry. Answers (room.list_full board.JournalFull old entry ▸ MayRefuse board.Memory ▸ accept) (λ refusal. board_step.IsRefused refusal old answer new) (IsPublished entry old answer new))
         (λ refusal. board_step.IsRefused (board.Policy refusal) old answer new)
         → MatchResult decided
         (λ entry. ByRules (list_full old entry ▸ no_memory ▸ accept) (Appends entry) (desk_with old slots) given (desk_with new slots))
-        (λ refusal. IsRefused (of_policy refusal) (desk_with old slots) given (desk_with new slots))
+        (λ refusal. IsRefused (Policy refusal) (desk_with old slots) given (desk_with new slots))
     decided_same refused accepted (Err refusal) h = refused_same (board.Policy refusal) (refused (board.Policy refusal) h.answered) h.stays
     decided_same refused accepted (Ok entry) (inl r) =
         let replied : given ≡ Refused JournalFull = refused r.refusal r.answered.answered ∙ ap (λ (x : Refusal). Refused (of_board x)) r.given.0 in
         inl (record {
           refusal = JournalFull;
-          given = (refl, λ room. r.given.1 (room_here entry.command old room));
+          given = (refl, λ room. r.given.1 (room));
           answered = refused_same board.JournalFull replied r.answered.stays;
         })
-    decided_same refused accepted (Ok entry) (inr p) = inr (record { passed = room_there entry.command old p.passed; next = later p.next }) where
-      later : Answers (board_step.no_memory ▸ accept) (λ refusal. board_step.IsRefused refusal old answer new) (IsPublished entry old answer new)
+    decided_same refused accepted (Ok entry) (inr p) = inr (record { passed = p.passed; next = later p.next }) where
+      later : Answers (MayRefuse board.Memory ▸ accept) (λ refusal. board_step.IsRefused refusal old answer new) (IsPublished entry old answer new)
           → ByRules (no_memory ▸ accept) (Appends entry) (desk_with old slots) given (desk_with new slots)
       later (inl m) =
           let replied : given ≡ Refused Memory = refused m.refusal m.answered.answered ∙ ap (λ (x : Refusal). Refused (of_board x)) m.given in
@@ -205,7 +167,7 @@ module _ {J : Type 0} where
       })
 
     refused_at : IfErr answer (λ refusal. given ≡ Refused (of_board refusal)) → (refusal : Refusal) → answer ≡ Err refusal → given ≡ Refused (of_board refusal)
-    refused_at h refusal is = subst (λ (a : Result (Receipt J) Refusal). IfErr a (λ r. given ≡ Refused (of_board r))) is h
+    refused_at h refusal is = subst (λ (a : Result (Receipt B) Refusal). IfErr a (λ r. given ≡ Refused (of_board r))) is h
 
     -- the board's answer to a policy command is a desk's, where the reply is made so of it
     pub step_same : (session : Option ℕ) (command : AdminCommand)
@@ -213,9 +175,9 @@ module _ {J : Type 0} where
         → ((entry : Entry) → IsPublished entry old answer new → given ≡ accepted_reply old entry.command)
         → board_step.AdminStep old session command answer new → AdminStep session command (desk_with old slots) given (desk_with new slots)
     step_same session command refused accepted step = record {
-      answer = step.decided;
+      answer = step.answer;
       given = step.given;
-      replied = decided_same (refused_at refused) accepted step.decided step.replied;
+      replied = decided_same (refused_at refused) accepted step.answer step.replied;
     }
 
 -- a logout is answered by its change, or refused because its session had ended, or for want of memory
@@ -227,10 +189,10 @@ logout_reply session before given after step = by_policy step.given step.replied
   Replied : Result Entry PolicyRefusal → Type 0
   Replied answer = MatchResult answer
       (λ entry. ByRules (list_full before.entries entry ▸ no_memory ▸ accept) (Appends entry) before given after)
-      (λ refusal. IsRefused (of_policy refusal) before given after)
+      (λ refusal. IsRefused (Policy refusal) before given after)
 
   accepted : (entry : Entry) → entry.command ≡ DeleteSession → ByRules (list_full before.entries entry ▸ no_memory ▸ accept) (Appends entry) before given after → IsLogoutReply given
-  accepted entry is (inl r) = absurd (r.given.1 (subst (λ c. DeskHasRoomFor c before.entries) (sym is) tt))
+  accepted entry is (inl r) = absurd (r.given.1 (inl is))
   accepted entry is (inr p) = by_memory p.next where
     by_memory : ByRules (no_memory ▸ accept) (Appends entry) before given after → IsLogoutReply given
     by_memory (inl m) = of_reply (Refused Memory) tt (m.answered.replied ∙ ap (λ r. Refused r) m.given)
@@ -239,5 +201,5 @@ logout_reply session before given after step = by_policy step.given step.replied
   by_policy : PolicyStep before.entries session DeleteSession step.answer → Replied step.answer → IsLogoutReply given
   by_policy (inl r) replied =
       let refused : step.answer ≡ Err policy.NoSession = r.answered ∙ ap (λ x. Err x) r.given.0 in
-      of_reply (Refused NoSession) tt (subst Replied refused replied).replied
+      of_reply (Refused (Policy policy.NoSession)) tt (subst Replied refused replied).replied
   by_policy (inr p) replied = accepted (entry_of session DeleteSession) refl (subst Replied p.next replied)

@@ -1,14 +1,15 @@
 -- Threads may share a board, and a table of slots. A search of its own would walk through sixteen slots, and end at its limit of steps.
 use denote.RattleType.{RattleType}
 use denote.Param.Send.{IsSend, IsSync, view_send, sendable}
-use denote.Param.SendFields.{declared_send, declared_sync}
+use denote.Param.SendFields.{declared_send, declared_sync, as_row_send}
 use Rattle.std.proofs.Crossing.{crosses}
 use Rattle.std.proofs.MapsCrossing as maps
+use Rattle.std.specs.contracts.option.Option as option
 use Rattle.est_kernel.proofs.statement.Statement.TheLaws.TheKnot as statement
 use Rattle.reactor_core.specs.contracts.journal.Journal as journal
 use Rattle.reactor_core.specs.contracts.reactor.Reactor as reactor
 use Rattle.access_core.specs.contracts.slot.Slot as slot
-use Rattle.policy_board.specs.declared.history.Naming.{Ghosts}
+use Rattle.policy_board.specs.declared.history.BoardName.{Ghosts}
 use Rattle.policy_board.specs.contracts.reader.SlotReader as reader
 use Rattle.slot_table.specs.contracts.slot.LockedSlot as locked
 use Rattle.slot_table.specs.contracts.slot.LockedSlot.TheInside as inside
@@ -23,12 +24,15 @@ reactor_sends = search (journal_sends, statement.crosses, crosses, maps.crosses,
 slot_sends : IsSend slot.the_row
 slot_sends = search (journal_sends, reactor_sends, statement.crosses, crosses, maps.crosses, sendable) depth 60 fits 20000
 
-module _ (J : RattleType) (g : Ghosts J.Denot) (reader_sends : IsSend (reader.the_row J g)) where
-  inside_sends : (N : RattleType) → IsSend (inside.the_row J N g)
-  inside_sends N = declared_send (inside.the_type J N g) (slot_sends, (reader_sends, tt))
+option_sends : (R : RattleType) → IsSend R → IsSend (option.the_field R).row
+option_sends R sends = search sendable depth 12
 
-  locked_sends : (N : RattleType) → IsSend (locked.the_row J N g)
-  locked_sends N = view_send (inside.the_row J N g) _ _ _ _ (inside_sends N)
+module _ (B : RattleType) (g : Ghosts B.Denot) (reader_sends : IsSend (reader.the_row B g)) where
+  inside_sends : (N : RattleType) → IsSend (inside.the_row B N g)
+  inside_sends N = declared_send (inside.the_type B N g) (slot_sends, (as_row_send (option.the_field (reader.the_row B g)) (option_sends (reader.the_row B g) reader_sends), tt))
 
-  pub table_shares : IsSync (table.the_row J g)
-  table_shares = declared_sync (table.the_type J g) (search (locked_sends, crosses, sendable) depth 60 fits 20000)
+  locked_sends : (N : RattleType) → IsSend (locked.the_row B N g)
+  locked_sends N = view_send (inside.the_row B N g) _ _ _ _ (inside_sends N)
+
+  pub table_shares : IsSync (table.the_row B g)
+  table_shares = declared_sync (table.the_type B g) (search (locked_sends, crosses, sendable) depth 60 fits 20000)

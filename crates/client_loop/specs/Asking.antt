@@ -4,8 +4,9 @@ use Rattle.rbac_policy.specs.declared.commands.AdminCommand.{AdminCommand}
 use Rattle.rbac_policy.specs.declared.objects.Operation.{Operation}
 use Rattle.rbac_policy.specs.declared.objects.Object.{Object}
 use Rattle.rbac_policy.specs.Facts.{May}
+use Rattle.rbac_admin.specs.declared.refusals.Refusal.TheVariants as policy
 use Rattle.access_core.specs.declared.command.SlotCommand.{SlotCommand}
-use Rattle.access_core.specs.declared.refusal.Refusal.TheVariants.{NoSession, Memory}
+use Rattle.access_core.specs.declared.refusal.Refusal.TheVariants.{Policy, Memory}
 use Rattle.access_core.specs.declared.reply.Change.TheVariants.{DeleteSession as SessionDeleted}
 use Rattle.access_core.specs.declared.reply.Reply.{Reply}
 use Rattle.access_core.specs.declared.reply.Reply.TheVariants.{Refused, Changed, Check}
@@ -34,6 +35,6 @@ DeskAnswers before (to_check session operation object) given after = IsChecked s
 -- a reply that a logout may be given: the session is ended now, had ended before, or memory was refused
 abbrev pub IsLogoutReply : Reply → Type 0
 IsLogoutReply (Changed SessionDeleted version) = Unit {0}
-IsLogoutReply (Refused NoSession) = Unit {0}
+IsLogoutReply (Refused (Policy policy.NoSession)) = Unit {0}
 IsLogoutReply (Refused Memory) = Unit {0}
 IsLogoutReply _ = ⊥

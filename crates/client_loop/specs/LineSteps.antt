@@ -1,16 +1,15 @@
 -- One line of a connection: what it is answered, and the desk and the connection's login afterwards (this project's own form).
 use Rattle.std.specs.Prelude.{◌≡◌, ℕ, ◌<◌, ◌≤◌, ◌⊎◌, List, Option, Some, None, Err, length}
-use Rattle.rbac_policy.specs.declared.commands.AdminCommand.TheVariants.{AddUser, DeleteUser, AddRole, DeleteRole, AssignUser, DeassignUser, GrantPermission, RevokePermission, AddInheritance, DeleteInheritance, CreateDsdSet, DeleteDsdSet, CreateSession, DeleteSession, AddActiveRole, DropActiveRole}
-use Rattle.access_core.specs.declared.command.SlotCommand.TheVariants as slot
+use Rattle.rbac_policy.specs.declared.commands.AdminCommand.TheVariants.{CreateSession, DeleteSession}
+use Rattle.rbac_admin.specs.declared.refusals.Refusal.TheVariants as policy
 use Rattle.access_core.specs.declared.refusal.Refusal.{Refusal}
-use Rattle.access_core.specs.declared.refusal.Refusal.TheVariants.{TooLong, NoSession, AlreadyLoggedIn}
+use Rattle.access_core.specs.declared.refusal.Refusal.TheVariants as fault
 use Rattle.access_core.specs.declared.reply.Reply.{Reply}
 use Rattle.access_core.specs.declared.reply.Reply.TheVariants as reply
 use Rattle.access_core.specs.Answering.{IsRefused}
 use Rattle.line_reader.specs.declared.lines.TheConstants.{LINE_BYTES}
 use Rattle.wire_lines.specs.declared.request.Request.{Request}
-use Rattle.wire_lines.specs.declared.request.Request.TheVariants as wire
-use Rattle.wire_lines.specs.declared.request.Request.TheVariants.{Login, Logout, Load, Offer, Discard, Step, Unload, Look, Audit, Check}
+use Rattle.wire_lines.specs.declared.request.Request.TheVariants.{Policy, Slot, Check}
 use Rattle.wire_lines.specs.Requests.{IsReadAs, IsRequest}
 use Rattle.wire_lines.specs.Replies.{line_of}
 use Rattle.client_loop.specs.Asking.{Ask, to_policy, to_slot, to_check}
@@ -18,50 +17,29 @@ use Rattle.client_loop.specs.Logins.{after_login, after_logout}
 
 -- what a request asks of the desk, by the session that gives it
 abbrev pub ask_of : Request → (session : ℕ) → Ask
-ask_of (Login roles user) session = to_policy None (CreateSession user roles)
-ask_of Logout session = to_policy (Some session) DeleteSession
-ask_of (wire.AddUser user) session = to_policy (Some session) (AddUser user)
-ask_of (wire.DeleteUser user) session = to_policy (Some session) (DeleteUser user)
-ask_of (wire.AddRole role) session = to_policy (Some session) (AddRole role)
-ask_of (wire.DeleteRole role) session = to_policy (Some session) (DeleteRole role)
-ask_of (wire.Assign role user) session = to_policy (Some session) (AssignUser user role)
-ask_of (wire.Deassign role user) session = to_policy (Some session) (DeassignUser user role)
-ask_of (wire.Grant object operation role) session = to_policy (Some session) (GrantPermission role operation object)
-ask_of (wire.Revoke object operation role) session = to_policy (Some session) (RevokePermission role operation object)
-ask_of (wire.Inherit junior senior) session = to_policy (Some session) (AddInheritance senior junior)
-ask_of (wire.Disinherit junior senior) session = to_policy (Some session) (DeleteInheritance senior junior)
-ask_of (wire.CreateSet count name roles) session = to_policy (Some session) (CreateDsdSet name count roles)
-ask_of (wire.DeleteSet name) session = to_policy (Some session) (DeleteDsdSet name)
-ask_of (wire.Activate role) session = to_policy (Some session) (AddActiveRole role)
-ask_of (wire.Drop role) session = to_policy (Some session) (DropActiveRole role)
-ask_of (Load main number text) session = to_slot session number (slot.Load main text)
-ask_of (Offer signal number) session = to_slot session number (slot.Offer signal)
-ask_of (Discard number) session = to_slot session number slot.Discard
-ask_of (Step number) session = to_slot session number slot.Step
-ask_of (Unload number) session = to_slot session number slot.Unload
-ask_of (Look instant number) session = to_slot session number (slot.Look instant)
-ask_of (Audit number) session = to_slot session number slot.Audit
-ask_of (Check object operation) session = to_check session operation object
+ask_of (Policy command) session = to_policy (Some session) command
+ask_of (Slot number command) session = to_slot session number command
+ask_of (Check operation object) session = to_check session operation object
 
 -- a login is asked where none is held, and refused while one is
 abbrev pub Unheld : {D : Type 0} → (answers : D → Ask → Reply → D → Type 0) → (login : Option ℕ) → Ask → (before : D) → Reply → (after : D) → Type 0
 Unheld answers None ask before given after = answers before ask given after
-Unheld answers (Some session) ask before given after = IsRefused AlreadyLoggedIn before given after
+Unheld answers (Some session) ask before given after = IsRefused fault.AlreadyLoggedIn before given after
 
 -- any other request is asked by the session of the login, and refused where none is held
 abbrev pub Held : {D : Type 0} → (answers : D → Ask → Reply → D → Type 0) → (login : Option ℕ) → (ℕ → Ask) → (before : D) → Reply → (after : D) → Type 0
-Held answers None ask before given after = IsRefused NoSession before given after
+Held answers None ask before given after = IsRefused (fault.Policy policy.NoSession) before given after
 Held answers (Some session) ask before given after = answers before (ask session) given after
 
 -- what is answered to a request on a connection with this login, and the desk afterwards
 abbrev pub Asks : {D : Type 0} → (answers : D → Ask → Reply → D → Type 0) → Request → (login : Option ℕ) → (before : D) → Reply → (after : D) → Type 0
-Asks answers (Login roles user) login before given after = Unheld answers login (to_policy None (CreateSession user roles)) before given after
+Asks answers (Policy (CreateSession user roles)) login before given after = Unheld answers login (to_policy None (CreateSession user roles)) before given after
 Asks answers request login before given after = Held answers login (ask_of request) before given after
 
 -- the login after this reply to the request
 abbrev pub login_after : Request → Reply → (before : Option ℕ) → Option ℕ
-login_after (Login roles user) given before = after_login given before
-login_after Logout given before = after_logout given before
+login_after (Policy (CreateSession user roles)) given before = after_login given before
+login_after (Policy DeleteSession) given before = after_logout given before
 login_after _ given before = before
 
 -- a desk, and the login that a connection to it holds: none, or the number of a session
@@ -83,7 +61,7 @@ pub record AnswersRequest {D : Type 0} (answers : D → Ask → Reply → D → 
 
 -- why a line is refused before anything is asked: it is over the limit, or it reads as no request
 pub data IsNoRequest (line : List ℕ) (refusal : Refusal) : Type 0 where
-  too_long : LINE_BYTES < length line → refusal ≡ TooLong → IsNoRequest line refusal
+  too_long : LINE_BYTES < length line → refusal ≡ fault.TooLong → IsNoRequest line refusal
   not_read : length line ≤ LINE_BYTES → IsReadAs line (Err refusal) → IsNoRequest line refusal
 
 -- the line is refused before anything is asked, and nothing is changed

@@ -1,7 +1,8 @@
 -- Logins: when one is held, and what ends it (this project's own form).
 use Rattle.std.specs.Prelude.{◌≡◌, ℕ, Option, Some, None}
 use Rattle.rbac_policy.specs.declared.commands.AdminCommand.TheVariants.{DeleteSession}
-use Rattle.access_core.specs.declared.refusal.Refusal.TheVariants.{NoSession, Memory}
+use Rattle.rbac_admin.specs.declared.refusals.Refusal.TheVariants as policy
+use Rattle.access_core.specs.declared.refusal.Refusal.TheVariants.{Policy, Memory}
 use Rattle.access_core.specs.declared.reply.Reply.{Reply}
 use Rattle.access_core.specs.declared.reply.Reply.TheVariants as reply
 use Rattle.access_core.specs.Needs.{IsAccepted}
@@ -23,13 +24,13 @@ after_login _ before = before
 -- the login after this reply to a logout: none where it was accepted, or where its session had ended
 abbrev pub after_logout : Reply → (before : Option ℕ) → Option ℕ
 after_logout (reply.Changed done version) before = None
-after_logout (reply.Refused NoSession) before = None
+after_logout (reply.Refused (Policy policy.NoSession)) before = None
 after_logout _ before = before
 
 -- what this reply to a logout says
 abbrev pub Says : Logout → Reply → Type 0
 Says Ended given = IsAccepted given
-Says WasEnded given = given ≡ reply.Refused NoSession
+Says WasEnded given = given ≡ reply.Refused (Policy policy.NoSession)
 
 -- the desk was asked to end the session, and this was its reply
 abbrev pub EndsSession : {D : Type 0} → (answers : D → Ask → Reply → D → Type 0) → (session : ℕ) → (before : D) → Reply → (after : D) → Type 0

@@ -40,6 +40,7 @@ pub record IsAdministered (session : Option ℕ) (command : AdminCommand) (seat 
   pub step : (slots : List SlotState) → AdminStep session command (desk_with old slots) given (desk_with new slots)
   pub seat_knows : after.known ≡ new
   pub seat_seen : after.seen ≡ max seat.seen (length new)
+  pub seat_read : after.read ≡ seat.read
   pub seat_keeps : KeepsAdded old new seat after
 
 -- the reply to a check that the board answered so

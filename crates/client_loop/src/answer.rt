@@ -1,10 +1,10 @@
 //! From a line to its reply: the rules of a connection, over any desk.
 ghost use Rattle.std.specs.Prelude.{◌≡◌, Some};
-ghost use Rattle.wire_lines.specs.declared.request.Request.TheVariants as wire;
+ghost use Rattle.rbac_policy.specs.declared.commands.AdminCommand.TheVariants.{CreateSession, DeleteSession};
+ghost use Rattle.wire_lines.specs.declared.request.Request.TheVariants.{Policy};
 ghost use Rattle.client_loop.specs.Asking.{to_policy, to_slot, to_check};
 ghost use Rattle.client_loop.specs.Logins.{session_of};
-ghost use Rattle.client_loop.specs.LineSteps.{ask_of, Held, Asks, login_after, with_login, LineStep};
-ghost use Rattle.client_loop.specs.Inner.Groups.{IsOnPolicy, IsOnPermissions};
+ghost use Rattle.client_loop.specs.LineSteps.{Held, Asks, login_after, with_login, LineStep};
 
 use crate::desk::Desk;
 use crate::login::{Login, held_session, log_in};
@@ -12,6 +12,7 @@ use access_core::command::SlotCommand;
 use access_core::refusal::Refusal;
 use access_core::reply::Reply;
 use line_reader::lines::LINE_BYTES;
+use rbac_admin::refusals::Refusal as PolicyRefusal;
 use rbac_policy::commands::{AdminCommand, SessionId};
 use rbac_policy::names::{Name, RoleNames};
 use rbac_policy::objects::{Object, Operation};
@@ -32,7 +33,7 @@ fn administer<D: Desk>(desk: &mut D, held: &Option<SessionId>, command: AdminCom
 {
     match held {
         Some(session) => desk.admin(Some(*session), command),
-        None => Reply::Refused(Refusal::NoSession),
+        None => Reply::Refused(Refusal::Policy(PolicyRefusal::NoSession)),
     }
 }
 
@@ -48,7 +49,7 @@ fn command_slot<D: Desk>(
 {
     match held {
         Some(session) => desk.slot(*session, slot, command),
-        None => Reply::Refused(Refusal::NoSession),
+        None => Reply::Refused(Refusal::Policy(PolicyRefusal::NoSession)),
     }
 }
 
@@ -64,16 +65,16 @@ fn check_permission<D: Desk>(
 {
     match held {
         Some(session) => desk.check(*session, operation, object),
-        None => Reply::Refused(Refusal::NoSession),
+        None => Reply::Refused(Refusal::Policy(PolicyRefusal::NoSession)),
     }
 }
 
 /// A login of this user in these roles, on a connection with this login.
-fn ask_login<D: Desk>(desk: &mut D, login: Option<Login>, roles: RoleNames, user: Name) -> Turn
-    ensures asked { Asks D.answers (wire.Login roles user) (session_of login)
+fn ask_login<D: Desk>(desk: &mut D, login: Option<Login>, user: Name, roles: RoleNames) -> Turn
+    ensures asked { Asks D.answers (Policy (CreateSession user roles)) (session_of login)
         desk.old result.reply desk.new }
     ensures login { session_of result.login
-        ≡ login_after (wire.Login roles user) result.reply (session_of login) }
+        ≡ login_after (Policy (CreateSession user roles)) result.reply (session_of login) }
 {
     match login {
         Some(login) => Turn {
@@ -89,9 +90,10 @@ fn ask_login<D: Desk>(desk: &mut D, login: Option<Login>, roles: RoleNames, user
 
 /// A logout on a connection with this login.
 fn ask_logout<D: Desk>(desk: &mut D, login: Option<Login>) -> Turn
-    ensures asked { Asks D.answers wire.Logout (session_of login) desk.old result.reply desk.new }
-    ensures login { session_of result.login ≡ login_after wire.Logout result.reply (session_of
-        login) }
+    ensures asked { Asks D.answers (Policy DeleteSession) (session_of login)
+        desk.old result.reply desk.new }
+    ensures login { session_of result.login
+        ≡ login_after (Policy DeleteSession) result.reply (session_of login) }
 {
     match login {
         Some(login) => {
@@ -99,68 +101,27 @@ fn ask_logout<D: Desk>(desk: &mut D, login: Option<Login>) -> Turn
             Turn { reply, login }
         }
         None => Turn {
-            reply: Reply::Refused(Refusal::NoSession),
+            reply: Reply::Refused(Refusal::Policy(PolicyRefusal::NoSession)),
             login: None,
         },
     }
 }
 
-/// A grant or its revocation, by the session that the connection holds.
-fn ask_permission<D: Desk>(desk: &mut D, held: &Option<SessionId>, request: Request) -> Reply
-    requires { IsOnPermissions request }
-    ensures { Held D.answers held.now (ask_of request) desk.old result desk.new }
+/// A policy command on a connection with this login, which a login and a logout change.
+fn ask_policy<D: Desk>(desk: &mut D, login: Option<Login>, command: AdminCommand) -> Turn
+    ensures asked { Asks D.answers (Policy command) (session_of login)
+        desk.old result.reply desk.new }
+    ensures login { session_of result.login
+        ≡ login_after (Policy command) result.reply (session_of login) }
 {
-    let command = match request {
-        Request::Grant {
-            object,
-            operation,
-            role,
-        } => AdminCommand::GrantPermission {
-            role,
-            operation,
-            object,
-        },
-        Request::Revoke {
-            object,
-            operation,
-            role,
-        } => AdminCommand::RevokePermission {
-            role,
-            operation,
-            object,
-        },
-        _ => unreachable!(),
-    };
-    administer(desk, held, command)
-}
-
-/// A policy command of the session that the connection holds.
-fn ask_policy<D: Desk>(desk: &mut D, held: &Option<SessionId>, request: Request) -> Reply
-    requires { IsOnPolicy request }
-    ensures { Held D.answers held.now (ask_of request) desk.old result desk.new }
-{
-    let command = match request {
-        Request::AddUser { user } => AdminCommand::AddUser { user },
-        Request::DeleteUser { user } => AdminCommand::DeleteUser { user },
-        Request::AddRole { role } => AdminCommand::AddRole { role },
-        Request::DeleteRole { role } => AdminCommand::DeleteRole { role },
-        Request::Assign { role, user } => AdminCommand::AssignUser { user, role },
-        Request::Deassign { role, user } => AdminCommand::DeassignUser { user, role },
-        Request::Inherit { junior, senior } => AdminCommand::AddInheritance { senior, junior },
-        Request::Disinherit { junior, senior } => {
-            AdminCommand::DeleteInheritance { senior, junior }
+    match command {
+        AdminCommand::CreateSession { user, roles } => ask_login(desk, login, user, roles),
+        AdminCommand::DeleteSession => ask_logout(desk, login),
+        command => {
+            let reply = administer(desk, &held_session(&login), command);
+            Turn { reply, login }
         }
-        Request::CreateSet { count, name, roles } => AdminCommand::CreateDsdSet {
-            set: name,
-            count,
-            roles,
-        },
-        Request::DeleteSet { name } => AdminCommand::DeleteDsdSet { set: name },
-        Request::Activate { role } => AdminCommand::AddActiveRole { role },
-        Request::Drop { role } => AdminCommand::DropActiveRole { role },
-        request => return ask_permission(desk, held, request),
-    };
-    administer(desk, held, command)
+    }
 }
 
 /// A request on a connection with this login.
@@ -171,23 +132,9 @@ fn ask<D: Desk>(desk: &mut D, login: Option<Login>, request: Request) -> Turn
 {
     let held = &held_session(&login);
     let reply = match request {
-        Request::Login { roles, user } => return ask_login(desk, login, roles, user),
-        Request::Logout => return ask_logout(desk, login),
-        Request::Load { main, slot, text } => {
-            command_slot(desk, held, slot, SlotCommand::Load { main, text })
-        }
-        Request::Offer { signal, slot } => {
-            command_slot(desk, held, slot, SlotCommand::Offer { signal })
-        }
-        Request::Discard { slot } => command_slot(desk, held, slot, SlotCommand::Discard),
-        Request::Step { slot } => command_slot(desk, held, slot, SlotCommand::Step),
-        Request::Unload { slot } => command_slot(desk, held, slot, SlotCommand::Unload),
-        Request::Look { instant, slot } => {
-            command_slot(desk, held, slot, SlotCommand::Look { instant })
-        }
-        Request::Audit { slot } => command_slot(desk, held, slot, SlotCommand::Audit),
-        Request::Check { object, operation } => check_permission(desk, held, operation, &object),
-        request => ask_policy(desk, held, request),
+        Request::Policy(command) => return ask_policy(desk, login, command),
+        Request::Slot { slot, command } => command_slot(desk, held, slot, command),
+        Request::Check { operation, object } => check_permission(desk, held, operation, &object),
     };
     Turn { reply, login }
 }

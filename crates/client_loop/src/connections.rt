@@ -1,6 +1,6 @@
 //! A connection of a source, served to its end.
 ghost use Rattle.std.specs.Prelude.{◌≡◌, true};
-ghost use Rattle.line_reader.specs.Meters.{IsStopped};
+ghost use Rattle.line_reader.specs.Meters.{IsStopped, has_failed};
 ghost use Rattle.line_reader.specs.declared.serving.Why.TheVariants as why;
 ghost use Rattle.client_loop.specs.Connections.{LogsOutLeft, ServesConnection};
 ghost use Rattle.client_loop.specs.Logins.{session_of};
@@ -52,12 +52,13 @@ pub fn serve_connection<R: Wait, I: Read + Drop, O: Write + Drop, D: Desk, G: Ga
     gate: &G,
     worker: usize,
 ) -> Served<I, O>
-    ensures serves { ServesConnection D.answers result.memory.refused
+    ensures serves { ServesConnection D.answers (has_failed 0 result.memory.refusals)
         (I.remaining connection.reader) desk.old result.why desk.new
         (O.contents connection.writer) (O.contents result.output.device) }
     ensures read_fault { result.why ≡ why.ReadFault →
-        IsStopped result.input.failed result.input.left }
-    ensures write_fault { result.why ≡ why.WriteFault → result.output.failed ≡ true }
+        IsStopped (has_failed 0 result.input.faults) result.input.left }
+    ensures write_fault { result.why ≡ why.WriteFault →
+        has_failed 0 result.output.faults ≡ true }
 {
     let Connection { reader, writer } = connection;
     let mut memory = MeteredMemory::new(alloc);

@@ -9,6 +9,7 @@ ghost use Rattle.client_loop.specs.Logins.{session_of, after_login, after_logout
 use crate::desk::Desk;
 use access_core::refusal::Refusal;
 use access_core::reply::Reply;
+use rbac_admin::refusals::Refusal as PolicyRefusal;
 use rbac_policy::commands::{AdminCommand, SessionId};
 use rbac_policy::names::{Name, RoleNames};
 use std::mem;
@@ -87,7 +88,8 @@ impl Login {
         let reply = self.ask_end(desk);
         let Login { session } = self;
         let held = match &reply {
-            Reply::Changed { .. } | Reply::Refused(Refusal::NoSession) => None,
+            Reply::Changed { .. } => None,
+            Reply::Refused(Refusal::Policy(PolicyRefusal::NoSession)) => None,
             _ => Some(Login { session }),
         };
         (reply, held)
@@ -107,7 +109,7 @@ impl Login {
         let reply = self.ask_end(desk);
         let Login { session } = self;
         match reply {
-            Reply::Refused(Refusal::NoSession) => Ok(Logout::WasEnded),
+            Reply::Refused(Refusal::Policy(PolicyRefusal::NoSession)) => Ok(Logout::WasEnded),
             Reply::Refused(refusal) => Err((refusal, Login { session })),
             _ => Ok(Logout::Ended),
         }

@@ -1,6 +1,6 @@
 //! A connection to its end, over any reader and writer, and any desk that is lent.
 ghost use Rattle.std.specs.Prelude.{◌≡◌, true};
-ghost use Rattle.line_reader.specs.Meters.{IsStopped};
+ghost use Rattle.line_reader.specs.Meters.{IsStopped, has_failed};
 ghost use Rattle.line_reader.specs.declared.serving.Why.TheVariants as why;
 ghost use Rattle.client_loop.specs.LineSteps.{with_login};
 ghost use Rattle.client_loop.specs.Logins.{session_of, Leaves};
@@ -43,11 +43,15 @@ fn answer_lines<R: Read, W: Write, D: Desk, G: Gate>(
     gate: &G,
     worker: usize,
 ) -> (Why, Option<Login>)
-    ensures serves { ServesLines D.answers memory.new.refused (R.remaining reader.old.device)
-        desk.old result.0 (with_login desk.new (session_of result.1))
+    ensures serves { ServesLines D.answers (has_failed memory.old.refusals memory.new.refusals)
+        (R.remaining reader.old.device) desk.old result.0 (with_login desk.new (session_of result.1))
         (W.contents writer.old.device) (W.contents writer.new.device) }
-    ensures read_fault { result.0 ≡ why.ReadFault → IsStopped reader.new.failed reader.new.left }
-    ensures write_fault { result.0 ≡ why.WriteFault → writer.new.failed ≡ true }
+    ensures read_fault { result.0 ≡ why.ReadFault →
+        IsStopped (has_failed reader.old.faults reader.new.faults) reader.new.left }
+    ensures write_fault { result.0 ≡ why.WriteFault →
+        has_failed writer.old.faults writer.new.faults ≡ true }
+    ensures unfailed_writer { (result.0 ≡ why.WriteFault → ⊥) →
+        writer.new.faults ≡ writer.old.faults }
 {
     let mut client = Client {
         login: None,
@@ -87,12 +91,15 @@ pub fn serve_through<R: Read, W: Write, D: Desk, G: Gate>(
     gate: &G,
     worker: usize,
 ) -> End
-    ensures serves { ServesDesk D.answers memory.new.refused (R.remaining reader.old.device)
-        desk.old result.why desk.new (session_of result.left)
+    ensures serves { ServesDesk D.answers (has_failed memory.old.refusals memory.new.refusals)
+        (R.remaining reader.old.device) desk.old result.why desk.new (session_of result.left)
         (W.contents writer.old.device) (W.contents writer.new.device) }
     ensures read_fault { result.why ≡ why.ReadFault →
-        IsStopped reader.new.failed reader.new.left }
-    ensures write_fault { result.why ≡ why.WriteFault → writer.new.failed ≡ true }
+        IsStopped (has_failed reader.old.faults reader.new.faults) reader.new.left }
+    ensures write_fault { result.why ≡ why.WriteFault →
+        has_failed writer.old.faults writer.new.faults ≡ true }
+    ensures unfailed_writer { (result.why ≡ why.WriteFault → ⊥) →
+        writer.new.faults ≡ writer.old.faults }
 {
     let (why, held) = answer_lines(memory, reader, writer, desk, gate, worker);
     let left = leave(desk, held);
@@ -108,12 +115,15 @@ pub fn serve<R: Read, W: Write, D: Desk>(
     writer: &mut MeteredWriter<W>,
     desk: &mut D,
 ) -> End
-    ensures serves { ServesDesk D.answers memory.new.refused (R.remaining reader.old.device)
-        desk.old result.why desk.new (session_of result.left)
+    ensures serves { ServesDesk D.answers (has_failed memory.old.refusals memory.new.refusals)
+        (R.remaining reader.old.device) desk.old result.why desk.new (session_of result.left)
         (W.contents writer.old.device) (W.contents writer.new.device) }
     ensures read_fault { result.why ≡ why.ReadFault →
-        IsStopped reader.new.failed reader.new.left }
-    ensures write_fault { result.why ≡ why.WriteFault → writer.new.failed ≡ true }
+        IsStopped (has_failed reader.old.faults reader.new.faults) reader.new.left }
+    ensures write_fault { result.why ≡ why.WriteFault →
+        has_failed writer.old.faults writer.new.faults ≡ true }
+    ensures unfailed_writer { (result.why ≡ why.WriteFault → ⊥) →
+        writer.new.faults ≡ writer.old.faults }
 {
     serve_through(memory, reader, writer, desk, &OpenGate, 0)
 }

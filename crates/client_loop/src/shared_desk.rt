@@ -12,7 +12,7 @@ use access_core::command::SlotCommand;
 use access_core::reply::Reply;
 use access_core::single::change_of;
 use policy_board::board::Board;
-use policy_board::history::Naming;
+use policy_board::history::BoardName;
 use policy_board::refusal::Refusal;
 use policy_board::seat::{Receipt, Seat};
 use rbac_policy::commands::{AdminCommand, SessionId};
@@ -23,15 +23,15 @@ use std::marker::Model;
 use std::sync::Wait;
 
 /// A seat, with the board and the table that it asks. A contract sees the seat.
-pub struct SharedDesk<'a, J: Naming, R> {
+pub struct SharedDesk<'a, B: BoardName, R> {
     /// What its waits are called through.
     pub rt: &'a R,
-    pub board: &'a Board<J>,
-    pub table: &'a SlotTable<J>,
-    pub seat: Seat<J>,
+    pub board: &'a Board<B>,
+    pub table: &'a SlotTable<B>,
+    pub seat: Seat<B>,
 }
 
-impl<'a, J: Naming, R> Model for SharedDesk<'a, J, R> {
+impl<'a, B: BoardName, R> Model for SharedDesk<'a, B, R> {
     ghost use Rattle.policy_board.specs.SeatState.{SeatState};
 
     ghost Value = { SeatState };
@@ -40,7 +40,7 @@ impl<'a, J: Naming, R> Model for SharedDesk<'a, J, R> {
 }
 
 /// The reply to an accepted policy command.
-fn reply_to<J: Naming>(receipt: &Receipt<J>) -> Reply
+fn reply_to<B: BoardName>(receipt: &Receipt<B>) -> Reply
     requires { (entry : Entry) × (old : List Entry) × (new : List Entry)
         × IsPublished entry old (Ok receipt.now) new }
     ensures { (entry : Entry) (old new : List Entry) → IsPublished entry old (Ok receipt.now) new
@@ -57,7 +57,7 @@ fn reply_to<J: Naming>(receipt: &Receipt<J>) -> Reply
 }
 
 /// The reply that the board's answer to a policy command makes.
-fn reply_of<J: Naming>(answer: Result<Receipt<J>, Refusal>) -> Reply
+fn reply_of<B: BoardName>(answer: Result<Receipt<B>, Refusal>) -> Reply
     requires { IfOk answer (λ receipt. (entry : Entry) × (old : List Entry) × (new : List Entry)
         × IsPublished entry old (Ok receipt) new) }
     ensures accepted { (entry : Entry) (old new : List Entry) → IsPublished entry old answer new
@@ -71,10 +71,10 @@ fn reply_of<J: Naming>(answer: Result<Receipt<J>, Refusal>) -> Reply
 }
 
 /// Answers a policy command, under the admin lock.
-fn administer<J: Naming, R: Wait>(
+fn administer<B: BoardName, R: Wait>(
     rt: &R,
-    board: &Board<J>,
-    seat: &mut Seat<J>,
+    board: &Board<B>,
+    seat: &mut Seat<B>,
     session: Option<SessionId>,
     command: AdminCommand,
 ) -> Reply
@@ -83,7 +83,7 @@ fn administer<J: Naming, R: Wait>(
     reply_of(board.admin(rt, seat, session, command))
 }
 
-impl<'a, J: Naming, R: Wait> Desk for SharedDesk<'a, J, R> {
+impl<'a, B: BoardName, R: Wait> Desk for SharedDesk<'a, B, R> {
     ghost answers = { λ before ask given after. SharedAnswers before ask given after };
 
     fn admin(&mut self, session: Option<SessionId>, command: AdminCommand) -> Reply {

@@ -12,7 +12,7 @@ use crate::shared_desk::SharedDesk;
 use crate::source::Source;
 use access_core::refusal::Refusal;
 use policy_board::board::Board;
-use policy_board::history::Naming;
+use policy_board::history::BoardName;
 use policy_board::reader::SlotReader;
 use policy_board::seat::Seat;
 use slot_table::table::SlotTable;
@@ -28,35 +28,35 @@ trait Lends<T> {
     fn lent(&self) -> &T;
 }
 
-impl<J: Naming> Lends<Board<J>> for Board<J> {
-    fn lent(&self) -> &Board<J> {
+impl<B: BoardName> Lends<Board<B>> for Board<B> {
+    fn lent(&self) -> &Board<B> {
         self
     }
 }
 
-impl<J: Naming> Lends<SlotTable<J>> for SlotTable<J> {
-    fn lent(&self) -> &SlotTable<J> {
+impl<B: BoardName> Lends<SlotTable<B>> for SlotTable<B> {
+    fn lent(&self) -> &SlotTable<B> {
         self
     }
 }
 
 /// What workers share: the board, the table, and where connections come from.
-struct Service<'a, J: Naming, B, T, S, G> {
+struct Service<'a, B: BoardName, L, T, S, G> {
     alloc: Global,
-    board: &'a B,
+    board: &'a L,
     table: &'a T,
     source: &'a S,
     gate: &'a G,
-    of: PhantomData<J>,
+    of: PhantomData<B>,
 }
 
-impl<'a, J: Naming + Send, B: Lends<Board<J>>, T: Lends<SlotTable<J>>, S: Source, G: Gate> Work
-    for Service<'a, J, B, T, S, G> {
-    type Seat = Seat<J>;
+impl<'a, B: BoardName + Send, L: Lends<Board<B>>, T: Lends<SlotTable<B>>, S: Source, G: Gate> Work
+    for Service<'a, B, L, T, S, G> {
+    type Seat = Seat<B>;
 
     ghost turn = { λ before after. ServesNext before after };
 
-    fn take_turn<R: Wait>(&self, rt: &R, worker: usize, seat: Seat<J>) -> Turn<Seat<J>> {
+    fn take_turn<R: Wait>(&self, rt: &R, worker: usize, seat: Seat<B>) -> Turn<Seat<B>> {
         let Some(connection) = self.source.accept(worker) else {
             return Turn::Over(seat);
         };
@@ -84,17 +84,17 @@ fn may_cross<T: Send>()
 
 /// Has workers serve over a board and a table that threads may share, as `run_workers` does.
 fn run_over<
-    J: Naming + Send + Sync,
-    B: Lends<Board<J>> + Sync,
-    T: Lends<SlotTable<J>> + Sync,
+    B: BoardName + Send + Sync,
+    L: Lends<Board<B>> + Sync,
+    T: Lends<SlotTable<B>> + Sync,
     R: Threads + Wait + Sync,
     S: Source + Sync,
     G: Gate + Sync,
 >(
     rt: &R,
-    service: &Service<'_, J, B, T, S, G>,
-    seats: Vec<Seat<J>>,
-) -> Result<Vec<Seat<J>>, AllocError>
+    service: &Service<'_, B, L, T, S, G>,
+    seats: Vec<Seat<B>>,
+) -> Result<Vec<Seat<B>>, AllocError>
     ensures { IfOk result (λ back. AreBack ServesNext seats.items back.items) }
 {
     run_each(rt, service.alloc, service, seats)
@@ -109,19 +109,19 @@ fn run_over<
 /// Memory, where a thread could not be started, or memory was refused for that: then nothing was accepted, and the seats are
 /// dropped.
 pub fn run_workers<
-    J: Naming + Send + Sync,
+    B: BoardName + Send + Sync,
     R: Threads + Wait + Sync,
     S: Source + Sync,
     G: Gate + Sync,
 >(
     rt: &R,
     alloc: Global,
-    table: &SlotTable<J>,
-    board: &Board<J>,
-    seats: Vec<Seat<J>>,
+    table: &SlotTable<B>,
+    board: &Board<B>,
+    seats: Vec<Seat<B>>,
     source: &S,
     gate: &G,
-) -> Result<Vec<Seat<J>>, Refusal>
+) -> Result<Vec<Seat<B>>, Refusal>
     ensures { MatchResult result
         (λ back. AreBack ServesNext seats.items back.items)
         (λ refusal. refusal ≡ Memory) }
@@ -134,7 +134,7 @@ pub fn run_workers<
         gate,
         of: PhantomData,
     };
-    may_cross::<SlotReader<J>>();
+    may_cross::<SlotReader<B>>();
     let back = run_over(rt, &service, seats);
     let Service {
         alloc: _,

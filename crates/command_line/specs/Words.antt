@@ -69,7 +69,7 @@ number_in text =
 abbrev pub number_of : (name : Text) → List Row → Option ℕ
 number_of name rows = option_and_then number_in (one_of name rows)
 
--- so many workers where there may be so many, and else as many as there are without a number
+-- the number of workers that was asked for, if that many are allowed; else the default
 abbrev pub allowed : (count : ℕ) → ℕ
 allowed count = if may_work count then count else WORKERS
 

@@ -34,7 +34,8 @@ pub fn watched(cursor: &mut Cursor) -> Result<Delay, Fault>
     delay(cursor)
 }
 
-/// Whether `end` and the keyword stand there. Another `end` is left to what is round the unit, if that can go on so.
+/// Reads `end` and the keyword, if both stand there. An `end` without it belongs to what is around
+/// the unit, if that can go on with it.
 pub fn end_pair(cursor: &mut Cursor, keyword: Keyword, ends: bool) -> Result<bool, Fault>
     ensures spelt { IfOk result (λ written. cursor.old ≡ end_pair_onto written keyword cursor.new) }
     ensures reads { IfOk result

@@ -3,7 +3,7 @@ use Rattle.std.specs.Prelude.{◌≡◌, ℕ, List, ◌⊎◌, Option, Result, O
 use Rattle.std.specs.Io.KnownBytes.{Keeps}
 use Rattle.access_core.specs.Desk.{DeskState, opening_desk}
 use Rattle.access_core.specs.SlotState.{SlotState}
-use Rattle.line_reader.specs.Meters.{IsStopped}
+use Rattle.line_reader.specs.Meters.{IsStopped, has_failed}
 use Rattle.line_reader.specs.declared.serving.Why.{Why}
 use Rattle.line_reader.specs.declared.serving.Why.TheVariants as why
 use Rattle.client_loop.specs.Asking.{DeskAnswers}
@@ -35,6 +35,11 @@ abbrev pub Finishes : (report : Bool) → DeskState → Result ⊤ Fault → (wr
 Finishes true desk answer written after = Reports desk.entries (map (λ (s : SlotState). s.journal) desk.slots) written answer after
 Finishes false desk answer written after = (answer ≡ Ok tt) × (after ≡ written)
 
+-- what can't be written is no fault of a writer that worked: it failed in the connection, after which no more is written; or later
+abbrev pub CannotWrite : Why → (before after : ℕ) → Type 0
+CannotWrite why.WriteFault before after = after ≡ before
+CannotWrite other before after = has_failed before after ≡ true
+
 -- what the end of a connection means for the program, which has written so much by then: a fault, or what follows it
 abbrev pub EndsSo : (report : Bool) → Why → DeskState → Result ⊤ Fault → (written after : Option (List ℕ)) → Type 0
 EndsSo report why.Closed desk answer written after = Finishes report desk answer written after
@@ -52,7 +57,7 @@ pub record Ends (refused report : Bool) (ahead : Option (List ℕ)) (answer : Re
 abbrev pub RunsScript : (refused report : Bool) → (ahead : Option (List ℕ)) → Result ⊤ Fault → (written after : Option (List ℕ)) → Type 0
 RunsScript refused report ahead answer written after = NeverOpens answer written after ⊎ Ends refused report ahead answer written after
 
--- the words are no order, or no memory was there to read them, and nothing is written
+-- the command line is rejected, or there was no memory to read it; nothing is written
 pub record IsNoOrder (words : List Text) (answer : Result ⊤ Fault) (written after : Option (List ℕ)) : Type 0 where
   pub why : WordFault
   pub refused : IsRefused words why
@@ -67,7 +72,7 @@ abbrev pub Does : Order → (refused : Bool) → (ahead : Option (List ℕ)) →
 Does (Script log report) refused ahead answer written after = RunsScript refused report ahead answer written after
 Does (Serve service) refused ahead answer written after = ServesSocket service.workers answer written after
 
--- the order that the words are is done
+-- the command line spells an order, and it is carried out
 pub record DoesOrder (words : List Text) (refused : Bool) (ahead : Option (List ℕ)) (answer : Result ⊤ Fault) (written after : Option (List ℕ)) : Type 0 where
   pub order : Order
   pub is : IsOrder words order
@@ -82,7 +87,7 @@ abbrev pub status_after : Result ⊤ Fault → ℕ
 status_after (Ok _) = 0
 status_after (Err given) = status_of given
 
--- a fault of a device is told only where that device failed, or was read too often
+-- a fault of a device is told only where that device failed in the run, or was read too often
 pub record NamesDevices (answer : Result ⊤ Fault) (reader_failed : Bool) (reads_left : ℕ) (writer_failed : Bool) : Type 0 where
   pub read : answer ≡ Err fault.Read → IsStopped reader_failed reads_left
   pub write : answer ≡ Err fault.Write → writer_failed ≡ true

@@ -5,6 +5,7 @@ use Rattle.rbac_policy.specs.declared.commands.Entry.{Entry}
 use Rattle.reactor_core.specs.declared.entry.SlotEntry.{SlotEntry}
 use Rattle.seat_receipts.specs.declared.mismatch.Mismatch.{Mismatch}
 use Rattle.history_merge.specs.OneList.{AreOfOneList}
+use Rattle.history_laws.specs.CallsInTurn.{AreOfOneRun}
 use Rattle.policy_board.specs.SeatState.{SeatState, new_seat}
 use Rattle.slot_table.specs.Closing.{AllRise, IsJustified, kept_of}
 use Rattle.worker_threads.specs.Turns.{AreBack}
@@ -18,9 +19,11 @@ use Rattle.estserve.specs.Reports.{Reports}
 abbrev pub ServesAll : (workers : ℕ) → (seats : List SeatState) → Type 0
 ServesAll workers seats = AreBack ServesNext (replicate workers new_seat) seats
 
--- the journals of a server that left its seats so: one list of events has them and what the seats keep as its parts,
--- along what each seat keeps the order is right, and an audit finds nothing
+-- the journals of a server that left its seats so: they are those of one run of the calls whose receipts the seats keep;
+-- one list of events has them and what the seats keep as its parts, along what each seat keeps the order is right, and
+-- an audit finds nothing
 pub record AreHistories (seats : List SeatState) (policy : List Entry) (slots : List (List SlotEntry)) : Type 0 where
+  pub run : AreOfOneRun policy slots (kept_of seats)
   pub one : AreOfOneList policy slots (kept_of seats)
   pub rises : AllRise (kept_of seats)
   pub sound : HaveNoFinding policy slots

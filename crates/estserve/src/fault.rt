@@ -1,11 +1,12 @@
 //! Why the program ends with another status than 0.
 ghost use Rattle.std.specs.Prelude.{◌≡◌, OnOk};
-ghost use Rattle.estserve.specs.Faults.{status_of, IsOfWords, IsTold, IsOutcome};
+ghost use Rattle.std.specs.IoError.{error_kind};
+ghost use Rattle.estserve.specs.Faults.{status_of, fault_of_taking, IsOfWords, IsTold, IsOutcome};
 
 use command_line::fault::WordFault;
 use line_reader::serving::Why;
 use std::io;
-use std::io::Write;
+use std::io::{ErrorKind, Write};
 use thiserror::Error;
 
 /// A fault of the program. Its text goes to standard error.
@@ -14,6 +15,9 @@ pub enum Fault {
     /// Words that are no order, or ask for help, with the text about them.
     #[error(transparent)]
     Words(clap::Error),
+    /// A word that is not UTF-8, so that the words can't be read.
+    #[error("estserve: a word is not UTF-8")]
+    Unreadable,
     #[error("estserve: read fault")]
     Read,
     #[error("estserve: write fault")]
@@ -32,7 +36,7 @@ impl Fault {
         ensures { result ≡ status_of self.now }
     {
         match self {
-            Fault::Words(_) => 2,
+            Fault::Words(_) | Fault::Unreadable => 2,
             Fault::Read | Fault::Write | Fault::Memory | Fault::Socket | Fault::Mismatch => 1,
         }
     }
@@ -60,11 +64,22 @@ pub fn tell<E: Write>(fault: &Fault, errors: &mut E) -> io::Result<()>
     match fault {
         // The text about words ends its own lines.
         Fault::Words(error) => write!(errors, "{error}"),
+        Fault::Unreadable => errors.write_all(b"estserve: a word is not UTF-8\n"),
         Fault::Read => errors.write_all(b"estserve: read fault\n"),
         Fault::Write => errors.write_all(b"estserve: write fault\n"),
         Fault::Memory => errors.write_all(b"estserve: no memory\n"),
         Fault::Socket => errors.write_all(b"estserve: socket fault\n"),
         Fault::Mismatch => errors.write_all(b"estserve: mismatch\n"),
+    }
+}
+
+/// The fault where the words of the command line could not be taken: memory was refused, or else one is not UTF-8.
+pub fn taking_fault(error: &io::Error) -> Fault
+    ensures { result ≡ fault_of_taking (error_kind error.now) }
+{
+    match error.kind() {
+        ErrorKind::OutOfMemory => Fault::Memory,
+        _ => Fault::Unreadable,
     }
 }
 

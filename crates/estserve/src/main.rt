@@ -13,7 +13,7 @@ pub mod socket;
 #[cfg(test)]
 mod tests;
 
-use crate::fault::{Fault, tell};
+use crate::fault::{Fault, taking_fault, tell};
 use crate::run::run;
 use line_reader::meter::{MeteredMemory, MeteredReader, MeteredWriter};
 use std::env;
@@ -22,7 +22,7 @@ use std::process::ExitCode;
 /// The words of the command line, the program's own name first.
 fn words_of(rt: &HostRuntime) -> Result<Vec<String>, Fault> {
     let mut words = Vec::new(rt.alloc());
-    for word in env::args(rt).map_err(|_| Fault::Memory)? {
+    for word in env::args(rt).map_err(|error| taking_fault(&error))? {
         words.push(word).map_err(|_| Fault::Memory)?;
     }
     Ok(words)

@@ -1,5 +1,6 @@
 //! The report of an audit, written behind what else was written.
 ghost use Rattle.std.specs.Prelude.{◌≡◌, Err, true};
+ghost use Rattle.line_reader.specs.Meters.{has_failed};
 ghost use Rattle.estserve.specs.declared.fault.Fault.TheVariants as fault;
 ghost use Rattle.estserve.specs.Reports.{Reports};
 
@@ -26,7 +27,8 @@ pub fn write_report<O: Write>(
 ) -> Result<(), Fault>
     ensures reports { Reports policy.now slots.now (O.contents output.old.device) result
         (O.contents output.new.device) }
-    ensures failed { result ≡ Err fault.Write → output.new.failed ≡ true }
+    ensures failed { result ≡ Err fault.Write →
+        has_failed output.old.faults output.new.faults ≡ true }
 {
     let Ok(text) = report(alloc, policy, slots) else {
         return Err(Fault::Memory);

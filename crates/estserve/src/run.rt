@@ -1,8 +1,9 @@
 //! A run of the program, over any words and streams.
-ghost use Rattle.std.specs.Prelude.{◌≡◌, Err, true, map, string_bytes};
+ghost use Rattle.std.specs.Prelude.{◌≡◌, Err, map, string_bytes};
+ghost use Rattle.line_reader.specs.Meters.{has_failed};
 ghost use Rattle.line_reader.specs.declared.serving.Why.TheVariants.{ReadFault, WriteFault};
 ghost use Rattle.estserve.specs.declared.fault.Fault.TheVariants as fault;
-ghost use Rattle.estserve.specs.Runs.{EndsSo, RunsScript, Obeys, NamesDevices, Runs};
+ghost use Rattle.estserve.specs.Runs.{EndsSo, CannotWrite, RunsScript, Obeys, NamesDevices, Runs};
 
 use crate::fault::{Fault, outcome, tell};
 use crate::reports::write_report;
@@ -36,11 +37,11 @@ fn finish<O: Write>(
     output: &mut MeteredWriter<O>,
     report: bool,
 ) -> Result<(), Fault>
-    requires { why ≡ WriteFault → output.old.failed ≡ true }
     ensures ends { EndsSo report why desk result (O.contents output.old.device)
         (O.contents output.new.device) }
     ensures read { result ≡ Err fault.Read → why ≡ ReadFault }
-    ensures write { result ≡ Err fault.Write → output.new.failed ≡ true }
+    ensures write { result ≡ Err fault.Write →
+        CannotWrite why output.old.faults output.new.faults }
 {
     match why {
         Why::Closed | Why::TooLong => {
@@ -65,9 +66,11 @@ fn script<R: Wait, I: Read, O: Write, E: Write>(
     log: bool,
     report: bool,
 ) -> Result<(), Fault>
-    ensures runs { RunsScript memory.new.refused report (I.remaining input.old.device) result
+    ensures runs { RunsScript (has_failed memory.old.refusals memory.new.refusals) report
+        (I.remaining input.old.device) result
         (O.contents output.old.device) (O.contents output.new.device) }
-    ensures devices { NamesDevices result input.new.failed input.new.left output.new.failed }
+    ensures devices { NamesDevices result (has_failed input.old.faults input.new.faults)
+        input.new.left (has_failed output.old.faults output.new.faults) }
 {
     let Ok(mut desk) = Single::new(memory.allocator()) else {
         return Err(Fault::Memory);
@@ -89,10 +92,12 @@ fn obey<R: Threads + Wait + Net + Files + Sync, I: Read, O: Write, E: Write>(
     output: &mut MeteredWriter<O>,
     errors: &mut E,
 ) -> Result<(), Fault>
-    ensures obeys { Obeys (map string_bytes words.now) memory.new.refused
+    ensures obeys { Obeys (map string_bytes words.now)
+        (has_failed memory.old.refusals memory.new.refusals)
         (I.remaining input.old.device) result (O.contents output.old.device)
         (O.contents output.new.device) }
-    ensures devices { NamesDevices result input.new.failed input.new.left output.new.failed }
+    ensures devices { NamesDevices result (has_failed input.old.faults input.new.faults)
+        input.new.left (has_failed output.old.faults output.new.faults) }
 {
     match Order::from_words(memory.allocator(), words)? {
         Order::Script { log, report } => { script(rt, memory, input, output, errors, log, report) },
@@ -110,9 +115,11 @@ pub fn run<R: Threads + Wait + Net + Files + Sync, I: Read, O: Write, E: Write>(
     output: &mut MeteredWriter<O>,
     errors: &mut E,
 ) -> u8
-    ensures { Runs (map string_bytes words.now) memory.new.refused (I.remaining input.old.device)
+    ensures { Runs (map string_bytes words.now)
+        (has_failed memory.old.refusals memory.new.refusals) (I.remaining input.old.device)
         (O.contents output.old.device) (O.contents output.new.device)
-        input.new.failed input.new.left output.new.failed result }
+        (has_failed input.old.faults input.new.faults) input.new.left
+        (has_failed output.old.faults output.new.faults) result }
 {
     match obey(rt, memory, words, input, output, errors) {
         Ok(()) => 0,

@@ -1,6 +1,7 @@
 //! The connections of a socket, served side by side over one policy and one table of slots.
 ghost use Rattle.std.specs.Prelude.{◌≡◌, ◌≤◌, Err, true, vec_len};
 ghost use Rattle.seat_receipts.specs.declared.receipts.TheConstants.{SEATS};
+ghost use Rattle.line_reader.specs.Meters.{has_failed};
 ghost use Rattle.estserve.specs.declared.fault.Fault.TheVariants as fault;
 ghost use Rattle.estserve.specs.Serving.{ClosesSo, ServesSocket};
 
@@ -12,7 +13,7 @@ use client_loop::workers::run_workers;
 use command_line::order::{Service, WorkerCount};
 use line_reader::meter::MeteredWriter;
 use policy_board::board::Board;
-use policy_board::history::{Fresh, Naming};
+use policy_board::history::{BoardName, Fresh};
 use policy_board::opening::Opened;
 use policy_board::seat::Seat;
 use slot_table::table::SlotTable;
@@ -25,18 +26,19 @@ use std::sync::Wait;
 use std::thread::Threads;
 
 /// Closes a server whose workers have left its seats so, and writes the report on its journals.
-fn close<J: Naming, R: Wait, O: Write>(
+fn close<B: BoardName, R: Wait, O: Write>(
     rt: &R,
     alloc: Global,
-    board: Board<J>,
-    table: SlotTable<J>,
-    seats: Vec<Seat<J>>,
+    board: Board<B>,
+    table: SlotTable<B>,
+    seats: Vec<Seat<B>>,
     output: &mut MeteredWriter<O>,
 ) -> Result<(), Fault>
     requires { vec_len seats ≤ SEATS }
     ensures closes { ClosesSo seats.items result (O.contents output.old.device)
         (O.contents output.new.device) }
-    ensures failed { result ≡ Err fault.Write → output.new.failed ≡ true }
+    ensures failed { result ≡ Err fault.Write →
+        has_failed output.old.faults output.new.faults ≡ true }
 {
     match table.close(rt, alloc, board, seats) {
         Ok(histories) => write_report(alloc, &histories.policy, &histories.slots, output),
@@ -45,7 +47,7 @@ fn close<J: Naming, R: Wait, O: Write>(
 }
 
 /// Serves the connections of a source over a board of this name as it opens, at a seat for each worker, and closes the server.
-fn serve_source<J: Naming + Send + Sync, R: Threads + Wait + Sync, O: Write>(
+fn serve_source<B: BoardName + Send + Sync, R: Threads + Wait + Sync, O: Write>(
     rt: &R,
     alloc: Global,
     fresh: Fresh,
@@ -53,10 +55,11 @@ fn serve_source<J: Naming + Send + Sync, R: Threads + Wait + Sync, O: Write>(
     source: &SocketSource<'_, '_>,
     output: &mut MeteredWriter<O>,
 ) -> Result<(), Fault>
-    requires { fresh.seen.book ≡ J.book }
+    requires { fresh.seen.book ≡ B.book }
     ensures serves { ServesSocket workers result (O.contents output.old.device)
         (O.contents output.new.device) }
-    ensures failed { result ≡ Err fault.Write → output.new.failed ≡ true }
+    ensures failed { result ≡ Err fault.Write →
+        has_failed output.old.faults output.new.faults ≡ true }
 {
     let Ok(
         Opened {
@@ -64,7 +67,7 @@ fn serve_source<J: Naming + Send + Sync, R: Threads + Wait + Sync, O: Write>(
             seats,
             readers,
         },
-    ) = Board::<J>::open(alloc, fresh, workers.count())
+    ) = Board::<B>::open(rt, alloc, fresh, workers.count())
     else {
         return Err(Fault::Memory);
     };
@@ -90,7 +93,8 @@ fn serve_socket<R: Threads + Wait + Sync, O: Write>(
 ) -> Result<(), Fault>
     ensures serves { ServesSocket service.now.workers result (O.contents output.old.device)
         (O.contents output.new.device) }
-    ensures failed { result ≡ Err fault.Write → output.new.failed ≡ true }
+    ensures failed { result ≡ Err fault.Write →
+        has_failed output.old.faults output.new.faults ≡ true }
 {
     let workers = service.workers;
     match SocketSource::new(alloc, socket, workers.count(), service.connections) {
@@ -119,7 +123,8 @@ pub fn serve<R: Threads + Wait + Net + Files + Sync, O: Write>(
 ) -> Result<(), Fault>
     ensures serves { ServesSocket service.now.workers result (O.contents output.old.device)
         (O.contents output.new.device) }
-    ensures failed { result ≡ Err fault.Write → output.new.failed ≡ true }
+    ensures failed { result ≡ Err fault.Write →
+        has_failed output.old.faults output.new.faults ≡ true }
 {
     let socket = Socket::bind(rt, service.path)?;
     let answer = serve_socket(rt, alloc, &socket, service, output);

@@ -4,6 +4,7 @@ ghost use Rattle.std.specs.Prelude.{◌≤◌, length};
 mod rows;
 mod sockets;
 
+use crate::fault::{taking_fault, tell};
 use crate::run::run;
 use line_reader::lines::LINE_BYTES;
 use line_reader::meter::{MeteredMemory, MeteredReader, MeteredWriter};
@@ -246,6 +247,21 @@ fn words(rt: HostRuntime) -> Result<(), Fail> {
         assert_eq!(rt; end.status, status, "{words:?}");
         assert!(rt; end.output.as_slice() == output.as_bytes(), "{words:?}");
         assert!(rt; end.errors.is_empty() == is_silent, "{words:?}");
+    }
+    Ok(())
+}
+
+#[test]
+fn words_that_cannot_be_taken(rt: HostRuntime) -> Result<(), Fail> {
+    for (kind, status, line) in [
+        (ErrorKind::OutOfMemory, 1u8, "estserve: no memory\n"),
+        (ErrorKind::InvalidData, 2, "estserve: a word is not UTF-8\n"),
+    ] {
+        let fault = taking_fault(&io::Error::from(kind));
+        assert_eq!(rt; fault.status(), status, "{line}");
+        let mut errors = Sink::new(rt.alloc(), AMPLE);
+        assert!(rt; tell(&fault, &mut errors).is_ok(), "{line}");
+        assert!(rt; errors.written.as_slice() == line.as_bytes(), "{line}");
     }
     Ok(())
 }

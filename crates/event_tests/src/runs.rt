@@ -25,7 +25,7 @@ const CHIEF: [Line; 9] = [
     ("1 - login ann chief", "login 2 13"),
 ];
 
-/// Seat 1 has seen nothing when it gives its first command, but the slot bears 9.
+/// SeatNumber 1 has seen nothing when it gives its first command, but the slot bears 9.
 #[test]
 fn a_version_behind_or_ahead(rt: HostRuntime) {
     let world = follow(

@@ -3,9 +3,10 @@
 use access_core::command::SlotCommand;
 use access_core::refusal::Refusal;
 use access_core::reply::{Reply, ShownSignals};
-use access_events::event::{Event, Seat};
+use access_events::event::{Event, SeatNumber};
 use access_events::run::{World, run_events};
 use est_text::identifier::Identifier;
+use rbac_admin::refusals::Refusal as PolicyRefusal;
 use rbac_policy::commands::{AdminCommand, SessionId};
 use rbac_policy::names::{LISTED_ROLES, Name, RoleNames};
 use rbac_policy::objects::{Object, Operation};
@@ -41,9 +42,9 @@ fn session(rt: &impl Abort, text: &str) -> SessionId {
     SessionId::new(text.parse::<u16>().ok().expect(rt, "a number"))
 }
 
-fn seat(rt: &impl Abort, text: &str) -> Seat {
+fn seat(rt: &impl Abort, text: &str) -> SeatNumber {
     let number = text.parse::<u8>().ok().expect(rt, "a number");
-    Seat::new(number).expect(rt, "a seat")
+    SeatNumber::new(number).expect(rt, "a seat")
 }
 
 fn name(rt: &impl Abort, text: &str) -> Name {
@@ -273,14 +274,18 @@ fn is_violation(rt: &impl Abort, set: &Name, violator: SessionId, words: &[&str]
 fn is_refused(rt: &impl Abort, refusal: &Refusal, words: &[&str]) -> bool {
     match refusal {
         Refusal::Behind { found, seen } => are(rt, words, "Behind", &[*found, *seen]),
-        Refusal::Permission {
-            operation: op,
-            object: on,
-        } => is_permission(rt, *op, on, words),
-        Refusal::DsdViolated {
-            set,
-            session: violator,
-        } => is_violation(rt, set, *violator, words),
+        Refusal::Policy(
+            PolicyRefusal::Permission {
+                operation: op,
+                object: on,
+            },
+        ) => is_permission(rt, *op, on, words),
+        Refusal::Policy(
+            PolicyRefusal::DsdViolated {
+                set,
+                session: violator,
+            },
+        ) => is_violation(rt, set, *violator, words),
         other => match words {
             [name] => other.name() == *name,
             _ => false,

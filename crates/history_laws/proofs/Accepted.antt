@@ -15,7 +15,6 @@ use Rattle.rbac_policy.specs.declared.objects.TheConstants.{SLOTS}
 use Rattle.rbac_policy.specs.Facts.{IsLive}
 use Rattle.rbac_policy.proofs.Slots.{get_set_same}
 use Rattle.rbac_admin.specs.PolicyLists.{IsAccepted as MayFollow}
-use Rattle.rbac_admin.specs.Room.{HasRoomFor}
 use Rattle.reactor_core.specs.declared.entry.Action.{Action}
 use Rattle.reactor_core.specs.declared.entry.Action.TheVariants as action
 use Rattle.reactor_core.specs.declared.entry.SlotEntry.{SlotEntry}
@@ -24,7 +23,7 @@ use Rattle.access_core.specs.declared.refusal.Refusal.{Refusal}
 use Rattle.access_core.specs.declared.reply.Change.{Change}
 use Rattle.access_core.specs.declared.reply.Reply.{Reply}
 use Rattle.access_core.specs.Answering.{IsRefused}
-use Rattle.access_core.specs.Desk.{HasRoomFor as DeskHasRoomFor, accepted_reply, reply_of_change, change_of}
+use Rattle.access_core.specs.Desk.{accepted_reply, reply_of_change, change_of}
 use Rattle.access_core.specs.Journals.{command_of, last_version as version_of_last, IsLegalEntry}
 use Rattle.access_core.specs.Needs.{IsAccepted, permission_of}
 use Rattle.access_core.specs.SlotState.{SlotState}
@@ -39,25 +38,6 @@ use Rattle.history_merge.specs.OneList.{asked_of, Tells as TellsEntry}
 use Rattle.history_laws.specs.CallsInTurn.{asked_by, IsPolicyCall, IsSlotCall}
 
 -- ---- policy commands
-
--- where the policy list has room, the desk has
-room_there : (command : AdminCommand) (list : List Entry) → HasRoomFor command list → DeskHasRoomFor command list
-room_there (AddUser user) list room = room
-room_there (DeleteUser user) list room = room
-room_there (AddRole role) list room = room
-room_there (DeleteRole role) list room = room
-room_there (AssignUser user role) list room = room
-room_there (DeassignUser user role) list room = room
-room_there (GrantPermission role operation object) list room = room
-room_there (RevokePermission role operation object) list room = room
-room_there (AddInheritance senior junior) list room = room
-room_there (DeleteInheritance senior junior) list room = room
-room_there (CreateDsdSet set count roles) list room = room
-room_there (DeleteDsdSet set) list room = room
-room_there (CreateSession user roles) list room = room
-room_there DeleteSession list room = room
-room_there (AddActiveRole role) list room = room
-room_there (DropActiveRole role) list room = room
 
 accepted_change : (change : Option Change) (entries : List Entry) → IsAccepted (reply_of_change change entries)
 accepted_change None entries = tt
@@ -85,7 +65,7 @@ module _ (seat : ℕ) (entry : Entry) (world : WorldState) where
     step = record {
       answer = _;
       given = may.step;
-      replied = pass (room_there entry.command world.entries may.room) (pass tt (record { replied = refl; appended = refl }));
+      replied = pass may.room (pass tt (record { replied = refl; appended = refl }));
     };
     seen = refl;
   }

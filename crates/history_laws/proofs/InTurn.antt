@@ -20,7 +20,7 @@ use Rattle.access_events.specs.Runs.{WorldState, opening_world, Moment, Follow, 
 use Rattle.access_events.proofs.Placing.{opening_journal}
 use Rattle.seat_receipts.specs.declared.receipt.SlotReceipt.{SlotReceipt}
 use Rattle.seat_receipts.specs.declared.receipt.Kept.{Kept}
-use Rattle.history_merge.specs.declared.order.TheConstants.{OPENING_ENTRIES}
+use Rattle.rbac_policy.specs.declared.sizes.TheConstants.{OPENING_ENTRIES}
 use Rattle.history_merge.specs.declared.order.Rank.{Rank}
 use Rattle.history_merge.specs.declared.order.Rank.TheVariants as rank
 use Rattle.history_merge.specs.Events.{Event, Publishes, Commands, of_policy, of_seat, of_slot}

@@ -41,9 +41,9 @@ pub record IsPolicyCall (seat version : ℕ) (entry : Entry) (m : Moment) : Type
   pub added : m.after.entries ≡ m.before.entries ++ entry ∷ []
   pub makes : length m.after.entries ≡ version
 
--- the moment is the call of which this seat keeps this receipt: a command of which the receipt keeps this, which its session
--- gives through the seat on its slot and which is judged at its version, is accepted; the slot's journal then ends at its place,
--- and the reply tells place and version
+-- the moment is the call of which this seat keeps this receipt: through the seat, the receipt's session gave a command
+-- on its slot, of which the receipt keeps this, at its version. The command was accepted, the slot's journal then ends
+-- at the receipt's place, and the reply tells place and version
 pub record IsSlotCall (seat : ℕ) (r : SlotReceipt) (m : Moment) : Type 0 where
   pub seated : seat < SEATS
   pub command : SlotCommand
@@ -78,8 +78,8 @@ pub record AreOfOneRun (policy : List Entry) (journals : List (List SlotEntry)) 
   pub run : List Moment
   pub ran : IsRunOf policy journals events run
 
--- whatever the calls of such a run are answered and end in, made one after another from the opening on: the replies are those of
--- the run, and policy list and journals are those of the world
+-- if the calls of such a run are made one after another from the opening on, their replies are those of the run, and
+-- they leave this policy list and these journals
 abbrev pub CallsEndSo : Type 0
 CallsEndSo =
     (policy : List Entry) (journals : List (List SlotEntry)) (seats : List (List Kept)) (one : AreOfOneRun policy journals seats)

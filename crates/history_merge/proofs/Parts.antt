@@ -8,7 +8,7 @@ use Rattle.reactor_core.specs.declared.entry.SlotEntry.{SlotEntry}
 use Rattle.seat_receipts.specs.declared.receipt.SlotReceipt.{SlotReceipt}
 use Rattle.seat_receipts.specs.declared.receipt.Kept.{Kept}
 use Rattle.seat_receipts.specs.declared.receipt.Kept.TheVariants.{Admin, Slot}
-use Rattle.history_merge.specs.declared.order.TheConstants.{OPENING_ENTRIES}
+use Rattle.rbac_policy.specs.declared.sizes.TheConstants.{OPENING_ENTRIES}
 use Rattle.history_merge.specs.declared.order.Rank.{Rank}
 use Rattle.history_merge.specs.declared.order.Rank.TheVariants as rank
 use Rattle.history_merge.specs.Events.{Event, Publishes, Commands, of_seat, of_policy, of_slot}

@@ -6,7 +6,7 @@ use Rattle.rbac_policy.specs.declared.objects.TheConstants.{SLOTS}
 use Rattle.reactor_core.specs.declared.entry.SlotEntry.{SlotEntry}
 use Rattle.seat_receipts.specs.declared.receipt.SlotReceipt.{SlotReceipt}
 use Rattle.seat_receipts.specs.declared.receipt.Kept.TheVariants.{Slot}
-use Rattle.history_merge.specs.declared.order.TheConstants.{OPENING_ENTRIES}
+use Rattle.rbac_policy.specs.declared.sizes.TheConstants.{OPENING_ENTRIES}
 use Rattle.history_merge.specs.Order.{part_at}
 use Rattle.history_merge.specs.OneList.{Tells}
 use Rattle.history_merge.specs.Mismatches.{IsThere}

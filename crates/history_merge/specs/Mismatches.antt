@@ -9,7 +9,7 @@ use Rattle.seat_receipts.specs.declared.mismatch.Mismatch.TheVariants.{Count, Re
 use Rattle.seat_receipts.specs.declared.receipt.SlotReceipt.{SlotReceipt}
 use Rattle.seat_receipts.specs.declared.receipt.Kept.{Kept}
 use Rattle.seat_receipts.specs.declared.receipt.Kept.TheVariants.{Admin, Slot}
-use Rattle.history_merge.specs.declared.order.TheConstants.{OPENING_ENTRIES}
+use Rattle.rbac_policy.specs.declared.sizes.TheConstants.{OPENING_ENTRIES}
 use Rattle.history_merge.specs.Order.{part_at, Rises}
 use Rattle.history_merge.specs.OneList.{Tells}
 

@@ -4,11 +4,11 @@ use Rattle.rbac_policy.specs.declared.commands.Entry.{Entry}
 use Rattle.reactor_core.specs.declared.entry.SlotEntry.{SlotEntry}
 use Rattle.seat_receipts.specs.declared.receipt.Kept.{Kept}
 use Rattle.seat_receipts.specs.declared.receipt.Kept.TheVariants.{Admin, Slot}
-use Rattle.history_merge.specs.declared.order.TheConstants.{OPENING_ENTRIES}
+use Rattle.rbac_policy.specs.declared.sizes.TheConstants.{OPENING_ENTRIES}
 use Rattle.history_merge.specs.Order.{part_at}
 use Rattle.history_merge.specs.Mismatches.{IsThere}
 
--- of all seats exactly one keeps such a receipt, at one place of its list
+-- exactly one seat keeps such a receipt, exactly once
 pub record ExactlyOne (seats : List (List Kept)) (Such : Kept → Type 0) : Type 0 where
   pub seat : ℕ
   pub n : ℕ

@@ -8,7 +8,7 @@ use Rattle.seat_receipts.specs.declared.receipt.Asked.{Asked}
 use Rattle.seat_receipts.specs.declared.receipt.Asked.TheVariants.{Load, Offer, Discard, Step, Unload}
 use Rattle.seat_receipts.specs.declared.receipt.SlotReceipt.{SlotReceipt}
 use Rattle.seat_receipts.specs.declared.receipt.Kept.{Kept}
-use Rattle.history_merge.specs.declared.order.TheConstants.{OPENING_ENTRIES}
+use Rattle.rbac_policy.specs.declared.sizes.TheConstants.{OPENING_ENTRIES}
 use Rattle.history_merge.specs.declared.order.Rank.TheVariants as rank
 use Rattle.history_merge.specs.Order.{part_at, IsOver, InOrder}
 use Rattle.history_merge.specs.Events.{Event, of_seat, of_policy, of_slot}
@@ -27,7 +27,7 @@ pub record Tells (r : SlotReceipt) (e : SlotEntry) : Type 0 where
   pub session : r.session ≡ e.stamp.session
   pub asked : r.asked ≡ asked_of e.action
 
--- each receipt tells the entry of its place, one for one: the places are those after this one, and the numbers rise from this one on
+-- receipts and entries match one for one: places go up by one from here, and numbers rise
 abbrev pub Tell : (place : ℕ) → (number : Option ℕ) → List SlotReceipt → List SlotEntry → Type 0
 Tell place number [] [] = Unit {0}
 Tell place number [] (e ∷ es) = ⊥

@@ -8,10 +8,11 @@ ghost use Rattle.history_merge.specs.Inner.Taking.{none_taken, Lesser, LeastOf, 
 ghost use Rattle.history_merge.specs.Inner.Taking.{HasRoom, Takes, Refuses, head, AreAllRead, IsLeast};
 ghost use Rattle.history_merge.specs.Order.{rank_of};
 
-use crate::order::{OPENING_ENTRIES, Rank, is_over, precedes, rank_of};
+use crate::order::{Rank, is_over, precedes, rank_of};
 use crate::places::is_there;
 use rbac_policy::commands::Entry;
 use rbac_policy::objects::SLOTS;
+use rbac_policy::sizes::OPENING_ENTRIES;
 use reactor_core::journal::Journal;
 use seat_receipts::receipt::{Kept, SlotReceipt};
 use seat_receipts::receipts::{Receipts, SEATS};
@@ -40,9 +41,9 @@ impl Taken {
     {
         Taken {
             last: Rank::Entry {
-                version: OPENING_ENTRIES,
+                version: OPENING_ENTRIES as u64,
             },
-            entries: OPENING_ENTRIES,
+            entries: OPENING_ENTRIES as u64,
             places: [0; SLOTS as usize],
             numbers: [None; SLOTS as usize],
             counts: [0; SLOTS as usize],

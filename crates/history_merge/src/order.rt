@@ -6,9 +6,6 @@ ghost use Rattle.history_merge.specs.Mismatches.{Breaks};
 
 use seat_receipts::receipt::Kept;
 
-/// How many entries a policy list opens with: nobody gave them, and nobody keeps a receipt of them.
-pub const OPENING_ENTRIES: u64 = 4;
-
 /// Where a receipt stands in the order of all: by version, first the policy entry that made it, and
 /// then the slot commands by number, and those of one number by slot.
 #[derive(Clone, Copy)]

@@ -3,15 +3,15 @@ ghost use Rattle.std.specs.Prelude.{◌≡◌, ◌<◌, ◌-◌, Some, option_ma
 ghost use Rattle.std.specs.Bool.{Decides};
 ghost use Rattle.rbac_policy.specs.declared.objects.TheConstants.{SLOTS};
 ghost use Rattle.seat_receipts.specs.declared.receipt.Kept.TheVariants.{Slot};
-ghost use Rattle.history_merge.specs.declared.order.TheConstants.{OPENING_ENTRIES};
+ghost use Rattle.rbac_policy.specs.declared.sizes.TheConstants.{OPENING_ENTRIES};
 ghost use Rattle.history_merge.specs.Order.{part_at};
 ghost use Rattle.history_merge.specs.OneList.{asked_of, Tells};
 ghost use Rattle.history_merge.specs.Mismatches.{IsThere};
 
-use crate::order::OPENING_ENTRIES;
 use crate::same::is_same_entry;
 use rbac_policy::commands::Entry;
 use rbac_policy::objects::SLOTS;
+use rbac_policy::sizes::OPENING_ENTRIES;
 use reactor_core::entry::{Action, SlotEntry};
 use reactor_core::journal::Journal;
 use seat_receipts::receipt::{Asked, Kept, SlotReceipt};
@@ -47,7 +47,7 @@ fn is_entry_there(policy: &[Entry], version: u64, entry: &Entry) -> bool
     ensures { Decides result ((OPENING_ENTRIES < version)
         × (slice_get policy.now (version - 1) ≡ Some entry.now)) }
 {
-    if version <= OPENING_ENTRIES {
+    if version <= OPENING_ENTRIES as u64 {
         return false;
     }
     match policy.get((version - 1) as usize) {
@@ -77,7 +77,7 @@ fn is_command_there(
     if receipt.slot >= SLOTS as u64 || receipt.place == 0 {
         return false;
     }
-    if receipt.version < OPENING_ENTRIES || receipt.version > policy.len() as u64 {
+    if receipt.version < OPENING_ENTRIES as u64 || receipt.version > policy.len() as u64 {
         return false;
     }
     match entry_at(journals, receipt.slot, receipt.place) {

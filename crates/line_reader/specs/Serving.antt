@@ -92,8 +92,8 @@ abbrev pub Puts : Why → (before after : Option (List ℕ)) → (text left : Li
 Puts WriteFault before after text left = WritesFront before after text
 Puts _ before after text left = WritesUpTo before after text left
 
--- lines are answered, and then the connection ends so; what waited, the answers and what comes more is written, but for
--- what is left
+-- lines are answered, then the connection ends for this reason; everything that waited or was answered is written,
+-- except what is left
 pub record Serves {A : Type 0} (tells : A → List ℕ → List ℕ → A → Type 0) (fails : A → List ℕ → A → Type 0)
     (refusal : List ℕ) (before : BetweenLines A) (why : Why) (desk : A) (written after : Option (List ℕ))
     (waiting left : List ℕ) : Type 0 where

@@ -1,7 +1,7 @@
 //! Lines in and replies out: what waits is written before a read that could wait.
 ghost use Rattle.std.specs.Prelude.{◌≡◌, ◌<◌, ◌⊎◌, [], true, IfOk, IfSome, OnOk, OnErr, Ok, Err, None};
 ghost use Rattle.line_reader.specs.Lines.{Gives, HasNoEnd};
-ghost use Rattle.line_reader.specs.Meters.{IsStopped};
+ghost use Rattle.line_reader.specs.Meters.{IsStopped, has_failed};
 ghost use Rattle.line_reader.specs.Readers.{held_bytes, last_line, answer_after, Leaves, weight, IsReady};
 ghost use Rattle.line_reader.specs.Waiting.{waiting_bytes};
 ghost use Rattle.line_reader.specs.Writing.{WritesUpTo, WritesFront};
@@ -24,10 +24,10 @@ fn make_ready<W: Write>(
     ensures ok { OnOk result (WritesUpTo (W.contents writer.old.device)
         (W.contents writer.new.device) (waiting_bytes replies.old) (waiting_bytes replies.new)) }
     ensures ready { OnOk result (IsReady lines.new ⊎ (waiting_bytes replies.new ≡ [])) }
-    ensures unfailed { OnOk result (writer.new.failed ≡ writer.old.failed) }
+    ensures unfailed { OnOk result (writer.new.faults ≡ writer.old.faults) }
     ensures err { OnErr result (WritesFront (W.contents writer.old.device)
         (W.contents writer.new.device) (waiting_bytes replies.old)) }
-    ensures failed { OnErr result (writer.new.failed ≡ true) }
+    ensures failed { OnErr result (has_failed writer.old.faults writer.new.faults ≡ true) }
 {
     if lines.is_ready() {
         return Ok(());
@@ -53,7 +53,9 @@ fn read_line<R: Read>(
     ensures leaves { lines.old.ending ≡ None →
         Leaves result lines.new.ending (held_bytes lines.new) (R.remaining reader.new.device) }
     ensures stopped { lines.old.ending ≡ None → result ≡ Err fault.Read →
-        IsStopped reader.new.failed reader.new.left × HasNoEnd (held_bytes lines.new) }
+        IsStopped (has_failed reader.old.faults reader.new.faults) reader.new.left
+        × HasNoEnd (held_bytes lines.new) }
+    ensures unfailed { OnOk result (reader.new.faults ≡ reader.old.faults) }
     ensures less { result ≡ Ok line.Whole →
         weight reader.new.left lines.new < weight reader.old.left lines.old }
     ensures first { (reader.new ≡ reader.old) ⊎ (waiting_bytes _replies.now ≡ []) }
@@ -81,17 +83,20 @@ pub fn next_line<R: Read, W: Write>(
     ensures leaves { IfOk result (λ answer. lines.old.ending ≡ None →
         Leaves answer lines.new.ending (held_bytes lines.new) (R.remaining reader.new.device)) }
     ensures stopped { IfOk result (λ answer. lines.old.ending ≡ None → answer ≡ Err fault.Read →
-        IsStopped reader.new.failed reader.new.left × HasNoEnd (held_bytes lines.new)) }
+        IsStopped (has_failed reader.old.faults reader.new.faults) reader.new.left
+        × HasNoEnd (held_bytes lines.new)) }
+    ensures unfailed_reader { IfOk result (λ answer.
+        OnOk answer (reader.new.faults ≡ reader.old.faults)) }
     ensures less { IfOk result (λ answer. answer ≡ Ok line.Whole →
         weight reader.new.left lines.new < weight reader.old.left lines.old) }
     ensures writes { OnOk result (WritesUpTo (W.contents writer.old.device)
         (W.contents writer.new.device) (waiting_bytes replies.old) (waiting_bytes replies.new)) }
     ensures written_first { OnOk result ((reader.new ≡ reader.old)
         ⊎ (waiting_bytes replies.new ≡ [])) }
-    ensures unfailed { OnOk result (writer.new.failed ≡ writer.old.failed) }
+    ensures unfailed { OnOk result (writer.new.faults ≡ writer.old.faults) }
     ensures err { OnErr result (WritesFront (W.contents writer.old.device)
         (W.contents writer.new.device) (waiting_bytes replies.old)) }
-    ensures failed { OnErr result (writer.new.failed ≡ true) }
+    ensures failed { OnErr result (has_failed writer.old.faults writer.new.faults ≡ true) }
     ensures unread { OnErr result (reader.new ≡ reader.old) }
 {
     let Ok(()) = make_ready(lines, replies, writer) else {

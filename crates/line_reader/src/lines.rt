@@ -5,7 +5,7 @@ ghost use Rattle.std.specs.Prelude.{ℕ, List, [], ◌≡◌, ◌≤◌, ◌<◌
 ghost use Rattle.std.specs.Prelude.{drop, slice_range, MatchOption, IfOk, OnOk, OnErr, IfSome, IfNone, IsTrue, Some, None};
 ghost use Rattle.std.specs.Prelude.{Ok, Err};
 ghost use Rattle.line_reader.specs.Lines.{HasNoEnd, IsNext, IsTooLong};
-ghost use Rattle.line_reader.specs.Meters.{Reads, IsStopped};
+ghost use Rattle.line_reader.specs.Meters.{Reads, IsStopped, has_failed};
 ghost use Rattle.line_reader.specs.declared.lines.TheConstants.{ROOM, LINE_BYTES};
 
 use crate::meter::{MeteredMemory, MeteredReader};
@@ -81,8 +81,9 @@ fn read_from<R: Read>(
         result (drop at bytes.new.items) }
     ensures left { reader.new.left ≡ reader.old.left - 1 }
     ensures gave { IfSome result (λ _. (0 < reader.old.left)
-        × (reader.new.failed ≡ reader.old.failed)) }
-    ensures stopped { IfNone result ((reader.new.failed ≡ true) ⊎ (reader.old.left ≡ 0)) }
+        × (reader.new.faults ≡ reader.old.faults)) }
+    ensures stopped { IfNone result ((has_failed reader.old.faults reader.new.faults ≡ true)
+        ⊎ (reader.old.left ≡ 0)) }
 {
     reader.read(&mut bytes[at..])
 }
@@ -122,8 +123,9 @@ impl LineReader {
     /// A reader of lines that has read nothing. This takes all the memory that it ever needs.
     pub fn new(memory: &mut MeteredMemory) -> Result<LineReader, AllocError>
         ensures empty { IfOk result (λ r. (held_bytes r ≡ []) × (r.ending ≡ None)) }
-        ensures gave { OnOk result (memory.new.refused ≡ memory.old.refused) }
-        ensures refused { OnErr result (memory.new.refused ≡ true) }
+        ensures gave { OnOk result (memory.new.refusals ≡ memory.old.refusals) }
+        ensures refused { OnErr result
+            (has_failed memory.old.refusals memory.new.refusals ≡ true) }
     {
         let bytes = memory.zeros(ROOM)?;
         Ok(LineReader {
@@ -187,8 +189,9 @@ impl LineReader {
         ensures len { length (held_bytes self.new) ≤ length (held_bytes self.old) + ROOM }
         ensures left { reader.new.left ≡ reader.old.left - 1 }
         ensures gave { IfSome result (λ _. (0 < reader.old.left)
-            × (reader.new.failed ≡ reader.old.failed)) }
-        ensures stopped { IfNone result ((reader.new.failed ≡ true) ⊎ (reader.old.left ≡ 0)) }
+            × (reader.new.faults ≡ reader.old.faults)) }
+        ensures stopped { IfNone result ((has_failed reader.old.faults reader.new.faults ≡ true)
+            ⊎ (reader.old.left ≡ 0)) }
         ensures ending { self.new.ending ≡ self.old.ending }
     {
         self.make_room();
@@ -245,10 +248,11 @@ impl LineReader {
         ensures leaves { Leaves result self.new.ending (held_bytes self.new)
             (R.remaining reader.new.device) }
         ensures stopped { result ≡ Err fault.Read →
-            IsStopped reader.new.failed reader.new.left × HasNoEnd (held_bytes self.new) }
-        ensures unfailed { OnOk result (reader.new.failed ≡ reader.old.failed) }
+            IsStopped (has_failed reader.old.faults reader.new.faults) reader.new.left
+            × HasNoEnd (held_bytes self.new) }
+        ensures unfailed { OnOk result (reader.new.faults ≡ reader.old.faults) }
         ensures unfailed_long { result ≡ Err fault.TooLong →
-            reader.new.failed ≡ reader.old.failed }
+            reader.new.faults ≡ reader.old.faults }
         ensures less { result ≡ Ok line.Whole →
             weight reader.new.left self.new < weight reader.old.left self.old }
         ensures unread { ¬ (HasNoEnd (held_bytes self.old)) → reader.new ≡ reader.old }
@@ -289,10 +293,11 @@ impl LineReader {
         ensures leaves { self.old.ending ≡ None →
             Leaves result self.new.ending (held_bytes self.new) (R.remaining reader.new.device) }
         ensures stopped { self.old.ending ≡ None → result ≡ Err fault.Read →
-            IsStopped reader.new.failed reader.new.left × HasNoEnd (held_bytes self.new) }
-        ensures unfailed { OnOk result (reader.new.failed ≡ reader.old.failed) }
+            IsStopped (has_failed reader.old.faults reader.new.faults) reader.new.left
+            × HasNoEnd (held_bytes self.new) }
+        ensures unfailed { OnOk result (reader.new.faults ≡ reader.old.faults) }
         ensures unfailed_long { result ≡ Err fault.TooLong →
-            reader.new.failed ≡ reader.old.failed }
+            reader.new.faults ≡ reader.old.faults }
         ensures less { result ≡ Ok line.Whole →
             weight reader.new.left self.new < weight reader.old.left self.old }
         ensures unread { IsReady self.old → reader.new ≡ reader.old }

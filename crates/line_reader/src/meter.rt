@@ -1,8 +1,9 @@
-//! Meters on a reader, a writer and an allocator: they note that it failed or refused, and the reader's lets a bounded number of reads through.
-ghost use Rattle.std.specs.Prelude.{◌≡◌, ◌≤◌, ◌<◌, ◌-◌, ◌⊎◌, length, take, true, false, MatchOption, IfNone, IfSome};
+//! Meters on a reader, a writer and an allocator: they count how often it failed or refused, and the reader's lets a bounded number of
+//! reads through.
+ghost use Rattle.std.specs.Prelude.{◌≡◌, ◌≤◌, ◌<◌, ◌-◌, ◌⊎◌, length, take, true, MatchOption, IfNone, IfSome};
 ghost use Rattle.std.specs.Prelude.{IfOk, OnOk, OnErr, IsTrue, IsFalse};
 ghost use Rattle.std.specs.Io.KnownBytes.{Appends, Keeps};
-ghost use Rattle.line_reader.specs.Meters.{Reads};
+ghost use Rattle.line_reader.specs.Meters.{Reads, has_failed};
 ghost use Rattle.line_reader.specs.declared.meter.TheConstants.{READS};
 
 use std::alloc::{AllocError, Global};
@@ -11,12 +12,26 @@ use std::io::{Read, Write};
 /// The most reads that one meter lets through.
 pub const READS: u32 = 1_000_000;
 
-/// A reader, how many reads it has left, and whether one of them failed.
+/// The most faults that one meter counts.
+pub const MOST_FAULTS: u64 = u64::MAX;
+
+/// The count of faults with one more. At its top it stays.
+fn one_more(faults: u64) -> u64
+    ensures { has_failed faults result ≡ true }
+{
+    if faults < MOST_FAULTS {
+        faults + 1
+    } else {
+        faults
+    }
+}
+
+/// A reader, how many reads it has left, and how many of them failed.
 #[derive(Drop)]
 pub struct MeteredReader<R> {
     device: R,
     left: u32,
-    failed: bool,
+    faults: u64,
 }
 
 impl<R> MeteredReader<R> {
@@ -24,12 +39,12 @@ impl<R> MeteredReader<R> {
     pub fn new(device: R) -> Self
         ensures device { result.device ≡ device }
         ensures left { result.left ≡ READS }
-        ensures failed { result.failed ≡ false }
+        ensures faults { result.faults ≡ 0 }
     {
         MeteredReader {
             device,
             left: READS,
-            failed: false,
+            faults: 0,
         }
     }
 
@@ -40,11 +55,11 @@ impl<R> MeteredReader<R> {
         self.left
     }
 
-    /// Whether the reader failed.
-    pub fn has_failed(&self) -> bool
-        ensures { result ≡ self.now.failed }
+    /// How often the reader failed.
+    pub fn faults(&self) -> u64
+        ensures { result ≡ self.now.faults }
     {
-        self.failed
+        self.faults
     }
 }
 
@@ -56,8 +71,9 @@ impl<R: Read> MeteredReader<R> {
             result room.new }
         ensures left { self.new.left ≡ self.old.left - 1 }
         ensures gave { IfSome result (λ _. (0 < self.old.left)
-            × (self.new.failed ≡ self.old.failed)) }
-        ensures stopped { IfNone result ((self.new.failed ≡ true) ⊎ (self.old.left ≡ 0)) }
+            × (self.new.faults ≡ self.old.faults)) }
+        ensures stopped { IfNone result ((has_failed self.old.faults self.new.faults ≡ true)
+            ⊎ (self.old.left ≡ 0)) }
         ensures spent { self.old.left ≡ 0 → self.new ≡ self.old }
     {
         if self.left == 0 {
@@ -65,37 +81,34 @@ impl<R: Read> MeteredReader<R> {
         }
         self.left -= 1;
         let Ok(count) = self.device.read(room) else {
-            self.failed = true;
+            self.faults = one_more(self.faults);
             return None;
         };
         Some(count)
     }
 }
 
-/// A writer, and whether it failed or took nothing.
+/// A writer, and how often it failed or took nothing.
 #[derive(Drop)]
 pub struct MeteredWriter<W> {
     device: W,
-    failed: bool,
+    faults: u64,
 }
 
 impl<W> MeteredWriter<W> {
     /// A meter on a writer that was given nothing.
     pub fn new(device: W) -> Self
         ensures device { result.device ≡ device }
-        ensures failed { result.failed ≡ false }
+        ensures faults { result.faults ≡ 0 }
     {
-        MeteredWriter {
-            device,
-            failed: false,
-        }
+        MeteredWriter { device, faults: 0 }
     }
 
-    /// Whether the writer failed or took nothing.
-    pub fn has_failed(&self) -> bool
-        ensures { result ≡ self.now.failed }
+    /// How often the writer failed or took nothing.
+    pub fn faults(&self) -> u64
+        ensures { result ≡ self.now.faults }
     {
-        self.failed
+        self.faults
     }
 
     /// The writer itself.
@@ -114,12 +127,12 @@ impl<W: Write> MeteredWriter<W> {
             (Keeps (W.contents self.old.device) (W.contents self.new.device))
             (λ n. Appends (W.contents self.old.device) (W.contents self.new.device)
             (take n bytes.now)) }
-        ensures took { IfSome result (λ _. self.new.failed ≡ self.old.failed) }
-        ensures failed { IfNone result (self.new.failed ≡ true) }
+        ensures took { IfSome result (λ _. self.new.faults ≡ self.old.faults) }
+        ensures failed { IfNone result (has_failed self.old.faults self.new.faults ≡ true) }
     {
         match self.device.write(bytes) {
             Ok(0) | Err(_) => {
-                self.failed = true;
+                self.faults = one_more(self.faults);
                 None
             }
             Ok(count) => Some(count),
@@ -129,61 +142,59 @@ impl<W: Write> MeteredWriter<W> {
     /// Hands on what the writer keeps back, and says whether it could.
     pub fn flush(&mut self) -> bool
         ensures bytes { Keeps (W.contents self.old.device) (W.contents self.new.device) }
-        ensures flushed { IsTrue result → self.new.failed ≡ self.old.failed }
-        ensures failed { IsFalse result → self.new.failed ≡ true }
+        ensures flushed { IsTrue result → self.new.faults ≡ self.old.faults }
+        ensures failed { IsFalse result → has_failed self.old.faults self.new.faults ≡ true }
     {
         if self.device.flush().is_err() {
-            self.failed = true;
+            self.faults = one_more(self.faults);
             return false;
         }
         true
     }
 }
 
-/// An allocator, and whether it refused a buffer.
+/// An allocator, and how often it refused a buffer.
 #[derive(Drop)]
 pub struct MeteredMemory {
     alloc: Global,
-    refused: bool,
+    refusals: u64,
 }
 
 impl MeteredMemory {
     /// A meter on an allocator that was asked for nothing.
     pub fn new(alloc: Global) -> MeteredMemory
-        ensures { result.refused ≡ false }
+        ensures { result.refusals ≡ 0 }
     {
-        MeteredMemory {
-            alloc,
-            refused: false,
-        }
+        MeteredMemory { alloc, refusals: 0 }
     }
 
-    /// The allocator itself, for what is no buffer: what it refuses then is not noted.
+    /// The allocator itself, for what is no buffer: what it refuses then is not counted.
     pub fn allocator(&self) -> Global {
         self.alloc
     }
 
-    /// Whether the allocator refused a buffer.
-    pub fn has_refused(&self) -> bool
-        ensures { result ≡ self.now.refused }
+    /// How often the allocator refused a buffer.
+    pub fn refusals(&self) -> u64
+        ensures { result ≡ self.now.refusals }
     {
-        self.refused
+        self.refusals
     }
 
     /// A buffer of so many zeros.
     ///
     /// # Errors
     ///
-    /// Where the allocator refused it, which is noted.
+    /// Where the allocator refused it, which is counted.
     pub fn zeros(&mut self, count: usize) -> Result<Vec<u8>, AllocError>
         ensures len { IfOk result (λ zeros. length zeros.items ≡ count) }
-        ensures gave { OnOk result (self.new.refused ≡ self.old.refused) }
-        ensures refused { OnErr result (self.new.refused ≡ true) }
+        ensures gave { OnOk result (self.new.refusals ≡ self.old.refusals) }
+        ensures refused { OnErr result
+            (has_failed self.old.refusals self.new.refusals ≡ true) }
     {
         match vec![in self.alloc; 0; count] {
             Ok(zeros) => Ok(zeros),
             Err(refused) => {
-                self.refused = true;
+                self.refusals = one_more(self.refusals);
                 Err(refused)
             }
         }

@@ -3,6 +3,7 @@
 //! They are written in order, and before a read that could wait. A writer may take a text in parts.
 ghost use Rattle.std.specs.Prelude.{◌≡◌, ◌≤◌, ◌+◌, ◌++◌, [], length, take, true, IfOk, OnOk, OnErr};
 ghost use Rattle.std.specs.Io.KnownBytes.{Appends};
+ghost use Rattle.line_reader.specs.Meters.{has_failed};
 ghost use Rattle.line_reader.specs.Writing.{WritesUpTo, WritesFront};
 ghost use Rattle.line_reader.specs.declared.replies.TheConstants.{ROOM};
 
@@ -23,8 +24,8 @@ fn put<W: Write>(writer: &mut MeteredWriter<W>, text: &[u8]) -> Result<(), Write
         (W.contents writer.new.device) text.now) }
     ensures err { OnErr result (WritesFront (W.contents writer.old.device)
         (W.contents writer.new.device) text.now) }
-    ensures failed { OnErr result (writer.new.failed ≡ true) }
-    ensures unfailed { OnOk result (writer.new.failed ≡ writer.old.failed) }
+    ensures failed { OnErr result (has_failed writer.old.faults writer.new.faults ≡ true) }
+    ensures unfailed { OnOk result (writer.new.faults ≡ writer.old.faults) }
 {
     let mut rest = text;
     while !rest.is_empty() {
@@ -61,8 +62,9 @@ impl Replies {
     /// No reply waits. This takes all the memory that is ever needed.
     pub fn new(memory: &mut MeteredMemory) -> Result<Replies, AllocError>
         ensures empty { IfOk result (λ r. waiting_bytes r ≡ []) }
-        ensures gave { OnOk result (memory.new.refused ≡ memory.old.refused) }
-        ensures refused { OnErr result (memory.new.refused ≡ true) }
+        ensures gave { OnOk result (memory.new.refusals ≡ memory.old.refusals) }
+        ensures refused { OnErr result
+            (has_failed memory.old.refusals memory.new.refusals ≡ true) }
     {
         let bytes = memory.zeros(ROOM)?;
         Ok(Replies { bytes, filled: 0 })
@@ -79,8 +81,8 @@ impl Replies {
         ensures none { OnOk result ((waiting_bytes self.new ≡ []) × (self.new.filled ≡ 0)) }
         ensures err { OnErr result (WritesFront (W.contents writer.old.device)
             (W.contents writer.new.device) (waiting_bytes self.old)) }
-        ensures failed { OnErr result (writer.new.failed ≡ true) }
-        ensures unfailed { OnOk result (writer.new.failed ≡ writer.old.failed) }
+        ensures failed { OnErr result (has_failed writer.old.faults writer.new.faults ≡ true) }
+        ensures unfailed { OnOk result (writer.new.faults ≡ writer.old.faults) }
     {
         if self.filled == 0 {
             return Ok(());
@@ -119,8 +121,8 @@ impl Replies {
             (waiting_bytes self.new)) }
         ensures err { OnErr result (WritesFront (W.contents writer.old.device)
             (W.contents writer.new.device) (waiting_bytes self.old ++ text.now)) }
-        ensures failed { OnErr result (writer.new.failed ≡ true) }
-        ensures unfailed { OnOk result (writer.new.failed ≡ writer.old.failed) }
+        ensures failed { OnErr result (has_failed writer.old.faults writer.new.faults ≡ true) }
+        ensures unfailed { OnOk result (writer.new.faults ≡ writer.old.faults) }
     {
         if text.len() <= ROOM - self.filled {
             self.hold(text);

@@ -1,7 +1,7 @@
 //! A connection to its end: each line is answered, over any reader and writer, by whatever answers lines.
 ghost use Rattle.std.specs.Prelude.{◌≡◌, ◌<◌, ◌⊎◌, ℕ, List, [], true, map, MatchResult, IfOk, OnOk, OnErr, Ok, Err};
 ghost use Rattle.std.specs.Io.KnownBytes.{prepend_known};
-ghost use Rattle.line_reader.specs.Meters.{IsStopped};
+ghost use Rattle.line_reader.specs.Meters.{IsStopped, has_failed};
 ghost use Rattle.line_reader.specs.Readers.{held_bytes, last_line, weight};
 ghost use Rattle.line_reader.specs.Inner.Turns.{IsSound, Turns, IsNextOf};
 ghost use Rattle.line_reader.specs.Serving.{BetweenLines, between, Exchange, Runs, KnownCuts, Serves};
@@ -67,14 +67,17 @@ fn take_line<R: Read, W: Write>(
     ensures sound { IfOk result (λ answer. answer ≡ Ok line.Whole →
         IsSound lines.new.ending (held_bytes lines.new) (R.remaining reader.new.device)) }
     ensures stopped { IfOk result (λ answer. answer ≡ Err fault.Read →
-        IsStopped reader.new.failed reader.new.left) }
+        IsStopped (has_failed reader.old.faults reader.new.faults) reader.new.left) }
+    ensures unfailed_reader { IfOk result (λ answer.
+        OnOk answer (reader.new.faults ≡ reader.old.faults)) }
     ensures less { IfOk result (λ answer. answer ≡ Ok line.Whole →
         weight reader.new.left lines.new < weight reader.old.left lines.old) }
     ensures writes { OnOk result (WritesUpTo (W.contents writer.old.device)
         (W.contents writer.new.device) (waiting_bytes replies.old) (waiting_bytes replies.new)) }
     ensures err { OnErr result (WritesFront (W.contents writer.old.device)
         (W.contents writer.new.device) (waiting_bytes replies.old)) }
-    ensures failed { OnErr result (writer.new.failed ≡ true) }
+    ensures unfailed { OnOk result (writer.new.faults ≡ writer.old.faults) }
+    ensures failed { OnErr result (has_failed writer.old.faults writer.new.faults ≡ true) }
 {
     next_line(lines, replies, reader, writer)
 }
@@ -104,8 +107,13 @@ fn turn<R: Read, W: Write, D, A: Answerer<D>>(
     ensures less { OnOk result
         (weight reader.new.left lines.new < weight reader.old.left lines.old) }
     ensures read_fault { result ≡ Err why.ReadFault →
-        IsStopped reader.new.failed reader.new.left }
-    ensures write_fault { result ≡ Err why.WriteFault → writer.new.failed ≡ true }
+        IsStopped (has_failed reader.old.faults reader.new.faults) reader.new.left }
+    ensures write_fault { result ≡ Err why.WriteFault →
+        has_failed writer.old.faults writer.new.faults ≡ true }
+    ensures unfailed { OnOk result ((reader.new.faults ≡ reader.old.faults)
+        × (writer.new.faults ≡ writer.old.faults)) }
+    ensures unfailed_writer { (result ≡ Err why.WriteFault → ⊥) →
+        writer.new.faults ≡ writer.old.faults }
 {
     match take_line(lines, replies, reader, writer) {
         Ok(Ok(Line::Whole)) => {}
@@ -145,8 +153,12 @@ fn answer_all<R: Read, W: Write, D, A: Answerer<D>>(
         (answerer.old, desk.old))
         result (answerer.new, desk.new) (W.contents writer.old.device) (W.contents writer.new.device)
         (waiting_bytes replies.old) (waiting_bytes replies.new) }
-    ensures read_fault { result ≡ why.ReadFault → IsStopped reader.new.failed reader.new.left }
-    ensures write_fault { result ≡ why.WriteFault → writer.new.failed ≡ true }
+    ensures read_fault { result ≡ why.ReadFault →
+        IsStopped (has_failed reader.old.faults reader.new.faults) reader.new.left }
+    ensures write_fault { result ≡ why.WriteFault →
+        has_failed writer.old.faults writer.new.faults ≡ true }
+    ensures unfailed_writer { (result ≡ why.WriteFault → ⊥) →
+        writer.new.faults ≡ writer.old.faults }
 {
     loop {
         if let Err(why) = turn(
@@ -173,9 +185,14 @@ pub fn serve<R: Read, W: Write, D, A: Answerer<D>>(
         (between (R.remaining reader.old.device) (answerer.old, desk.old))
         result (answerer.new, desk.new) (W.contents writer.old.device) (W.contents writer.new.device) [] []
         ⊎ ((result ≡ why.Memory) × (reader.new ≡ reader.old) × (writer.new ≡ writer.old)
-        × (answerer.new ≡ answerer.old) × (desk.new ≡ desk.old) × (memory.new.refused ≡ true)) }
-    ensures read_fault { result ≡ why.ReadFault → IsStopped reader.new.failed reader.new.left }
-    ensures write_fault { result ≡ why.WriteFault → writer.new.failed ≡ true }
+        × (answerer.new ≡ answerer.old) × (desk.new ≡ desk.old)
+        × (has_failed memory.old.refusals memory.new.refusals ≡ true)) }
+    ensures read_fault { result ≡ why.ReadFault →
+        IsStopped (has_failed reader.old.faults reader.new.faults) reader.new.left }
+    ensures write_fault { result ≡ why.WriteFault →
+        has_failed writer.old.faults writer.new.faults ≡ true }
+    ensures unfailed_writer { (result ≡ why.WriteFault → ⊥) →
+        writer.new.faults ≡ writer.old.faults }
 {
     let Ok(mut lines) = LineReader::new(memory) else {
         return Why::Memory;

@@ -3,3 +3,4 @@ pub mod Adding
 pub mod Rules
 pub mod Publishing
 pub mod Receipts
+pub mod Reading

@@ -1,12 +1,9 @@
 -- What a policy command is answered, and the policy list and the seat afterwards (this project's own form).
-use Rattle.std.specs.Prelude.{◌≡◌, ℕ, ◌+◌, max, List, [], ◌∷◌, ◌++◌, length, Option, Some, None, if◌then◌else◌, Result, Ok, Err, MatchResult}
-use Rattle.refusal_rules.specs.Rules.{Rule, Unless, MayRefuse, accept, ◌▸◌, Answers}
+use Rattle.std.specs.Prelude.{◌≡◌, ℕ, ◌+◌, max, List, [], ◌∷◌, ◌++◌, length, Option, Some, None, if◌then◌else◌, Result, Ok, Err}
 use Rattle.rbac_policy.specs.declared.commands.AdminCommand.{AdminCommand}
 use Rattle.rbac_policy.specs.declared.commands.Entry.{Entry}
 use Rattle.rbac_policy.specs.Entries.{is_login, logins}
-use Rattle.rbac_admin.specs.declared.refusals.Refusal.{Refusal as PolicyRefusal}
-use Rattle.rbac_admin.specs.PolicyStep.{PolicyStep}
-use Rattle.rbac_admin.specs.Room.{HasRoomFor}
+use Rattle.rbac_admin.specs.AdminSteps.{ListRefusals, StepsOnList}
 use Rattle.seat_receipts.specs.declared.receipt.Kept.{Kept}
 use Rattle.seat_receipts.specs.declared.receipt.Kept.TheVariants.{Admin}
 use Rattle.policy_board.specs.SeatState.{SeatState}
@@ -14,28 +11,24 @@ use Rattle.policy_board.specs.declared.refusal.Refusal.{Refusal}
 use Rattle.policy_board.specs.declared.refusal.Refusal.TheVariants.{Policy, JournalFull, Memory}
 use Rattle.policy_board.specs.declared.seat.Receipt.{Receipt}
 
--- refuses where the policy list has no room for the entry's command
-abbrev pub list_full : List Entry → Entry → Rule Refusal
-list_full entries entry = Unless (HasRoomFor entry.command entries) JournalFull
-
--- memory may be refused
-abbrev pub no_memory : Rule Refusal
-no_memory = MayRefuse Memory
+-- how the board tells why a policy command adds no entry
+abbrev pub list_refusals : ListRefusals Refusal
+list_refusals = record { told = Policy; full = JournalFull; memory = Memory }
 
 -- the session that the entry makes after these entries, where it is a login
 abbrev pub session_made : List Entry → Entry → Option ℕ
 session_made before entry = if is_login entry then Some (logins before + 1) else None
 
-module _ {J : Type 0} where
+module _ {B : Type 0} where
   -- the answer is this refusal, and the list stays
-  pub record IsRefused (refusal : Refusal) (before : List Entry) (answer : Result (Receipt J) Refusal) (after : List Entry) : Type 0 where
+  pub record IsRefused (refusal : Refusal) (before : List Entry) (answer : Result (Receipt B) Refusal) (after : List Entry) : Type 0 where
     pub answered : answer ≡ Err refusal
     pub stays : after ≡ before
 
   -- the entry, and no other, is put at the end of the list. The answer is its receipt, with the list that ends with it, and with the session
   -- that it makes
-  pub record IsPublished (entry : Entry) (before : List Entry) (answer : Result (Receipt J) Refusal) (after : List Entry) : Type 0 where
-    pub receipt : Receipt J
+  pub record IsPublished (entry : Entry) (before : List Entry) (answer : Result (Receipt B) Refusal) (after : List Entry) : Type 0 where
+    pub receipt : Receipt B
     pub answered : answer ≡ Ok receipt
     pub entry_is : receipt.entry ≡ entry
     pub list_is : receipt.list ≡ after
@@ -44,28 +37,26 @@ module _ {J : Type 0} where
 
   -- what the policy step answers on the list: its refusal, which leaves the list; or its entry, which is published, unless the list is full
   -- or memory is refused, which leave the list too
-  pub record AdminStep (before : List Entry) (session : Option ℕ) (command : AdminCommand) (answer : Result (Receipt J) Refusal) (after : List Entry) : Type 0 where
-    pub decided : Result Entry PolicyRefusal
-    pub given : PolicyStep before session command decided
-    pub replied : MatchResult decided
-        (λ entry. Answers (list_full before entry ▸ no_memory ▸ accept) (λ refusal. IsRefused refusal before answer after)
-        (IsPublished entry before answer after))
-        (λ refusal. IsRefused (Policy refusal) before answer after)
+  abbrev pub AdminStep : (before : List Entry) → Option ℕ → AdminCommand → (answer : Result (Receipt B) Refusal) → (after : List Entry) → Type 0
+  AdminStep before session command answer after =
+      StepsOnList list_refusals before session command (λ refusal. IsRefused refusal before answer after)
+      (λ entry. IsPublished entry before answer after)
 
 -- the seat knows this list, and nothing else of it changes
 abbrev pub seat_after : SeatState → List Entry → SeatState
 seat_after old list = record old { known = list; seen = max old.seen (length list) }
 
-module _ {J : Type 0} where
+module _ {B : Type 0} where
   -- the receipt that is kept of a policy command with this answer, which leaves this list: of an accepted one its
   -- entry, and the version of the policy with it
-  abbrev pub admin_receipt : (answer : Result (Receipt J) Refusal) → (after : List Entry) → List Kept
+  abbrev pub admin_receipt : (answer : Result (Receipt B) Refusal) → (after : List Entry) → List Kept
   admin_receipt (Ok receipt) after = Admin (length after) receipt.entry ∷ []
   admin_receipt (Err refusal) after = []
 
   -- the seat knows the whole list as the policy command leaves it, whatever the answer. The receipt of an accepted
-  -- one stands at the end of its receipts; a refused one leaves them
-  pub record SeatAfter (old : SeatState) (answer : Result (Receipt J) Refusal) (after : List Entry) (new : SeatState) : Type 0 where
+  -- one stands at the end of its receipts; a refused one leaves them. Its own reader has no part in it
+  pub record SeatAfter (old : SeatState) (answer : Result (Receipt B) Refusal) (after : List Entry) (new : SeatState) : Type 0 where
     pub known : new.known ≡ after
     pub seen : new.seen ≡ max old.seen (length after)
+    pub read : new.read ≡ old.read
     pub kept : new.kept ≡ old.kept ++ admin_receipt answer after

@@ -6,27 +6,35 @@ use Rattle.policy_board.specs.SeatState.{SeatState, KeepsReceipts}
 use Rattle.policy_board.specs.declared.refusal.Refusal.{Refusal}
 use Rattle.policy_board.specs.declared.refusal.Refusal.TheVariants.{Behind, Memory}
 
--- the seat has read a policy list. It begins with all that the seat knew, and is no shorter than its seen number; the
--- seat then knows it, and keeps its receipts
+-- the seat's reader has read a policy list. It begins with all that this reader had read and all that the seat knew, and
+-- is no shorter than the seat's seen number; the seat then knows it, and keeps its receipts
 pub record HasRead (old : SeatState) (list : List Entry) (new : SeatState) : Type 0 where
   pub is_list : IsPolicyList list
+  pub further : Begins old.read list
   pub later : Begins old.known list
   pub fresh : old.seen ≤ length list
   pub known : new.known ≡ list
+  pub read : new.read ≡ list
   pub seen : new.seen ≡ length list
   pub receipts : KeepsReceipts old new
 
--- the list that the seat read is shorter than its seen number, and the refusal tells both lengths
-pub record IsBehind (old : SeatState) (refusal : Refusal) : Type 0 where
-  pub list : List Entry
-  pub is_list : IsPolicyList list
-  pub stale : length list < old.seen
-  pub answered : refusal ≡ Behind (length list) old.seen
+-- the policy list that the seat's reader then has, which begins with what it had, is shorter than the seat's seen number,
+-- and the refusal tells both lengths. Nothing else of the seat changes
+pub record IsBehind (old : SeatState) (refusal : Refusal) (new : SeatState) : Type 0 where
+  pub is_list : IsPolicyList new.read
+  pub further : Begins old.read new.read
+  pub stale : length new.read < old.seen
+  pub answered : refusal ≡ Behind (length new.read) old.seen
+  pub stays : new ≡ record old { read = new.read }
 
--- a read that is refused leaves the seat as it was: what was read is behind, or nothing could be read
-pub record IsUnread (old : SeatState) (refusal : Refusal) (new : SeatState) : Type 0 where
+-- nothing could be read, and the seat stays as it was
+pub record IsUnreadable (old : SeatState) (refusal : Refusal) (new : SeatState) : Type 0 where
+  pub answered : refusal ≡ Memory
   pub stays : new ≡ old
-  pub cause : IsBehind old refusal ⊎ (refusal ≡ Memory)
+
+-- a read that is refused: what was read is behind, or nothing could be read
+abbrev pub IsUnread : (old : SeatState) → Refusal → (new : SeatState) → Type 0
+IsUnread old refusal new = IsBehind old refusal new ⊎ IsUnreadable old refusal new
 
 -- what is asked of the policy is answered for a list that the seat has read
 pub record HasAsked (Fact : List Entry → Type 0) (old : SeatState) (said : Bool) (new : SeatState) : Type 0 where

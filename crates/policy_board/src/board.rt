@@ -9,8 +9,8 @@ ghost use Rattle.policy_board.specs.Receipts.{HasRoom, IsCounted};
 ghost use Rattle.seat_receipts.specs.declared.mismatch.TheConstants.{POLICY_LIST};
 ghost use Rattle.seat_receipts.specs.declared.mismatch.Mismatch.TheVariants.{Count};
 
-use crate::desk::Desk;
-use crate::history::Naming;
+use crate::history::BoardName;
+use crate::locked_policy::LockedPolicy;
 use crate::reader::SlotReader;
 use crate::refusal::Refusal;
 use crate::seat::{Receipt, Seat};
@@ -23,14 +23,14 @@ use std::sync::{Mutex, MutexGuard, Wait};
 
 /// The policy of a server, which many threads share, and the tally of its slot commands. Commands take turns under
 /// the admin lock; reads wait for nobody.
-pub struct Board<J: Naming> {
-    desk: Mutex<Desk<J>>,
+pub struct Board<B: BoardName> {
+    desk: Mutex<LockedPolicy<B>>,
     // The number of the last slot command that was counted.
     tally: Mutex<u64>,
 }
 
-impl<J: Naming> Board<J> {
-    pub(crate) fn new(desk: Desk<J>) -> Board<J> {
+impl<B: BoardName> Board<B> {
+    pub(crate) fn new(desk: LockedPolicy<B>) -> Board<B> {
         Board {
             desk: Mutex::new(desk),
             tally: Mutex::new(0),
@@ -48,10 +48,10 @@ impl<J: Naming> Board<J> {
     pub fn admin<R: Wait>(
         &self,
         rt: &R,
-        seat: &mut Seat<J>,
+        seat: &mut Seat<B>,
         session: Option<SessionId>,
         command: AdminCommand,
-    ) -> Result<Receipt<J>, Refusal>
+    ) -> Result<Receipt<B>, Refusal>
         ensures { (before : List Entry) × (after : List Entry)
             × IsPolicyList before × Begins seat.old.known before
             × AdminStep before session command result after
@@ -65,7 +65,7 @@ impl<J: Naming> Board<J> {
 
     /// Gives the receipt of a slot command the next number of the tally, for which it waits, and has the seat keep
     /// it. The first number is 1; the greatest would be given again.
-    pub fn count<R: Wait>(&self, rt: &R, seat: &mut Seat<J>, receipt: SlotReceipt)
+    pub fn count<R: Wait>(&self, rt: &R, seat: &mut Seat<B>, receipt: SlotReceipt)
         requires { HasRoom seat.old }
         ensures { IsCounted seat.old receipt seat.new }
     {
@@ -84,7 +84,7 @@ impl<J: Naming> Board<J> {
     /// - Memory, where `left_right` refuses the read.
     pub fn check_access(
         &self,
-        seat: &mut Seat<J>,
+        seat: &mut Seat<B>,
         session: SessionId,
         operation: Operation,
         object: &Object,
@@ -96,7 +96,7 @@ impl<J: Naming> Board<J> {
     }
 
     /// Ends the board.
-    pub fn close(self) -> Closed<J> {
+    pub fn close(self) -> Closed<B> {
         let Board { desk, tally: _ } = self;
         Closed {
             desk: desk.into_inner(),
@@ -105,17 +105,17 @@ impl<J: Naming> Board<J> {
 }
 
 /// A board that is closed. End it by `journal`.
-pub struct Closed<J: Naming> {
-    desk: Desk<J>,
+pub struct Closed<B: BoardName> {
+    desk: LockedPolicy<B>,
 }
 
-impl<J: Naming> Closed<J> {
+impl<B: BoardName> Closed<B> {
     /// Takes a reader back, where what it saw is a beginning of the policy journal.
     ///
     /// # Errors
     ///
     /// Count, where it saw more entries than the journal has.
-    pub fn reader(&mut self, reader: SlotReader<J>) -> Result<(), Mismatch>
+    pub fn reader(&mut self, reader: SlotReader<B>) -> Result<(), Mismatch>
         ensures seen { MatchResult result
             (λ _. Begins reader self.old.desk)
             (λ mismatch. (mismatch ≡ Count POLICY_LIST) × (length self.old.desk < length reader)) }

@@ -78,13 +78,13 @@ impl Plain<(), Entry, u64> for Looking {
 }
 
 /// Which board it is. Each call of a program picks it.
-pub trait Naming {
+pub trait BoardName {
     ghost use Rattle.logbook.specs.Pages.{Book};
 
     ghost book: { Book };
 }
 
-impl Naming for Brand {
+impl BoardName for Brand {
     ghost book = { record { number = 0; log_name = 0; cells_name = 0 } };
 }
 
@@ -107,8 +107,8 @@ impl Fresh {
     }
 
     /// The list under the name of a board.
-    pub(crate) fn named<J: Naming>(self) -> (Head<J>, Front<J>)
-        requires { self.seen.book ≡ J.book }
+    pub(crate) fn named<B: BoardName>(self) -> (Head<B>, Front<B>)
+        requires { self.seen.book ≡ B.book }
         ensures { result.1 ≡ opening_entries }
     {
         let Fresh { head, seen } = self;
@@ -130,10 +130,10 @@ impl Fresh {
 
 /// The word by which entries are added: the length of the list.
 #[derive(Drop)]
-pub struct Head<J: Naming> {
+pub struct Head<B: BoardName> {
     head: Word<Entry, u64, Law>,
-    of: PhantomData<J>,
-    ghost head_is: { head ≡ head_of J.book },
+    of: PhantomData<B>,
+    ghost head_is: { head ≡ head_of B.book },
 }
 
 /// A beginning of the list of some board.
@@ -177,12 +177,12 @@ impl Trace {
 
 /// A beginning of the board's list that was seen. It takes no memory. A contract sees the entries.
 #[derive(Drop)]
-pub struct Front<J: Naming> {
+pub struct Front<B: BoardName> {
     trace: Trace,
-    of: PhantomData<J>,
+    of: PhantomData<B>,
 }
 
-impl<J: Naming> Model for Front<J> {
+impl<B: BoardName> Model for Front<B> {
     ghost use Rattle.std.specs.Prelude.{◌≡◌, List};
     ghost use Rattle.rbac_policy.specs.declared.commands.Entry.{Entry};
 
@@ -190,13 +190,13 @@ impl<J: Naming> Model for Front<J> {
 
     ghost view = { λ f. f.trace.list };
 
-    ghost invariant = { λ f. f.trace.book ≡ J.book };
+    ghost invariant = { λ f. f.trace.book ≡ B.book };
 }
 
-impl<J: Naming> Front<J> {
+impl<B: BoardName> Front<B> {
     /// The trace under the board's name.
-    pub(crate) fn of(trace: &Trace) -> Front<J>
-        requires { trace.now.book ≡ J.book }
+    pub(crate) fn of(trace: &Trace) -> Front<B>
+        requires { trace.now.book ≡ B.book }
         ensures { result ≡ trace.now.list }
     {
         Front {
@@ -207,7 +207,7 @@ impl<J: Naming> Front<J> {
 
     /// The entries, and of which board's list they are.
     pub(crate) fn trace(&self) -> Trace
-        ensures { (result.list ≡ self.now) × (result.book ≡ J.book) }
+        ensures { (result.list ≡ self.now) × (result.book ≡ B.book) }
     {
         self.trace.again()
     }
@@ -221,7 +221,7 @@ impl<J: Naming> Front<J> {
     }
 
     /// A copy.
-    pub fn again(&self) -> Front<J>
+    pub fn again(&self) -> Front<B>
         ensures { result ≡ self.now }
     {
         Front {
@@ -231,7 +231,7 @@ impl<J: Naming> Front<J> {
     }
 
     /// Of two fronts one begins the other. True where this one begins the other.
-    pub fn begins(&self, other: &Front<J>) -> bool
+    pub fn begins(&self, other: &Front<B>) -> bool
         ensures { MatchBool result
             (Begins self.now other.now) (Begins other.now self.now
             × (length other.now < length self.now)) }
@@ -240,7 +240,7 @@ impl<J: Naming> Front<J> {
     }
 
     /// Of two fronts the shorter begins the longer.
-    pub(crate) fn compare(&self, other: &Front<J>)
+    pub(crate) fn compare(&self, other: &Front<B>)
         requires { length self.now ≤ length other.now }
         ensures { Begins self.now other.now }
     {
@@ -250,14 +250,15 @@ impl<J: Naming> Front<J> {
     }
 
     /// Whether the list has no more entries than were seen. Then the other front begins this one. It waits for nobody.
-    pub(crate) fn is_whole(&self, head: &Head<J>, other: &Front<J>) -> bool
+    pub(crate) fn is_whole(&self, head: &Head<B>, other: &Front<B>) -> bool
         ensures { IsTrue result → Begins other.now self.now }
     {
         is_whole(&self.trace, &head.head, &other.trace)
     }
 
-    /// Adds an entry to all that was seen, and says whether it did. It did not where the list is longer, and the front is as it was then.
-    pub(crate) fn add(&mut self, head: &Head<J>, entry: &Entry) -> bool
+    /// Adds an entry if the list is as long as was seen. Otherwise it answers no, and the front
+    /// stays as it was.
+    pub(crate) fn add(&mut self, head: &Head<B>, entry: &Entry) -> bool
         requires room { length self.old < 2 ^ 62 }
         requires accepted { IsAccepted self.old entry.now }
         ensures { MatchBool result (self.new ≡ self.old ++ entry.now ∷ []) (self.new ≡ self.old) }

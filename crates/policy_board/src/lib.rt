@@ -10,8 +10,8 @@
 #![tactic(auto)]
 
 pub mod board;
-mod desk;
 pub mod history;
+mod locked_policy;
 pub mod opening;
 mod publisher;
 pub mod reader;

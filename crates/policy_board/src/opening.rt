@@ -1,5 +1,5 @@
 //! A new board, with its seats and readers.
-ghost use Rattle.std.specs.Prelude.{◌≡◌, ◌≤◌, [], drop, replicate, vec_capacity, IfOk, IfErr};
+ghost use Rattle.std.specs.Prelude.{◌≡◌, ◌≤◌, [], drop, replicate, vec_capacity, IfOk, IfErr, IfSome};
 ghost use Rattle.rbac_policy.specs.Opening.{opening_entries};
 ghost use Rattle.rbac_policy.specs.declared.objects.TheConstants.{SLOTS};
 ghost use Rattle.seat_receipts.specs.declared.receipts.TheConstants.{SEATS};
@@ -8,8 +8,8 @@ ghost use Rattle.policy_board.specs.Inner.Publishing.{IsPublishing};
 ghost use Rattle.policy_board.specs.declared.refusal.Refusal.TheVariants.{Memory};
 
 use crate::board::Board;
-use crate::desk::Desk;
-use crate::history::{Fresh, Front, Naming};
+use crate::history::{BoardName, Fresh, Front};
+use crate::locked_policy::LockedPolicy;
 use crate::publisher::Publisher;
 use crate::reader::SlotReader;
 use crate::refusal::Refusal;
@@ -20,24 +20,25 @@ use rbac_policy::objects::SLOTS;
 use rbac_policy::policy::Policy;
 use seat_receipts::receipts::SEATS;
 use std::alloc::{AllocError, Global};
+use std::sync::Wait;
 
 /// A board with its seats, and a reader for each slot.
-pub struct Opened<J: Naming> {
-    pub board: Board<J>,
-    pub seats: Vec<Seat<J>>,
-    pub readers: Vec<SlotReader<J>>,
+pub struct Opened<B: BoardName> {
+    pub board: Board<B>,
+    pub seats: Vec<Seat<B>>,
+    pub readers: Vec<SlotReader<B>>,
 }
 
 // A writer that shows the opening policy, with room for so many readers.
-fn open_writer<J: Naming>(
+fn open_writer<B: BoardName>(
     alloc: Global,
-    opening: &Front<J>,
+    opening: &Front<B>,
     readers: usize,
-) -> Result<PolicyWriter<J>, AllocError>
+) -> Result<PolicyWriter<B>, AllocError>
     requires opening { opening.now ≡ opening_entries }
     requires readers { (1 ≤ readers) × (readers ≤ 1024) }
     ensures { IfOk result (λ w. (w.desk.shown.value.trace.list ≡ opening_entries)
-        × IsPublishing J.book w.desk.shown.value.policy w.desk.shown.value.trace
+        × IsPublishing B.book w.desk.shown.value.policy w.desk.shown.value.trace
         (drop w.behind w.log.items)) }
 {
     let first = Shown {
@@ -48,83 +49,111 @@ fn open_writer<J: Naming>(
         policy: Policy::opening(),
         trace: opening.trace(),
     };
-    let writer = PolicyWriter::<J>::new(alloc, first, second, readers)?;
+    let writer = PolicyWriter::<B>::new(alloc, first, second, readers)?;
     Ok(writer)
 }
 
-// So many readers, in room that was made for them.
-fn fill_readers<J: Naming>(
-    room: Vec<SlotReader<J>>,
-    publisher: &Publisher<J>,
-    opening: &Front<J>,
+// So many readers, in room that was made for them, where there is a place for each.
+fn fill_readers<B: BoardName>(
+    room: Vec<SlotReader<B>>,
+    publisher: &Publisher<B>,
+    opening: &Front<B>,
     count: usize,
-) -> Vec<SlotReader<J>>
+) -> Option<Vec<SlotReader<B>>>
     requires opening { opening.now ≡ opening_entries }
     requires room { (room.items ≡ []) × (count ≤ vec_capacity room) }
-    ensures { result.items ≡ replicate count opening_entries }
+    ensures { IfSome result (λ readers. readers.items ≡ replicate count opening_entries) }
 {
     let mut readers = room;
     while readers.len() < count {
-        readers.push_reserved(publisher.reader(opening));
+        let Some(reader) = publisher.reader(opening) else {
+            return None;
+        };
+        readers.push_reserved(reader);
     }
-    readers
+    Some(readers)
 }
 
-// So many seats, in room that was made for them.
-fn fill_seats<J: Naming>(
+// So many seats, in room that was made for them, where there is a place for the reader of each.
+fn fill_seats<B: BoardName>(
     alloc: Global,
-    room: Vec<Seat<J>>,
-    publisher: &Publisher<J>,
-    opening: &Front<J>,
+    room: Vec<Seat<B>>,
+    publisher: &Publisher<B>,
+    opening: &Front<B>,
     count: usize,
-) -> Vec<Seat<J>>
+) -> Option<Vec<Seat<B>>>
     requires opening { opening.now ≡ opening_entries }
     requires room { (room.items ≡ []) × (count ≤ vec_capacity room) }
-    ensures { result.items ≡ replicate count new_seat }
+    ensures { IfSome result (λ seats. seats.items ≡ replicate count new_seat) }
 {
     let mut seats = room;
     while seats.len() < count {
-        seats.push_reserved(Seat::new(alloc, publisher.reader(opening)));
+        let Some(reader) = publisher.reader(opening) else {
+            return None;
+        };
+        seats.push_reserved(Seat::new(alloc, reader));
     }
-    seats
+    Some(seats)
 }
 
-// The parts of a new board. All room is made before there is a writer, which only a wait could end.
-fn open_parts<J: Naming>(alloc: Global, fresh: Fresh, seats: usize) -> Result<Opened<J>, AllocError>
-    requires name { fresh.seen.book ≡ J.book }
+// The parts of a new board. All room is made before there is a writer, which only a wait can end.
+fn open_parts<B: BoardName, R: Wait>(
+    rt: &R,
+    alloc: Global,
+    fresh: Fresh,
+    seats: usize,
+) -> Result<Opened<B>, AllocError>
+    requires name { fresh.seen.book ≡ B.book }
     requires seats { (1 ≤ seats) × (seats ≤ SEATS) }
     ensures { IfOk result (λ o. (o.seats.items ≡ replicate seats new_seat)
         × (o.readers.items ≡ replicate SLOTS opening_entries)) }
 {
-    let (head, opening) = fresh.named::<J>();
+    let (head, opening) = fresh.named::<B>();
     let slots = usize::from(SLOTS);
     let journal = PolicyJournal::opening(alloc)?;
     let seat_room = Vec::with_capacity(alloc, seats)?;
     let reader_room = Vec::with_capacity(alloc, slots)?;
-    let publisher = Publisher::new(open_writer(alloc, &opening, seats + slots)?, head);
+    let writer = open_writer(alloc, &opening, seats + slots)?;
+    let publisher = match Publisher::new(writer, head) {
+        Ok(publisher) => publisher,
+        Err(writer) => {
+            writer.take(rt);
+            return Err(AllocError);
+        }
+    };
     let seats = fill_seats(alloc, seat_room, &publisher, &opening, seats);
     let readers = fill_readers(reader_room, &publisher, &opening, slots);
+    let (Some(seats), Some(readers)) = (seats, readers) else {
+        publisher.take(rt);
+        return Err(AllocError);
+    };
     Ok(Opened {
-        board: Board::new(Desk::new(publisher, journal)),
+        board: Board::new(LockedPolicy::new(publisher, journal)),
         seats,
         readers,
     })
 }
 
-impl<J: Naming> Board<J> {
-    /// A board under the name of a fresh list, with so many seats, and a reader for each slot. None has seen more than the opening entries.
+impl<B: BoardName> Board<B> {
+    /// A board under the name of a fresh list, with so many seats, and a reader for each slot. Each can read, and none has seen more than the
+    /// opening entries.
     ///
     /// # Errors
     ///
-    /// Memory, where memory was refused.
-    pub fn open(alloc: Global, fresh: Fresh, seats: usize) -> Result<Opened<J>, Refusal>
-        requires name { fresh.seen.book ≡ J.book }
+    /// Memory, where memory was refused, or `left_right` gave no reader.
+    pub fn open<R: Wait>(
+        rt: &R,
+        alloc: Global,
+        fresh: Fresh,
+        seats: usize,
+    ) -> Result<Opened<B>, Refusal>
+        requires name { fresh.seen.book ≡ B.book }
         requires seats { (1 ≤ seats) × (seats ≤ SEATS) }
         ensures opened { IfOk result (λ o. (o.seats.items ≡ replicate seats new_seat)
             × (o.readers.items ≡ replicate SLOTS opening_entries)) }
         ensures refused { IfErr result (λ refusal. refusal ≡ Memory) }
     {
-        match open_parts(alloc, fresh, seats) {
+        match open_parts(rt, alloc, fresh, seats) {
             Ok(opened) => Ok(opened),
             Err(_) => Err(Refusal::Memory),
         }

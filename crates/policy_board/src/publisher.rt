@@ -1,5 +1,5 @@
 //! The one writer of the policy, with the list of what it has published.
-ghost use Rattle.std.specs.Prelude.{◌≡◌, [], ◌∷◌, ◌++◌, ◌<◌, drop, length};
+ghost use Rattle.std.specs.Prelude.{◌≡◌, [], ◌∷◌, ◌++◌, ◌<◌, drop, length, IfOk, IfSome};
 ghost use Rattle.rbac_policy.specs.Opening.{opening_entries};
 ghost use Rattle.rbac_policy.specs.StandsFor.{StandsFor};
 ghost use Rattle.rbac_admin.specs.PolicyLists.{Begins, IsAccepted};
@@ -7,7 +7,7 @@ ghost use Rattle.rbac_admin.specs.Room.{most_entries};
 ghost use Rattle.policy_board.specs.Traced.{traced};
 ghost use Rattle.policy_board.specs.Inner.Publishing.{IsPublishing};
 
-use crate::history::{Front, Head, Naming};
+use crate::history::{BoardName, Front, Head};
 use crate::reader::SlotReader;
 use crate::shown::{Operation, PolicyWriter, Sees, Shown};
 use rbac_policy::commands::Entry;
@@ -16,12 +16,12 @@ use std::marker::Model;
 use std::sync::Wait;
 
 /// The writer. A contract sees the list of all that is published. End it by `take`.
-pub struct Publisher<J: Naming> {
-    writer: PolicyWriter<J>,
-    head: Head<J>,
+pub struct Publisher<B: BoardName> {
+    writer: PolicyWriter<B>,
+    head: Head<B>,
 }
 
-impl<J: Naming> Model for Publisher<J> {
+impl<B: BoardName> Model for Publisher<B> {
     ghost use Rattle.std.specs.Prelude.{List, drop};
     ghost use Rattle.rbac_policy.specs.declared.commands.Entry.{Entry};
     ghost use Rattle.policy_board.specs.Inner.Publishing.{IsPublishing};
@@ -30,16 +30,16 @@ impl<J: Naming> Model for Publisher<J> {
 
     ghost view = { λ p. p.writer.desk.shown.value.trace.list };
 
-    ghost invariant = { λ p. IsPublishing J.book p.writer.desk.shown.value.policy
+    ghost invariant = { λ p. IsPublishing B.book p.writer.desk.shown.value.policy
         p.writer.desk.shown.value.trace (drop p.writer.behind p.writer.log.items) };
 }
 
-// Has the writer take the operation up. It waits where memory is refused, of which `Publisher::new` made the room.
-fn append<J: Naming, R: Wait>(
+// Has the writer take the operation up. It would wait where memory is refused, but `Publisher::new` made the room.
+fn append<B: BoardName, R: Wait>(
     rt: &R,
-    writer: PolicyWriter<J>,
+    writer: PolicyWriter<B>,
     operation: Operation,
-) -> PolicyWriter<J>
+) -> PolicyWriter<B>
     ensures shown { result.desk ≡ writer.desk }
     ensures pending { drop result.behind result.log.items ≡ drop writer.behind writer.log.items ++
         operation ∷ [] }
@@ -56,7 +56,12 @@ fn append<J: Naming, R: Wait>(
 }
 
 // Adds the entry to the list. No other thread adds one, so the first turn does it.
-fn add_entry<J: Naming, R: Wait>(rt: &R, head: &Head<J>, front: Front<J>, entry: &Entry) -> Front<J>
+fn add_entry<B: BoardName, R: Wait>(
+    rt: &R,
+    head: &Head<B>,
+    front: Front<B>,
+    entry: &Entry,
+) -> Front<B>
     requires room { length front < most_entries }
     requires accepted { IsAccepted front entry.now }
     ensures { result ≡ front ++ entry.now ∷ [] }
@@ -71,18 +76,18 @@ fn add_entry<J: Naming, R: Wait>(rt: &R, head: &Head<J>, front: Front<J>, entry:
 }
 
 // Shows readers one entry more. It waits for those that still read the other copy.
-fn show<J: Naming, R: Wait>(
+fn show<B: BoardName, R: Wait>(
     rt: &R,
-    writer: PolicyWriter<J>,
+    writer: PolicyWriter<B>,
     entry: Entry,
-    front: &Front<J>,
-) -> PolicyWriter<J>
+    front: &Front<B>,
+) -> PolicyWriter<B>
     requires list { front.now ≡ writer.desk.shown.value.trace.list ++ entry ∷ [] }
     requires accepted { IsAccepted writer.desk.shown.value.trace.list entry }
-    requires before { IsPublishing J.book writer.desk.shown.value.policy
+    requires before { IsPublishing B.book writer.desk.shown.value.policy
         writer.desk.shown.value.trace (drop writer.behind writer.log.items) }
-    ensures shown { result.desk.shown.value.trace ≡ traced J.book front.now }
-    ensures after { IsPublishing J.book result.desk.shown.value.policy result.desk.shown.value.trace
+    ensures shown { result.desk.shown.value.trace ≡ traced B.book front.now }
+    ensures after { IsPublishing B.book result.desk.shown.value.policy result.desk.shown.value.trace
         (drop result.behind result.log.items) }
 {
     let operation = Operation::Add {
@@ -90,23 +95,30 @@ fn show<J: Naming, R: Wait>(
         trace: front.trace(),
     };
     let writer = append(rt, writer, operation);
-    let (writer, published) = writer.publish_as::<Sees<J>, R>(rt);
+    let (writer, published) = writer.publish_as::<Sees<B>, R>(rt);
     match published {
         Ok(()) => writer,
         Err(_) => unreachable!(),
     }
 }
 
-impl<J: Naming> Publisher<J> {
-    /// Of a writer that shows the opening policy. It makes the room for what will wait to be published, where memory isn't refused.
-    pub fn new(writer: PolicyWriter<J>, head: Head<J>) -> Publisher<J>
-        requires { IsPublishing J.book writer.desk.shown.value.policy writer.desk.shown.value.trace
+impl<B: BoardName> Publisher<B> {
+    /// Of a writer that shows the opening policy. It makes the room for what will wait to be published: one operation, since
+    /// each is published before the next comes.
+    ///
+    /// # Errors
+    ///
+    /// The writer, where memory was refused for that.
+    pub fn new(writer: PolicyWriter<B>, head: Head<B>) -> Result<Publisher<B>, PolicyWriter<B>>
+        requires { IsPublishing B.book writer.desk.shown.value.policy writer.desk.shown.value.trace
             (drop writer.behind writer.log.items) }
-        ensures { result ≡ writer.desk.shown.value.trace.list }
+        ensures { IfOk result (λ publisher. publisher ≡ writer.desk.shown.value.trace.list) }
     {
         let mut writer = writer;
-        let _room = writer.append(Operation::Room);
-        Publisher { writer, head }
+        match writer.append(Operation::Room) {
+            Ok(()) => Ok(Publisher { writer, head }),
+            Err(_) => Err(writer),
+        }
     }
 
     /// The policy that is published.
@@ -117,22 +129,22 @@ impl<J: Naming> Publisher<J> {
     }
 
     /// The list that is published.
-    pub fn front(&self) -> Front<J>
+    pub fn front(&self) -> Front<B>
         ensures { result ≡ self.now }
     {
         Front::of(&self.writer.published().trace)
     }
 
-    /// A reader that has seen the opening entries.
-    pub fn reader(&self, opening: &Front<J>) -> SlotReader<J>
+    /// A reader that has seen the opening entries, where `left_right` has a place for it.
+    pub fn reader(&self, opening: &Front<B>) -> Option<SlotReader<B>>
         requires { opening.now ≡ opening_entries }
-        ensures { result ≡ opening_entries }
+        ensures { IfSome result (λ reader. reader ≡ opening_entries) }
     {
         SlotReader::new(&self.writer, opening)
     }
 
     /// Waits until all entries are published: at once, since entries are published where they are added. The other front then begins the list.
-    pub fn wait_whole<R: Wait>(&self, rt: &R, known: &Front<J>)
+    pub fn wait_whole<R: Wait>(&self, rt: &R, known: &Front<B>)
         ensures { Begins known.now self.now }
     {
         let front = self.front();
@@ -145,7 +157,7 @@ impl<J: Naming> Publisher<J> {
     }
 
     /// Adds the entry to the list, and shows it to the readers. It waits for those that still read the other copy.
-    pub fn publish<R: Wait>(self, rt: &R, entry: Entry) -> Publisher<J>
+    pub fn publish<R: Wait>(self, rt: &R, entry: Entry) -> Publisher<B>
         requires { IsAccepted self entry }
         ensures { result ≡ self ++ entry ∷ [] }
     {

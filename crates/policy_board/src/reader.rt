@@ -1,10 +1,10 @@
 //! A reader of the policy. It waits for nobody, and never goes back.
-ghost use Rattle.std.specs.Prelude.{◌≡◌, MatchResult};
+ghost use Rattle.std.specs.Prelude.{◌≡◌, IfSome, MatchResult};
 ghost use Rattle.rbac_policy.specs.Opening.{opening_entries};
 ghost use Rattle.rbac_policy.specs.StandsFor.{StandsFor};
 ghost use Rattle.rbac_admin.specs.PolicyLists.{Begins};
 
-use crate::history::{Front, Naming};
+use crate::history::{BoardName, Front};
 use crate::shown::{PolicyReader, PolicyWriter, Published, Sees, Shown};
 use left_right::reader;
 use rbac_policy::commands::Entry;
@@ -12,16 +12,15 @@ use rbac_policy::policy::Policy;
 use std::collections::LinkedList;
 use std::marker::Model;
 
-/// A reader that is not reading. A contract sees the policy list that it has seen.
+/// A reader that is not reading. Each can read: there is none that could not be asked to. A contract sees the policy list that it has seen.
 #[derive(Drop)]
-pub struct SlotReader<J: Naming> {
-    // None where `left_right` gave none: each read is then refused.
-    reader: Option<PolicyReader<J>>,
-    front: Front<J>,
+pub struct SlotReader<B: BoardName> {
+    reader: PolicyReader<B>,
+    front: Front<B>,
 }
 
-impl<J: Naming> Model for SlotReader<J> {
-    ghost use Rattle.std.specs.Prelude.{◌≡◌, List, IfSome};
+impl<B: BoardName> Model for SlotReader<B> {
+    ghost use Rattle.std.specs.Prelude.{◌≡◌, List};
     ghost use Rattle.rbac_policy.specs.declared.commands.Entry.{Entry};
     ghost use Rattle.left_right.specs.Sides.{view as seen_at};
 
@@ -29,16 +28,16 @@ impl<J: Naming> Model for SlotReader<J> {
 
     ghost view = { λ s. s.front };
 
-    ghost invariant = { λ s. IfSome s.reader (λ r. seen_at r.place ≡ s.front) };
+    ghost invariant = { λ s. seen_at s.reader.place ≡ s.front };
 }
 
 /// A read. A contract sees the policy list that the policy stands for. End it by `leave`: a publication waits for it.
-pub struct Reading<J: Naming> {
-    reading: reader::Reading<Shown, LinkedList<Entry>, Published<J>>,
-    front: Front<J>,
+pub struct Reading<B: BoardName> {
+    reading: reader::Reading<Shown, LinkedList<Entry>, Published<B>>,
+    front: Front<B>,
 }
 
-impl<J: Naming> Model for Reading<J> {
+impl<B: BoardName> Model for Reading<B> {
     ghost use Rattle.std.specs.Prelude.{◌≡◌, List};
     ghost use Rattle.rbac_policy.specs.declared.commands.Entry.{Entry};
     ghost use Rattle.rbac_policy.specs.StandsFor.{StandsFor};
@@ -52,25 +51,18 @@ impl<J: Naming> Model for Reading<J> {
         × StandsFor s.reading.part.value.policy s.front };
 }
 
-impl<J: Naming> SlotReader<J> {
-    /// A reader that has seen the opening entries.
-    pub(crate) fn new(writer: &PolicyWriter<J>, opening: &Front<J>) -> SlotReader<J>
+impl<B: BoardName> SlotReader<B> {
+    /// A reader that has seen the opening entries, where `left_right` has a place for it.
+    pub(crate) fn new(writer: &PolicyWriter<B>, opening: &Front<B>) -> Option<SlotReader<B>>
         requires { opening.now ≡ opening_entries }
-        ensures { result ≡ opening_entries }
+        ensures { IfSome result (λ reader. reader ≡ opening_entries) }
     {
-        SlotReader {
-            reader: writer.factory().reader().ok(),
-            front: opening.again(),
-        }
-    }
-
-    /// A reader that has seen this much, and whose reads are refused: it keeps the place of one that is reading.
-    pub fn vacant(front: Front<J>) -> SlotReader<J>
-        ensures { result ≡ front }
-    {
-        SlotReader {
-            reader: None,
-            front,
+        match writer.factory().reader() {
+            Ok(reader) => Some(SlotReader {
+                reader,
+                front: opening.again(),
+            }),
+            Err(_) => None,
         }
     }
 
@@ -79,37 +71,28 @@ impl<J: Naming> SlotReader<J> {
     /// # Errors
     ///
     /// The reader as it was, where `left_right` refuses the read.
-    pub fn enter(self) -> Result<Reading<J>, SlotReader<J>>
+    pub fn enter(self) -> Result<Reading<B>, SlotReader<B>>
         ensures { MatchResult result (λ reading. Begins self reading) (λ reader. reader ≡ self) }
     {
         let SlotReader { reader, front } = self;
-        let Some(reader) = reader else {
-            return Err(SlotReader {
-                reader: None,
-                front,
-            });
-        };
-        match reader.enter_as::<Sees<J>>() {
+        match reader.enter_as::<Sees<B>>() {
             Ok(reading) => {
                 let front = Front::of(&reading.get().trace);
                 Ok(Reading { reading, front })
             }
-            Err(reader) => Err(SlotReader {
-                reader: Some(reader),
-                front,
-            }),
+            Err(reader) => Err(SlotReader { reader, front }),
         }
     }
 
     /// The list that it has seen.
-    pub fn front(&self) -> &Front<J>
+    pub fn front(&self) -> &Front<B>
         ensures { result.now ≡ self.now }
     {
         &self.front
     }
 }
 
-impl<J: Naming> Reading<J> {
+impl<B: BoardName> Reading<B> {
     /// The policy that is read.
     pub fn policy(&self) -> &Policy
         ensures { StandsFor result.now self.now }
@@ -118,19 +101,19 @@ impl<J: Naming> Reading<J> {
     }
 
     /// The list that the policy stands for.
-    pub fn front(&self) -> &Front<J>
+    pub fn front(&self) -> &Front<B>
         ensures { result.now ≡ self.now }
     {
         &self.front
     }
 
     /// Ends the read.
-    pub fn leave(self) -> SlotReader<J>
+    pub fn leave(self) -> SlotReader<B>
         ensures { result ≡ self }
     {
         let Reading { reading, front } = self;
         SlotReader {
-            reader: Some(reading.leave()),
+            reader: reading.leave(),
             front,
         }
     }

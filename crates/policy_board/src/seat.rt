@@ -3,13 +3,14 @@ ghost use Rattle.std.specs.Prelude.{◌≡◌, ◌⊎◌, ◌≤◌, max, length
 ghost use Rattle.rbac_policy.specs.Facts.{IsLive, May};
 ghost use Rattle.rbac_policy.specs.Opening.{opening_entries};
 ghost use Rattle.rbac_admin.specs.PolicyLists.{Begins, IsPolicyList};
-ghost use Rattle.policy_board.specs.Reads.{Asks, HasRead, IsUnread};
+ghost use Rattle.policy_board.specs.Reads.{Asks};
+ghost use Rattle.policy_board.specs.Inner.Reading.{IsRead, IsNotRead};
 ghost use Rattle.policy_board.specs.PolicyCommands.{seat_after};
 ghost use Rattle.policy_board.specs.Receipts.{HasRoom, seat_keeping};
 ghost use Rattle.policy_board.specs.SeatState.{KeepsReceipts, new_seat};
 ghost use Rattle.policy_board.specs.declared.refusal.Refusal.TheVariants.{Memory};
 
-use crate::history::{Front, Naming};
+use crate::history::{BoardName, Front};
 use crate::reader::{Reading, SlotReader};
 use crate::refusal::Refusal;
 use rbac_policy::commands::{Entry, SessionId};
@@ -18,17 +19,16 @@ use seat_receipts::receipt::Kept;
 use seat_receipts::receipts::Receipts;
 use std::alloc::Global;
 use std::marker::Model;
-use std::mem::replace;
 
 /// What an accepted policy command leaves its caller: its entry, the list that ends with it, and the session that it made, if it is a login.
 #[derive(Drop)]
-pub struct Receipt<J: Naming> {
+pub struct Receipt<B: BoardName> {
     pub(crate) entry: Entry,
-    pub(crate) list: Front<J>,
+    pub(crate) list: Front<B>,
     pub(crate) session: Option<SessionId>,
 }
 
-impl<J: Naming> Receipt<J> {
+impl<B: BoardName> Receipt<B> {
     /// The entry.
     pub fn entry(&self) -> &Entry
         ensures { result.now ≡ self.now.entry }
@@ -51,7 +51,7 @@ impl<J: Naming> Receipt<J> {
     }
 
     /// The list that ends with the entry: a note that another seat may learn.
-    pub fn list(&self) -> &Front<J>
+    pub fn list(&self) -> &Front<B>
         ensures { result.now ≡ self.now.list }
     {
         &self.list
@@ -61,15 +61,16 @@ impl<J: Naming> Receipt<J> {
 /// A caller's place. What it asks is answered for a policy that is no older than any that it has seen or was told of.
 /// It keeps the receipts of its calls that added an entry, in their order.
 #[derive(Drop)]
-pub struct Seat<J: Naming> {
-    reader: SlotReader<J>,
-    known: Front<J>,
+pub struct Seat<B: BoardName> {
+    // It is away only while a call of the seat reads.
+    reader: Option<SlotReader<B>>,
+    known: Front<B>,
     seen: u64,
     kept: Vec<Kept>,
 }
 
-impl<J: Naming> Model for Seat<J> {
-    ghost use Rattle.std.specs.Prelude.{◌≤◌, max, length, vec_capacity};
+impl<B: BoardName> Model for Seat<B> {
+    ghost use Rattle.std.specs.Prelude.{◌≤◌, [], max, length, unwrap_or, vec_capacity, IsSome};
     ghost use Rattle.rbac_policy.specs.Opening.{opening_entries};
     ghost use Rattle.policy_board.specs.SeatState.{SeatState};
 
@@ -77,23 +78,54 @@ impl<J: Naming> Model for Seat<J> {
 
     ghost view = { λ s. record {
       known = s.known;
+      read = unwrap_or s.reader [];
       seen = s.seen;
       kept = s.kept.items;
       room = vec_capacity s.kept;
     } };
 
-    ghost invariant = { λ s. length s.known ≤ max s.seen (length opening_entries) };
+    ghost invariant = { λ s. IsSome s.reader
+        × (length s.known ≤ max s.seen (length opening_entries)) };
 }
 
-impl<J: Naming> Seat<J> {
+// Reads. What is read is then known, unless it is older than what was seen. A refused read hands the reader back.
+fn read_newer<B: BoardName>(
+    reader: SlotReader<B>,
+    known: &mut Front<B>,
+    seen: &mut u64,
+) -> Result<Reading<B>, (Refusal, SlotReader<B>)>
+    requires { length known.old ≤ max seen.old (length opening_entries) }
+    ensures { MatchResult result
+        (λ reading. IsRead reader (record { known = known.old; seen = seen.old }) reading
+        (record { known = known.new; seen = seen.new }))
+        (λ left. IsNotRead reader (record { known = known.old; seen = seen.old }) left.0 left.1
+        (record { known = known.new; seen = seen.new })) }
+{
+    let reading = match reader.enter() {
+        Ok(reading) => reading,
+        Err(reader) => return Err((Refusal::Memory, reader)),
+    };
+    let front = reading.front().again();
+    let found = front.version();
+    if found < *seen {
+        let refusal = Refusal::Behind { found, seen: *seen };
+        return Err((refusal, reading.leave()));
+    }
+    known.compare(&front);
+    *known = front;
+    *seen = found;
+    Ok(reading)
+}
+
+impl<B: BoardName> Seat<B> {
     /// A seat that has seen nothing but the opening entries.
-    pub(crate) fn new(alloc: Global, reader: SlotReader<J>) -> Seat<J>
+    pub(crate) fn new(alloc: Global, reader: SlotReader<B>) -> Seat<B>
         requires { reader ≡ opening_entries }
         ensures { result ≡ new_seat }
     {
         Seat {
             known: reader.front().again(),
-            reader,
+            reader: Some(reader),
             seen: 0,
             kept: Vec::new(alloc),
         }
@@ -153,7 +185,7 @@ impl<J: Naming> Seat<J> {
     }
 
     /// It has seen this list, which is no shorter than its seen number: so the list begins with all that it knew.
-    pub fn saw_list(&mut self, list: &Front<J>)
+    pub fn saw_list(&mut self, list: &Front<B>)
         requires { self.old.seen ≤ length list.now }
         ensures later { Begins self.old.known list.now }
         ensures list { IsPolicyList list.now }
@@ -166,14 +198,14 @@ impl<J: Naming> Seat<J> {
     }
 
     /// The longest list that it has read or was told of.
-    pub(crate) fn known(&self) -> &Front<J>
+    pub(crate) fn known(&self) -> &Front<B>
         ensures { result.now ≡ self.now.known }
     {
         &self.known
     }
 
     /// It knows this list, which begins with what it knew.
-    pub(crate) fn know(&mut self, list: &Front<J>)
+    pub(crate) fn know(&mut self, list: &Front<B>)
         requires { Begins self.old.known list.now }
         ensures { self.new ≡ seat_after self.old list.now }
     {
@@ -182,11 +214,12 @@ impl<J: Naming> Seat<J> {
     }
 
     /// It is told of the receipt's list: from now on it is answered for no shorter one.
-    pub fn learn(&mut self, receipt: Receipt<J>)
+    pub fn learn(&mut self, receipt: Receipt<B>)
         ensures before { Begins self.old.known self.new.known }
         ensures told { Begins receipt.list self.new.known }
         ensures one { (self.new.known ≡ self.old.known) ⊎ (self.new.known ≡ receipt.list) }
         ensures seen { self.new.seen ≡ max self.old.seen (length receipt.list) }
+        ensures read { self.new.read ≡ self.old.read }
         ensures kept { KeepsReceipts self.old self.new }
     {
         let Receipt { list, .. } = receipt;
@@ -194,35 +227,6 @@ impl<J: Naming> Seat<J> {
         if self.known.begins(&list) {
             self.known = list;
         }
-    }
-
-    // Begins a read. The seat has its reader again once what it gives is left, and put back.
-    fn enter(&mut self) -> Result<Reading<J>, Refusal>
-        ensures { MatchResult result
-            (λ reading. HasRead self.old reading self.new)
-            (λ refusal. IsUnread self.old refusal self.new) }
-    {
-        let away = SlotReader::vacant(self.known.again());
-        let reading = match replace(&mut self.reader, away).enter() {
-            Ok(reading) => reading,
-            Err(reader) => {
-                self.reader = reader;
-                return Err(Refusal::Memory);
-            }
-        };
-        let front = reading.front().again();
-        let found = front.version();
-        if found < self.seen {
-            self.reader = reading.leave();
-            return Err(Refusal::Behind {
-                found,
-                seen: self.seen,
-            });
-        }
-        self.known.compare(&front);
-        self.known = front;
-        self.seen = found;
-        Ok(reading)
     }
 
     /// Whether the session may do the operation on the object. It waits for nobody.
@@ -240,10 +244,18 @@ impl<J: Naming> Seat<J> {
         ensures { Asks (λ entries. May entries session operation object.now) self.old result
             self.new }
     {
-        let reading = self.enter()?;
-        let allowed = reading.policy().may(session, &operation, object);
-        self.reader = reading.leave();
-        Ok(allowed)
+        let reader = self.reader.take().unwrap();
+        match read_newer(reader, &mut self.known, &mut self.seen) {
+            Ok(reading) => {
+                let allowed = reading.policy().may(session, &operation, object);
+                self.reader = Some(reading.leave());
+                Ok(allowed)
+            }
+            Err((refusal, reader)) => {
+                self.reader = Some(reader);
+                Err(refusal)
+            }
+        }
     }
 
     /// Whether the session lives. It waits for nobody.
@@ -254,9 +266,17 @@ impl<J: Naming> Seat<J> {
     pub fn lives(&mut self, session: SessionId) -> Result<bool, Refusal>
         ensures { Asks (λ entries. IsLive entries session) self.old result self.new }
     {
-        let reading = self.enter()?;
-        let lives = reading.policy().lives(session);
-        self.reader = reading.leave();
-        Ok(lives)
+        let reader = self.reader.take().unwrap();
+        match read_newer(reader, &mut self.known, &mut self.seen) {
+            Ok(reading) => {
+                let lives = reading.policy().lives(session);
+                self.reader = Some(reading.leave());
+                Ok(lives)
+            }
+            Err((refusal, reader)) => {
+                self.reader = Some(reader);
+                Err(refusal)
+            }
+        }
     }
 }

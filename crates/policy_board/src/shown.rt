@@ -1,7 +1,7 @@
 //! What readers are shown, and the rule under which they read it.
 ghost use Rattle.std.specs.Prelude.{◌≡◌};
 
-use crate::history::{Naming, Trace};
+use crate::history::{BoardName, Trace};
 use crossbeam_utils::rule::{Outcome, Protocol};
 use left_right::Absorb;
 use left_right::reader::Reader;
@@ -52,32 +52,32 @@ impl Absorb<Operation> for Shown {
 }
 
 /// The rule of the published policy.
-pub struct Published<J> {
-    of: PhantomData<J>,
+pub struct Published<B> {
+    of: PhantomData<B>,
 }
 
-impl<J: Naming> Protocol<Shown, LinkedList<Entry>> for Published<J> {
+impl<B: BoardName> Protocol<Shown, LinkedList<Entry>> for Published<B> {
     ghost use Rattle.std.specs.Prelude.{◌≡◌};
     ghost use Rattle.rbac_policy.specs.Opening.{opening_entries};
     ghost use Rattle.policy_board.specs.Rule.{IsKept};
 
-    ghost holds = { λ x views. (x.trace.book ≡ J.book) × IsKept x.policy x.trace.list views };
+    ghost holds = { λ x views. (x.trace.book ≡ B.book) × IsKept x.policy x.trace.list views };
 
     ghost first = { opening_entries };
 }
 
 /// What a publication tells the writer, and a read its reader.
-pub struct Sees<J> {
-    of: PhantomData<J>,
+pub struct Sees<B> {
+    of: PhantomData<B>,
 }
 
-impl<J: Naming> Outcome<Shown, LinkedList<Entry>> for Sees<J> {
+impl<B: BoardName> Outcome<Shown, LinkedList<Entry>> for Sees<B> {
     ghost use Rattle.std.specs.Prelude.{◌≡◌};
     ghost use Rattle.policy_board.specs.Rule.{IsSeen};
 
-    ghost then = { λ v x y w. (y.trace.book ≡ J.book) × IsSeen v y.policy y.trace.list w };
+    ghost then = { λ v x y w. (y.trace.book ≡ B.book) × IsSeen v y.policy y.trace.list w };
 }
 
-pub type PolicyReader<J> = Reader<Shown, LinkedList<Entry>, Published<J>>;
+pub type PolicyReader<B> = Reader<Shown, LinkedList<Entry>, Published<B>>;
 
-pub type PolicyWriter<J> = Writer<Shown, Operation, LinkedList<Entry>, Published<J>>;
+pub type PolicyWriter<B> = Writer<Shown, Operation, LinkedList<Entry>, Published<B>>;

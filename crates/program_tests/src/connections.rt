@@ -5,6 +5,7 @@ use access_core::single::Single;
 use client_loop::serving::{End, serve};
 use line_reader::meter::{MeteredMemory, MeteredReader, MeteredWriter};
 use line_reader::serving::Why;
+use rbac_admin::refusals::Refusal as PolicyRefusal;
 use rbac_policy::commands::{AdminCommand, SessionId};
 use rbac_policy::objects::{Object, Operation};
 use std::alloc::Global;
@@ -178,6 +179,11 @@ fn connections_follow_each_other(rt: HostRuntime) -> Result<(), Fail> {
         "{\"ok\":\"login\",\"session\":2,\"version\":8}\n{\"code\":2,\"fault\":\"NotJson\"}\n{\"code\":31,\"fault\":\"AlreadyGranted\"}\n";
     assert!(rt; written.as_slice() == wanted.as_bytes());
     let after = desk.admin(Some(SessionId::new(2)), AdminCommand::DeleteSession);
-    assert!(rt; matches!(after, Reply::Refused(Refusal::NoSession)));
+    assert!(rt;
+        matches!(
+            after,
+            Reply::Refused(Refusal::Policy(PolicyRefusal::NoSession))
+        )
+    );
     Ok(())
 }

@@ -3,6 +3,7 @@ use access_core::refusal::Refusal;
 use access_core::reply::Reply;
 use access_core::single::Single;
 use client_loop::login::{Login, Logout, log_in};
+use rbac_admin::refusals::Refusal as PolicyRefusal;
 use rbac_policy::commands::{AdminCommand, SessionId};
 use rbac_policy::names::{Name, RoleNames};
 use std::alloc::{AllocError, Global};
@@ -57,7 +58,12 @@ fn a_refused_login_holds_nothing(rt: HostRuntime) -> Result<(), Fail> {
         None => (Reply::Refused(Refusal::NotARequest), None),
     };
     let done = logged_out(&rt, &mut desk, login);
-    assert!(rt; matches!(reply, Reply::Refused(Refusal::UnknownUser { .. })));
+    assert!(rt;
+        matches!(
+            reply,
+            Reply::Refused(Refusal::Policy(PolicyRefusal::UnknownUser { .. }))
+        )
+    );
     assert!(rt; done == None);
     Ok(())
 }

@@ -3,6 +3,7 @@ use access_core::refusal::Refusal;
 use access_core::reply::{Change, Reply, ShownSignal, ShownSignals, SignalNames};
 use est_text::identifier::Identifier;
 use est_text::place::Place;
+use rbac_admin::refusals::Refusal as PolicyRefusal;
 use rbac_policy::objects::{Object, Operation};
 use std::test::Fail;
 use wire_lines::reply::reply_line;
@@ -75,7 +76,7 @@ fn reply_texts(rt: HostRuntime) -> Result<(), Fail> {
             "{\"allowed\":false,\"ok\":\"check\"}\n",
         ),
         (
-            Reply::Refused(Refusal::Permission { operation, object }),
+            Reply::Refused(Refusal::Policy(PolicyRefusal::Permission { operation, object })),
             "{\"code\":10,\"fault\":\"Permission\",\"object\":\"0.A\",\"op\":\"offer\"}\n",
         ),
         (

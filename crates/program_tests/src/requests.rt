@@ -1,6 +1,9 @@
 //! Lines, and whether they are requests: by themselves, and to a reader that has read others.
+use access_core::command::SlotCommand;
 use access_core::refusal::Refusal;
-use est_text::identifier::Identifier;
+use rbac_policy::commands::AdminCommand;
+use rbac_policy::names::Name;
+use rbac_policy::objects::{Object, Operation};
 use std::alloc::{AllocError, Global};
 use std::test::Fail;
 use wire_lines::reading::{RequestReader, request};
@@ -226,22 +229,60 @@ fn keys_of_every_command(rt: HostRuntime) -> Result<(), Fail> {
     Ok(())
 }
 
-/// Whether a request is this command on a slot.
-fn is_on_slot(request: &Request, word: &str, number: u64) -> bool {
-    match request {
-        Request::Discard { slot } => word == "discard" && *slot == number,
-        Request::Step { slot } => word == "step" && *slot == number,
-        Request::Unload { slot } => word == "unload" && *slot == number,
-        Request::Audit { slot } => word == "audit" && *slot == number,
-        _ => false,
-    }
-}
-
 /// The request that a line asks a reader for.
 fn asked(alloc: Global, requests: &mut RequestReader, line: &str) -> Result<Request, Fail> {
     match requests.read(alloc, line.as_bytes()) {
         Ok(request) => Ok(request),
         Err(_) => Err(Fail::new("no request")),
+    }
+}
+
+/// The slot and the command on it that a line asks a reader for.
+fn asked_of_slot(
+    alloc: Global,
+    requests: &mut RequestReader,
+    line: &str,
+) -> Result<(u64, SlotCommand), Fail> {
+    match asked(alloc, requests, line)? {
+        Request::Slot { slot, command } => Ok((slot, command)),
+        Request::Policy(_) | Request::Check { .. } => Err(Fail::new("no command on a slot")),
+    }
+}
+
+/// Whether a command looks at this instant.
+fn is_look_at(command: &SlotCommand, number: u64) -> bool {
+    match command {
+        SlotCommand::Look { instant } => *instant == number,
+        SlotCommand::Load { .. }
+        | SlotCommand::Offer { .. }
+        | SlotCommand::Discard
+        | SlotCommand::Step
+        | SlotCommand::Unload
+        | SlotCommand::Audit => false,
+    }
+}
+
+/// Whether a command offers the signal of this name.
+fn is_offer_of(command: &SlotCommand, name: &str) -> bool {
+    match command {
+        SlotCommand::Offer { signal } => signal.as_str() == name,
+        SlotCommand::Load { .. }
+        | SlotCommand::Discard
+        | SlotCommand::Step
+        | SlotCommand::Unload
+        | SlotCommand::Look { .. }
+        | SlotCommand::Audit => false,
+    }
+}
+
+/// Whether a command is that of this word, which has the slot alone.
+fn is_of_word(command: &SlotCommand, word: &str) -> bool {
+    match command {
+        SlotCommand::Discard => word == "discard",
+        SlotCommand::Step => word == "step",
+        SlotCommand::Unload => word == "unload",
+        SlotCommand::Audit => word == "audit",
+        SlotCommand::Load { .. } | SlotCommand::Offer { .. } | SlotCommand::Look { .. } => false,
     }
 }
 
@@ -251,18 +292,101 @@ fn what_a_line_asks_of_a_slot(rt: HostRuntime) -> Result<(), Fail> {
     let mut requests = RequestReader::new(alloc);
     for word in ["discard", "step", "unload", "audit"] {
         let line = format!(in alloc; "{{\"cmd\":\"{word}\",\"slot\":7}}")?;
-        let request = asked(alloc, &mut requests, line.as_str())?;
-        assert!(rt; is_on_slot(&request, word, 7), "{line}");
+        let (slot, command) = asked_of_slot(alloc, &mut requests, line.as_str())?;
+        assert!(rt; slot == 7 && is_of_word(&command, word), "{line}");
     }
     let line = "{\"cmd\":\"look\",\"instant\":12,\"slot\":7}";
-    let Request::Look { instant, slot } = asked(alloc, &mut requests, line)? else {
-        return Err(Fail::new("no look"));
-    };
-    assert_eq!(rt; (instant, slot), (12, 7));
+    let (slot, command) = asked_of_slot(alloc, &mut requests, line)?;
+    assert!(rt; slot == 7 && is_look_at(&command, 12));
     let line = "{\"cmd\":\"offer\",\"signal\":\"A1\",\"slot\":7}";
-    let Request::Offer { signal, slot } = asked(alloc, &mut requests, line)? else {
-        return Err(Fail::new("no offer"));
-    };
-    assert_eq!(rt; (Some(signal), slot), (Identifier::from_text("A1"), 7));
+    let (slot, command) = asked_of_slot(alloc, &mut requests, line)?;
+    assert!(rt; slot == 7 && is_offer_of(&command, "A1"));
+    Ok(())
+}
+
+/// The policy command that a line asks a reader for.
+fn asked_of_policy(
+    alloc: Global,
+    requests: &mut RequestReader,
+    line: &str,
+) -> Result<AdminCommand, Fail> {
+    match asked(alloc, requests, line)? {
+        Request::Policy(command) => Ok(command),
+        Request::Slot { .. } | Request::Check { .. } => Err(Fail::new("no policy command")),
+    }
+}
+
+/// This text as a name.
+fn name(text: &str) -> Result<Name, Fail> {
+    match Name::from_text(text) {
+        Some(name) => Ok(name),
+        None => Err(Fail::new("no name")),
+    }
+}
+
+#[test]
+fn what_a_line_asks_of_the_policy(rt: HostRuntime) -> Result<(), Fail> {
+    let alloc = rt.alloc();
+    let mut requests = RequestReader::new(alloc);
+    let (ann, judge, chief) = (name("ann")?, name("judge")?, name("chief")?);
+    let (operation, object) = (Operation::Audit, Object::Policy);
+    let asks = [
+        ("logout\"", AdminCommand::DeleteSession),
+        (
+            "adduser\",\"user\":\"ann\"",
+            AdminCommand::AddUser { user: ann },
+        ),
+        (
+            "deluser\",\"user\":\"ann\"",
+            AdminCommand::DeleteUser { user: ann },
+        ),
+        (
+            "addrole\",\"role\":\"judge\"",
+            AdminCommand::AddRole { role: judge },
+        ),
+        (
+            "delrole\",\"role\":\"judge\"",
+            AdminCommand::DeleteRole { role: judge },
+        ),
+        (
+            "activate\",\"role\":\"judge\"",
+            AdminCommand::AddActiveRole { role: judge },
+        ),
+        (
+            "drop\",\"role\":\"judge\"",
+            AdminCommand::DropActiveRole { role: judge },
+        ),
+        (
+            "undsd\",\"name\":\"judge\"",
+            AdminCommand::DeleteDsdSet { set: judge },
+        ),
+        (
+            "assign\",\"role\":\"judge\",\"user\":\"ann\"",
+            AdminCommand::AssignUser {
+                user: ann,
+                role: judge,
+            },
+        ),
+        (
+            "disinherit\",\"junior\":\"judge\",\"senior\":\"chief\"",
+            AdminCommand::DeleteInheritance {
+                senior: chief,
+                junior: judge,
+            },
+        ),
+        (
+            "grant\",\"object\":\"policy\",\"op\":\"audit\",\"role\":\"judge\"",
+            AdminCommand::GrantPermission {
+                role: judge,
+                operation,
+                object,
+            },
+        ),
+    ];
+    for (members, command) in &asks {
+        let line = format!(in alloc; "{{\"cmd\":\"{members}}}")?;
+        let asked = asked_of_policy(alloc, &mut requests, line.as_str())?;
+        assert!(rt; asked == *command, "{line}");
+    }
     Ok(())
 }

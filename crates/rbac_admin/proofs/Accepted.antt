@@ -5,11 +5,12 @@ use Rattle.refusal_rules.specs.Rules.{Rules, Answers, AllPass, FirstRefuses}
 use Rattle.refusal_rules.proofs.RuleLemmas.{all_passed, first_or_none, refused, accepted}
 use Rattle.std.proofs.lemmas.Bool.{false≢true}
 use Rattle.rbac_policy.specs.declared.commands.AdminCommand.{AdminCommand}
-use Rattle.rbac_policy.specs.declared.commands.AdminCommand.TheVariants.{AddUser, DeleteUser, AddRole, DeleteRole, AssignUser, DeassignUser, GrantPermission, RevokePermission, AddInheritance, DeleteInheritance, CreateDsdSet, DeleteDsdSet, CreateSession, DeleteSession, AddActiveRole, DropActiveRole}
+use Rattle.rbac_policy.specs.declared.commands.AdminCommand.TheVariants.{CreateSession, DeleteSession, AddActiveRole, DropActiveRole}
 use Rattle.rbac_policy.specs.declared.commands.Entry.{Entry}
 use Rattle.rbac_admin.specs.declared.refusals.Refusal.{Refusal}
 use Rattle.rbac_admin.specs.Conditions.{Administers}
-use Rattle.rbac_admin.specs.PolicyStep.{PolicyStep, policy_rules, entry_of, is_administrative}
+use Rattle.rbac_policy.specs.Entries.{is_administrative}
+use Rattle.rbac_admin.specs.PolicyStep.{PolicyStep, policy_rules, entry_of}
 
 -- where an entry is answered, each rule lets pass, and the entry is the command's
 answered_entry : (entries : List Entry) (session : Option ℕ) (command : AdminCommand) (e : Entry) → PolicyStep entries session command (Ok e)
@@ -39,22 +40,8 @@ accepted_entry entries session command e h = (answered_entry entries session com
 -- what is asked of the entry alone is asked as it was of the command
 same_step : (entries : List Entry) (session : Option ℕ) (command : AdminCommand) (answer : Result Entry Refusal)
     → PolicyStep entries session command answer → PolicyStep entries (entry_of session command).session (entry_of session command).command answer
-same_step entries session (AddUser user) answer h = h
-same_step entries session (DeleteUser user) answer h = h
-same_step entries session (AddRole role) answer h = h
-same_step entries session (DeleteRole role) answer h = h
-same_step entries session (AssignUser user role) answer h = h
-same_step entries session (DeassignUser user role) answer h = h
-same_step entries session (GrantPermission role operation object) answer h = h
-same_step entries session (RevokePermission role operation object) answer h = h
-same_step entries session (AddInheritance senior junior) answer h = h
-same_step entries session (DeleteInheritance senior junior) answer h = h
-same_step entries session (CreateDsdSet set count roles) answer h = h
-same_step entries session (DeleteDsdSet set) answer h = h
 same_step entries session (CreateSession user roles) answer h = h
-same_step entries session DeleteSession answer h = h
-same_step entries session (AddActiveRole role) answer h = h
-same_step entries session (DropActiveRole role) answer h = h
+same_step entries session command answer h = h
 
 -- an accepted entry is accepted again from the entry alone
 pub accepted_again : (entries : List Entry) (session : Option ℕ) (command : AdminCommand) (e : Entry)
@@ -66,22 +53,11 @@ accepted_again entries session command e h =
 -- an administrative command is accepted only from a session that may administer
 pub accepted_administers : (entries : List Entry) (session : Option ℕ) (command : AdminCommand) (e : Entry)
     → is_administrative command ≡ true → PolicyStep entries session command (Ok e) → Administers entries session
-accepted_administers entries session (AddUser user) e administrative h = (passed entries session (AddUser user) e h).1.0
-accepted_administers entries session (DeleteUser user) e administrative h = (passed entries session (DeleteUser user) e h).1.0
-accepted_administers entries session (AddRole role) e administrative h = (passed entries session (AddRole role) e h).1.0
-accepted_administers entries session (DeleteRole role) e administrative h = (passed entries session (DeleteRole role) e h).1.0
-accepted_administers entries session (AssignUser user role) e administrative h = (passed entries session (AssignUser user role) e h).1.0
-accepted_administers entries session (DeassignUser user role) e administrative h = (passed entries session (DeassignUser user role) e h).1.0
-accepted_administers entries session (GrantPermission role operation object) e administrative h = (passed entries session (GrantPermission role operation object) e h).1.0
-accepted_administers entries session (RevokePermission role operation object) e administrative h = (passed entries session (RevokePermission role operation object) e h).1.0
-accepted_administers entries session (AddInheritance senior junior) e administrative h = (passed entries session (AddInheritance senior junior) e h).1.0
-accepted_administers entries session (DeleteInheritance senior junior) e administrative h = (passed entries session (DeleteInheritance senior junior) e h).1.0
-accepted_administers entries session (CreateDsdSet set count roles) e administrative h = (passed entries session (CreateDsdSet set count roles) e h).1.0
-accepted_administers entries session (DeleteDsdSet set) e administrative h = (passed entries session (DeleteDsdSet set) e h).1.0
 accepted_administers entries session (CreateSession user roles) e administrative h = absurd (false≢true administrative)
 accepted_administers entries session DeleteSession e administrative h = absurd (false≢true administrative)
 accepted_administers entries session (AddActiveRole role) e administrative h = absurd (false≢true administrative)
 accepted_administers entries session (DropActiveRole role) e administrative h = absurd (false≢true administrative)
+accepted_administers entries session command e administrative h = (passed entries session command e h).1.0
 
 -- the answer is a refusal exactly where it is that of the first rule that refuses
 pub refused_first : (entries : List Entry) (session : Option ℕ) (command : AdminCommand) (refusal : Refusal)

@@ -1,18 +1,18 @@
 -- Steps through the rules of a policy command.
-use Rattle.std.proofs.Common.{◌≡◌, ◌∙◌, ◌⊎◌, sym, subst, ℕ, ◌↔◌, List, IsTrue, true, false, Bool, rules}
-use Rattle.std.specs.Prelude.{Option}
+use Rattle.std.proofs.Common.{refl, inl, inr, ◌≡◌, ◌∙◌, ◌⊎◌, ◌↔◌, sym, subst, ℕ, List, IsTrue, true, false, Bool, rules}
+use Rattle.std.specs.Prelude.{IsFalse, Option, Some, Result, Ok, Err}
 use Rattle.std.proofs.lemmas.Option.{same_Some}
-use Rattle.refusal_rules.specs.Rules.{Says, Unless, Refuses, Passes}
-use Rattle.refusal_rules.proofs.RuleLemmas.{refuse, pass}
+use Rattle.refusal_rules.specs.Rules.{Rule, Rules, accept, ◌▸◌, ◌▸▸◌, Says, Unless, Refuses, Passes, Answers, AllPass, Tests}
+use Rattle.refusal_rules.proofs.RuleLemmas.{refuse, pass, append, accepted, all_passed}
+use Rattle.rbac_policy.specs.declared.commands.AdminCommand.{AdminCommand}
 use Rattle.rbac_policy.specs.declared.commands.Entry.{Entry}
-use Rattle.rbac_policy.specs.declared.objects.Operation.TheVariants.{Administer}
-use Rattle.rbac_policy.specs.declared.objects.Object.TheVariants.{Policy}
+use Rattle.rbac_policy.specs.Entries.{is_login}
 use Rattle.rbac_policy.specs.Names.{NameText}
-use Rattle.rbac_policy.specs.Facts.{IsActive, IsAuthorized, Lives, May}
+use Rattle.rbac_policy.specs.Facts.{IsActive, IsAuthorized, Lives}
 use Rattle.rbac_admin.specs.declared.refusals.Refusal.{Refusal}
-use Rattle.rbac_admin.specs.declared.refusals.Refusal.TheVariants.{Permission, NotAuthorized, AlreadyActive, NotActive}
-use Rattle.rbac_admin.specs.Conditions.{IsGivenBy, HasAuthorized, HasActive}
-use Rattle.rbac_admin.specs.PolicyStep.{no_session, no_permission}
+use Rattle.rbac_admin.specs.declared.refusals.Refusal.TheVariants.{NotAuthorized, AlreadyActive}
+use Rattle.rbac_admin.specs.Conditions.{IsGivenBy, IsGiven, HasAuthorized, HasActive}
+use Rattle.rbac_admin.specs.PolicyStep.{session_rules, entry_rules, policy_rules, entry_of, Checks}
 
 -- a test that is not passed
 pub not_so : {b : Bool} {P : Type 0} → (IsTrue b ↔ P) → b ≡ false → P → ⊥
@@ -23,31 +23,72 @@ pub is_so : {b : Bool} {P : Type 0} → (IsTrue b ↔ P) → b ≡ true → P
 is_so {b = true} test e = test.0 (search rules)
 is_so {b = false} test e = cc
 
+-- where a test by rules passes, each of them lets pass
+pub checked : (all : Rules Refusal) → Checks all (Ok (record {})) → AllPass all
+checked all h = (all_passed all _ _ (λ refusal is. absurd cc) h).0
+
+-- rules that let pass leave the answer to those after them
+pub skip : (first later : Rules Refusal) (Refused : Refusal → Type 0) (Accepted : Type 0) → AllPass first → Answers later Refused Accepted
+    → Answers (first ▸▸ later) Refused Accepted
+skip first later Refused Accepted all next = append first later Refused Accepted (accepted first Refused (Answers later Refused Accepted) all next)
+
+-- what is said of one answer by the rules is said of another
+pub mapped : (all : Rules Refusal) (Refused Other : Refusal → Type 0) (Next Accepted : Type 0) → ((refusal : Refusal) → Refused refusal → Other refusal)
+    → (Next → Accepted) → Answers all Refused Next → Answers all Other Accepted
+mapped accept Refused Other Next Accepted refused next h = next h
+mapped (rule ▸ later) Refused Other Next Accepted refused next (inl r) = refuse r.refusal r.given (refused r.refusal r.answered)
+mapped (rule ▸ later) Refused Other Next Accepted refused next (inr p) = pass p.passed (mapped later Refused Other Next Accepted refused next p.next)
+
+-- a refusal by the first rules is one by all
+pub stop : (first later : Rules Refusal) (Refused Other : Refusal → Type 0) (Next Accepted : Type 0) → ((refusal : Refusal) → Refused refusal → Other refusal)
+    → (Next → ⊥) → Answers first Refused Next → Answers (first ▸▸ later) Other Accepted
+stop first later Refused Other Next Accepted refused none h =
+    append first later Other Accepted (mapped first Refused Other Next (Answers later Other Accepted) refused (λ n. absurd (none n)) h)
+
+-- a test of one rule
+pub tested : (rule : Rule Refusal) (answer : Result (Unit {0}) Refusal) → Tests rule answer → Checks (rule ▸ accept) answer
+tested rule (Ok done) h = pass h refl
+tested rule (Err refusal) h = refuse refusal h refl
+
+-- the session that the command's entry names has been asked for, and it lives where there is one
+pub record IsGiver (entries : List Entry) (session named : Option ℕ) (command : AdminCommand) : Type 0 where
+  pub passed : AllPass (session_rules entries session command)
+  pub same : named ≡ (entry_of session command).session
+  pub given : IsGiven entries (record { session = named; command = command })
+
+pub giver_of : (entries : List Entry) (session named : Option ℕ) (command : AdminCommand)
+    → Answers (session_rules entries session command) (λ refusal. (let r : Result (Option ℕ) Refusal = Ok named in r) ≡ Err refusal)
+    (((let r : Result (Option ℕ) Refusal = Ok named in r) ≡ Ok (entry_of session command).session) × IsGiven entries (entry_of session command))
+    → IsGiver entries session named command
+giver_of entries session named command h =
+    let all = all_passed (session_rules entries session command) _ _ (λ refusal is. absurd cc) h in
+    let same : named ≡ (entry_of session command).session = (let is = all.1.0 in cc) in
+    record {
+      passed = all.0;
+      same = same;
+      given = subst (λ by. IsGiven entries (record { session = by; command = command })) (sym same) all.1.1;
+    }
+
+-- the command is answered by what is asked of its entry
+pub after_giver : (entries : List Entry) (session named : Option ℕ) (command : AdminCommand) (Refused : Refusal → Type 0) (Accepted : Type 0)
+    → IsGiver entries session named command → Answers (entry_rules entries named command) Refused Accepted
+    → Answers (policy_rules entries session command) Refused Accepted
+after_giver entries session named command Refused Accepted giver h =
+    skip (session_rules entries session command) (entry_rules entries (entry_of session command).session command) Refused Accepted giver.passed
+    (subst (λ by. Answers (entry_rules entries by command) Refused Accepted) giver.same h)
+
+-- the session of an entry that is no login's lives
+pub given_by : (entries : List Entry) (entry : Entry) (n : ℕ) → IsFalse (is_login entry) → entry.session ≡ Some n → IsGiven entries entry
+    → IsGivenBy entries entry.session n
+given_by entries entry n plain session given =
+    let has = given plain in
+    record {
+      given = session;
+      user = has.1.user;
+      lives = subst (λ k. Lives entries k has.1.user) (same_Some has.0 n (sym has.1.given ∙ session)) has.1.lives;
+    }
+
 module _ (entries : List Entry) (session : Option ℕ) (n : ℕ) (by : IsGivenBy entries session n) where
-  pub pass_session : {Refused : Refusal → Type 0} {Next : Type 0} → Next
-      → Refuses (no_session entries session) Refused ⊎ Passes (no_session entries session) Next
-  pass_session then = pass (n, by) then
-
-  pub pass_permission : {Refused : Refusal → Type 0} {Next : Type 0} → May entries n Administer Policy → Next
-      → Refuses (no_permission entries session) Refused ⊎ Passes (no_permission entries session) Next
-  pass_permission may then = pass (record { number = n; given = by.given; may = may }) then
-
-  pub refuse_permission : {Refused : Refusal → Type 0} {Next : Type 0} (refusal : Refusal)
-      → (refusal ≡ Permission Administer Policy) × (May entries n Administer Policy → ⊥) → Refused refusal
-      → Refuses (no_permission entries session) Refused ⊎ Passes (no_permission entries session) Next
-  refuse_permission refusal given answered =
-      refuse refusal (given.0, λ a. given.1 (subst (λ k. May entries k Administer Policy) (same_Some a.number n (sym a.given ∙ by.given)) a.may)) answered
-
-  pub pass_active : (role : NameText) {Refused : Refusal → Type 0} {Next : Type 0} → IsActive entries n role → Next
-      → Refuses (Unless (HasActive entries session role) (NotActive role)) Refused ⊎ Passes (Unless (HasActive entries session role) (NotActive role)) Next
-  pass_active role active then = pass (record { number = n; given = by.given; active = active }) then
-
-  pub refuse_active : (role : NameText) {Refused : Refusal → Type 0} {Next : Type 0} (refusal : Refusal)
-      → (refusal ≡ NotActive role) × (IsActive entries n role → ⊥) → Refused refusal
-      → Refuses (Unless (HasActive entries session role) (NotActive role)) Refused ⊎ Passes (Unless (HasActive entries session role) (NotActive role)) Next
-  refuse_active role refusal given answered =
-      refuse refusal (given.0, λ a. given.1 (subst (λ k. IsActive entries k role) (same_Some a.number n (sym a.given ∙ by.given)) a.active)) answered
-
   pub pass_inactive : (role : NameText) {Refused : Refusal → Type 0} {Next : Type 0} → (IsActive entries n role → ⊥) → Next
       → Refuses (Says (AlreadyActive role) (HasActive entries session role)) Refused ⊎ Passes (Says (AlreadyActive role) (HasActive entries session role)) Next
   pass_inactive role inactive then = pass (λ a. inactive (subst (λ k. IsActive entries k role) (same_Some a.number n (sym a.given ∙ by.given)) a.active)) then
@@ -56,6 +97,11 @@ module _ (entries : List Entry) (session : Option ℕ) (n : ℕ) (by : IsGivenBy
       → (refusal ≡ AlreadyActive role) × IsActive entries n role → Refused refusal
       → Refuses (Says (AlreadyActive role) (HasActive entries session role)) Refused ⊎ Passes (Says (AlreadyActive role) (HasActive entries session role)) Next
   refuse_inactive role refusal given answered = refuse refusal (given.0, record { number = n; given = by.given; active = given.1 }) answered
+
+  pub tested_inactive : (role : NameText) (answer : Result (Unit {0}) Refusal) → Tests (Says (AlreadyActive role) (IsActive entries n role)) answer
+      → Checks (Says (AlreadyActive role) (HasActive entries session role) ▸ accept) answer
+  tested_inactive role (Ok done) h = pass_inactive role h refl
+  tested_inactive role (Err refusal) h = refuse_inactive role refusal h refl
 
   pub pass_authorized : (role : NameText) {Refused : Refusal → Type 0} {Next : Type 0} → IsAuthorized entries by.user role → Next
       → Refuses (Unless (HasAuthorized entries session role) (NotAuthorized role)) Refused ⊎ Passes (Unless (HasAuthorized entries session role) (NotAuthorized role)) Next

@@ -1,5 +1,5 @@
 -- An entry that the policy step accepts is one that the policy can take in.
-use Rattle.std.proofs.Common.{◌≡◌, ℕ, zero, suc, ◌<◌, ◌↔◌, List, [], ◌∷◌, ◌++◌, length, true, false, Bool, IsTrue, rules, inl, inr, arith, sym, ◌∙◌, ap, refl, subst}
+use Rattle.std.proofs.Common.{ℕ, zero, suc, ◌<◌, ◌↔◌, List, [], ◌∷◌, ◌++◌, length, true, false, Bool, IsTrue, rules, inl, inr, arith, sym, ◌∙◌, ap, refl, subst}
 use Rattle.std.specs.Prelude.{Option, Some, Ok, is_some, Contains}
 use Rattle.std.proofs.lemmas.Bool.{cases_lt}
 use Rattle.std.proofs.lemmas.Option.{slice_get-get_or}

@@ -4,17 +4,17 @@ use Rattle.std.specs.Prelude.{Option, Some, None, Result, slice_get}
 use Rattle.std.proofs.lemmas.Bool.{cases_order}
 use Rattle.std.proofs.lemmas.Option.{same_Some, slice_get_within}
 use Rattle.std.proofs.lemmas.List.{length-take-le}
-use Rattle.refusal_rules.specs.Rules.{Naming, IsDefinite, AllDefinite}
+use Rattle.refusal_rules.specs.Rules.{Rules, accept, ◌▸◌, ◌▸▸◌, Naming, IsDefinite, AllDefinite}
 use Rattle.refusal_rules.proofs.RuleLemmas.{says, unless, naming, one_answer as same_answer}
 use Rattle.rbac_policy.specs.Names.{NameText}
 use Rattle.rbac_policy.specs.Facts.{IsSet, Violates}
 use Rattle.rbac_policy.specs.declared.commands.AdminCommand.{AdminCommand}
-use Rattle.rbac_policy.specs.declared.commands.AdminCommand.TheVariants.{AddUser, DeleteUser, AddRole, DeleteRole, AssignUser, DeassignUser, GrantPermission, RevokePermission, AddInheritance, DeleteInheritance, CreateDsdSet, DeleteDsdSet, CreateSession, DeleteSession, AddActiveRole, DropActiveRole}
+use Rattle.rbac_policy.specs.declared.commands.AdminCommand.TheVariants.{AddUser, AddRole, DeleteRole, AssignUser, DeassignUser, GrantPermission, RevokePermission, AddInheritance, DeleteInheritance, CreateDsdSet, CreateSession, DeleteSession, AddActiveRole, DropActiveRole}
 use Rattle.rbac_policy.specs.declared.commands.Entry.{Entry}
 use Rattle.rbac_admin.specs.declared.refusals.Refusal.{Refusal}
 use Rattle.rbac_policy.specs.Separation.{IsFirstViolated, IsFirstSetOf}
 use Rattle.rbac_admin.specs.Conditions.{FirstListed}
-use Rattle.rbac_admin.specs.PolicyStep.{PolicyStep, policy_rules, entry_of, violation}
+use Rattle.rbac_admin.specs.PolicyStep.{PolicyStep, session_rules, right_rules, name_rules, condition_rules, separation_rules, table_rules, policy_rules, entry_of, violation}
 
 -- one place at most, where none of those before a place with the property has it
 one_place : (a b : ℕ) → (a < b → ⊥) → (b < a → ⊥) → a ≡ b
@@ -85,24 +85,72 @@ violations entries session command = naming same where
 members : {refusal : NameText → Refusal} (entries : List Entry) (role : NameText) → IsDefinite (Naming refusal (IsFirstSetOf entries role))
 members entries role = naming (one_set_of entries role)
 
+-- the rules of each kind are definite
+session_definite : (entries : List Entry) (session : Option ℕ) (command : AdminCommand) → AllDefinite (session_rules entries session command)
+session_definite entries session (CreateSession user roles) = record {}
+session_definite entries session command = (unless, record {})
+
+right_definite : (entries : List Entry) (session : Option ℕ) (command : AdminCommand) → AllDefinite (right_rules entries session command)
+right_definite entries session (CreateSession user roles) = record {}
+right_definite entries session DeleteSession = record {}
+right_definite entries session (AddActiveRole role) = record {}
+right_definite entries session (DropActiveRole role) = record {}
+right_definite entries session command = (unless, record {})
+
+names_definite : (entries : List Entry) (command : AdminCommand) → AllDefinite (name_rules entries command)
+names_definite entries (AddUser user) = (says, record {})
+names_definite entries (AddRole role) = (says, record {})
+names_definite entries (AssignUser user role) = (unless, (unless, record {}))
+names_definite entries (DeassignUser user role) = (unless, (unless, record {}))
+names_definite entries (AddInheritance senior junior) = (unless, (unless, record {}))
+names_definite entries (DeleteInheritance senior junior) = (unless, (unless, record {}))
+names_definite entries (CreateDsdSet set count roles) = (says, (listed, record {}))
+names_definite entries (CreateSession user roles) = (says, (unless, (listed, record {})))
+names_definite entries DeleteSession = record {}
+names_definite entries command = (unless, record {})
+
+conditions_definite : (entries : List Entry) (session : Option ℕ) (command : AdminCommand) → AllDefinite (condition_rules entries session command)
+conditions_definite entries session (DeleteRole role) = (members entries role, record {})
+conditions_definite entries session (AssignUser user role) = (says, record {})
+conditions_definite entries session (DeassignUser user role) = (unless, record {})
+conditions_definite entries session (GrantPermission role operation object) = (says, record {})
+conditions_definite entries session (RevokePermission role operation object) = (unless, record {})
+conditions_definite entries session (AddInheritance senior junior) = (says, (says, record {}))
+conditions_definite entries session (DeleteInheritance senior junior) = (unless, record {})
+conditions_definite entries session (CreateDsdSet set count roles) = (says, record {})
+conditions_definite entries session (CreateSession user roles) = (listed, (listed, record {}))
+conditions_definite entries session (AddActiveRole role) = (unless, (says, record {}))
+conditions_definite entries session (DropActiveRole role) = (unless, record {})
+conditions_definite entries session command = record {}
+
+separation_definite : (entries : List Entry) (session : Option ℕ) (command : AdminCommand) → AllDefinite (separation_rules entries session command)
+separation_definite entries session (AddInheritance senior junior) = (violations entries session (AddInheritance senior junior), record {})
+separation_definite entries session (CreateDsdSet set count roles) = (violations entries session (CreateDsdSet set count roles), record {})
+separation_definite entries session (CreateSession user roles) = (violations entries None (CreateSession user roles), record {})
+separation_definite entries session (AddActiveRole role) = (violations entries session (AddActiveRole role), record {})
+separation_definite entries session command = record {}
+
+tables_definite : (entries : List Entry) (command : AdminCommand) → AllDefinite (table_rules entries command)
+tables_definite entries (AddUser user) = (says, record {})
+tables_definite entries (AddRole role) = (says, record {})
+tables_definite entries (GrantPermission role operation object) = (says, record {})
+tables_definite entries (CreateDsdSet set count roles) = (says, record {})
+tables_definite entries (CreateSession user roles) = (says, record {})
+tables_definite entries command = record {}
+
+both_definite : (one other : Rules Refusal) → AllDefinite one → AllDefinite other → AllDefinite (one ▸▸ other)
+both_definite accept other first second = second
+both_definite (rule ▸ later) other first second = (first.0, both_definite later other first.1 second)
+
 -- the rules of each command are definite
 pub all_definite : (entries : List Entry) (session : Option ℕ) (command : AdminCommand) → AllDefinite (policy_rules entries session command)
-all_definite entries session (AddUser user) = (unless, (unless, (says, (says, record {}))))
-all_definite entries session (DeleteUser user) = (unless, (unless, (unless, record {})))
-all_definite entries session (AddRole role) = (unless, (unless, (says, (says, record {}))))
-all_definite entries session (DeleteRole role) = (unless, (unless, (unless, (members entries role, record {}))))
-all_definite entries session (AssignUser user role) = (unless, (unless, (unless, (unless, (says, record {})))))
-all_definite entries session (DeassignUser user role) = (unless, (unless, (unless, (unless, (unless, record {})))))
-all_definite entries session (GrantPermission role operation object) = (unless, (unless, (unless, (says, (says, record {})))))
-all_definite entries session (RevokePermission role operation object) = (unless, (unless, (unless, (unless, record {}))))
-all_definite entries session (AddInheritance senior junior) = (unless, (unless, (unless, (unless, (says, (says, (violations entries session (AddInheritance senior junior), record {})))))))
-all_definite entries session (DeleteInheritance senior junior) = (unless, (unless, (unless, (unless, (unless, record {})))))
-all_definite entries session (CreateDsdSet set count roles) = (unless, (unless, (says, (listed, (says, (violations entries session (CreateDsdSet set count roles), (says, record {})))))))
-all_definite entries session (DeleteDsdSet set) = (unless, (unless, (unless, record {})))
-all_definite entries session (CreateSession user roles) = (says, (unless, (listed, (listed, (listed, (violations entries None (CreateSession user roles), (says, record {})))))))
-all_definite entries session DeleteSession = (unless, record {})
-all_definite entries session (AddActiveRole role) = (unless, (unless, (unless, (says, (violations entries session (AddActiveRole role), record {})))))
-all_definite entries session (DropActiveRole role) = (unless, (unless, (unless, record {})))
+all_definite entries session command =
+    let by = (entry_of session command).session in
+    both_definite (session_rules entries session command) _ (session_definite entries session command)
+    (both_definite (right_rules entries by command) _ (right_definite entries by command)
+    (both_definite (name_rules entries command) _ (names_definite entries command)
+    (both_definite (condition_rules entries by command) _ (conditions_definite entries by command)
+    (both_definite (separation_rules entries by command) _ (separation_definite entries by command) (tables_definite entries command)))))
 
 -- two answers to one command are one
 pub one_answer : (entries : List Entry) (session : Option ℕ) (command : AdminCommand) (a b : Result Entry Refusal) → PolicyStep entries session command a → PolicyStep entries session command b → a ≡ b

@@ -1,10 +1,9 @@
 -- Policy lists grow by accepted entries, and each leaves room for the logouts.
-use Rattle.std.proofs.Common.{◌≡◌, ℕ, ◌<◌, ◌≤◌, List, [], ◌∷◌, ◌++◌, length, take, refl, sym, ◌∙◌, ap, subst, arith, inl, inr, append_assoc, append-nil, length-append}
+use Rattle.std.proofs.Common.{◌≡◌, ℕ, ◌<◌, ◌≤◌, List, [], ◌∷◌, ◌++◌, length, take, sym, ◌∙◌, ap, subst, arith, inl, inr, append_assoc, append-nil, length-append}
 use Rattle.std.specs.Prelude.{Ok, Some}
 use Rattle.std.proofs.lemmas.List.{length_push}
 use Rattle.std.proofs.lemmas.Option.{slice_get_within}
-use Rattle.rbac_policy.specs.declared.commands.AdminCommand.{AdminCommand}
-use Rattle.rbac_policy.specs.declared.commands.AdminCommand.TheVariants.{AddUser, DeleteUser, AddRole, DeleteRole, AssignUser, DeassignUser, GrantPermission, RevokePermission, AddInheritance, DeleteInheritance, CreateDsdSet, DeleteDsdSet, CreateSession, DeleteSession, AddActiveRole, DropActiveRole}
+use Rattle.rbac_policy.specs.declared.commands.AdminCommand.TheVariants.{DeleteSession}
 use Rattle.rbac_policy.specs.declared.commands.Entry.{Entry}
 use Rattle.rbac_policy.specs.declared.policy.Policy.{Policy}
 use Rattle.rbac_policy.specs.Facts.{IsLive}
@@ -13,9 +12,8 @@ use Rattle.rbac_policy.specs.Opening.{opening_entries}
 use Rattle.rbac_policy.specs.StandsFor.{StandsFor}
 use Rattle.rbac_policy.proofs.EndingLemmas.{leaves_room, logout_leaves_room, logout_has_room}
 use Rattle.rbac_policy.proofs.Steps.{get_push, take_front, take_whole}
-use Rattle.rbac_admin.specs.declared.room.TheConstants.{POLICY_ENTRIES}
 use Rattle.rbac_admin.specs.PolicyStep.{PolicyStep}
-use Rattle.rbac_admin.specs.Room.{HasRoomFor, most_entries}
+use Rattle.rbac_admin.specs.Room.{most_entries}
 use Rattle.rbac_admin.specs.PolicyLists.{IsAccepted, IsPolicyList}
 use Rattle.rbac_admin.proofs.Accepted.{passed}
 
@@ -54,46 +52,15 @@ ends_living L e step logout =
 
 -- where an entry is accepted, the list has fewer entries than it may have
 pub few_entries : (L : List Entry) (e : Entry) → LeavesRoom most_entries L → IsAccepted L e → length L < most_entries
-few_entries L e leaves accepted = by_command e.command refl accepted.room where
-  by_command : (c : AdminCommand) → e.command ≡ c → HasRoomFor c L → length L < most_entries
-  by_command DeleteSession is room = let s = ends_living L e accepted.step is in logout_has_room L s.0 most_entries leaves s.2
-  by_command (AddUser u) is room = omega (arith, room)
-  by_command (DeleteUser u) is room = omega (arith, room)
-  by_command (AddRole r) is room = omega (arith, room)
-  by_command (DeleteRole r) is room = omega (arith, room)
-  by_command (AssignUser u r) is room = omega (arith, room)
-  by_command (DeassignUser u r) is room = omega (arith, room)
-  by_command (GrantPermission r o b) is room = omega (arith, room)
-  by_command (RevokePermission r o b) is room = omega (arith, room)
-  by_command (AddInheritance a b) is room = omega (arith, room)
-  by_command (DeleteInheritance a b) is room = omega (arith, room)
-  by_command (CreateDsdSet n k rs) is room = omega (arith, room)
-  by_command (DeleteDsdSet n) is room = omega (arith, room)
-  by_command (CreateSession u rs) is room = omega (arith, room)
-  by_command (AddActiveRole r) is room = omega (arith, room)
-  by_command (DropActiveRole r) is room = omega (arith, room)
+few_entries L e leaves accepted = elim accepted.room [
+  | inl logout ↦ let s = ends_living L e accepted.step logout in logout_has_room L s.0 most_entries leaves s.2
+  | inr room ↦ omega (arith, room)
+]
 
 -- an accepted entry leaves room for each logout
 pub still_leaves : (policy : Policy) (L : List Entry) (e : Entry) → LeavesRoom most_entries L → StandsFor policy (L ++ e ∷ []) → IsAccepted L e
     → LeavesRoom most_entries (L ++ e ∷ [])
-still_leaves policy L e leaves stands accepted = by_command e.command refl accepted.room where
-  other : length L < POLICY_ENTRIES → LeavesRoom most_entries (L ++ e ∷ [])
-  other room = leaves_room policy (L ++ e ∷ []) most_entries stands (omega (arith, room, length_push L e))
-
-  by_command : (c : AdminCommand) → e.command ≡ c → HasRoomFor c L → LeavesRoom most_entries (L ++ e ∷ [])
-  by_command DeleteSession is room = let s = ends_living L e accepted.step is in logout_leaves_room L e s.0 most_entries leaves is s.1 s.2
-  by_command (AddUser u) is room = other room
-  by_command (DeleteUser u) is room = other room
-  by_command (AddRole r) is room = other room
-  by_command (DeleteRole r) is room = other room
-  by_command (AssignUser u r) is room = other room
-  by_command (DeassignUser u r) is room = other room
-  by_command (GrantPermission r o b) is room = other room
-  by_command (RevokePermission r o b) is room = other room
-  by_command (AddInheritance a b) is room = other room
-  by_command (DeleteInheritance a b) is room = other room
-  by_command (CreateDsdSet n k rs) is room = other room
-  by_command (DeleteDsdSet n) is room = other room
-  by_command (CreateSession u rs) is room = other room
-  by_command (AddActiveRole r) is room = other room
-  by_command (DropActiveRole r) is room = other room
+still_leaves policy L e leaves stands accepted = elim accepted.room [
+  | inl logout ↦ let s = ends_living L e accepted.step logout in logout_leaves_room L e s.0 most_entries leaves logout s.1 s.2
+  | inr room ↦ leaves_room policy (L ++ e ∷ []) most_entries stands (omega (arith, room, length_push L e))
+]

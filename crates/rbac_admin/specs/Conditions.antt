@@ -1,11 +1,12 @@
 -- The facts that decide a policy command, over the list of accepted entries (ANSI INCITS 359-2004, what its functions ask before they act).
-use Rattle.std.specs.Prelude.{◌≡◌, ◌≢◌, ℕ, ◌<◌, ◌⊎◌, List, Option, Some, length, slice_get, take}
+use Rattle.std.specs.Prelude.{◌≡◌, ◌≢◌, ℕ, ◌<◌, ◌⊎◌, List, IsFalse, Option, Some, length, slice_get, take}
 use Rattle.std.specs.List.{AllPairs}
 use Rattle.rbac_policy.specs.declared.objects.Operation.{Operation}
 use Rattle.rbac_policy.specs.declared.objects.Operation.TheVariants.{Administer}
 use Rattle.rbac_policy.specs.declared.objects.Object.{Object}
 use Rattle.rbac_policy.specs.declared.objects.Object.TheVariants.{Policy}
 use Rattle.rbac_policy.specs.declared.commands.Entry.{Entry}
+use Rattle.rbac_policy.specs.Entries.{is_login}
 use Rattle.rbac_policy.specs.Names.{NameText}
 use Rattle.rbac_policy.specs.Facts.{IsPairGranted, IsActive, IsAuthorized, Lives, May}
 use Rattle.rbac_policy.specs.Fits.{PermissionsFull}
@@ -19,6 +20,10 @@ pub record IsGivenBy (entries : List Entry) (session : Option ℕ) (number : ℕ
 -- a session gives the command, and it lives
 abbrev pub HasSession : List Entry → Option ℕ → Type 0
 HasSession entries session = (number : ℕ) × IsGivenBy entries session number
+
+-- the session that gives the entry's command lives; a login has none
+abbrev pub IsGiven : List Entry → Entry → Type 0
+IsGiven entries entry = IsFalse (is_login entry) → HasSession entries entry.session
 
 -- the session that gives the command may change the policy
 pub record Administers (entries : List Entry) (session : Option ℕ) : Type 0 where

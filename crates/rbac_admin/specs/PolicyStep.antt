@@ -1,6 +1,6 @@
 -- The policy step: for each command the rules of refusal in their order, and the entry where all of them let pass.
-use Rattle.std.specs.Prelude.{◌≡◌, ℕ, Bool, true, false, List, [], ◌∷◌, ◌++◌, Option, None, Result, Ok, Err, Contains}
-use Rattle.refusal_rules.specs.Rules.{Rule, Rules, Says, Unless, Naming, accept, ◌▸◌, Answers}
+use Rattle.std.specs.Prelude.{◌≡◌, ℕ, if◌then◌else◌, List, [], ◌∷◌, ◌++◌, Option, None, Result, Ok, Err, Contains}
+use Rattle.refusal_rules.specs.Rules.{Rule, Rules, Says, Unless, Naming, accept, ◌▸◌, ◌▸▸◌, Answers}
 use Rattle.rbac_policy.specs.declared.objects.Operation.TheVariants.{Administer}
 use Rattle.rbac_policy.specs.declared.objects.Object.TheVariants.{Policy}
 use Rattle.rbac_policy.specs.declared.commands.AdminCommand.{AdminCommand}
@@ -8,6 +8,7 @@ use Rattle.rbac_policy.specs.declared.commands.AdminCommand.TheVariants.{AddUser
 use Rattle.rbac_policy.specs.declared.commands.Table.TheVariants.{Users, Roles, Permissions, Sessions, Sets}
 use Rattle.rbac_policy.specs.declared.commands.Entry.{Entry}
 use Rattle.rbac_policy.specs.Names.{NameText}
+use Rattle.rbac_policy.specs.Entries.{makes_session}
 use Rattle.rbac_policy.specs.Facts.{IsUser, IsRole, IsSetName, IsAssigned, IsGranted, IsEdge, IsAtOrBelow, IsAuthorized}
 use Rattle.rbac_policy.specs.Fits.{UsersFull, RolesFull, SetsFull, SessionsFull, NumbersExhausted}
 use Rattle.rbac_admin.specs.declared.refusals.Refusal.{Refusal}
@@ -51,66 +52,95 @@ violation entries session command =
 
 -- the entry of an accepted command: it has the session that gave the command, but for a login, which no session gives
 abbrev pub entry_of : Option ℕ → AdminCommand → Entry
-entry_of session (CreateSession user roles) = record { session = None; command = CreateSession user roles }
-entry_of session command = record { session = session; command = command }
+entry_of session command = record { session = if makes_session command then None else session; command = command }
+
+-- a session that lives gives the command, unless it is a login
+abbrev pub session_rules : List Entry → Option ℕ → AdminCommand → Rules Refusal
+session_rules entries s (CreateSession user roles) = accept
+session_rules entries s _ = no_session entries s ▸ accept
+
+-- the session may change the policy, unless the command is one of those of sessions
+abbrev pub right_rules : List Entry → Option ℕ → AdminCommand → Rules Refusal
+right_rules entries s (CreateSession user roles) = accept
+right_rules entries s DeleteSession = accept
+right_rules entries s (AddActiveRole role) = accept
+right_rules entries s (DropActiveRole role) = accept
+right_rules entries s _ = no_permission entries s ▸ accept
+
+-- what the command names: a user, role or set that it makes is new, and each other one is there; and a login has a number left
+abbrev pub name_rules : List Entry → AdminCommand → Rules Refusal
+name_rules entries (AddUser user) = Says (UserExists user) (IsUser entries user) ▸ accept
+name_rules entries (DeleteUser user) = unknown_user entries user ▸ accept
+name_rules entries (AddRole role) = Says (RoleExists role) (IsRole entries role) ▸ accept
+name_rules entries (DeleteRole role) = unknown_role entries role ▸ accept
+name_rules entries (AssignUser user role) = unknown_user entries user ▸ unknown_role entries role ▸ accept
+name_rules entries (DeassignUser user role) = unknown_user entries user ▸ unknown_role entries role ▸ accept
+name_rules entries (GrantPermission role operation object) = unknown_role entries role ▸ accept
+name_rules entries (RevokePermission role operation object) = unknown_role entries role ▸ accept
+name_rules entries (AddInheritance senior junior) = unknown_role entries senior ▸ unknown_role entries junior ▸ accept
+name_rules entries (DeleteInheritance senior junior) = unknown_role entries senior ▸ unknown_role entries junior ▸ accept
+name_rules entries (CreateDsdSet set count roles) =
+    Says (DsdExists set) (IsSetName entries set) ▸ unknown_listed entries roles ▸ accept
+name_rules entries (DeleteDsdSet set) = Unless (IsSetName entries set) (NoDsd set) ▸ accept
+name_rules entries (CreateSession user roles) =
+    Says SessionsExhausted (NumbersExhausted entries) ▸ unknown_user entries user ▸ unknown_listed entries roles ▸ accept
+name_rules entries DeleteSession = accept
+name_rules entries (AddActiveRole role) = unknown_role entries role ▸ accept
+name_rules entries (DropActiveRole role) = unknown_role entries role ▸ accept
+
+-- what the command, which this session gives, asks of what it names
+abbrev pub condition_rules : List Entry → Option ℕ → AdminCommand → Rules Refusal
+condition_rules entries s (DeleteRole role) = Naming RoleInDsd (IsFirstSetOf entries role) ▸ accept
+condition_rules entries s (AssignUser user role) = Says AlreadyAssigned (IsAssigned entries user role) ▸ accept
+condition_rules entries s (DeassignUser user role) = Unless (IsAssigned entries user role) NotAssigned ▸ accept
+condition_rules entries s (GrantPermission role operation object) =
+    Says AlreadyGranted (IsGranted entries role operation object) ▸ accept
+condition_rules entries s (RevokePermission role operation object) =
+    Unless (IsGranted entries role operation object) NotGranted ▸ accept
+condition_rules entries s (AddInheritance senior junior) =
+    Says Cycle (IsAtOrBelow entries senior junior) ▸ Says EdgeExists (IsEdge entries senior junior) ▸ accept
+condition_rules entries s (DeleteInheritance senior junior) = Unless (IsEdge entries senior junior) NoEdge ▸ accept
+condition_rules entries s (CreateDsdSet set count roles) = Says DsdShape (IsNoShape count roles) ▸ accept
+condition_rules entries s (CreateSession user roles) = unauthorized_listed entries user roles ▸ repeated_listed roles ▸ accept
+condition_rules entries s (AddActiveRole role) =
+    Unless (HasAuthorized entries s role) (NotAuthorized role) ▸ Says (AlreadyActive role) (HasActive entries s role) ▸ accept
+condition_rules entries s (DropActiveRole role) = Unless (HasActive entries s role) (NotActive role) ▸ accept
+condition_rules entries s _ = accept
+
+-- refuses where the command would violate a separation set
+abbrev pub separation_rules : List Entry → Option ℕ → AdminCommand → Rules Refusal
+separation_rules entries s (AddInheritance senior junior) = violation entries s (AddInheritance senior junior) ▸ accept
+separation_rules entries s (CreateDsdSet set count roles) = violation entries s (CreateDsdSet set count roles) ▸ accept
+separation_rules entries s (CreateSession user roles) = violation entries None (CreateSession user roles) ▸ accept
+separation_rules entries s (AddActiveRole role) = violation entries s (AddActiveRole role) ▸ accept
+separation_rules entries s _ = accept
+
+-- refuses where the table is full in which the command makes something
+abbrev pub table_rules : List Entry → AdminCommand → Rules Refusal
+table_rules entries (AddUser user) = Says (Full Users) (UsersFull entries) ▸ accept
+table_rules entries (AddRole role) = Says (Full Roles) (RolesFull entries) ▸ accept
+table_rules entries (GrantPermission role operation object) =
+    Says (Full Permissions) (HasNoRoomFor entries operation object) ▸ accept
+table_rules entries (CreateDsdSet set count roles) = Says (Full Sets) (SetsFull entries) ▸ accept
+table_rules entries (CreateSession user roles) = Says (Full Sessions) (SessionsFull entries) ▸ accept
+table_rules entries _ = accept
+
+-- what is asked, in this order, of the command whose entry names this session
+abbrev pub entry_rules : List Entry → Option ℕ → AdminCommand → Rules Refusal
+entry_rules entries by command =
+    right_rules entries by command ▸▸ name_rules entries command ▸▸ condition_rules entries by command
+    ▸▸ separation_rules entries by command ▸▸ table_rules entries command
 
 -- the rules of refusal of the command, which this session gives, after these entries (this project's order)
 abbrev pub policy_rules : List Entry → Option ℕ → AdminCommand → Rules Refusal
-policy_rules entries s (AddUser user) =
-    no_session entries s ▸ no_permission entries s ▸ Says (UserExists user) (IsUser entries user) ▸ Says (Full Users) (UsersFull entries)
-    ▸ accept
-policy_rules entries s (DeleteUser user) = no_session entries s ▸ no_permission entries s ▸ unknown_user entries user ▸ accept
-policy_rules entries s (AddRole role) =
-    no_session entries s ▸ no_permission entries s ▸ Says (RoleExists role) (IsRole entries role) ▸ Says (Full Roles) (RolesFull entries)
-    ▸ accept
-policy_rules entries s (DeleteRole role) =
-    no_session entries s ▸ no_permission entries s ▸ unknown_role entries role ▸ Naming RoleInDsd (IsFirstSetOf entries role) ▸ accept
-policy_rules entries s (AssignUser user role) =
-    no_session entries s ▸ no_permission entries s ▸ unknown_user entries user ▸ unknown_role entries role
-    ▸ Says AlreadyAssigned (IsAssigned entries user role) ▸ accept
-policy_rules entries s (DeassignUser user role) =
-    no_session entries s ▸ no_permission entries s ▸ unknown_user entries user ▸ unknown_role entries role
-    ▸ Unless (IsAssigned entries user role) NotAssigned ▸ accept
-policy_rules entries s (GrantPermission role operation object) =
-    no_session entries s ▸ no_permission entries s ▸ unknown_role entries role
-    ▸ Says AlreadyGranted (IsGranted entries role operation object) ▸ Says (Full Permissions) (HasNoRoomFor entries operation object)
-    ▸ accept
-policy_rules entries s (RevokePermission role operation object) =
-    no_session entries s ▸ no_permission entries s ▸ unknown_role entries role
-    ▸ Unless (IsGranted entries role operation object) NotGranted ▸ accept
-policy_rules entries s (AddInheritance senior junior) =
-    no_session entries s ▸ no_permission entries s ▸ unknown_role entries senior ▸ unknown_role entries junior
-    ▸ Says Cycle (IsAtOrBelow entries senior junior) ▸ Says EdgeExists (IsEdge entries senior junior)
-    ▸ violation entries s (AddInheritance senior junior) ▸ accept
-policy_rules entries s (DeleteInheritance senior junior) =
-    no_session entries s ▸ no_permission entries s ▸ unknown_role entries senior ▸ unknown_role entries junior
-    ▸ Unless (IsEdge entries senior junior) NoEdge ▸ accept
-policy_rules entries s (CreateDsdSet set count roles) =
-    no_session entries s ▸ no_permission entries s ▸ Says (DsdExists set) (IsSetName entries set) ▸ unknown_listed entries roles
-    ▸ Says DsdShape (IsNoShape count roles) ▸ violation entries s (CreateDsdSet set count roles) ▸ Says (Full Sets) (SetsFull entries)
-    ▸ accept
-policy_rules entries s (DeleteDsdSet set) =
-    no_session entries s ▸ no_permission entries s ▸ Unless (IsSetName entries set) (NoDsd set) ▸ accept
-policy_rules entries s (CreateSession user roles) =
-    Says SessionsExhausted (NumbersExhausted entries) ▸ unknown_user entries user ▸ unknown_listed entries roles
-    ▸ unauthorized_listed entries user roles ▸ repeated_listed roles ▸ violation entries None (CreateSession user roles)
-    ▸ Says (Full Sessions) (SessionsFull entries) ▸ accept
-policy_rules entries s DeleteSession = no_session entries s ▸ accept
-policy_rules entries s (AddActiveRole role) =
-    no_session entries s ▸ unknown_role entries role ▸ Unless (HasAuthorized entries s role) (NotAuthorized role)
-    ▸ Says (AlreadyActive role) (HasActive entries s role) ▸ violation entries s (AddActiveRole role) ▸ accept
-policy_rules entries s (DropActiveRole role) =
-    no_session entries s ▸ unknown_role entries role ▸ Unless (HasActive entries s role) (NotActive role) ▸ accept
+policy_rules entries s command =
+    session_rules entries s command ▸▸ entry_rules entries (entry_of s command).session command
+
+-- a test of rules: it answers the refusal of the first that refuses, and passes where all let pass
+abbrev pub Checks : Rules Refusal → Result (Unit {0}) Refusal → Type 0
+Checks rules answer = Answers rules (λ refusal. answer ≡ Err refusal) (answer ≡ Ok (record {}))
 
 -- the answer to the command, which this session gives, after these entries: by its rules a refusal, or its entry
 abbrev pub PolicyStep : List Entry → Option ℕ → AdminCommand → Result Entry Refusal → Type 0
 PolicyStep entries session command answer =
     Answers (policy_rules entries session command) (λ refusal. answer ≡ Err refusal) (answer ≡ Ok (entry_of session command))
-
--- the commands that only a session may give which has the right to administer the policy
-abbrev pub is_administrative : AdminCommand → Bool
-is_administrative (CreateSession user roles) = false
-is_administrative DeleteSession = false
-is_administrative (AddActiveRole role) = false
-is_administrative (DropActiveRole role) = false
-is_administrative _ = true

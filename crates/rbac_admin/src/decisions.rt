@@ -1,8 +1,11 @@
 //! The answer to a policy command.
-ghost use Rattle.std.specs.Prelude.{◌≡◌, ℕ, List, Option};
+ghost use Rattle.std.specs.Prelude.{◌≡◌, List, Option, Err, Ok};
 ghost use Rattle.rbac_policy.specs.declared.commands.Entry.{Entry};
 ghost use Rattle.rbac_policy.specs.StandsFor.{StandsFor};
-ghost use Rattle.rbac_admin.specs.PolicyStep.{PolicyStep};
+ghost use Rattle.refusal_rules.specs.Rules.{Answers, AllPass};
+ghost use Rattle.rbac_admin.specs.Conditions.{IsGiven};
+ghost use Rattle.rbac_admin.specs.PolicyStep.{Checks, PolicyStep, entry_of, session_rules, right_rules};
+ghost use Rattle.rbac_admin.specs.PolicyStep.{name_rules, condition_rules, separation_rules, table_rules};
 
 use crate::refusals::Refusal;
 use crate::rules::{
@@ -13,310 +16,183 @@ use crate::rules::{
     separated_edge, separated_login, separated_role, separated_set, single_roles,
 };
 use rbac_policy::commands::{AdminCommand, Entry, SessionId};
-use rbac_policy::names::{Name, RoleNames};
-use rbac_policy::objects::{Object, Operation};
 use rbac_policy::policy::Policy;
 
-fn decide_grant(
+/// The session that the command's entry names: the one that gives it, which lives; a login has none.
+fn find_giver(
     policy: &Policy,
     session: Option<SessionId>,
-    role: Name,
-    operation: Operation,
-    object: Object,
-) -> Result<Entry, Refusal>
+    command: &AdminCommand,
+) -> Result<Option<SessionId>, Refusal>
     ensures { (entries : List Entry) → StandsFor policy.now entries
-        → PolicyStep entries session (AdminCommand.GrantPermission role operation object) result }
+        → Answers (session_rules entries session command.now) (λ refusal. result ≡ Err refusal)
+        ((result ≡ Ok (entry_of session command.now).session)
+        × IsGiven entries (entry_of session command.now)) }
 {
-    let session = living(policy, session)?;
-    administers(policy, session)?;
-    known_role(policy, &role)?;
-    new_grant(policy, &role, &operation, &object)?;
-    room_for_grant(policy, &operation, &object)?;
-    Ok(Entry {
-        session: Some(session),
-        command: AdminCommand::GrantPermission {
+    if command.is_login() {
+        return Ok(None);
+    }
+    match living(policy, session) {
+        Ok(session) => Ok(Some(session)),
+        Err(refusal) => Err(refusal),
+    }
+}
+
+/// The session that gives the command may administer the policy, where that is asked.
+fn check_right(policy: &Policy, entry: &Entry) -> Result<(), Refusal>
+    ensures { (entries : List Entry) → StandsFor policy.now entries → IsGiven entries entry.now
+        → Checks (right_rules entries entry.now.session entry.now.command) result }
+{
+    match entry.session {
+        Some(session) if entry.command.is_administrative() => administers(policy, session),
+        Some(_) | None => Ok(()),
+    }
+}
+
+/// What the command makes is new, and what else it names is there.
+fn check_names(policy: &Policy, command: &AdminCommand) -> Result<(), Refusal>
+    ensures { (entries : List Entry) → StandsFor policy.now entries
+        → Checks (name_rules entries command.now) result }
+{
+    match command {
+        AdminCommand::AddUser { user } => new_user(policy, user),
+        AdminCommand::DeleteUser { user } => known_user(policy, user),
+        AdminCommand::AddRole { role } => new_role(policy, role),
+        AdminCommand::DeleteRole { role }
+        | AdminCommand::GrantPermission { role, .. }
+        | AdminCommand::RevokePermission { role, .. }
+        | AdminCommand::AddActiveRole { role }
+        | AdminCommand::DropActiveRole { role } => known_role(policy, role),
+        AdminCommand::AssignUser { user, role } | AdminCommand::DeassignUser { user, role } => {
+            known_user(policy, user)?;
+            known_role(policy, role)
+        }
+        AdminCommand::AddInheritance { senior, junior }
+        | AdminCommand::DeleteInheritance { senior, junior } => {
+            known_role(policy, senior)?;
+            known_role(policy, junior)
+        }
+        AdminCommand::CreateDsdSet { set, roles, .. } => {
+            new_set(policy, set)?;
+            known_roles(policy, roles)
+        }
+        AdminCommand::DeleteDsdSet { set } => known_set(policy, set),
+        AdminCommand::CreateSession { user, roles } => {
+            number_left(policy)?;
+            known_user(policy, user)?;
+            known_roles(policy, roles)
+        }
+        AdminCommand::DeleteSession => Ok(()),
+    }
+}
+
+/// What the command, which this session gives, asks of what it names.
+fn check_conditions(policy: &Policy, entry: &Entry) -> Result<(), Refusal>
+    ensures { (entries : List Entry) → StandsFor policy.now entries
+        → IsGiven entries entry.now
+        → Checks (condition_rules entries entry.now.session entry.now.command) result }
+{
+    match &entry.command {
+        AdminCommand::AddUser { .. }
+        | AdminCommand::DeleteUser { .. }
+        | AdminCommand::AddRole { .. }
+        | AdminCommand::DeleteDsdSet { .. }
+        | AdminCommand::DeleteSession => Ok(()),
+        AdminCommand::DeleteRole { role } => in_no_set(policy, role),
+        AdminCommand::AssignUser { user, role } => new_assignment(policy, user, role),
+        AdminCommand::DeassignUser { user, role } => is_assigned(policy, user, role),
+        AdminCommand::GrantPermission {
             role,
             operation,
             object,
-        },
-    })
-}
-
-fn decide_add_user(
-    policy: &Policy,
-    session: Option<SessionId>,
-    user: Name,
-) -> Result<Entry, Refusal>
-    ensures { (entries : List Entry) → StandsFor policy.now entries
-        → PolicyStep entries session (AdminCommand.AddUser user) result }
-{
-    let session = living(policy, session)?;
-    administers(policy, session)?;
-    new_user(policy, &user)?;
-    room_for_user(policy)?;
-    Ok(Entry {
-        session: Some(session),
-        command: AdminCommand::AddUser { user },
-    })
-}
-
-fn decide_delete_user(
-    policy: &Policy,
-    session: Option<SessionId>,
-    user: Name,
-) -> Result<Entry, Refusal>
-    ensures { (entries : List Entry) → StandsFor policy.now entries
-        → PolicyStep entries session (AdminCommand.DeleteUser user) result }
-{
-    let session = living(policy, session)?;
-    administers(policy, session)?;
-    known_user(policy, &user)?;
-    Ok(Entry {
-        session: Some(session),
-        command: AdminCommand::DeleteUser { user },
-    })
-}
-
-fn decide_add_role(
-    policy: &Policy,
-    session: Option<SessionId>,
-    role: Name,
-) -> Result<Entry, Refusal>
-    ensures { (entries : List Entry) → StandsFor policy.now entries
-        → PolicyStep entries session (AdminCommand.AddRole role) result }
-{
-    let session = living(policy, session)?;
-    administers(policy, session)?;
-    new_role(policy, &role)?;
-    room_for_role(policy)?;
-    Ok(Entry {
-        session: Some(session),
-        command: AdminCommand::AddRole { role },
-    })
-}
-
-fn decide_assign(
-    policy: &Policy,
-    session: Option<SessionId>,
-    user: Name,
-    role: Name,
-) -> Result<Entry, Refusal>
-    ensures { (entries : List Entry) → StandsFor policy.now entries
-        → PolicyStep entries session (AdminCommand.AssignUser user role) result }
-{
-    let session = living(policy, session)?;
-    administers(policy, session)?;
-    known_user(policy, &user)?;
-    known_role(policy, &role)?;
-    new_assignment(policy, &user, &role)?;
-    Ok(Entry {
-        session: Some(session),
-        command: AdminCommand::AssignUser { user, role },
-    })
-}
-
-fn decide_deassign(
-    policy: &Policy,
-    session: Option<SessionId>,
-    user: Name,
-    role: Name,
-) -> Result<Entry, Refusal>
-    ensures { (entries : List Entry) → StandsFor policy.now entries
-        → PolicyStep entries session (AdminCommand.DeassignUser user role) result }
-{
-    let session = living(policy, session)?;
-    administers(policy, session)?;
-    known_user(policy, &user)?;
-    known_role(policy, &role)?;
-    is_assigned(policy, &user, &role)?;
-    Ok(Entry {
-        session: Some(session),
-        command: AdminCommand::DeassignUser { user, role },
-    })
-}
-
-fn decide_revoke(
-    policy: &Policy,
-    session: Option<SessionId>,
-    role: Name,
-    operation: Operation,
-    object: Object,
-) -> Result<Entry, Refusal>
-    ensures { (entries : List Entry) → StandsFor policy.now entries
-        → PolicyStep entries session (AdminCommand.RevokePermission role operation object) result }
-{
-    let session = living(policy, session)?;
-    administers(policy, session)?;
-    known_role(policy, &role)?;
-    is_granted(policy, &role, &operation, &object)?;
-    Ok(Entry {
-        session: Some(session),
-        command: AdminCommand::RevokePermission {
+        } => new_grant(policy, role, operation, object),
+        AdminCommand::RevokePermission {
             role,
             operation,
             object,
+        } => is_granted(policy, role, operation, object),
+        AdminCommand::AddInheritance { senior, junior } => {
+            no_cycle(policy, senior, junior)?;
+            new_edge(policy, senior, junior)
+        }
+        AdminCommand::DeleteInheritance { senior, junior } => known_edge(policy, senior, junior),
+        AdminCommand::CreateDsdSet { count, roles, .. } => is_shape(*count, roles),
+        AdminCommand::CreateSession { user, roles } => {
+            authorized_roles(policy, user, roles)?;
+            single_roles(roles)
+        }
+        AdminCommand::AddActiveRole { role } => {
+            let session = entry.session.ok_or(Refusal::NoSession)?;
+            authorized_role(policy, session, role)?;
+            inactive_role(policy, session, role)
+        }
+        AdminCommand::DropActiveRole { role } => {
+            let session = entry.session.ok_or(Refusal::NoSession)?;
+            active_role(policy, session, role)
+        }
+    }
+}
+
+/// No session violates a separation set once the command, which this session gives, is accepted.
+fn check_separation(policy: &Policy, entry: &Entry) -> Result<(), Refusal>
+    ensures { (entries : List Entry) → StandsFor policy.now entries
+        → IsGiven entries entry.now
+        → AllPass (name_rules entries entry.now.command)
+        → AllPass (condition_rules entries entry.now.session entry.now.command)
+        → Checks (separation_rules entries entry.now.session entry.now.command) result }
+{
+    match &entry.command {
+        AdminCommand::AddInheritance { senior, junior } => separated_edge(policy, senior, junior),
+        AdminCommand::CreateDsdSet { set, count, roles } => separated_set(
+            policy, set, *count, roles,
+        ),
+        AdminCommand::CreateSession { user, roles } => separated_login(policy, user, roles),
+        AdminCommand::AddActiveRole { role } => match entry.session {
+            Some(session) => separated_role(policy, session, role),
+            None => Err(Refusal::NoSession),
         },
-    })
+        AdminCommand::AddUser { .. }
+        | AdminCommand::DeleteUser { .. }
+        | AdminCommand::AddRole { .. }
+        | AdminCommand::DeleteRole { .. }
+        | AdminCommand::AssignUser { .. }
+        | AdminCommand::DeassignUser { .. }
+        | AdminCommand::GrantPermission { .. }
+        | AdminCommand::RevokePermission { .. }
+        | AdminCommand::DeleteInheritance { .. }
+        | AdminCommand::DeleteDsdSet { .. }
+        | AdminCommand::DeleteSession
+        | AdminCommand::DropActiveRole { .. } => Ok(()),
+    }
 }
 
-fn decide_remove_edge(
-    policy: &Policy,
-    session: Option<SessionId>,
-    senior: Name,
-    junior: Name,
-) -> Result<Entry, Refusal>
+/// There is room in the table in which the command makes something.
+fn check_tables(policy: &Policy, command: &AdminCommand) -> Result<(), Refusal>
     ensures { (entries : List Entry) → StandsFor policy.now entries
-        → PolicyStep entries session (AdminCommand.DeleteInheritance senior junior) result }
+        → Checks (table_rules entries command.now) result }
 {
-    let session = living(policy, session)?;
-    administers(policy, session)?;
-    known_role(policy, &senior)?;
-    known_role(policy, &junior)?;
-    known_edge(policy, &senior, &junior)?;
-    Ok(Entry {
-        session: Some(session),
-        command: AdminCommand::DeleteInheritance { senior, junior },
-    })
-}
-
-fn decide_delete_role(
-    policy: &Policy,
-    session: Option<SessionId>,
-    role: Name,
-) -> Result<Entry, Refusal>
-    ensures { (entries : List Entry) → StandsFor policy.now entries
-        → PolicyStep entries session (AdminCommand.DeleteRole role) result }
-{
-    let session = living(policy, session)?;
-    administers(policy, session)?;
-    known_role(policy, &role)?;
-    in_no_set(policy, &role)?;
-    Ok(Entry {
-        session: Some(session),
-        command: AdminCommand::DeleteRole { role },
-    })
-}
-
-fn decide_delete_set(
-    policy: &Policy,
-    session: Option<SessionId>,
-    set: Name,
-) -> Result<Entry, Refusal>
-    ensures { (entries : List Entry) → StandsFor policy.now entries
-        → PolicyStep entries session (AdminCommand.DeleteDsdSet set) result }
-{
-    let session = living(policy, session)?;
-    administers(policy, session)?;
-    known_set(policy, &set)?;
-    Ok(Entry {
-        session: Some(session),
-        command: AdminCommand::DeleteDsdSet { set },
-    })
-}
-
-fn decide_add_edge(
-    policy: &Policy,
-    session: Option<SessionId>,
-    senior: Name,
-    junior: Name,
-) -> Result<Entry, Refusal>
-    ensures { (entries : List Entry) → StandsFor policy.now entries
-        → PolicyStep entries session (AdminCommand.AddInheritance senior junior) result }
-{
-    let session = living(policy, session)?;
-    administers(policy, session)?;
-    known_role(policy, &senior)?;
-    known_role(policy, &junior)?;
-    no_cycle(policy, &senior, &junior)?;
-    new_edge(policy, &senior, &junior)?;
-    separated_edge(policy, &senior, &junior)?;
-    Ok(Entry {
-        session: Some(session),
-        command: AdminCommand::AddInheritance { senior, junior },
-    })
-}
-
-fn decide_create_set(
-    policy: &Policy,
-    session: Option<SessionId>,
-    set: Name,
-    count: u64,
-    roles: RoleNames,
-) -> Result<Entry, Refusal>
-    ensures { (entries : List Entry) → StandsFor policy.now entries
-        → PolicyStep entries session (AdminCommand.CreateDsdSet set count roles) result }
-{
-    let session = living(policy, session)?;
-    administers(policy, session)?;
-    new_set(policy, &set)?;
-    known_roles(policy, &roles)?;
-    is_shape(count, &roles)?;
-    separated_set(policy, &set, count, &roles)?;
-    room_for_set(policy)?;
-    Ok(Entry {
-        session: Some(session),
-        command: AdminCommand::CreateDsdSet { set, count, roles },
-    })
-}
-
-fn decide_activate(
-    policy: &Policy,
-    session: Option<SessionId>,
-    role: Name,
-) -> Result<Entry, Refusal>
-    ensures { (entries : List Entry) → StandsFor policy.now entries
-        → PolicyStep entries session (AdminCommand.AddActiveRole role) result }
-{
-    let session = living(policy, session)?;
-    known_role(policy, &role)?;
-    authorized_role(policy, session, &role)?;
-    inactive_role(policy, session, &role)?;
-    separated_role(policy, session, &role)?;
-    Ok(Entry {
-        session: Some(session),
-        command: AdminCommand::AddActiveRole { role },
-    })
-}
-
-fn decide_drop(policy: &Policy, session: Option<SessionId>, role: Name) -> Result<Entry, Refusal>
-    ensures { (entries : List Entry) → StandsFor policy.now entries
-        → PolicyStep entries session (AdminCommand.DropActiveRole role) result }
-{
-    let session = living(policy, session)?;
-    known_role(policy, &role)?;
-    active_role(policy, session, &role)?;
-    Ok(Entry {
-        session: Some(session),
-        command: AdminCommand::DropActiveRole { role },
-    })
-}
-
-fn decide_logout(policy: &Policy, session: Option<SessionId>) -> Result<Entry, Refusal>
-    ensures { (entries : List Entry) → StandsFor policy.now entries
-        → PolicyStep entries session AdminCommand.DeleteSession result }
-{
-    let session = living(policy, session)?;
-    Ok(Entry {
-        session: Some(session),
-        command: AdminCommand::DeleteSession,
-    })
-}
-
-fn decide_login(policy: &Policy, user: Name, roles: RoleNames) -> Result<Entry, Refusal>
-    ensures { (entries : List Entry) (session : Option ℕ) → StandsFor policy.now entries
-        → PolicyStep entries session (AdminCommand.CreateSession user roles) result }
-{
-    number_left(policy)?;
-    known_user(policy, &user)?;
-    known_roles(policy, &roles)?;
-    authorized_roles(policy, &user, &roles)?;
-    single_roles(&roles)?;
-    separated_login(policy, &user, &roles)?;
-    room_for_session(policy)?;
-    Ok(Entry {
-        session: None,
-        command: AdminCommand::CreateSession { user, roles },
-    })
+    match command {
+        AdminCommand::AddUser { .. } => room_for_user(policy),
+        AdminCommand::AddRole { .. } => room_for_role(policy),
+        AdminCommand::GrantPermission {
+            operation,
+            object,
+            ..
+        } => room_for_grant(policy, operation, object),
+        AdminCommand::CreateDsdSet { .. } => room_for_set(policy),
+        AdminCommand::CreateSession { .. } => room_for_session(policy),
+        AdminCommand::DeleteUser { .. }
+        | AdminCommand::DeleteRole { .. }
+        | AdminCommand::AssignUser { .. }
+        | AdminCommand::DeassignUser { .. }
+        | AdminCommand::RevokePermission { .. }
+        | AdminCommand::AddInheritance { .. }
+        | AdminCommand::DeleteInheritance { .. }
+        | AdminCommand::DeleteDsdSet { .. }
+        | AdminCommand::DeleteSession
+        | AdminCommand::AddActiveRole { .. }
+        | AdminCommand::DropActiveRole { .. } => Ok(()),
+    }
 }
 
 /// The entry of the command that this session gives. It takes no memory.
@@ -350,36 +226,12 @@ pub fn decide(
     ensures { (entries : List Entry) → StandsFor policy.now entries
         → PolicyStep entries session command result }
 {
-    match command {
-        AdminCommand::GrantPermission {
-            role,
-            operation,
-            object,
-        } => decide_grant(policy, session, role, operation, object),
-        AdminCommand::CreateSession { user, roles } => decide_login(policy, user, roles),
-        AdminCommand::DeleteSession => decide_logout(policy, session),
-        AdminCommand::AddUser { user } => decide_add_user(policy, session, user),
-        AdminCommand::DeleteUser { user } => decide_delete_user(policy, session, user),
-        AdminCommand::AddRole { role } => decide_add_role(policy, session, role),
-        AdminCommand::AssignUser { user, role } => decide_assign(policy, session, user, role),
-        AdminCommand::DeassignUser { user, role } => decide_deassign(policy, session, user, role),
-        AdminCommand::RevokePermission {
-            role,
-            operation,
-            object,
-        } => decide_revoke(policy, session, role, operation, object),
-        AdminCommand::DeleteInheritance { senior, junior } => decide_remove_edge(
-            policy, session, senior, junior,
-        ),
-        AdminCommand::DropActiveRole { role } => decide_drop(policy, session, role),
-        AdminCommand::DeleteRole { role } => decide_delete_role(policy, session, role),
-        AdminCommand::DeleteDsdSet { set } => decide_delete_set(policy, session, set),
-        AdminCommand::AddInheritance { senior, junior } => decide_add_edge(
-            policy, session, senior, junior,
-        ),
-        AdminCommand::CreateDsdSet { set, count, roles } => decide_create_set(
-            policy, session, set, count, roles,
-        ),
-        AdminCommand::AddActiveRole { role } => decide_activate(policy, session, role),
-    }
+    let session = find_giver(policy, session, &command)?;
+    let entry = Entry { session, command };
+    check_right(policy, &entry)?;
+    check_names(policy, &entry.command)?;
+    check_conditions(policy, &entry)?;
+    check_separation(policy, &entry)?;
+    check_tables(policy, &entry.command)?;
+    Ok(entry)
 }

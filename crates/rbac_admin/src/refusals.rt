@@ -1,4 +1,7 @@
 //! Why a policy command is refused.
+ghost use Rattle.std.specs.Prelude.{◌≡◌};
+ghost use Rattle.rbac_admin.specs.Refusals.{code_of, name_of};
+
 use rbac_policy::commands::{SessionId, Table};
 use rbac_policy::names::Name;
 use rbac_policy::objects::{Object, Operation};
@@ -80,4 +83,52 @@ pub enum Refusal {
     Full {
         table: Table,
     },
+}
+
+impl Refusal {
+    /// Its number and its name.
+    pub fn label(&self) -> (u8, &'static str)
+        ensures code { result.0 ≡ code_of self.now }
+        ensures name { result.1.now ≡ name_of self.now }
+    {
+        match self {
+            Refusal::NoSession => (4, "NoSession"),
+            Refusal::SessionsExhausted => (6, "SessionsExhausted"),
+            Refusal::Permission { .. } => (10, "Permission"),
+            Refusal::DsdViolated { .. } => (20, "DsdViolated"),
+            Refusal::NotAuthorized { .. } => (21, "NotAuthorized"),
+            Refusal::AlreadyActive { .. } => (22, "AlreadyActive"),
+            Refusal::NotActive { .. } => (23, "NotActive"),
+            Refusal::Cycle => (24, "Cycle"),
+            Refusal::UnknownUser { .. } => (25, "UnknownUser"),
+            Refusal::UnknownRole { .. } => (26, "UnknownRole"),
+            Refusal::UserExists { .. } => (27, "UserExists"),
+            Refusal::RoleExists { .. } => (28, "RoleExists"),
+            Refusal::AlreadyAssigned => (29, "AlreadyAssigned"),
+            Refusal::NotAssigned => (30, "NotAssigned"),
+            Refusal::AlreadyGranted => (31, "AlreadyGranted"),
+            Refusal::NotGranted => (32, "NotGranted"),
+            Refusal::EdgeExists => (33, "EdgeExists"),
+            Refusal::NoEdge => (34, "NoEdge"),
+            Refusal::DsdExists { .. } => (35, "DsdExists"),
+            Refusal::NoDsd { .. } => (36, "NoDsd"),
+            Refusal::DsdShape => (37, "DsdShape"),
+            Refusal::RoleInDsd { .. } => (38, "RoleInDsd"),
+            Refusal::Full { .. } => (39, "Full"),
+        }
+    }
+
+    /// Its number.
+    pub fn code(&self) -> u8
+        ensures { result ≡ code_of self.now }
+    {
+        self.label().0
+    }
+
+    /// Its name.
+    pub fn name(&self) -> &'static str
+        ensures { result.now ≡ name_of self.now }
+    {
+        self.label().1
+    }
 }

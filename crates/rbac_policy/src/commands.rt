@@ -1,5 +1,8 @@
 //! Policy commands, and the entries that accepted ones leave in the policy's list.
-ghost use Rattle.std.specs.Prelude.{◌≡◌};
+ghost use Rattle.std.specs.Prelude.{◌≡◌, IfOk};
+ghost use Rattle.std.specs.Bool.{Decides};
+ghost use Rattle.rbac_policy.specs.declared.commands.AdminCommand.TheVariants.{DeleteSession};
+ghost use Rattle.rbac_policy.specs.Entries.{makes_session, is_administrative};
 
 use crate::names::{Name, RoleNames};
 use crate::objects::{Object, Operation};
@@ -115,6 +118,53 @@ pub enum AdminCommand {
     DropActiveRole {
         role: Name,
     },
+}
+
+impl AdminCommand {
+    /// A copy of the command. It takes no memory.
+    pub fn try_clone(&self) -> Result<AdminCommand, AllocError>
+        ensures { IfOk result (λ copy. copy ≡ self.now) }
+    {
+        self.clone()
+    }
+
+    /// Whether it is a login, which makes a session and which no session gives.
+    pub fn is_login(&self) -> bool
+        ensures { result ≡ makes_session self.now }
+    {
+        matches!(self, AdminCommand::CreateSession { .. })
+    }
+
+    /// Whether it is a logout, which ends the session that gives it.
+    pub fn is_logout(&self) -> bool
+        ensures { Decides result (self.now ≡ DeleteSession) }
+    {
+        matches!(self, AdminCommand::DeleteSession)
+    }
+
+    /// Whether it needs the right to administer the policy. The others are those of sessions.
+    pub fn is_administrative(&self) -> bool
+        ensures { result ≡ is_administrative self.now }
+    {
+        match self {
+            AdminCommand::CreateSession { .. }
+            | AdminCommand::DeleteSession
+            | AdminCommand::AddActiveRole { .. }
+            | AdminCommand::DropActiveRole { .. } => false,
+            AdminCommand::AddUser { .. }
+            | AdminCommand::DeleteUser { .. }
+            | AdminCommand::AddRole { .. }
+            | AdminCommand::DeleteRole { .. }
+            | AdminCommand::AssignUser { .. }
+            | AdminCommand::DeassignUser { .. }
+            | AdminCommand::GrantPermission { .. }
+            | AdminCommand::RevokePermission { .. }
+            | AdminCommand::AddInheritance { .. }
+            | AdminCommand::DeleteInheritance { .. }
+            | AdminCommand::CreateDsdSet { .. }
+            | AdminCommand::DeleteDsdSet { .. } => true,
+        }
+    }
 }
 
 /// An accepted command, with the session that gave it. A CreateSession has none. It is small, and its clone takes no memory.

@@ -40,8 +40,8 @@ pub fn fronts_are_decided()
         → Decided (May (take n entries) session operation object) }
 {}
 
-/// Each living session has room for its logout: wherever there is room for as many entries as sessions may live, all of them have, and a
-/// logout leaves as much to the others.
+/// If the list has room for as many entries as sessions may live, each living session has room for
+/// its logout; and a logout leaves the others theirs.
 pub fn logouts_have_room()
     ensures room { (policy : Policy) (entries : List Entry) → StandsFor policy entries
         → (most : ℕ) → length entries + SESSIONS ≤ most → LeavesRoom most entries }

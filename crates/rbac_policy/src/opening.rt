@@ -5,6 +5,7 @@ ghost use Rattle.rbac_policy.specs.Opening.{opening_entries};
 use crate::commands::{AdminCommand, Entry};
 use crate::names::Name;
 use crate::objects::{Object, Operation};
+use crate::sizes::OPENING_ENTRIES;
 
 // The command's entry, given by no session.
 fn given_by_none(command: AdminCommand) -> Entry
@@ -17,8 +18,8 @@ fn given_by_none(command: AdminCommand) -> Entry
     }
 }
 
-/// The first four entries of every policy list, in their order.
-pub fn opening_entries() -> [Entry; 4]
+/// The first entries of every policy list, in their order.
+pub fn opening_entries() -> [Entry; OPENING_ENTRIES]
     ensures { result ≡ opening_entries }
 {
     let root = Name::root();

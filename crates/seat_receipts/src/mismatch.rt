@@ -1,7 +1,8 @@
 //! Where journals and receipts differ.
+use rbac_policy::objects::SLOTS;
 
-/// The number that stands for the policy list where a slot is named.
-pub const POLICY_LIST: u64 = 16;
+/// The number that stands for the policy list where a slot is named: the one after the last slot.
+pub const POLICY_LIST: u64 = SLOTS as u64;
 
 /// Where the journals of a server and the receipts of its seats differ.
 #[derive(Clone, Copy, PartialEq, Eq, Debug)]

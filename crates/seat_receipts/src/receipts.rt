@@ -5,7 +5,7 @@ use crate::receipt::Kept;
 use std::marker::Model;
 
 /// The most seats that a server has.
-pub const SEATS: usize = 16;
+pub const SEATS: usize = rbac_policy::sizes::SEATS;
 
 /// The receipts of one seat, in the order of its calls. A contract sees the list of the receipts.
 #[derive(Drop)]

@@ -1,13 +1,12 @@
 -- The refusals of the board, as those of a request.
 use Rattle.access_core.specs.declared.refusal.Refusal.{Refusal}
-use Rattle.access_core.specs.declared.refusal.Refusal.TheVariants.{Behind, JournalFull, Memory}
-use Rattle.access_core.specs.Conversions.{of_policy}
+use Rattle.access_core.specs.declared.refusal.Refusal.TheVariants.{Policy, Behind, JournalFull, Memory}
 use Rattle.policy_board.specs.declared.refusal.Refusal.{Refusal as BoardRefusal}
 use Rattle.policy_board.specs.declared.refusal.Refusal.TheVariants as board
 
 -- the refusal of a call of the board
 abbrev pub of_board : BoardRefusal → Refusal
-of_board (board.Policy refusal) = of_policy refusal
+of_board (board.Policy refusal) = Policy refusal
 of_board board.JournalFull = JournalFull
 of_board (board.Behind found seen) = Behind found seen
 of_board board.Memory = Memory

@@ -4,6 +4,7 @@ use Rattle.std.specs.Prelude.{◌≡◌, ◌⊎◌, ℕ, ◌<◌, ◌≤◌, Lis
 use Rattle.rbac_policy.specs.declared.commands.Entry.{Entry}
 use Rattle.rbac_policy.specs.declared.objects.TheConstants.{SLOTS}
 use Rattle.rbac_policy.specs.Facts.{IsLive}
+use Rattle.rbac_admin.specs.declared.refusals.Refusal.TheVariants as policy
 use Rattle.rbac_admin.specs.PolicyLists.{Begins, IsPolicyList}
 use Rattle.policy_board.specs.declared.refusal.Refusal.{Refusal as BoardRefusal}
 use Rattle.policy_board.specs.SeatState.{SeatState}
@@ -12,7 +13,7 @@ use Rattle.policy_board.specs.Reads.{HasRead, IsUnread}
 use Rattle.access_core.specs.declared.command.SlotCommand.{SlotCommand}
 use Rattle.access_core.specs.declared.reply.Reply.{Reply}
 use Rattle.access_core.specs.declared.reply.Reply.TheVariants.{Refused}
-use Rattle.access_core.specs.declared.refusal.Refusal.TheVariants.{Behind, Memory, NoSession, NoSlot}
+use Rattle.access_core.specs.declared.refusal.Refusal.TheVariants.{Policy, Behind, Memory, NoSlot}
 use Rattle.access_core.specs.SlotStep.{SlotStep}
 use Rattle.slot_table.specs.Conversions.{of_board}
 use Rattle.access_core.specs.Journals.{IsLegal}
@@ -71,7 +72,7 @@ pub record IsNoSlot (slot session : ℕ) (seat : SeatState) (reply : Reply) (aft
   pub none : SLOTS ≤ slot
   pub list : List Entry
   pub read : HasRead seat list after
-  pub answered : ((reply ≡ Refused NoSlot) × IsLive list session) ⊎ ((reply ≡ Refused NoSession) × (IsLive list session → ⊥))
+  pub answered : ((reply ≡ Refused NoSlot) × IsLive list session) ⊎ ((reply ≡ Refused (Policy policy.NoSession)) × (IsLive list session → ⊥))
 
 -- there is no slot of this number, and the seat's own read is refused
 pub record IsNotAsked (slot : ℕ) (seat : SeatState) (reply : Reply) (after : SeatState) : Type 0 where

@@ -11,7 +11,7 @@ ghost use Rattle.slot_table.specs.Inner.Ending.{Ends};
 use crate::slot::LockedSlot;
 use history_merge::compare::compare;
 use policy_board::board::{Board, Closed};
-use policy_board::history::Naming;
+use policy_board::history::BoardName;
 use policy_board::seat::Seat;
 use rbac_policy::journal::PolicyJournal;
 use rbac_policy::objects::SLOTS;
@@ -30,12 +30,12 @@ pub struct Histories {
 }
 
 /// The board of a server that is closing, and the fault of a reader that was handed back to it.
-pub(crate) struct Closing<J: Naming> {
-    board: Closed<J>,
+pub(crate) struct Closing<B: BoardName> {
+    board: Closed<B>,
     fault: Option<Mismatch>,
 }
 
-impl<J: Naming> Model for Closing<J> {
+impl<B: BoardName> Model for Closing<B> {
     ghost use Rattle.std.specs.Prelude.{IfSome};
     ghost use Rattle.slot_table.specs.Closing.{ClosingState, IsReadersFault};
 
@@ -46,9 +46,9 @@ impl<J: Naming> Model for Closing<J> {
     ghost invariant = { λ c. IfSome c.fault (λ mismatch. IsReadersFault c.board.desk mismatch) };
 }
 
-impl<J: Naming> Closing<J> {
+impl<B: BoardName> Closing<B> {
     /// The board is closed, and has no reader back yet.
-    pub(crate) fn begin(board: Board<J>) -> Closing<J>
+    pub(crate) fn begin(board: Board<B>) -> Closing<B>
         ensures { result.fault ≡ None }
     {
         Closing {
@@ -58,7 +58,7 @@ impl<J: Naming> Closing<J> {
     }
 
     /// Opens the lock of a slot, hands its reader back, and gives its journal.
-    pub(crate) fn end<const NUMBER: u8>(&mut self, slot: Mutex<LockedSlot<J, NUMBER>>) -> Journal
+    pub(crate) fn end<const NUMBER: u8>(&mut self, slot: Mutex<LockedSlot<B, NUMBER>>) -> Journal
         requires { NUMBER < SLOTS }
         ensures { Ends NUMBER self.old result self.new }
     {
@@ -109,7 +109,7 @@ fn no_receipts(alloc: Global) -> [Receipts; SEATS]
 }
 
 /// The receipts of the seats, in their order, and behind them empty lists.
-fn receipts_of<J: Naming>(alloc: Global, seats: Vec<Seat<J>>) -> [Receipts; SEATS]
+fn receipts_of<B: BoardName>(alloc: Global, seats: Vec<Seat<B>>) -> [Receipts; SEATS]
     requires { vec_len seats ≤ SEATS }
     ensures { take (vec_len seats) result ≡ kept_of seats.items }
 {
@@ -122,10 +122,10 @@ fn receipts_of<J: Naming>(alloc: Global, seats: Vec<Seat<J>>) -> [Receipts; SEAT
 }
 
 /// The histories, where what the seats keep are their receipts, one for each entry. It takes no memory.
-pub(crate) fn settle<J: Naming>(
+pub(crate) fn settle<B: BoardName>(
     alloc: Global,
     histories: Histories,
-    seats: Vec<Seat<J>>,
+    seats: Vec<Seat<B>>,
 ) -> Result<Histories, Mismatch>
     requires { vec_len seats ≤ SEATS }
     ensures same { IfOk result (λ h. h ≡ histories) }

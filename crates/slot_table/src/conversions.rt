@@ -10,7 +10,7 @@ pub fn of_board(refusal: BoardRefusal) -> Refusal
     ensures { result ≡ of_board refusal }
 {
     match refusal {
-        BoardRefusal::Policy(refusal) => Refusal::from(refusal),
+        BoardRefusal::Policy(refusal) => Refusal::Policy(refusal),
         BoardRefusal::JournalFull => Refusal::JournalFull,
         BoardRefusal::Behind { found, seen } => Refusal::Behind { found, seen },
         BoardRefusal::Memory => Refusal::Memory,

@@ -6,7 +6,7 @@ ghost use Rattle.slot_table.specs.Receipts.{place_told, Keeps};
 use access_core::command::SlotCommand;
 use access_core::reply::Reply;
 use policy_board::board::Board;
-use policy_board::history::Naming;
+use policy_board::history::BoardName;
 use policy_board::seat::Seat;
 use rbac_policy::commands::SessionId;
 use seat_receipts::receipt::{Asked, SlotReceipt};
@@ -46,10 +46,10 @@ fn place_told(reply: &Reply) -> Option<(u64, u64)>
 }
 
 /// The seat keeps a receipt of a reply that tells a place, with a number that it draws.
-pub(crate) fn keep<J: Naming, R: Wait>(
+pub(crate) fn keep<B: BoardName, R: Wait>(
     rt: &R,
-    board: &Board<J>,
-    seat: &mut Seat<J>,
+    board: &Board<B>,
+    seat: &mut Seat<B>,
     slot: u8,
     session: SessionId,
     asked: Option<Asked>,

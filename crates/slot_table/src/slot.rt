@@ -13,7 +13,7 @@ use access_core::refusal::Refusal;
 use access_core::reply::Reply;
 use access_core::slot::{Slot, admit_load, decide_slot, load_admitted};
 use policy_board::board::{Board, Closed};
-use policy_board::history::Naming;
+use policy_board::history::BoardName;
 use policy_board::reader::{Reading, SlotReader};
 use policy_board::seat::Seat;
 use rbac_policy::commands::SessionId;
@@ -22,37 +22,38 @@ use reactor_core::journal::Journal;
 use seat_receipts::mismatch::Mismatch;
 use std::alloc::Global;
 use std::marker::Model;
-use std::mem::replace;
 use std::sync::Wait;
 
 /// The slot of this number with its reader. A contract sees its journal, and the policy list that the reader has seen. The journal is legal
 /// over that list.
 #[derive(Drop)]
-pub struct LockedSlot<J: Naming, const NUMBER: u8> {
+pub struct LockedSlot<B: BoardName, const NUMBER: u8> {
     core: Slot,
-    reader: SlotReader<J>,
+    // It is away only while a command reads.
+    reader: Option<SlotReader<B>>,
 }
 
-impl<J: Naming, const NUMBER: u8> Model for LockedSlot<J, NUMBER> {
-    ghost use Rattle.std.specs.Prelude.{◌≡◌};
+impl<B: BoardName, const NUMBER: u8> Model for LockedSlot<B, NUMBER> {
+    ghost use Rattle.std.specs.Prelude.{◌≡◌, [], unwrap_or, IsSome};
     ghost use Rattle.access_core.specs.Journals.{IsLegal};
     ghost use Rattle.slot_table.specs.LockedState.{LockedState};
 
     ghost Value = { LockedState };
 
-    ghost view = { λ s. record { list = s.reader; journal = s.core.journal } };
+    ghost view = { λ s. record { list = unwrap_or s.reader []; journal = s.core.journal } };
 
-    ghost invariant = { λ s. (s.core.number ≡ NUMBER) × IsLegal s.reader NUMBER s.core.journal };
+    ghost invariant = { λ s. IsSome s.reader × (s.core.number ≡ NUMBER)
+        × IsLegal (unwrap_or s.reader []) NUMBER s.core.journal };
 }
 
 /// Answers a command on the slot at the policy that is read, and ends the read. A load ends it
 /// before its text is read, since every change of the policy waits for a read to end.
-fn decide_and_leave<J: Naming>(
-    reading: Reading<J>,
+fn decide_and_leave<B: BoardName>(
+    reading: Reading<B>,
     slot: &mut Slot,
     session: SessionId,
     command: SlotCommand,
-) -> (Reply, SlotReader<J>)
+) -> (Reply, SlotReader<B>)
     ensures number { slot.new.number ≡ slot.old.number }
     ensures step { SlotStep reading slot.old.number session command slot.old.journal result.0
         slot.new.journal }
@@ -67,15 +68,51 @@ fn decide_and_leave<J: Naming>(
     (reply, reading.leave())
 }
 
-impl<J: Naming, const NUMBER: u8> LockedSlot<J, NUMBER> {
+/// Answers a command on the slot of this number as this reader of its own reads the policy, and hands the reader back. The seat keeps a receipt
+/// of a reply that tells a place.
+fn read_and_decide<B: BoardName, const NUMBER: u8, R: Wait>(
+    rt: &R,
+    board: &Board<B>,
+    seat: &mut Seat<B>,
+    slot: &mut Slot,
+    reader: SlotReader<B>,
+    session: SessionId,
+    command: SlotCommand,
+) -> (Reply, SlotReader<B>)
+    requires { slot.old.number ≡ NUMBER }
+    ensures number { slot.new.number ≡ NUMBER }
+    ensures command { LockedCommand NUMBER session command
+        (record { list = reader; journal = slot.old.journal }) seat.old result.0
+        (record { list = result.1; journal = slot.new.journal }) seat.new }
+{
+    let Ok(()) = seat.room() else {
+        return (Reply::Refused(Refusal::Memory), reader);
+    };
+    let reading = match reader.enter() {
+        Ok(reading) => reading,
+        Err(reader) => return (Reply::Refused(Refusal::Memory), reader),
+    };
+    let (found, seen) = (reading.front().version(), seat.seen());
+    if found < seen {
+        let behind = Refusal::Behind { found, seen };
+        return (Reply::Refused(behind), reading.leave());
+    }
+    seat.saw_list(reading.front());
+    let asked = asked_by(&command);
+    let (reply, reader) = decide_and_leave(reading, slot, session, command);
+    keep(rt, board, seat, NUMBER, session, asked, &reply);
+    (reply, reader)
+}
+
+impl<B: BoardName, const NUMBER: u8> LockedSlot<B, NUMBER> {
     /// An empty slot, whose reader has seen what it has.
-    pub fn new(alloc: Global, reader: SlotReader<J>) -> LockedSlot<J, NUMBER>
+    pub fn new(alloc: Global, reader: SlotReader<B>) -> LockedSlot<B, NUMBER>
         requires { NUMBER < SLOTS }
         ensures { result ≡ record { list = reader; journal = [] } }
     {
         LockedSlot {
             core: Slot::new(alloc, SlotNumber::new(NUMBER).unwrap()),
-            reader,
+            reader: Some(reader),
         }
     }
 
@@ -83,8 +120,8 @@ impl<J: Naming, const NUMBER: u8> LockedSlot<J, NUMBER> {
     pub fn command<R: Wait>(
         &mut self,
         rt: &R,
-        board: &Board<J>,
-        seat: &mut Seat<J>,
+        board: &Board<B>,
+        seat: &mut Seat<B>,
         session: SessionId,
         command: SlotCommand,
     ) -> Reply
@@ -93,33 +130,23 @@ impl<J: Naming, const NUMBER: u8> LockedSlot<J, NUMBER> {
         ensures command { LockedCommand NUMBER session command self.old seat.old result self.new
             seat.new }
     {
-        let away = SlotReader::vacant(self.reader.front().again());
-        let Ok(()) = seat.room() else {
-            return Reply::Refused(Refusal::Memory);
-        };
-        let reading = match replace(&mut self.reader, away).enter() {
-            Ok(reading) => reading,
-            Err(reader) => {
-                self.reader = reader;
-                return Reply::Refused(Refusal::Memory);
-            }
-        };
-        let (found, seen) = (reading.front().version(), seat.seen());
-        if found < seen {
-            self.reader = reading.leave();
-            return Reply::Refused(Refusal::Behind { found, seen });
-        }
-        seat.saw_list(reading.front());
-        let asked = asked_by(&command);
-        let (reply, reader) = decide_and_leave(reading, &mut self.core, session, command);
-        self.reader = reader;
-        keep(rt, board, seat, NUMBER, session, asked, &reply);
+        let reader = self.reader.take().unwrap();
+        let (reply, reader) = read_and_decide::<B, NUMBER, R>(
+            rt,
+            board,
+            seat,
+            &mut self.core,
+            reader,
+            session,
+            command,
+        );
+        self.reader = Some(reader);
         reply
     }
 
     /// Hands the reader back to the board, and gives the journal. It is legal over the policy list, or the reader has
     /// seen more of that.
-    pub fn end(self, board: &mut Closed<J>) -> (Journal, Result<(), Mismatch>)
+    pub fn end(self, board: &mut Closed<B>) -> (Journal, Result<(), Mismatch>)
         ensures journal { result.0 ≡ self.journal }
         ensures seen { IsLegal self.list NUMBER self.journal }
         ensures handed { MatchResult result.1
@@ -129,6 +156,7 @@ impl<J: Naming, const NUMBER: u8> LockedSlot<J, NUMBER> {
         ensures board { board.new.desk ≡ board.old.desk }
     {
         let LockedSlot { core, reader } = self;
+        let reader = reader.unwrap();
         let handed = board.reader(reader);
         (core.into_journal(), handed)
     }

@@ -17,9 +17,10 @@ use access_core::refusal::Refusal;
 use access_core::reply::Reply;
 use history_laws::laws::journals_are_of_one_run;
 use policy_board::board::Board;
-use policy_board::history::Naming;
+use policy_board::history::BoardName;
 use policy_board::reader::SlotReader;
 use policy_board::seat::Seat;
+use rbac_admin::refusals::Refusal as PolicyRefusal;
 use rbac_policy::commands::SessionId;
 use rbac_policy::objects::SLOTS;
 use reactor_core::journal::Journal;
@@ -30,30 +31,30 @@ use std::sync::{Mutex, MutexGuard, Wait};
 
 /// The slots by number, each under its lock. The type of what lies under a lock has the slot's number: no clause of a lock could tell it.
 #[derive(Drop)]
-pub struct SlotTable<J: Naming> {
-    slot0: Mutex<LockedSlot<J, 0>>,
-    slot1: Mutex<LockedSlot<J, 1>>,
-    slot2: Mutex<LockedSlot<J, 2>>,
-    slot3: Mutex<LockedSlot<J, 3>>,
-    slot4: Mutex<LockedSlot<J, 4>>,
-    slot5: Mutex<LockedSlot<J, 5>>,
-    slot6: Mutex<LockedSlot<J, 6>>,
-    slot7: Mutex<LockedSlot<J, 7>>,
-    slot8: Mutex<LockedSlot<J, 8>>,
-    slot9: Mutex<LockedSlot<J, 9>>,
-    slot10: Mutex<LockedSlot<J, 10>>,
-    slot11: Mutex<LockedSlot<J, 11>>,
-    slot12: Mutex<LockedSlot<J, 12>>,
-    slot13: Mutex<LockedSlot<J, 13>>,
-    slot14: Mutex<LockedSlot<J, 14>>,
-    slot15: Mutex<LockedSlot<J, 15>>,
+pub struct SlotTable<B: BoardName> {
+    slot0: Mutex<LockedSlot<B, 0>>,
+    slot1: Mutex<LockedSlot<B, 1>>,
+    slot2: Mutex<LockedSlot<B, 2>>,
+    slot3: Mutex<LockedSlot<B, 3>>,
+    slot4: Mutex<LockedSlot<B, 4>>,
+    slot5: Mutex<LockedSlot<B, 5>>,
+    slot6: Mutex<LockedSlot<B, 6>>,
+    slot7: Mutex<LockedSlot<B, 7>>,
+    slot8: Mutex<LockedSlot<B, 8>>,
+    slot9: Mutex<LockedSlot<B, 9>>,
+    slot10: Mutex<LockedSlot<B, 10>>,
+    slot11: Mutex<LockedSlot<B, 11>>,
+    slot12: Mutex<LockedSlot<B, 12>>,
+    slot13: Mutex<LockedSlot<B, 13>>,
+    slot14: Mutex<LockedSlot<B, 14>>,
+    slot15: Mutex<LockedSlot<B, 15>>,
 }
 
 // An empty slot, with the last of the readers, under its lock.
-fn open_slot<J: Naming, const NUMBER: u8>(
+fn open_slot<B: BoardName, const NUMBER: u8>(
     alloc: Global,
-    readers: &mut Vec<SlotReader<J>>,
-) -> Mutex<LockedSlot<J, NUMBER>>
+    readers: &mut Vec<SlotReader<B>>,
+) -> Mutex<LockedSlot<B, NUMBER>>
     requires number { NUMBER < SLOTS }
     requires some { 0 < vec_len readers.old }
     ensures { vec_len readers.new + 1 ≡ vec_len readers.old }
@@ -63,11 +64,11 @@ fn open_slot<J: Naming, const NUMBER: u8>(
 }
 
 // Answers a command on the slot under this lock.
-fn answer<J: Naming, const NUMBER: u8, R: Wait>(
+fn answer<B: BoardName, const NUMBER: u8, R: Wait>(
     rt: &R,
-    board: &Board<J>,
-    slot: &Mutex<LockedSlot<J, NUMBER>>,
-    seat: &mut Seat<J>,
+    board: &Board<B>,
+    slot: &Mutex<LockedSlot<B, NUMBER>>,
+    seat: &mut Seat<B>,
     session: SessionId,
     command: SlotCommand,
 ) -> Reply
@@ -81,21 +82,21 @@ fn answer<J: Naming, const NUMBER: u8, R: Wait>(
 }
 
 // Answers a command on a slot that there is none of.
-fn refuse_number<J: Naming>(seat: &mut Seat<J>, session: SessionId, slot: u64) -> Reply
+fn refuse_number<B: BoardName>(seat: &mut Seat<B>, session: SessionId, slot: u64) -> Reply
     requires { SLOTS ≤ slot }
     ensures { IsNoSlot slot session seat.old result seat.new
         ⊎ IsNotAsked slot seat.old result seat.new }
 {
     match seat.lives(session) {
         Ok(true) => Reply::Refused(Refusal::NoSlot),
-        Ok(false) => Reply::Refused(Refusal::NoSession),
+        Ok(false) => Reply::Refused(Refusal::Policy(PolicyRefusal::NoSession)),
         Err(refusal) => Reply::Refused(of_board(refusal)),
     }
 }
 
-impl<J: Naming> SlotTable<J> {
+impl<B: BoardName> SlotTable<B> {
     /// Sixteen empty slots, which have these readers. It takes no memory.
-    pub fn open(alloc: Global, readers: Vec<SlotReader<J>>) -> SlotTable<J>
+    pub fn open(alloc: Global, readers: Vec<SlotReader<B>>) -> SlotTable<B>
         requires { vec_len readers ≡ SLOTS }
     {
         let mut readers = readers;
@@ -125,8 +126,8 @@ impl<J: Naming> SlotTable<J> {
     pub fn command<R: Wait>(
         &self,
         rt: &R,
-        board: &Board<J>,
-        seat: &mut Seat<J>,
+        board: &Board<B>,
+        seat: &mut Seat<B>,
         session: SessionId,
         slot: u64,
         command: SlotCommand,
@@ -155,7 +156,7 @@ impl<J: Naming> SlotTable<J> {
     }
 
     // The journals, by number. Each lock is opened, and its reader handed back.
-    fn end(self, closing: &mut Closing<J>) -> [Journal; SLOTS as usize]
+    fn end(self, closing: &mut Closing<B>) -> [Journal; SLOTS as usize]
         ensures { EndFrom 0 closing.old result closing.new }
     {
         let SlotTable {
@@ -209,8 +210,8 @@ impl<J: Naming> SlotTable<J> {
         self,
         rt: &R,
         alloc: Global,
-        board: Board<J>,
-        seats: Vec<Seat<J>>,
+        board: Board<B>,
+        seats: Vec<Seat<B>>,
     ) -> Result<Histories, Mismatch>
         requires few { vec_len seats ≤ SEATS }
         ensures one { IfOk result (λ h. AreOfOneList h.policy h.slots (kept_of seats.items)) }

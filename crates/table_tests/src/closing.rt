@@ -5,7 +5,7 @@ use crate::server::{Server, ask, begin, enter, give, open, revoke, root};
 use access_core::command::SlotCommand;
 use access_core::reply::Reply;
 use policy_board::board::Board;
-use policy_board::history::{Fresh, Naming};
+use policy_board::history::{BoardName, Fresh};
 use policy_board::seat::Seat;
 use rbac_policy::objects::{Operation, SlotNumber};
 use seat_receipts::mismatch::Mismatch;
@@ -17,22 +17,22 @@ use std::sync::Wait;
 use std::test::Fail;
 
 /// A server with its two seats, after a story.
-struct Story<J: Naming> {
-    board: Board<J>,
-    table: SlotTable<J>,
-    seat: Seat<J>,
-    other: Seat<J>,
+struct Story<B: BoardName> {
+    board: Board<B>,
+    table: SlotTable<B>,
+    seat: Seat<B>,
+    other: Seat<B>,
 }
 
 /// Two seats load modules into three slots and step them, in turn, and change the policy between.
-fn tell<J: Naming, R: Wait + Abort>(rt: &R, alloc: Global, fresh: Fresh) -> Story<J>
-    requires { fresh.seen.book ≡ J.book }
+fn tell<B: BoardName, R: Wait + Abort>(rt: &R, alloc: Global, fresh: Fresh) -> Story<B>
+    requires { fresh.seen.book ≡ B.book }
 {
     let Server {
         board,
         mut seats,
         table,
-    } = open::<J, R>(rt, alloc, fresh, 2);
+    } = open::<B, R>(rt, alloc, fresh, 2);
     let mut seat = seats.pop().expect(rt, "a seat");
     let mut other = seats.pop().expect(rt, "a seat");
     enter(rt, alloc, &board, &mut seat);
@@ -71,15 +71,15 @@ fn tell<J: Naming, R: Wait + Abort>(rt: &R, alloc: Global, fresh: Fresh) -> Stor
 }
 
 /// With both seats the server is closed, and its journals have the entries of the story.
-fn close<J: Naming, R: Wait + Abort>(rt: &R, alloc: Global, fresh: Fresh) -> usize
-    requires { fresh.seen.book ≡ J.book }
+fn close<B: BoardName, R: Wait + Abort>(rt: &R, alloc: Global, fresh: Fresh) -> usize
+    requires { fresh.seen.book ≡ B.book }
 {
     let Story {
         board,
         table,
         seat,
         other,
-    } = tell::<J, R>(rt, alloc, fresh);
+    } = tell::<B, R>(rt, alloc, fresh);
     let seats = vec![in alloc; seat, other].ok().expect(rt, "room");
     let histories = table
         .close(rt, alloc, board, seats)
@@ -96,15 +96,15 @@ fn close<J: Naming, R: Wait + Abort>(rt: &R, alloc: Global, fresh: Fresh) -> usi
 }
 
 /// A seat is held back, and its receipts are missing.
-fn hold_back<J: Naming, R: Wait + Abort>(rt: &R, alloc: Global, fresh: Fresh) -> Option<Mismatch>
-    requires { fresh.seen.book ≡ J.book }
+fn hold_back<B: BoardName, R: Wait + Abort>(rt: &R, alloc: Global, fresh: Fresh) -> Option<Mismatch>
+    requires { fresh.seen.book ≡ B.book }
 {
     let Story {
         board,
         table,
         seat,
         other: _other,
-    } = tell::<J, R>(rt, alloc, fresh);
+    } = tell::<B, R>(rt, alloc, fresh);
     let seats = vec![in alloc; seat].ok().expect(rt, "room");
     table.close(rt, alloc, board, seats).err()
 }

@@ -6,8 +6,9 @@ use access_core::command::SlotCommand;
 use access_core::refusal::Refusal;
 use access_core::reply::Reply;
 use est_text::identifier::Identifier;
-use policy_board::history::{Fresh, Naming};
+use policy_board::history::{BoardName, Fresh};
 use policy_board::seat::Seat;
+use rbac_admin::refusals::Refusal as PolicyRefusal;
 use seat_receipts::receipt::{Asked, Kept, SlotReceipt};
 use std::alloc::Global;
 use std::marker::Brand;
@@ -16,7 +17,7 @@ use std::sync::Wait;
 use std::test::Fail;
 
 /// The receipt that the seat keeps last, which is of a slot command; the seat keeps so many.
-fn last<J: Naming, R: Abort>(rt: &R, seat: &Seat<J>, count: usize) -> SlotReceipt {
+fn last<B: BoardName, R: Abort>(rt: &R, seat: &Seat<B>, count: usize) -> SlotReceipt {
     let kept = seat.kept();
     assert_eq!(rt; kept.len(), count);
     match kept.last() {
@@ -27,14 +28,14 @@ fn last<J: Naming, R: Abort>(rt: &R, seat: &Seat<J>, count: usize) -> SlotReceip
 }
 
 /// One seat keeps a receipt of each command that adds an entry, and of no other.
-fn keep<J: Naming, R: Wait + Abort>(rt: &R, alloc: Global, fresh: Fresh) -> usize
-    requires { fresh.seen.book ≡ J.book }
+fn keep<B: BoardName, R: Wait + Abort>(rt: &R, alloc: Global, fresh: Fresh) -> usize
+    requires { fresh.seen.book ≡ B.book }
 {
     let Server {
         board,
         mut seats,
         table,
-    } = open::<J, R>(rt, alloc, fresh, 1);
+    } = open::<B, R>(rt, alloc, fresh, 1);
     let mut seat = seats.pop().expect(rt, "a seat");
     let signal = Identifier::from_text("I").expect(rt, "a name");
     enter(rt, alloc, &board, &mut seat);
@@ -86,7 +87,12 @@ fn keep<J: Naming, R: Wait + Abort>(rt: &R, alloc: Global, fresh: Fresh) -> usiz
     );
     assert!(rt; matches!(reply, Reply::Look { instant: 1, .. }));
     let reply = ask(rt, &board, &table, &mut seat, 2, SlotCommand::Step);
-    assert!(rt; matches!(reply, Reply::Refused(Refusal::Permission { .. })));
+    assert!(rt;
+        matches!(
+            reply,
+            Reply::Refused(Refusal::Policy(PolicyRefusal::Permission { .. }))
+        )
+    );
     let reply = ask(rt, &board, &table, &mut seat, 16, SlotCommand::Step);
     assert!(rt; matches!(reply, Reply::Refused(Refusal::NoSlot)));
     assert_eq!(rt; seat.kept().len(), 7);

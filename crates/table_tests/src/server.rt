@@ -6,7 +6,7 @@ use access_core::command::SlotCommand;
 use access_core::reply::Reply;
 use est_text::identifier::Identifier;
 use policy_board::board::Board;
-use policy_board::history::{Fresh, Naming};
+use policy_board::history::{BoardName, Fresh};
 use policy_board::opening::Opened;
 use policy_board::seat::Seat;
 use rbac_policy::commands::{AdminCommand, SessionId};
@@ -23,10 +23,10 @@ use std::sync::Wait;
 const ONCE: &str = "module M: input I; output O; present I then emit O end end module";
 
 /// A board with its seats, and the slots of its readers.
-pub(crate) struct Server<J: Naming> {
-    pub board: Board<J>,
-    pub seats: Vec<Seat<J>>,
-    pub table: SlotTable<J>,
+pub(crate) struct Server<B: BoardName> {
+    pub board: Board<B>,
+    pub seats: Vec<Seat<B>>,
+    pub table: SlotTable<B>,
 }
 
 /// The session that root logs in with.
@@ -79,20 +79,20 @@ pub(crate) fn load<R: Abort>(rt: &R, alloc: Global) -> SlotCommand {
 }
 
 /// A board with so many seats, and its slots.
-pub(crate) fn open<J: Naming, R: Abort>(
+pub(crate) fn open<B: BoardName, R: Wait + Abort>(
     rt: &R,
     alloc: Global,
     fresh: Fresh,
     count: usize,
-) -> Server<J>
-    requires name { fresh.seen.book ≡ J.book }
+) -> Server<B>
+    requires name { fresh.seen.book ≡ B.book }
     requires count { (1 ≤ count) × (count ≤ SEATS) }
 {
     let Opened {
         board,
         seats,
         readers,
-    } = Board::<J>::open(alloc, fresh, count)
+    } = Board::<B>::open(rt, alloc, fresh, count)
         .ok()
         .expect(rt, "a board");
     Server {
@@ -103,10 +103,10 @@ pub(crate) fn open<J: Naming, R: Abort>(
 }
 
 /// A policy command of root, which is accepted. Answers the version with it.
-pub(crate) fn give<J: Naming, R: Wait + Abort>(
+pub(crate) fn give<B: BoardName, R: Wait + Abort>(
     rt: &R,
-    board: &Board<J>,
-    seat: &mut Seat<J>,
+    board: &Board<B>,
+    seat: &mut Seat<B>,
     session: Option<SessionId>,
     command: AdminCommand,
 ) -> u64 {
@@ -118,23 +118,23 @@ pub(crate) fn give<J: Naming, R: Wait + Abort>(
 }
 
 /// Logs root in, and grants it loads and steps of the slot.
-pub(crate) fn enter<J: Naming, R: Wait + Abort>(
+pub(crate) fn enter<B: BoardName, R: Wait + Abort>(
     rt: &R,
     alloc: Global,
-    board: &Board<J>,
-    seat: &mut Seat<J>,
+    board: &Board<B>,
+    seat: &mut Seat<B>,
 ) {
     let command = login(alloc).ok().expect(rt, "room");
     assert_eq!(rt; give(rt, board, seat, None, command), 5);
 }
 
 /// Grants root loads and steps of the slot, and loads the module there: the first entry of the slot.
-pub(crate) fn begin<J: Naming, R: Wait + Abort>(
+pub(crate) fn begin<B: BoardName, R: Wait + Abort>(
     rt: &R,
     alloc: Global,
-    board: &Board<J>,
-    table: &SlotTable<J>,
-    seat: &mut Seat<J>,
+    board: &Board<B>,
+    table: &SlotTable<B>,
+    seat: &mut Seat<B>,
     number: u8,
 ) {
     let slot = SlotNumber::new(number).expect(rt, "a slot");
@@ -151,11 +151,11 @@ pub(crate) fn begin<J: Naming, R: Wait + Abort>(
 }
 
 /// What is answered to root's command on the slot.
-pub(crate) fn ask<J: Naming, R: Wait>(
+pub(crate) fn ask<B: BoardName, R: Wait>(
     rt: &R,
-    board: &Board<J>,
-    table: &SlotTable<J>,
-    seat: &mut Seat<J>,
+    board: &Board<B>,
+    table: &SlotTable<B>,
+    seat: &mut Seat<B>,
     slot: u64,
     command: SlotCommand,
 ) -> Reply {

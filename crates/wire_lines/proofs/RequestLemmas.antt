@@ -1,4 +1,4 @@
--- What is read field by field is what the relation says, both ways.
+-- What is read field by field is what the relation says, in both directions.
 use Rattle.std.proofs.Common.{◌≡◌, ◌≤◌, ◌∙◌, ℕ, List, [], ◌∷◌, length, map, codes, Bool, true, false, ◌&&◌, cond, Option, Some, None, option_map, option_and_then, bytes_eq, IsTrue, ◌⊎◌, inl, inr, refl, sym, ap, subst, arith, nat_le}
 use Rattle.std.proofs.lemmas.Bool.{leb-true, le-leb}
 use Rattle.std.proofs.lemmas.List.{length-map}
@@ -6,22 +6,24 @@ use Rattle.std.proofs.lemmas.Option.{same_Some}
 use Rattle.std.proofs.lemmas.Slice.Eq.{bytes_eq-Decides}
 use Rattle.std.specs.List.{AllByRecursion}
 use Rattle.serde_json.specs.Data.{Data, Num, number, unsigned, string, array, object, Items, item, no_items, Members, member, no_members}
-use Rattle.serde_json.specs.Find.{as_str, as_array, as_number, as_u64}
+use Rattle.serde_json.specs.Find.{get, as_str, as_array, as_number, as_u64}
 use Rattle.serde_json.specs.View.{items_of}
 use Rattle.est_text.specs.Identifiers.{is_identifier}
+use Rattle.rbac_policy.specs.declared.commands.AdminCommand.{AdminCommand}
+use Rattle.rbac_policy.specs.declared.commands.AdminCommand.TheVariants.{AddUser, DeleteUser, AddRole, DeleteRole, AssignUser, DeassignUser, GrantPermission, RevokePermission, AddInheritance, DeleteInheritance, CreateDsdSet, DeleteDsdSet, CreateSession, DeleteSession, AddActiveRole, DropActiveRole}
 use Rattle.rbac_policy.specs.declared.names.TheConstants.{LISTED_ROLES}
 use Rattle.rbac_policy.specs.Names.{is_name}
 use Rattle.rbac_policy.specs.Texts.{operation_text, operation_of, object_text, object_of, IsObject}
 use Rattle.rbac_policy.specs.declared.objects.Operation.{Operation}
 use Rattle.rbac_policy.specs.declared.objects.Object.{Object}
 use Rattle.rbac_policy.proofs.ObjectTexts.{operation_of-exact, object_of-exact}
+use Rattle.access_core.specs.declared.command.SlotCommand.{SlotCommand}
+use Rattle.access_core.specs.declared.command.SlotCommand.TheVariants.{Load, Offer, Discard, Step, Unload, Look, Audit}
 use Rattle.wire_lines.proofs.KeyLemmas.{list_back}
-use Rattle.wire_lines.specs.Requests.{members_of, Fits}
-use Rattle.wire_lines.specs.Inner.Reading.{text_at, name_at, identifier_at, operation_at, object_at, number_at, keys_are, has_keys, command_of, names_from, with_front, list_of, roles_from, roles_at, login_of, logout_of, grant_of, add_user_of, delete_user_of, add_role_of, assign_of, deassign_of, revoke_of, disinherit_of, activate_of, drop_role_of, delete_role_of, inherit_of, create_set_of, delete_set_of, load_of, offer_of, discard_of, step_of, unload_of, look_of, audit_of, check_of, fields_of, request_of}
-use Rattle.wire_lines.specs.declared.request.Command.{Command}
-use Rattle.wire_lines.specs.declared.request.Command.TheVariants as command
+use Rattle.wire_lines.specs.Requests.{command_member, with_name, with_names, with_permission, slot_member, members_of, IsName, AreListed, Fits}
+use Rattle.wire_lines.specs.Inner.Reading.{text_at, name_at, identifier_at, operation_at, object_at, number_at, keys_are, has_keys, names_from, with_front, list_of, roles_from, roles_at, read_name, read_names, read_permission, read_login, read_logout, read_set, read_grant, read_relation, read_plain, read_policy, read_on_slot, read_load, read_offer, read_look, read_check, read_request, request_of}
 use Rattle.wire_lines.specs.declared.request.Request.{Request}
-use Rattle.wire_lines.specs.declared.request.Request.TheVariants as request
+use Rattle.wire_lines.specs.declared.request.Request.TheVariants.{Policy, Slot, Check}
 
 -- ---- tools
 
@@ -40,6 +42,10 @@ both false b h = cc
 chained : {A B : Type 0} (f : A → Option B) (o : Option A) (y : B) → option_and_then f o ≡ Some y → (x : A) × (o ≡ Some x) × (f x ≡ Some y)
 chained f None y h = cc
 chained f (Some x) y h = (x, refl, h)
+
+-- what is so of what is made of each value is so of what was made
+made : {A B : Type 0} (f : A → B) (o : Option A) (y : B) (P : B → Type 0) → option_map f o ≡ Some y → ((x : A) → o ≡ Some x → P (f x)) → P y
+made f o y P h each = let m = mapped f o y h in subst P m.2 (each m.0 m.1)
 
 chosen : {A : Type 0} (b : Bool) (x y z : A) → cond b x y ≡ z → ((b ≡ true) × (x ≡ z)) ⊎ ((b ≡ false) × (y ≡ z))
 chosen true x y z h = inl (refl, h)
@@ -124,315 +130,49 @@ three_members ms a b e h =
     let g = two_members f.1 b e f.3 in
     (f.0, g.0, g.1, f.2 ∙ ap (member a f.0) g.2)
 
-four_members : (ms : Members) (a b e g : List ℕ) → keys_are ms (a ∷ b ∷ e ∷ g ∷ []) ≡ true → (x : Data) × (y : Data) × (z : Data) × (w : Data) × (ms ≡ member a x (member b y (member e z (member g w no_members))))
-four_members ms a b e g h =
-    let f = first_key ms a (b ∷ e ∷ g ∷ []) h in
-    let t = three_members f.1 b e g f.3 in
-    (f.0, t.0, t.1, t.2, f.2 ∙ ap (member a f.0) t.3)
-
--- ---- the commands, from the value
-
-pub record Is (d : Data) (r : Request) : Type 0 where
-  pub value : d ≡ object (members_of r)
-  pub fits : Fits r
-
+-- the value has this text under `cmd`
 abbrev HasCommand : List ℕ → Data → Type 0
-HasCommand name d = text_at (codes "cmd") d ≡ Some name
+HasCommand word d = text_at (codes "cmd") d ≡ Some word
 
-logout_is : (d : Data) (r : Request) → HasCommand (codes "logout") d → logout_of d ≡ Some r → Is d r
-unfolding logout_of text_at
-logout_is d r named h =
-    let p = guard (has_keys d (codes "cmd" ∷ [])) (Some request.Logout) r h in
-    let o = object_with d _ p.0 in
-    let k = one_member o.0 (codes "cmd") o.2 in
-    let whole : d ≡ object (member (codes "cmd") k.0 no_members) = o.1 ∙ ap object k.1 in
-    let e : k.0 ≡ string (codes "logout") = as_str_is k.0 _ (subst (HasCommand (codes "logout")) whole named) in
-    subst (Is d) (same_Some _ _ p.1) (record { value = whole ∙ rw e refl; fits = tt })
+-- the members of a value that has `cmd` and these keys, with this word
+cmd_first : (word : List ℕ) (d : Data) (ws : List (List ℕ)) → HasCommand word d → has_keys d (codes "cmd" ∷ ws) ≡ true → (rest : Members) × (d ≡ object (command_member word rest)) × (keys_are rest ws ≡ true)
+unfolding text_at
+cmd_first word d ws named h =
+    let o = object_with d (codes "cmd" ∷ ws) h in
+    let f = first_key o.0 (codes "cmd") ws o.2 in
+    let whole : d ≡ object (member (codes "cmd") f.0 f.1) = o.1 ∙ ap object f.2 in
+    let e : f.0 ≡ string word = as_str_is f.0 word (subst (HasCommand word) whole named) in
+    (f.1, whole ∙ ap (λ (x : Data). object (member (codes "cmd") x f.1)) e, f.3)
 
-discard_is : (d : Data) (r : Request) → HasCommand (codes "discard") d → discard_of d ≡ Some r → Is d r
-unfolding discard_of number_at text_at
-discard_is d r named h =
-    let p = guard (has_keys d (codes "cmd" ∷ codes "slot" ∷ [])) (option_map request.Discard (number_at (codes "slot") d)) r h in
-    let o = object_with d _ p.0 in
-    let k = two_members o.0 (codes "cmd") (codes "slot") o.2 in
-    let whole : d ≡ object (member (codes "cmd") k.0 (member (codes "slot") k.1 no_members)) = o.1 ∙ ap object k.2 in
-    let e : k.0 ≡ string (codes "discard") = as_str_is k.0 _ (subst (HasCommand (codes "discard")) whole named) in
-    let m = mapped request.Discard _ r p.1 in
-    let n : k.1 ≡ number (unsigned m.0) = whole_is k.1 m.0 (subst (λ (x : Data). number_at (codes "slot") x ≡ Some m.0) whole m.1) in
-    subst (Is d) m.2 (record { value = whole ∙ rw (e, n) refl; fits = tt })
+no_key : (word : List ℕ) (d : Data) → HasCommand word d → has_keys d (codes "cmd" ∷ []) ≡ true → d ≡ object (command_member word no_members)
+no_key word d named h =
+    let c = cmd_first word d [] named h in
+    c.1 ∙ ap (λ (ms : Members). object (command_member word ms)) (no_more c.0 c.2)
 
-step_is : (d : Data) (r : Request) → HasCommand (codes "step") d → step_of d ≡ Some r → Is d r
-unfolding step_of number_at text_at
-step_is d r named h =
-    let p = guard (has_keys d (codes "cmd" ∷ codes "slot" ∷ [])) (option_map request.Step (number_at (codes "slot") d)) r h in
-    let o = object_with d _ p.0 in
-    let k = two_members o.0 (codes "cmd") (codes "slot") o.2 in
-    let whole : d ≡ object (member (codes "cmd") k.0 (member (codes "slot") k.1 no_members)) = o.1 ∙ ap object k.2 in
-    let e : k.0 ≡ string (codes "step") = as_str_is k.0 _ (subst (HasCommand (codes "step")) whole named) in
-    let m = mapped request.Step _ r p.1 in
-    let n : k.1 ≡ number (unsigned m.0) = whole_is k.1 m.0 (subst (λ (x : Data). number_at (codes "slot") x ≡ Some m.0) whole m.1) in
-    subst (Is d) m.2 (record { value = whole ∙ rw (e, n) refl; fits = tt })
+one_key : (word : List ℕ) (d : Data) (a : List ℕ) → HasCommand word d → has_keys d (codes "cmd" ∷ a ∷ []) ≡ true → (x : Data) × (d ≡ object (command_member word (member a x no_members)))
+one_key word d a named h =
+    let c = cmd_first word d (a ∷ []) named h in
+    let k = one_member c.0 a c.2 in
+    (k.0, c.1 ∙ ap (λ (ms : Members). object (command_member word ms)) k.1)
 
-unload_is : (d : Data) (r : Request) → HasCommand (codes "unload") d → unload_of d ≡ Some r → Is d r
-unfolding unload_of number_at text_at
-unload_is d r named h =
-    let p = guard (has_keys d (codes "cmd" ∷ codes "slot" ∷ [])) (option_map request.Unload (number_at (codes "slot") d)) r h in
-    let o = object_with d _ p.0 in
-    let k = two_members o.0 (codes "cmd") (codes "slot") o.2 in
-    let whole : d ≡ object (member (codes "cmd") k.0 (member (codes "slot") k.1 no_members)) = o.1 ∙ ap object k.2 in
-    let e : k.0 ≡ string (codes "unload") = as_str_is k.0 _ (subst (HasCommand (codes "unload")) whole named) in
-    let m = mapped request.Unload _ r p.1 in
-    let n : k.1 ≡ number (unsigned m.0) = whole_is k.1 m.0 (subst (λ (x : Data). number_at (codes "slot") x ≡ Some m.0) whole m.1) in
-    subst (Is d) m.2 (record { value = whole ∙ rw (e, n) refl; fits = tt })
+two_keys : (word : List ℕ) (d : Data) (a b : List ℕ) → HasCommand word d → has_keys d (codes "cmd" ∷ a ∷ b ∷ []) ≡ true → (x : Data) × (y : Data) × (d ≡ object (command_member word (member a x (member b y no_members))))
+two_keys word d a b named h =
+    let c = cmd_first word d (a ∷ b ∷ []) named h in
+    let k = two_members c.0 a b c.2 in
+    (k.0, k.1, c.1 ∙ ap (λ (ms : Members). object (command_member word ms)) k.2)
 
-audit_is : (d : Data) (r : Request) → HasCommand (codes "audit") d → audit_of d ≡ Some r → Is d r
-unfolding audit_of number_at text_at
-audit_is d r named h =
-    let p = guard (has_keys d (codes "cmd" ∷ codes "slot" ∷ [])) (option_map request.Audit (number_at (codes "slot") d)) r h in
-    let o = object_with d _ p.0 in
-    let k = two_members o.0 (codes "cmd") (codes "slot") o.2 in
-    let whole : d ≡ object (member (codes "cmd") k.0 (member (codes "slot") k.1 no_members)) = o.1 ∙ ap object k.2 in
-    let e : k.0 ≡ string (codes "audit") = as_str_is k.0 _ (subst (HasCommand (codes "audit")) whole named) in
-    let m = mapped request.Audit _ r p.1 in
-    let n : k.1 ≡ number (unsigned m.0) = whole_is k.1 m.0 (subst (λ (x : Data). number_at (codes "slot") x ≡ Some m.0) whole m.1) in
-    subst (Is d) m.2 (record { value = whole ∙ rw (e, n) refl; fits = tt })
-
-look_is : (d : Data) (r : Request) → HasCommand (codes "look") d → look_of d ≡ Some r → Is d r
-unfolding look_of number_at text_at
-look_is d r named h =
-    let p = guard (has_keys d (codes "cmd" ∷ codes "instant" ∷ codes "slot" ∷ [])) _ r h in
-    let o = object_with d _ p.0 in
-    let k = three_members o.0 (codes "cmd") (codes "instant") (codes "slot") o.2 in
-    let whole : d ≡ object (member (codes "cmd") k.0 (member (codes "instant") k.1 (member (codes "slot") k.2 no_members))) = o.1 ∙ ap object k.3 in
-    let e : k.0 ≡ string (codes "look") = as_str_is k.0 _ (subst (HasCommand (codes "look")) whole named) in
-    let a = chained (λ (instant : ℕ). option_map (request.Look instant) (number_at (codes "slot") d)) _ r p.1 in
-    let m = mapped (request.Look a.0) _ r a.2 in
-    let i : k.1 ≡ number (unsigned a.0) = whole_is k.1 a.0 (subst (λ (x : Data). number_at (codes "instant") x ≡ Some a.0) whole a.1) in
-    let s : k.2 ≡ number (unsigned m.0) = whole_is k.2 m.0 (subst (λ (x : Data). number_at (codes "slot") x ≡ Some m.0) whole m.1) in
-    subst (Is d) m.2 (record { value = whole ∙ rw (e, i, s) refl; fits = tt })
-
-offer_is : (d : Data) (r : Request) → HasCommand (codes "offer") d → offer_of d ≡ Some r → Is d r
-unfolding offer_of number_at identifier_at text_at
-offer_is d r named h =
-    let p = guard (has_keys d (codes "cmd" ∷ codes "signal" ∷ codes "slot" ∷ [])) _ r h in
-    let o = object_with d _ p.0 in
-    let k = three_members o.0 (codes "cmd") (codes "signal") (codes "slot") o.2 in
-    let whole : d ≡ object (member (codes "cmd") k.0 (member (codes "signal") k.1 (member (codes "slot") k.2 no_members))) = o.1 ∙ ap object k.3 in
-    let e : k.0 ≡ string (codes "offer") = as_str_is k.0 _ (subst (HasCommand (codes "offer")) whole named) in
-    let a = chained (λ (signal : List ℕ). option_map (request.Offer signal) (number_at (codes "slot") d)) _ r p.1 in
-    let m = mapped (request.Offer a.0) _ r a.2 in
-    let i = tested is_identifier k.1 a.0 (subst (λ (x : Data). identifier_at (codes "signal") x ≡ Some a.0) whole a.1) in
-    let s : k.2 ≡ number (unsigned m.0) = whole_is k.2 m.0 (subst (λ (x : Data). number_at (codes "slot") x ≡ Some m.0) whole m.1) in
-    subst (Is d) m.2 (record { value = whole ∙ rw (e, i.0, s) refl; fits = i.1 })
-
-load_is : (d : Data) (r : Request) → HasCommand (codes "load") d → load_of d ≡ Some r → Is d r
-unfolding load_of number_at identifier_at text_at
-load_is d r named h =
-    let p = guard (has_keys d (codes "cmd" ∷ codes "main" ∷ codes "slot" ∷ codes "text" ∷ [])) _ r h in
-    let o = object_with d _ p.0 in
-    let k = four_members o.0 (codes "cmd") (codes "main") (codes "slot") (codes "text") o.2 in
-    let whole : d ≡ object (member (codes "cmd") k.0 (member (codes "main") k.1 (member (codes "slot") k.2 (member (codes "text") k.3 no_members)))) = o.1 ∙ ap object k.4 in
-    let e : k.0 ≡ string (codes "load") = as_str_is k.0 _ (subst (HasCommand (codes "load")) whole named) in
-    let a = chained (λ (main : List ℕ). option_and_then (λ (slot : ℕ). option_map (request.Load main slot) (text_at (codes "text") d)) (number_at (codes "slot") d)) _ r p.1 in
-    let b = chained (λ (slot : ℕ). option_map (request.Load a.0 slot) (text_at (codes "text") d)) _ r a.2 in
-    let m = mapped (request.Load a.0 b.0) _ r b.2 in
-    let i = tested is_identifier k.1 a.0 (subst (λ (x : Data). identifier_at (codes "main") x ≡ Some a.0) whole a.1) in
-    let s : k.2 ≡ number (unsigned b.0) = whole_is k.2 b.0 (subst (λ (x : Data). number_at (codes "slot") x ≡ Some b.0) whole b.1) in
-    let t : k.3 ≡ string m.0 = as_str_is k.3 m.0 (subst (λ (x : Data). text_at (codes "text") x ≡ Some m.0) whole m.1) in
-    subst (Is d) m.2 (record { value = whole ∙ rw (e, i.0, s, t) refl; fits = i.1 })
-
-check_is : (d : Data) (r : Request) → HasCommand (codes "check") d → check_of d ≡ Some r → Is d r
-unfolding check_of operation_at object_at text_at
-check_is d r named h =
-    let p = guard (has_keys d (codes "cmd" ∷ codes "object" ∷ codes "op" ∷ [])) _ r h in
-    let o = object_with d _ p.0 in
-    let k = three_members o.0 (codes "cmd") (codes "object") (codes "op") o.2 in
-    let whole : d ≡ object (member (codes "cmd") k.0 (member (codes "object") k.1 (member (codes "op") k.2 no_members))) = o.1 ∙ ap object k.3 in
-    let e : k.0 ≡ string (codes "check") = as_str_is k.0 _ (subst (HasCommand (codes "check")) whole named) in
-    let a = chained (λ (on : Object). option_map (request.Check on) (operation_at (codes "op") d)) _ r p.1 in
-    let m = mapped (request.Check a.0) _ r a.2 in
-    let i = object_is k.1 a.0 (subst (λ (x : Data). object_at (codes "object") x ≡ Some a.0) whole a.1) in
-    let s = operation_is k.2 m.0 (subst (λ (x : Data). operation_at (codes "op") x ≡ Some m.0) whole m.1) in
-    subst (Is d) m.2 (record { value = whole ∙ rw (e, i.0, s) refl; fits = i.1 })
-
-grant_is : (d : Data) (r : Request) → HasCommand (codes "grant") d → grant_of d ≡ Some r → Is d r
-unfolding grant_of name_at operation_at object_at text_at
-grant_is d r named h =
-    let p = guard (has_keys d (codes "cmd" ∷ codes "object" ∷ codes "op" ∷ codes "role" ∷ [])) _ r h in
-    let o = object_with d _ p.0 in
-    let k = four_members o.0 (codes "cmd") (codes "object") (codes "op") (codes "role") o.2 in
-    let whole : d ≡ object (member (codes "cmd") k.0 (member (codes "object") k.1 (member (codes "op") k.2 (member (codes "role") k.3 no_members)))) = o.1 ∙ ap object k.4 in
-    let e : k.0 ≡ string (codes "grant") = as_str_is k.0 _ (subst (HasCommand (codes "grant")) whole named) in
-    let a = chained (λ (on : Object). option_and_then (λ (operation : Operation). option_map (request.Grant on operation) (name_at (codes "role") d)) (operation_at (codes "op") d)) _ r p.1 in
-    let b = chained (λ (operation : Operation). option_map (request.Grant a.0 operation) (name_at (codes "role") d)) _ r a.2 in
-    let m = mapped (request.Grant a.0 b.0) _ r b.2 in
-    let i = object_is k.1 a.0 (subst (λ (x : Data). object_at (codes "object") x ≡ Some a.0) whole a.1) in
-    let s = operation_is k.2 b.0 (subst (λ (x : Data). operation_at (codes "op") x ≡ Some b.0) whole b.1) in
-    let n = tested is_name k.3 m.0 (subst (λ (x : Data). name_at (codes "role") x ≡ Some m.0) whole m.1) in
-    subst (Is d) m.2 (record { value = whole ∙ rw (e, i.0, s, n.0) refl; fits = (i.1, n.1) })
-
-add_user_is : (d : Data) (r : Request) → HasCommand (codes "adduser") d → add_user_of d ≡ Some r → Is d r
-unfolding add_user_of name_at text_at
-add_user_is d r named h =
-    let p = guard (has_keys d (codes "cmd" ∷ codes "user" ∷ [])) _ r h in
-    let o = object_with d _ p.0 in
-    let k = two_members o.0 (codes "cmd") (codes "user") o.2 in
-    let whole : d ≡ object (member (codes "cmd") k.0 (member (codes "user") k.1 no_members)) = o.1 ∙ ap object k.2 in
-    let e : k.0 ≡ string (codes "adduser") = as_str_is k.0 _ (subst (HasCommand (codes "adduser")) whole named) in
-    let m = mapped request.AddUser _ r p.1 in
-    let u = tested is_name k.1 m.0 (subst (λ (x : Data). name_at (codes "user") x ≡ Some m.0) whole m.1) in
-    subst (Is d) m.2 (record { value = whole ∙ rw (e, u.0) refl; fits = u.1 })
-
-delete_user_is : (d : Data) (r : Request) → HasCommand (codes "deluser") d → delete_user_of d ≡ Some r → Is d r
-unfolding delete_user_of name_at text_at
-delete_user_is d r named h =
-    let p = guard (has_keys d (codes "cmd" ∷ codes "user" ∷ [])) _ r h in
-    let o = object_with d _ p.0 in
-    let k = two_members o.0 (codes "cmd") (codes "user") o.2 in
-    let whole : d ≡ object (member (codes "cmd") k.0 (member (codes "user") k.1 no_members)) = o.1 ∙ ap object k.2 in
-    let e : k.0 ≡ string (codes "deluser") = as_str_is k.0 _ (subst (HasCommand (codes "deluser")) whole named) in
-    let m = mapped request.DeleteUser _ r p.1 in
-    let u = tested is_name k.1 m.0 (subst (λ (x : Data). name_at (codes "user") x ≡ Some m.0) whole m.1) in
-    subst (Is d) m.2 (record { value = whole ∙ rw (e, u.0) refl; fits = u.1 })
-
-add_role_is : (d : Data) (r : Request) → HasCommand (codes "addrole") d → add_role_of d ≡ Some r → Is d r
-unfolding add_role_of name_at text_at
-add_role_is d r named h =
-    let p = guard (has_keys d (codes "cmd" ∷ codes "role" ∷ [])) _ r h in
-    let o = object_with d _ p.0 in
-    let k = two_members o.0 (codes "cmd") (codes "role") o.2 in
-    let whole : d ≡ object (member (codes "cmd") k.0 (member (codes "role") k.1 no_members)) = o.1 ∙ ap object k.2 in
-    let e : k.0 ≡ string (codes "addrole") = as_str_is k.0 _ (subst (HasCommand (codes "addrole")) whole named) in
-    let m = mapped request.AddRole _ r p.1 in
-    let u = tested is_name k.1 m.0 (subst (λ (x : Data). name_at (codes "role") x ≡ Some m.0) whole m.1) in
-    subst (Is d) m.2 (record { value = whole ∙ rw (e, u.0) refl; fits = u.1 })
-
-assign_is : (d : Data) (r : Request) → HasCommand (codes "assign") d → assign_of d ≡ Some r → Is d r
-unfolding assign_of name_at text_at
-assign_is d r named h =
-    let p = guard (has_keys d (codes "cmd" ∷ codes "role" ∷ codes "user" ∷ [])) _ r h in
-    let o = object_with d _ p.0 in
-    let k = three_members o.0 (codes "cmd") (codes "role") (codes "user") o.2 in
-    let whole : d ≡ object (member (codes "cmd") k.0 (member (codes "role") k.1 (member (codes "user") k.2 no_members))) = o.1 ∙ ap object k.3 in
-    let e : k.0 ≡ string (codes "assign") = as_str_is k.0 _ (subst (HasCommand (codes "assign")) whole named) in
-    let a = chained (λ (role : List ℕ). option_map (request.Assign role) (name_at (codes "user") d)) _ r p.1 in
-    let m = mapped (request.Assign a.0) _ r a.2 in
-    let u = tested is_name k.1 a.0 (subst (λ (x : Data). name_at (codes "role") x ≡ Some a.0) whole a.1) in
-    let v = tested is_name k.2 m.0 (subst (λ (x : Data). name_at (codes "user") x ≡ Some m.0) whole m.1) in
-    subst (Is d) m.2 (record { value = whole ∙ rw (e, u.0, v.0) refl; fits = (u.1, v.1) })
-
-deassign_is : (d : Data) (r : Request) → HasCommand (codes "deassign") d → deassign_of d ≡ Some r → Is d r
-unfolding deassign_of name_at text_at
-deassign_is d r named h =
-    let p = guard (has_keys d (codes "cmd" ∷ codes "role" ∷ codes "user" ∷ [])) _ r h in
-    let o = object_with d _ p.0 in
-    let k = three_members o.0 (codes "cmd") (codes "role") (codes "user") o.2 in
-    let whole : d ≡ object (member (codes "cmd") k.0 (member (codes "role") k.1 (member (codes "user") k.2 no_members))) = o.1 ∙ ap object k.3 in
-    let e : k.0 ≡ string (codes "deassign") = as_str_is k.0 _ (subst (HasCommand (codes "deassign")) whole named) in
-    let a = chained (λ (role : List ℕ). option_map (request.Deassign role) (name_at (codes "user") d)) _ r p.1 in
-    let m = mapped (request.Deassign a.0) _ r a.2 in
-    let u = tested is_name k.1 a.0 (subst (λ (x : Data). name_at (codes "role") x ≡ Some a.0) whole a.1) in
-    let v = tested is_name k.2 m.0 (subst (λ (x : Data). name_at (codes "user") x ≡ Some m.0) whole m.1) in
-    subst (Is d) m.2 (record { value = whole ∙ rw (e, u.0, v.0) refl; fits = (u.1, v.1) })
-
-revoke_is : (d : Data) (r : Request) → HasCommand (codes "revoke") d → revoke_of d ≡ Some r → Is d r
-unfolding revoke_of object_at operation_at name_at text_at
-revoke_is d r named h =
-    let p = guard (has_keys d (codes "cmd" ∷ codes "object" ∷ codes "op" ∷ codes "role" ∷ [])) _ r h in
-    let o = object_with d _ p.0 in
-    let k = four_members o.0 (codes "cmd") (codes "object") (codes "op") (codes "role") o.2 in
-    let whole : d ≡ object (member (codes "cmd") k.0 (member (codes "object") k.1 (member (codes "op") k.2 (member (codes "role") k.3 no_members)))) = o.1 ∙ ap object k.4 in
-    let e : k.0 ≡ string (codes "revoke") = as_str_is k.0 _ (subst (HasCommand (codes "revoke")) whole named) in
-    let a = chained (λ (on : Object). option_and_then (λ (operation : Operation). option_map (request.Revoke on operation) (name_at (codes "role") d)) (operation_at (codes "op") d)) _ r p.1 in
-    let b = chained (λ (operation : Operation). option_map (request.Revoke a.0 operation) (name_at (codes "role") d)) _ r a.2 in
-    let m = mapped (request.Revoke a.0 b.0) _ r b.2 in
-    let u = object_is k.1 a.0 (subst (λ (x : Data). object_at (codes "object") x ≡ Some a.0) whole a.1) in
-    let v = operation_is k.2 b.0 (subst (λ (x : Data). operation_at (codes "op") x ≡ Some b.0) whole b.1) in
-    let w = tested is_name k.3 m.0 (subst (λ (x : Data). name_at (codes "role") x ≡ Some m.0) whole m.1) in
-    subst (Is d) m.2 (record { value = whole ∙ rw (e, u.0, v, w.0) refl; fits = (u.1, w.1) })
-
-disinherit_is : (d : Data) (r : Request) → HasCommand (codes "disinherit") d → disinherit_of d ≡ Some r → Is d r
-unfolding disinherit_of name_at text_at
-disinherit_is d r named h =
-    let p = guard (has_keys d (codes "cmd" ∷ codes "junior" ∷ codes "senior" ∷ [])) _ r h in
-    let o = object_with d _ p.0 in
-    let k = three_members o.0 (codes "cmd") (codes "junior") (codes "senior") o.2 in
-    let whole : d ≡ object (member (codes "cmd") k.0 (member (codes "junior") k.1 (member (codes "senior") k.2 no_members))) = o.1 ∙ ap object k.3 in
-    let e : k.0 ≡ string (codes "disinherit") = as_str_is k.0 _ (subst (HasCommand (codes "disinherit")) whole named) in
-    let a = chained (λ (junior : List ℕ). option_map (request.Disinherit junior) (name_at (codes "senior") d)) _ r p.1 in
-    let m = mapped (request.Disinherit a.0) _ r a.2 in
-    let u = tested is_name k.1 a.0 (subst (λ (x : Data). name_at (codes "junior") x ≡ Some a.0) whole a.1) in
-    let v = tested is_name k.2 m.0 (subst (λ (x : Data). name_at (codes "senior") x ≡ Some m.0) whole m.1) in
-    subst (Is d) m.2 (record { value = whole ∙ rw (e, u.0, v.0) refl; fits = (u.1, v.1) })
-
-activate_is : (d : Data) (r : Request) → HasCommand (codes "activate") d → activate_of d ≡ Some r → Is d r
-unfolding activate_of name_at text_at
-activate_is d r named h =
-    let p = guard (has_keys d (codes "cmd" ∷ codes "role" ∷ [])) _ r h in
-    let o = object_with d _ p.0 in
-    let k = two_members o.0 (codes "cmd") (codes "role") o.2 in
-    let whole : d ≡ object (member (codes "cmd") k.0 (member (codes "role") k.1 no_members)) = o.1 ∙ ap object k.2 in
-    let e : k.0 ≡ string (codes "activate") = as_str_is k.0 _ (subst (HasCommand (codes "activate")) whole named) in
-    let m = mapped request.Activate _ r p.1 in
-    let u = tested is_name k.1 m.0 (subst (λ (x : Data). name_at (codes "role") x ≡ Some m.0) whole m.1) in
-    subst (Is d) m.2 (record { value = whole ∙ rw (e, u.0) refl; fits = u.1 })
-
-drop_role_is : (d : Data) (r : Request) → HasCommand (codes "drop") d → drop_role_of d ≡ Some r → Is d r
-unfolding drop_role_of name_at text_at
-drop_role_is d r named h =
-    let p = guard (has_keys d (codes "cmd" ∷ codes "role" ∷ [])) _ r h in
-    let o = object_with d _ p.0 in
-    let k = two_members o.0 (codes "cmd") (codes "role") o.2 in
-    let whole : d ≡ object (member (codes "cmd") k.0 (member (codes "role") k.1 no_members)) = o.1 ∙ ap object k.2 in
-    let e : k.0 ≡ string (codes "drop") = as_str_is k.0 _ (subst (HasCommand (codes "drop")) whole named) in
-    let m = mapped request.Drop _ r p.1 in
-    let u = tested is_name k.1 m.0 (subst (λ (x : Data). name_at (codes "role") x ≡ Some m.0) whole m.1) in
-    subst (Is d) m.2 (record { value = whole ∙ rw (e, u.0) refl; fits = u.1 })
-
-delete_role_is : (d : Data) (r : Request) → HasCommand (codes "delrole") d → delete_role_of d ≡ Some r → Is d r
-unfolding delete_role_of name_at text_at
-delete_role_is d r named h =
-    let p = guard (has_keys d (codes "cmd" ∷ codes "role" ∷ [])) _ r h in
-    let o = object_with d _ p.0 in
-    let k = two_members o.0 (codes "cmd") (codes "role") o.2 in
-    let whole : d ≡ object (member (codes "cmd") k.0 (member (codes "role") k.1 no_members)) = o.1 ∙ ap object k.2 in
-    let e : k.0 ≡ string (codes "delrole") = as_str_is k.0 _ (subst (HasCommand (codes "delrole")) whole named) in
-    let m = mapped request.DeleteRole _ r p.1 in
-    let u = tested is_name k.1 m.0 (subst (λ (x : Data). name_at (codes "role") x ≡ Some m.0) whole m.1) in
-    subst (Is d) m.2 (record { value = whole ∙ rw (e, u.0) refl; fits = u.1 })
-
-inherit_is : (d : Data) (r : Request) → HasCommand (codes "inherit") d → inherit_of d ≡ Some r → Is d r
-unfolding inherit_of name_at text_at
-inherit_is d r named h =
-    let p = guard (has_keys d (codes "cmd" ∷ codes "junior" ∷ codes "senior" ∷ [])) _ r h in
-    let o = object_with d _ p.0 in
-    let k = three_members o.0 (codes "cmd") (codes "junior") (codes "senior") o.2 in
-    let whole : d ≡ object (member (codes "cmd") k.0 (member (codes "junior") k.1 (member (codes "senior") k.2 no_members))) = o.1 ∙ ap object k.3 in
-    let e : k.0 ≡ string (codes "inherit") = as_str_is k.0 _ (subst (HasCommand (codes "inherit")) whole named) in
-    let a = chained (λ (junior : List ℕ). option_map (request.Inherit junior) (name_at (codes "senior") d)) _ r p.1 in
-    let m = mapped (request.Inherit a.0) _ r a.2 in
-    let u = tested is_name k.1 a.0 (subst (λ (x : Data). name_at (codes "junior") x ≡ Some a.0) whole a.1) in
-    let v = tested is_name k.2 m.0 (subst (λ (x : Data). name_at (codes "senior") x ≡ Some m.0) whole m.1) in
-    subst (Is d) m.2 (record { value = whole ∙ rw (e, u.0, v.0) refl; fits = (u.1, v.1) })
-
-delete_set_is : (d : Data) (r : Request) → HasCommand (codes "undsd") d → delete_set_of d ≡ Some r → Is d r
-unfolding delete_set_of name_at text_at
-delete_set_is d r named h =
-    let p = guard (has_keys d (codes "cmd" ∷ codes "name" ∷ [])) _ r h in
-    let o = object_with d _ p.0 in
-    let k = two_members o.0 (codes "cmd") (codes "name") o.2 in
-    let whole : d ≡ object (member (codes "cmd") k.0 (member (codes "name") k.1 no_members)) = o.1 ∙ ap object k.2 in
-    let e : k.0 ≡ string (codes "undsd") = as_str_is k.0 _ (subst (HasCommand (codes "undsd")) whole named) in
-    let m = mapped request.DeleteSet _ r p.1 in
-    let u = tested is_name k.1 m.0 (subst (λ (x : Data). name_at (codes "name") x ≡ Some m.0) whole m.1) in
-    subst (Is d) m.2 (record { value = whole ∙ rw (e, u.0) refl; fits = u.1 })
+three_keys : (word : List ℕ) (d : Data) (a b e : List ℕ) → HasCommand word d → has_keys d (codes "cmd" ∷ a ∷ b ∷ e ∷ []) ≡ true → (x : Data) × (y : Data) × (z : Data) × (d ≡ object (command_member word (member a x (member b y (member e z no_members)))))
+three_keys word d a b e named h =
+    let c = cmd_first word d (a ∷ b ∷ e ∷ []) named h in
+    let k = three_members c.0 a b e c.2 in
+    (k.0, k.1, k.2, c.1 ∙ ap (λ (ms : Members). object (command_member word ms)) k.3)
 
 items_back : (is : Items) → items_of (list_of is) ≡ is
 items_back no_items = refl
 items_back (item d ds) = ap (item d) (items_back ds)
 
 abbrev AreNames : List (List ℕ) → Type 0
-AreNames ns = AllByRecursion (λ n. IsTrue (is_name n)) ns
+AreNames ns = AllByRecursion (λ n. IsName n) ns
 
 names_are_texts : (ds : List Data) (ns : List (List ℕ)) → names_from ds ≡ Some ns → (ds ≡ map string ns) × AreNames ns
 unfolding names_from
@@ -444,159 +184,289 @@ names_are_texts (d ∷ ds) ns h =
     let rest = names_are_texts ds m.0 m.1 in
     subst (λ (l : List (List ℕ)). (d ∷ ds ≡ map string l) × AreNames l) m.2 (ap (λ (x : Data). x ∷ ds) n.0 ∙ ap (λ (xs : List Data). string p.0 ∷ xs) rest.0, (n.1, rest.1))
 
-login_is : (d : Data) (r : Request) → HasCommand (codes "login") d → login_of d ≡ Some r → Is d r
-unfolding login_of name_at roles_at roles_from text_at
-login_is d r named h =
-    let p = guard (has_keys d (codes "cmd" ∷ codes "roles" ∷ codes "user" ∷ [])) _ r h in
-    let o = object_with d _ p.0 in
-    let k = three_members o.0 (codes "cmd") (codes "roles") (codes "user") o.2 in
-    let whole : d ≡ object (member (codes "cmd") k.0 (member (codes "roles") k.1 (member (codes "user") k.2 no_members))) = o.1 ∙ ap object k.3 in
-    let e : k.0 ≡ string (codes "login") = as_str_is k.0 _ (subst (HasCommand (codes "login")) whole named) in
-    let a = chained (λ (roles : List (List ℕ)). option_map (request.Login roles) (name_at (codes "user") d)) _ r p.1 in
-    let m = mapped (request.Login a.0) _ r a.2 in
-    let n = tested is_name k.2 m.0 (subst (λ (x : Data). name_at (codes "user") x ≡ Some m.0) whole m.1) in
-    let b = chained (λ (is : Items). roles_from (list_of is)) _ a.0 (subst (λ (x : Data). roles_at (codes "roles") x ≡ Some a.0) whole a.1) in
-    let g = guard (nat_le (length (list_of b.0)) LISTED_ROLES) (names_from (list_of b.0)) a.0 b.2 in
-    let t = names_are_texts (list_of b.0) a.0 g.1 in
-    let l : length a.0 ≤ LISTED_ROLES = omega (arith, leb-true (length (list_of b.0)) LISTED_ROLES g.0, ap length t.0, length-map a.0 string) in
-    let is : k.1 ≡ array (items_of (map string a.0)) = as_array_is k.1 b.0 b.1 ∙ ap array (sym (items_back b.0) ∙ ap items_of t.0) in
-    subst (Is d) m.2 (record { value = whole ∙ rw (e, is, n.0) refl; fits = (l, t.1, n.1) })
+roles_are : (d : Data) (roles : List (List ℕ)) → option_and_then (λ (is : Items). roles_from (list_of is)) (as_array d) ≡ Some roles → (d ≡ array (items_of (map string roles))) × AreListed roles
+unfolding roles_from
+roles_are d roles h =
+    let b = chained (λ (is : Items). roles_from (list_of is)) (as_array d) roles h in
+    let g = guard (nat_le (length (list_of b.0)) LISTED_ROLES) (names_from (list_of b.0)) roles b.2 in
+    let t = names_are_texts (list_of b.0) roles g.1 in
+    let l : length roles ≤ LISTED_ROLES = omega (arith, leb-true (length (list_of b.0)) LISTED_ROLES g.0, ap length t.0, length-map roles string) in
+    (as_array_is d b.0 b.1 ∙ ap array (sym (items_back b.0) ∙ ap items_of t.0), (l, t.1))
 
-create_set_is : (d : Data) (r : Request) → HasCommand (codes "dsd") d → create_set_of d ≡ Some r → Is d r
-unfolding create_set_of number_at name_at roles_at roles_from text_at
-create_set_is d r named h =
-    let p = guard (has_keys d (codes "cmd" ∷ codes "count" ∷ codes "name" ∷ codes "roles" ∷ [])) _ r h in
-    let o = object_with d _ p.0 in
-    let k = four_members o.0 (codes "cmd") (codes "count") (codes "name") (codes "roles") o.2 in
-    let whole : d ≡ object (member (codes "cmd") k.0 (member (codes "count") k.1 (member (codes "name") k.2 (member (codes "roles") k.3 no_members)))) = o.1 ∙ ap object k.4 in
-    let e : k.0 ≡ string (codes "dsd") = as_str_is k.0 _ (subst (HasCommand (codes "dsd")) whole named) in
-    let a = chained (λ (count : ℕ). option_and_then (λ (name : List ℕ). option_map (request.CreateSet count name) (roles_at (codes "roles") d)) (name_at (codes "name") d)) _ r p.1 in
-    let q = chained (λ (name : List ℕ). option_map (request.CreateSet a.0 name) (roles_at (codes "roles") d)) _ r a.2 in
-    let m = mapped (request.CreateSet a.0 q.0) _ r q.2 in
-    let s : k.1 ≡ number (unsigned a.0) = whole_is k.1 a.0 (subst (λ (x : Data). number_at (codes "count") x ≡ Some a.0) whole a.1) in
-    let n = tested is_name k.2 q.0 (subst (λ (x : Data). name_at (codes "name") x ≡ Some q.0) whole q.1) in
-    let b = chained (λ (is : Items). roles_from (list_of is)) _ m.0 (subst (λ (x : Data). roles_at (codes "roles") x ≡ Some m.0) whole m.1) in
-    let g = guard (nat_le (length (list_of b.0)) LISTED_ROLES) (names_from (list_of b.0)) m.0 b.2 in
-    let t = names_are_texts (list_of b.0) m.0 g.1 in
-    let l : length m.0 ≤ LISTED_ROLES = omega (arith, leb-true (length (list_of b.0)) LISTED_ROLES g.0, ap length t.0, length-map m.0 string) in
-    let is : k.3 ≡ array (items_of (map string m.0)) = as_array_is k.3 b.0 b.1 ∙ ap array (sym (items_back b.0) ∙ ap items_of t.0) in
-    subst (Is d) m.2 (record { value = whole ∙ rw (e, s, n.0, is) refl; fits = (l, t.1, n.1) })
+-- ---- the fields, from the value
 
--- ---- the commands, to the value
+-- the value is the object of these members, and what they say fits
+pub record Spells (d : Data) (members : Members) (AreFit : Type 0) : Type 0 where
+  pub value : d ≡ object members
+  pub fits : AreFit
+
+abbrev pub Is : Data → Request → Type 0
+Is d request = Spells d (members_of request) (Fits request)
+
+-- what is found under this key, after `cmd`
+abbrev FindsOne : List ℕ → Type 0
+FindsOne key = (c x : Data) → get key (object (member (codes "cmd") c (member key x no_members))) ≡ Some x
+
+-- what is found under these two keys, after `cmd`
+abbrev FindsTwo : List ℕ → List ℕ → Type 0
+FindsTwo first second = (c x y : Data) → (get first (object (member (codes "cmd") c (member first x (member second y no_members)))) ≡ Some x) × (get second (object (member (codes "cmd") c (member first x (member second y no_members)))) ≡ Some y)
+
+-- the name under a key that holds this value
+name_is : (key : List ℕ) (d x : Data) (name : List ℕ) → get key d ≡ Some x → name_at key d ≡ Some name → (x ≡ string name) × IsName name
+unfolding name_at text_at
+name_is key d x name found h =
+    tested is_name x name (subst (λ (o : Option Data). option_and_then (λ (text : List ℕ). cond (is_name text) (Some text) None) (option_and_then as_str o) ≡ Some name) found h)
+
+one_name_is : (word key : List ℕ) → FindsOne key → (d : Data) (name : List ℕ) → HasCommand word d → read_name key d ≡ Some name → Spells d (with_name word key name) (IsName name)
+unfolding read_name
+one_name_is word key finds d name named h =
+    let p = guard (has_keys d (codes "cmd" ∷ key ∷ [])) (name_at key d) name h in
+    let k = one_key word d key named p.0 in
+    let n = name_is key d k.0 name (ap (get key) k.1 ∙ finds (string word) k.0) p.1 in
+    record { value = k.1 ∙ ap (λ (x : Data). object (command_member word (member key x no_members))) n.0; fits = n.1 }
+
+two_names_are : (word first second : List ℕ) → FindsTwo first second → (d : Data) (names : List ℕ × List ℕ) → HasCommand word d → read_names first second d ≡ Some names → Spells d (with_names word first names.0 second names.1) (IsName names.0 × IsName names.1)
+unfolding read_names
+two_names_are word first second finds d names named h =
+    let p = guard (has_keys d (codes "cmd" ∷ first ∷ second ∷ [])) _ names h in
+    let k = two_keys word d first second named p.0 in
+    let a = chained (λ (one : List ℕ). option_map (λ (other : List ℕ). (one, other)) (name_at second d)) (name_at first d) names p.1 in
+    let m = mapped (λ (other : List ℕ). (a.0, other)) (name_at second d) names a.2 in
+    let f = finds (string word) k.0 k.1 in
+    let u = name_is first d k.0 a.0 (ap (get first) k.2 ∙ f.0) a.1 in
+    let v = name_is second d k.1 m.0 (ap (get second) k.2 ∙ f.1) m.1 in
+    subst (λ (p : List ℕ × List ℕ). Spells d (with_names word first p.0 second p.1) (IsName p.0 × IsName p.1)) m.2
+    (record { value = k.2 ∙ rw (u.0, v.0) refl; fits = (u.1, v.1) })
+
+permission_is : (word : List ℕ) (d : Data) (p : Object × Operation × List ℕ) → HasCommand word d → read_permission d ≡ Some p → Spells d (with_permission word p.0 p.1 p.2) (IsObject p.0 × IsName p.2)
+unfolding read_permission name_at operation_at object_at text_at
+permission_is word d permission named h =
+    let p = guard (has_keys d (codes "cmd" ∷ codes "object" ∷ codes "op" ∷ codes "role" ∷ [])) _ permission h in
+    let k = three_keys word d (codes "object") (codes "op") (codes "role") named p.0 in
+    let a = chained (λ (on : Object). option_and_then (λ (operation : Operation). option_map (λ (role : List ℕ). (on, operation, role)) (name_at (codes "role") d)) (operation_at (codes "op") d)) _ permission p.1 in
+    let b = chained (λ (operation : Operation). option_map (λ (role : List ℕ). (a.0, operation, role)) (name_at (codes "role") d)) _ permission a.2 in
+    let m = mapped (λ (role : List ℕ). (a.0, b.0, role)) _ permission b.2 in
+    let i = object_is k.0 a.0 (subst (λ (x : Data). object_at (codes "object") x ≡ Some a.0) k.3 a.1) in
+    let o = operation_is k.1 b.0 (subst (λ (x : Data). operation_at (codes "op") x ≡ Some b.0) k.3 b.1) in
+    let n = tested is_name k.2 m.0 (subst (λ (x : Data). name_at (codes "role") x ≡ Some m.0) k.3 m.1) in
+    subst (λ (q : Object × Operation × List ℕ). Spells d (with_permission word q.0 q.1 q.2) (IsObject q.0 × IsName q.2)) m.2
+    (record { value = k.3 ∙ rw (i.0, o, n.0) refl; fits = (i.1, n.1) })
+
+login_is : (d : Data) (c : AdminCommand) → HasCommand (codes "login") d → read_login d ≡ Some c → Is d (Policy c)
+unfolding read_login name_at roles_at text_at
+login_is d c named h =
+    let p = guard (has_keys d (codes "cmd" ∷ codes "roles" ∷ codes "user" ∷ [])) _ c h in
+    let k = two_keys (codes "login") d (codes "roles") (codes "user") named p.0 in
+    let a = chained (λ (roles : List (List ℕ)). option_map (λ (user : List ℕ). CreateSession user roles) (name_at (codes "user") d)) _ c p.1 in
+    let m = mapped (λ (user : List ℕ). CreateSession user a.0) _ c a.2 in
+    let n = tested is_name k.1 m.0 (subst (λ (x : Data). name_at (codes "user") x ≡ Some m.0) k.2 m.1) in
+    let r = roles_are k.0 a.0 (subst (λ (x : Data). roles_at (codes "roles") x ≡ Some a.0) k.2 a.1) in
+    subst (λ (x : AdminCommand). Is d (Policy x)) m.2 (record { value = k.2 ∙ rw (r.0, n.0) refl; fits = (r.1, n.1) })
+
+logout_is : (d : Data) (c : AdminCommand) → HasCommand (codes "logout") d → read_logout d ≡ Some c → Is d (Policy c)
+unfolding read_logout
+logout_is d c named h =
+    let p = guard (has_keys d (codes "cmd" ∷ [])) (Some DeleteSession) c h in
+    subst (λ (x : AdminCommand). Is d (Policy x)) (same_Some _ _ p.1) (record { value = no_key (codes "logout") d named p.0; fits = tt })
+
+set_is : (d : Data) (c : AdminCommand) → HasCommand (codes "dsd") d → read_set d ≡ Some c → Is d (Policy c)
+unfolding read_set number_at name_at roles_at text_at
+set_is d c named h =
+    let p = guard (has_keys d (codes "cmd" ∷ codes "count" ∷ codes "name" ∷ codes "roles" ∷ [])) _ c h in
+    let k = three_keys (codes "dsd") d (codes "count") (codes "name") (codes "roles") named p.0 in
+    let a = chained (λ (count : ℕ). option_and_then (λ (name : List ℕ). option_map (λ (roles : List (List ℕ)). CreateDsdSet name count roles) (roles_at (codes "roles") d)) (name_at (codes "name") d)) _ c p.1 in
+    let b = chained (λ (name : List ℕ). option_map (λ (roles : List (List ℕ)). CreateDsdSet name a.0 roles) (roles_at (codes "roles") d)) _ c a.2 in
+    let m = mapped (λ (roles : List (List ℕ)). CreateDsdSet b.0 a.0 roles) _ c b.2 in
+    let s : k.0 ≡ number (unsigned a.0) = whole_is k.0 a.0 (subst (λ (x : Data). number_at (codes "count") x ≡ Some a.0) k.3 a.1) in
+    let n = tested is_name k.1 b.0 (subst (λ (x : Data). name_at (codes "name") x ≡ Some b.0) k.3 b.1) in
+    let r = roles_are k.2 m.0 (subst (λ (x : Data). roles_at (codes "roles") x ≡ Some m.0) k.3 m.1) in
+    subst (λ (x : AdminCommand). Is d (Policy x)) m.2 (record { value = k.3 ∙ rw (s, n.0, r.0) refl; fits = (r.1, n.1) })
+
+on_slot_is : (word : List ℕ) (asked : SlotCommand) (d : Data) (r : Request) → HasCommand word d → read_on_slot asked d ≡ Some r → (slot : ℕ) × (r ≡ Slot slot asked) × (d ≡ object (command_member word (slot_member slot no_members)))
+unfolding read_on_slot number_at text_at
+on_slot_is word asked d r named h =
+    let p = guard (has_keys d (codes "cmd" ∷ codes "slot" ∷ [])) _ r h in
+    let k = one_key word d (codes "slot") named p.0 in
+    let m = mapped (λ (slot : ℕ). Slot slot asked) _ r p.1 in
+    let n : k.0 ≡ number (unsigned m.0) = whole_is k.0 m.0 (subst (λ (x : Data). number_at (codes "slot") x ≡ Some m.0) k.1 m.1) in
+    (m.0, sym m.2, k.1 ∙ rw n refl)
+
+load_is : (d : Data) (r : Request) → HasCommand (codes "load") d → read_load d ≡ Some r → Is d r
+unfolding read_load number_at identifier_at text_at
+load_is d r named h =
+    let p = guard (has_keys d (codes "cmd" ∷ codes "main" ∷ codes "slot" ∷ codes "text" ∷ [])) _ r h in
+    let k = three_keys (codes "load") d (codes "main") (codes "slot") (codes "text") named p.0 in
+    let a = chained (λ (main : List ℕ). option_and_then (λ (slot : ℕ). option_map (λ (text : List ℕ). Slot slot (Load main text)) (text_at (codes "text") d)) (number_at (codes "slot") d)) _ r p.1 in
+    let b = chained (λ (slot : ℕ). option_map (λ (text : List ℕ). Slot slot (Load a.0 text)) (text_at (codes "text") d)) _ r a.2 in
+    let m = mapped (λ (text : List ℕ). Slot b.0 (Load a.0 text)) _ r b.2 in
+    let i = tested is_identifier k.0 a.0 (subst (λ (x : Data). identifier_at (codes "main") x ≡ Some a.0) k.3 a.1) in
+    let s : k.1 ≡ number (unsigned b.0) = whole_is k.1 b.0 (subst (λ (x : Data). number_at (codes "slot") x ≡ Some b.0) k.3 b.1) in
+    let t : k.2 ≡ string m.0 = as_str_is k.2 m.0 (subst (λ (x : Data). text_at (codes "text") x ≡ Some m.0) k.3 m.1) in
+    subst (Is d) m.2 (record { value = k.3 ∙ rw (i.0, s, t) refl; fits = i.1 })
+
+offer_is : (d : Data) (r : Request) → HasCommand (codes "offer") d → read_offer d ≡ Some r → Is d r
+unfolding read_offer number_at identifier_at text_at
+offer_is d r named h =
+    let p = guard (has_keys d (codes "cmd" ∷ codes "signal" ∷ codes "slot" ∷ [])) _ r h in
+    let k = two_keys (codes "offer") d (codes "signal") (codes "slot") named p.0 in
+    let a = chained (λ (signal : List ℕ). option_map (λ (slot : ℕ). Slot slot (Offer signal)) (number_at (codes "slot") d)) _ r p.1 in
+    let m = mapped (λ (slot : ℕ). Slot slot (Offer a.0)) _ r a.2 in
+    let i = tested is_identifier k.0 a.0 (subst (λ (x : Data). identifier_at (codes "signal") x ≡ Some a.0) k.2 a.1) in
+    let s : k.1 ≡ number (unsigned m.0) = whole_is k.1 m.0 (subst (λ (x : Data). number_at (codes "slot") x ≡ Some m.0) k.2 m.1) in
+    subst (Is d) m.2 (record { value = k.2 ∙ rw (i.0, s) refl; fits = i.1 })
+
+look_is : (d : Data) (r : Request) → HasCommand (codes "look") d → read_look d ≡ Some r → Is d r
+unfolding read_look number_at text_at
+look_is d r named h =
+    let p = guard (has_keys d (codes "cmd" ∷ codes "instant" ∷ codes "slot" ∷ [])) _ r h in
+    let k = two_keys (codes "look") d (codes "instant") (codes "slot") named p.0 in
+    let a = chained (λ (instant : ℕ). option_map (λ (slot : ℕ). Slot slot (Look instant)) (number_at (codes "slot") d)) _ r p.1 in
+    let m = mapped (λ (slot : ℕ). Slot slot (Look a.0)) _ r a.2 in
+    let i : k.0 ≡ number (unsigned a.0) = whole_is k.0 a.0 (subst (λ (x : Data). number_at (codes "instant") x ≡ Some a.0) k.2 a.1) in
+    let s : k.1 ≡ number (unsigned m.0) = whole_is k.1 m.0 (subst (λ (x : Data). number_at (codes "slot") x ≡ Some m.0) k.2 m.1) in
+    subst (Is d) m.2 (record { value = k.2 ∙ rw (i, s) refl; fits = tt })
+
+check_is : (d : Data) (r : Request) → HasCommand (codes "check") d → read_check d ≡ Some r → Is d r
+unfolding read_check operation_at object_at text_at
+check_is d r named h =
+    let p = guard (has_keys d (codes "cmd" ∷ codes "object" ∷ codes "op" ∷ [])) _ r h in
+    let k = two_keys (codes "check") d (codes "object") (codes "op") named p.0 in
+    let a = chained (λ (on : Object). option_map (λ (operation : Operation). Check operation on) (operation_at (codes "op") d)) _ r p.1 in
+    let m = mapped (λ (operation : Operation). Check operation a.0) _ r a.2 in
+    let i = object_is k.0 a.0 (subst (λ (x : Data). object_at (codes "object") x ≡ Some a.0) k.2 a.1) in
+    let o = operation_is k.1 m.0 (subst (λ (x : Data). operation_at (codes "op") x ≡ Some m.0) k.2 m.1) in
+    subst (Is d) m.2 (record { value = k.2 ∙ rw (i.0, o) refl; fits = i.1 })
+
+-- ---- the tables, from the value
+
+-- a line of a table: the word is this one, and what is read for it is r; or a later line reads r
+pick : {A : Type 0} (P : Type 0) (d : Data) (s word : List ℕ) (this later : Option A) (r : A) → HasCommand s d → cond (bytes_eq s word) this later ≡ Some r → (HasCommand word d → this ≡ Some r → P) → (later ≡ Some r → P) → P
+pick P d s word this later r named h now after =
+    elim (chosen (bytes_eq s word) this later (Some r) h) [
+      | inl is ↦ now (named ∙ ap Some (same_text s word is.0)) is.1
+      | inr other ↦ after other.1
+    ]
+
+module _ (s : List ℕ) (d : Data) (named : HasCommand s d) where
+  abbrev AsPolicy : AdminCommand → Type 0
+  AsPolicy c = Is d (Policy c)
+
+  -- what is made of two names under these keys is of this form
+  pair : (word first second : List ℕ) → FindsTwo first second → (make : List ℕ × List ℕ → AdminCommand) → (c : AdminCommand) → HasCommand word d
+      → ((names : List ℕ × List ℕ) → Spells d (with_names word first names.0 second names.1) (IsName names.0 × IsName names.1) → AsPolicy (make names))
+      → option_map make (read_names first second d) ≡ Some c → AsPolicy c
+  pair word first second finds make c n is e = made make _ c AsPolicy e (λ p h. is p (two_names_are word first second finds d p n h))
+
+  grant_is : (c : AdminCommand) → read_grant s d ≡ Some c → AsPolicy c
+  unfolding read_grant
+  grant_is c h =
+      pick _ d s (codes "grant") _ _ c named h (λ n e. made (λ (p : Object × Operation × List ℕ). GrantPermission p.2 p.1 p.0) _ c AsPolicy e (λ p. permission_is _ d p n)) (λ h.
+      pick _ d s (codes "revoke") _ _ c named h (λ n e. made (λ (p : Object × Operation × List ℕ). RevokePermission p.2 p.1 p.0) _ c AsPolicy e (λ p. permission_is _ d p n)) (λ h.
+      cc))
+
+  relation_is : (c : AdminCommand) → read_relation s d ≡ Some c → AsPolicy c
+  unfolding read_relation
+  relation_is c h =
+      pick _ d s (codes "assign") _ _ c named h (λ n e. pair _ _ _ (λ k x y. (refl, refl)) (λ p. AssignUser p.1 p.0) c n (λ p h. h) e) (λ h.
+      pick _ d s (codes "deassign") _ _ c named h (λ n e. pair _ _ _ (λ k x y. (refl, refl)) (λ p. DeassignUser p.1 p.0) c n (λ p h. h) e) (λ h.
+      pick _ d s (codes "inherit") _ _ c named h (λ n e. pair _ _ _ (λ k x y. (refl, refl)) (λ p. AddInheritance p.1 p.0) c n (λ p h. h) e) (λ h.
+      pick _ d s (codes "disinherit") _ _ c named h (λ n e. pair _ _ _ (λ k x y. (refl, refl)) (λ p. DeleteInheritance p.1 p.0) c n (λ p h. h) e) (λ h.
+      grant_is c h))))
+
+  -- what is made of one name under this key is of this form
+  single : (word key : List ℕ) → FindsOne key → (make : List ℕ → AdminCommand) → (c : AdminCommand) → HasCommand word d
+      → ((name : List ℕ) → Spells d (with_name word key name) (IsName name) → AsPolicy (make name))
+      → option_map make (read_name key d) ≡ Some c → AsPolicy c
+  single word key finds make c n is e = made make _ c AsPolicy e (λ x h. is x (one_name_is word key finds d x n h))
+
+  plain_is : (c : AdminCommand) → read_plain s d ≡ Some c → AsPolicy c
+  unfolding read_plain
+  plain_is c h =
+      pick _ d s (codes "logout") _ _ c named h (λ n e. logout_is d c n e) (λ h.
+      pick _ d s (codes "adduser") _ _ c named h (λ n e. single _ _ (λ k y. refl) AddUser c n (λ x h. h) e) (λ h.
+      pick _ d s (codes "deluser") _ _ c named h (λ n e. single _ _ (λ k y. refl) DeleteUser c n (λ x h. h) e) (λ h.
+      pick _ d s (codes "addrole") _ _ c named h (λ n e. single _ _ (λ k y. refl) AddRole c n (λ x h. h) e) (λ h.
+      pick _ d s (codes "delrole") _ _ c named h (λ n e. single _ _ (λ k y. refl) DeleteRole c n (λ x h. h) e) (λ h.
+      pick _ d s (codes "activate") _ _ c named h (λ n e. single _ _ (λ k y. refl) AddActiveRole c n (λ x h. h) e) (λ h.
+      pick _ d s (codes "drop") _ _ c named h (λ n e. single _ _ (λ k y. refl) DropActiveRole c n (λ x h. h) e) (λ h.
+      pick _ d s (codes "undsd") _ _ c named h (λ n e. single _ _ (λ k y. refl) DeleteDsdSet c n (λ x h. h) e) (λ h.
+      relation_is c h))))))))
+
+  policy_is : (c : AdminCommand) → read_policy s d ≡ Some c → AsPolicy c
+  unfolding read_policy
+  policy_is c h =
+      pick _ d s (codes "login") _ _ c named h (λ n e. login_is d c n e) (λ h.
+      pick _ d s (codes "dsd") _ _ c named h (λ n e. set_is d c n e) (λ h.
+      plain_is c h))
+
+  -- a command that has the slot alone
+  alone : (word : List ℕ) (asked : SlotCommand) (r : Request) → ((slot : ℕ) → d ≡ object (command_member word (slot_member slot no_members)) → Is d (Slot slot asked)) → HasCommand word d → read_on_slot asked d ≡ Some r → Is d r
+  alone word asked r is n h = let o = on_slot_is word asked d r n h in subst (Is d) (sym o.1) (is o.0 o.2)
+
+  read_is : (r : Request) → read_request s d ≡ Some r → Is d r
+  unfolding read_request
+  read_is r h =
+      pick _ d s (codes "load") _ _ r named h (λ n e. load_is d r n e) (λ h.
+      pick _ d s (codes "offer") _ _ r named h (λ n e. offer_is d r n e) (λ h.
+      pick _ d s (codes "discard") _ _ r named h (λ n e. alone _ Discard r (λ slot v. record { value = v; fits = tt }) n e) (λ h.
+      pick _ d s (codes "step") _ _ r named h (λ n e. alone _ Step r (λ slot v. record { value = v; fits = tt }) n e) (λ h.
+      pick _ d s (codes "unload") _ _ r named h (λ n e. alone _ Unload r (λ slot v. record { value = v; fits = tt }) n e) (λ h.
+      pick _ d s (codes "look") _ _ r named h (λ n e. look_is d r n e) (λ h.
+      pick _ d s (codes "audit") _ _ r named h (λ n e. alone _ Audit r (λ slot v. record { value = v; fits = tt }) n e) (λ h.
+      pick _ d s (codes "check") _ _ r named h (λ n e. check_is d r n e) (λ h.
+      made Policy _ r (Is d) h policy_is))))))))
+
+pub request_is : (d : Data) (r : Request) → request_of d ≡ Some r → Is d r
+unfolding request_of
+request_is d r h =
+    let p = chained (λ (word : List ℕ). read_request word d) (text_at (codes "cmd") d) r h in
+    read_is p.0 d p.1 r p.2
+
+-- ---- to the value
 
 texts_are_names : (ns : List (List ℕ)) → AreNames ns → names_from (map string ns) ≡ Some ns
 unfolding names_from
 texts_are_names [] h = refl
 texts_are_names (n ∷ ns) h = rw (h.0, texts_are_names ns h.1) refl
 
+roles_back : (roles : List (List ℕ)) → AreListed roles → roles_from (list_of (items_of (map string roles))) ≡ Some roles
+unfolding roles_from
+roles_back roles f =
+    let short : nat_le (length (map string roles)) LISTED_ROLES ≡ true = rw (length-map roles string) (le-leb _ _ f.0) in
+    rw (list_back (map string roles), short) (texts_are_names roles f.1)
+
+object_back : (on : Object) → IsObject on → object_of (object_text on) ≡ Some on
+object_back on f = (object_of-exact (object_text on) on).1 (f, refl)
+
+operation_back : (operation : Operation) → operation_of (operation_text operation) ≡ Some operation
+operation_back operation = (operation_of-exact (operation_text operation) operation).1 refl
+
 pub from_request : (r : Request) → Fits r → request_of (object (members_of r)) ≡ Some r
-unfolding request_of command_of login_of logout_of grant_of add_user_of delete_user_of add_role_of assign_of deassign_of revoke_of disinherit_of activate_of drop_role_of delete_role_of inherit_of create_set_of delete_set_of load_of offer_of discard_of step_of unload_of look_of audit_of check_of has_keys text_at name_at identifier_at operation_at object_at number_at roles_at roles_from
-from_request request.Logout f = refl
-from_request (request.Discard slot) f = refl
-from_request (request.Step slot) f = refl
-from_request (request.Unload slot) f = refl
-from_request (request.Look instant slot) f = refl
-from_request (request.Audit slot) f = refl
-from_request (request.Check on operation) f =
-    rw ((object_of-exact (object_text on) on).1 (f, refl), (operation_of-exact (operation_text operation) operation).1 refl) refl
-from_request (request.Offer signal slot) f = rw f refl
-from_request (request.Load main slot text) f = rw f refl
-from_request (request.Grant on operation role) f =
-    rw ((object_of-exact (object_text on) on).1 (f.0, refl), (operation_of-exact (operation_text operation) operation).1 refl, f.1) refl
-from_request (request.AddUser user) f = rw f refl
-from_request (request.DeleteUser user) f = rw f refl
-from_request (request.AddRole role) f = rw f refl
-from_request (request.Assign role user) f = rw (f.0, f.1) refl
-from_request (request.Deassign role user) f = rw (f.0, f.1) refl
-from_request (request.Revoke on operation role) f =
-    rw ((object_of-exact (object_text on) on).1 (f.0, refl), (operation_of-exact (operation_text operation) operation).1 refl, f.1) refl
-from_request (request.Disinherit junior senior) f = rw (f.0, f.1) refl
-from_request (request.Activate role) f = rw f refl
-from_request (request.Drop role) f = rw f refl
-from_request (request.DeleteRole role) f = rw f refl
-from_request (request.Inherit junior senior) f = rw (f.0, f.1) refl
-from_request (request.DeleteSet name) f = rw f refl
-from_request (request.CreateSet count name roles) f =
-    let short : nat_le (length (map string roles)) LISTED_ROLES ≡ true = rw (length-map roles string) (le-leb _ _ f.0) in
-    rw (list_back (map string roles), short, texts_are_names roles f.1, f.2) refl
-from_request (request.Login roles user) f =
-    let short : nat_le (length (map string roles)) LISTED_ROLES ≡ true = rw (length-map roles string) (le-leb _ _ f.0) in
-    rw (list_back (map string roles), short, texts_are_names roles f.1, f.2) refl
-
--- ---- which command
-
-abbrev command_text : Command → List ℕ
-command_text command.Login = codes "login"
-command_text command.Logout = codes "logout"
-command_text command.Grant = codes "grant"
-command_text command.AddUser = codes "adduser"
-command_text command.DeleteUser = codes "deluser"
-command_text command.AddRole = codes "addrole"
-command_text command.Assign = codes "assign"
-command_text command.Deassign = codes "deassign"
-command_text command.Revoke = codes "revoke"
-command_text command.Disinherit = codes "disinherit"
-command_text command.Activate = codes "activate"
-command_text command.Drop = codes "drop"
-command_text command.DeleteRole = codes "delrole"
-command_text command.Inherit = codes "inherit"
-command_text command.CreateSet = codes "dsd"
-command_text command.DeleteSet = codes "undsd"
-command_text command.Load = codes "load"
-command_text command.Offer = codes "offer"
-command_text command.Discard = codes "discard"
-command_text command.Step = codes "step"
-command_text command.Unload = codes "unload"
-command_text command.Look = codes "look"
-command_text command.Audit = codes "audit"
-command_text command.Check = codes "check"
-
--- the word is that of this command, or what the rest of the choice says holds
-pick : (s : List ℕ) (one : Command) (others : Option Command) (c : Command) → cond (bytes_eq s (command_text one)) (Some one) others ≡ Some c → (others ≡ Some c → s ≡ command_text c) → s ≡ command_text c
-pick s one others c h later =
-    elim (chosen (bytes_eq s (command_text one)) (Some one) others (Some c) h) [
-      | inl this ↦ same_text s _ this.0 ∙ ap command_text (same_Some _ _ this.1)
-      | inr other ↦ later other.1
-    ]
-
-command_is : (s : List ℕ) (c : Command) → command_of s ≡ Some c → s ≡ command_text c
-unfolding command_of
-command_is s c h =
-    pick s command.Login _ c h (λ h. pick s command.Logout _ c h (λ h. pick s command.Grant _ c h (λ h. pick s command.AddUser _ c h (λ h. pick s command.DeleteUser _ c h (λ h. pick s command.AddRole _ c h (λ h. pick s command.DeleteRole _ c h (λ h. pick s command.Assign _ c h (λ h. pick s command.Deassign _ c h (λ h. pick s command.Revoke _ c h (λ h. pick s command.Inherit _ c h (λ h. pick s command.Disinherit _ c h (λ h. pick s command.CreateSet _ c h (λ h. pick s command.DeleteSet _ c h (λ h. pick s command.Activate _ c h (λ h. pick s command.Drop _ c h (λ h. pick s command.Load _ c h (λ h. pick s command.Offer _ c h (λ h. pick s command.Discard _ c h (λ h. pick s command.Step _ c h (λ h. pick s command.Unload _ c h (λ h. pick s command.Look _ c h (λ h. pick s command.Audit _ c h (λ h. pick s command.Check _ c h (λ h. cc))))))))))))))))))))))))
-
-fields_are : (c : Command) (d : Data) (r : Request) → HasCommand (command_text c) d → fields_of c d ≡ Some r → Is d r
-fields_are command.Login d r named h = login_is d r named h
-fields_are command.Logout d r named h = logout_is d r named h
-fields_are command.Grant d r named h = grant_is d r named h
-fields_are command.AddUser d r named h = add_user_is d r named h
-fields_are command.DeleteUser d r named h = delete_user_is d r named h
-fields_are command.AddRole d r named h = add_role_is d r named h
-fields_are command.Assign d r named h = assign_is d r named h
-fields_are command.Deassign d r named h = deassign_is d r named h
-fields_are command.Revoke d r named h = revoke_is d r named h
-fields_are command.Disinherit d r named h = disinherit_is d r named h
-fields_are command.Activate d r named h = activate_is d r named h
-fields_are command.Drop d r named h = drop_role_is d r named h
-fields_are command.DeleteRole d r named h = delete_role_is d r named h
-fields_are command.Inherit d r named h = inherit_is d r named h
-fields_are command.CreateSet d r named h = create_set_is d r named h
-fields_are command.DeleteSet d r named h = delete_set_is d r named h
-fields_are command.Load d r named h = load_is d r named h
-fields_are command.Offer d r named h = offer_is d r named h
-fields_are command.Discard d r named h = discard_is d r named h
-fields_are command.Step d r named h = step_is d r named h
-fields_are command.Unload d r named h = unload_is d r named h
-fields_are command.Look d r named h = look_is d r named h
-fields_are command.Audit d r named h = audit_is d r named h
-fields_are command.Check d r named h = check_is d r named h
-
-pub request_is : (d : Data) (r : Request) → request_of d ≡ Some r → Is d r
-unfolding request_of
-request_is d r h =
-    let p = chained (λ (c : Command). fields_of c d) _ r h in
-    let q = chained command_of _ p.0 p.1 in
-    let named : HasCommand (command_text p.0) d = q.1 ∙ ap Some (command_is q.0 p.0 q.2) in
-    fields_are p.0 d r named p.2
+unfolding request_of read_request read_policy read_plain read_relation read_grant read_name read_names read_permission read_login read_logout read_set read_on_slot read_load read_offer read_look read_check has_keys text_at name_at identifier_at operation_at object_at number_at roles_at
+from_request (Policy (AddUser user)) f = rw f refl
+from_request (Policy (DeleteUser user)) f = rw f refl
+from_request (Policy (AddRole role)) f = rw f refl
+from_request (Policy (DeleteRole role)) f = rw f refl
+from_request (Policy (AssignUser user role)) f = rw (f.0, f.1) refl
+from_request (Policy (DeassignUser user role)) f = rw (f.0, f.1) refl
+from_request (Policy (GrantPermission role operation on)) f = rw (object_back on f.0, operation_back operation, f.1) refl
+from_request (Policy (RevokePermission role operation on)) f = rw (object_back on f.0, operation_back operation, f.1) refl
+from_request (Policy (AddInheritance senior junior)) f = rw (f.0, f.1) refl
+from_request (Policy (DeleteInheritance senior junior)) f = rw (f.0, f.1) refl
+from_request (Policy (CreateDsdSet set count roles)) f = rw (roles_back roles f.0, f.1) refl
+from_request (Policy (DeleteDsdSet set)) f = rw f refl
+from_request (Policy (CreateSession user roles)) f = rw (roles_back roles f.0, f.1) refl
+from_request (Policy DeleteSession) f = refl
+from_request (Policy (AddActiveRole role)) f = rw f refl
+from_request (Policy (DropActiveRole role)) f = rw f refl
+from_request (Slot slot (Load main text)) f = rw f refl
+from_request (Slot slot (Offer signal)) f = rw f refl
+from_request (Slot slot Discard) f = refl
+from_request (Slot slot Step) f = refl
+from_request (Slot slot Unload) f = refl
+from_request (Slot slot (Look instant)) f = refl
+from_request (Slot slot Audit) f = refl
+from_request (Check operation on) f = rw (object_back on f, operation_back operation) refl
 
 -- ---- told apart
 

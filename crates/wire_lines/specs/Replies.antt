@@ -4,6 +4,8 @@ use Rattle.serde_json.specs.Data.{Data, boolean, string, array, object, item, no
 use Rattle.serde_json.specs.View.{items_of}
 use Rattle.serde_json.specs.Written.{compact_text}
 use Rattle.rbac_policy.specs.Texts.{operation_text, object_text}
+use Rattle.rbac_admin.specs.declared.refusals.Refusal.{Refusal as PolicyRefusal}
+use Rattle.rbac_admin.specs.declared.refusals.Refusal.TheVariants as policy
 use Rattle.access_core.specs.declared.refusal.Refusal.{Refusal}
 use Rattle.access_core.specs.declared.refusal.Refusal.TheVariants as refusal
 use Rattle.access_core.specs.declared.reply.Reply.{Reply}
@@ -14,8 +16,8 @@ use Rattle.access_core.specs.Replies.{word_of}
 use Rattle.wire_lines.specs.Requests.{text_member, number_member, texts_member}
 
 -- a refusal's number and name, and what it names
-abbrev pub refused_with : Refusal → Members → Members
-refused_with r named = number_member (codes "code") (code_of r) (text_member (codes "fault") (name_of r) named)
+abbrev pub refused_with : (code : ℕ) → (fault : List ℕ) → Members → Members
+refused_with code fault named = number_member (codes "code") code (text_member (codes "fault") fault named)
 
 -- the members of a refusal whose keys come before `fault`, besides its number
 abbrev pub before_fault : Refusal → Members → Members
@@ -23,21 +25,35 @@ before_fault (refusal.Lexical place) others = number_member (codes "column") pla
 before_fault (refusal.Syntax place) others = number_member (codes "column") place.column others
 before_fault _ others = others
 
+-- what a refusal of the policy names, under keys that come after `fault`
+abbrev pub named_by_policy : PolicyRefusal → Members
+named_by_policy policy.NoSession = no_members
+named_by_policy policy.SessionsExhausted = no_members
+named_by_policy (policy.Permission operation on) = text_member (codes "object") (object_text on) (text_member (codes "op") (operation_text operation) no_members)
+named_by_policy (policy.DsdViolated set session) = number_member (codes "session") session (text_member (codes "set") set no_members)
+named_by_policy (policy.NotAuthorized role) = text_member (codes "role") role no_members
+named_by_policy (policy.AlreadyActive role) = text_member (codes "role") role no_members
+named_by_policy (policy.NotActive role) = text_member (codes "role") role no_members
+named_by_policy policy.Cycle = no_members
+named_by_policy (policy.UnknownUser user) = text_member (codes "user") user no_members
+named_by_policy (policy.UnknownRole role) = text_member (codes "role") role no_members
+named_by_policy (policy.UserExists user) = text_member (codes "user") user no_members
+named_by_policy (policy.RoleExists role) = text_member (codes "role") role no_members
+named_by_policy policy.AlreadyAssigned = no_members
+named_by_policy policy.NotAssigned = no_members
+named_by_policy policy.AlreadyGranted = no_members
+named_by_policy policy.NotGranted = no_members
+named_by_policy policy.EdgeExists = no_members
+named_by_policy policy.NoEdge = no_members
+named_by_policy (policy.DsdExists set) = text_member (codes "set") set no_members
+named_by_policy (policy.NoDsd set) = text_member (codes "set") set no_members
+named_by_policy policy.DsdShape = no_members
+named_by_policy (policy.RoleInDsd set) = text_member (codes "set") set no_members
+named_by_policy (policy.Full table) = text_member (codes "table") (table_text table) no_members
+
 -- the members of a refusal whose keys come after `fault`
 abbrev pub after_fault : Refusal → Members
-after_fault (refusal.Permission operation on) = text_member (codes "object") (object_text on) (text_member (codes "op") (operation_text operation) no_members)
-after_fault (refusal.DsdViolated session set) = number_member (codes "session") session (text_member (codes "set") set no_members)
-after_fault (refusal.NotAuthorized role) = text_member (codes "role") role no_members
-after_fault (refusal.AlreadyActive role) = text_member (codes "role") role no_members
-after_fault (refusal.NotActive role) = text_member (codes "role") role no_members
-after_fault (refusal.UnknownUser user) = text_member (codes "user") user no_members
-after_fault (refusal.UnknownRole role) = text_member (codes "role") role no_members
-after_fault (refusal.UserExists user) = text_member (codes "user") user no_members
-after_fault (refusal.RoleExists role) = text_member (codes "role") role no_members
-after_fault (refusal.DsdExists set) = text_member (codes "set") set no_members
-after_fault (refusal.NoDsd set) = text_member (codes "set") set no_members
-after_fault (refusal.RoleInDsd set) = text_member (codes "set") set no_members
-after_fault (refusal.Full table) = text_member (codes "table") (table_text table) no_members
+after_fault (refusal.Policy given) = named_by_policy given
 after_fault (refusal.Excluded relation signal) = number_member (codes "relation") relation (text_member (codes "signal") signal no_members)
 after_fault (refusal.Implied relation missing) = text_member (codes "missing") missing (number_member (codes "relation") relation no_members)
 after_fault (refusal.Stuck undecided) = texts_member (codes "undecided") undecided no_members

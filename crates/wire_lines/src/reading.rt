@@ -1,22 +1,25 @@
 //! From a line to its request.
+//!
+//! The word under `cmd` says which command it is, and so its keys. Commands with the same keys
+//! share a reader.
 ghost use Rattle.std.specs.Prelude.{◌≡◌, ◌≤◌, length, map, option_map, IfOk, IfSome, List, ℕ};
 ghost use Rattle.serde_json.specs.Data.{object};
 ghost use Rattle.serde_json.specs.View.{view};
 ghost use Rattle.wire_lines.specs.Requests.{IsReadAs, IsRequest, Fits, members_of};
 ghost use Rattle.wire_lines.specs.Inner.Reading.{text_at, name_at, identifier_at, operation_at, object_at, number_at};
-ghost use Rattle.wire_lines.specs.Inner.Reading.{has_keys, names_are, command_of, login_of, logout_of, grant_of};
-ghost use Rattle.wire_lines.specs.Inner.Reading.{add_user_of, delete_user_of, add_role_of, assign_of, deassign_of};
-ghost use Rattle.wire_lines.specs.Inner.Reading.{revoke_of, disinherit_of, activate_of, drop_role_of, delete_role_of};
-ghost use Rattle.wire_lines.specs.Inner.Reading.{inherit_of, create_set_of, delete_set_of, load_of, offer_of};
-ghost use Rattle.wire_lines.specs.Inner.Reading.{discard_of, step_of, unload_of, look_of, audit_of, check_of};
-ghost use Rattle.wire_lines.specs.Inner.Reading.{names_from, roles_from, roles_at, request_of};
+ghost use Rattle.wire_lines.specs.Inner.Reading.{has_keys, names_are, names_from, roles_from, roles_at};
+ghost use Rattle.wire_lines.specs.Inner.Reading.{read_name, read_names, read_permission, read_login, read_logout};
+ghost use Rattle.wire_lines.specs.Inner.Reading.{read_set, read_grant, read_relation, read_plain, read_policy, read_on_slot};
+ghost use Rattle.wire_lines.specs.Inner.Reading.{read_load, read_offer, read_look, read_check, read_request, request_of};
 ghost use Rattle.wire_lines.specs.declared.request.Request.{Request};
 
-use crate::request::{Command, Request};
+use crate::request::Request;
 use crate::slot_lines::slot_request;
+use access_core::command::SlotCommand;
 use access_core::refusal::Refusal;
 use est_text::identifier::Identifier;
 use json::Scratch;
+use rbac_policy::commands::AdminCommand;
 use rbac_policy::names::{LISTED_ROLES, Name, RoleNames};
 use rbac_policy::objects::{Object, Operation};
 use reactor_core::text::Text;
@@ -138,43 +141,48 @@ fn roles_at(alloc: Global, value: &Value, key: &str) -> Result<Option<RoleNames>
     }
 }
 
-/// The command of a word.
-#[tactic(auto, unfolding(crate::specs::Inner::Reading::command_of))]
-fn command_of(word: &str) -> Option<Command>
-    ensures { result ≡ command_of word.now }
+/// The name under this key, where there is no other but `cmd`.
+#[tactic(auto, unfolding(crate::specs::Inner::Reading::read_name))]
+fn read_name(value: &Value, key: &str) -> Option<Name>
+    ensures { result ≡ read_name key.now (view value.now) }
 {
-    match word {
-        "login" => Some(Command::Login),
-        "logout" => Some(Command::Logout),
-        "grant" => Some(Command::Grant),
-        "adduser" => Some(Command::AddUser),
-        "deluser" => Some(Command::DeleteUser),
-        "addrole" => Some(Command::AddRole),
-        "delrole" => Some(Command::DeleteRole),
-        "assign" => Some(Command::Assign),
-        "deassign" => Some(Command::Deassign),
-        "revoke" => Some(Command::Revoke),
-        "inherit" => Some(Command::Inherit),
-        "disinherit" => Some(Command::Disinherit),
-        "dsd" => Some(Command::CreateSet),
-        "undsd" => Some(Command::DeleteSet),
-        "activate" => Some(Command::Activate),
-        "drop" => Some(Command::Drop),
-        "load" => Some(Command::Load),
-        "offer" => Some(Command::Offer),
-        "discard" => Some(Command::Discard),
-        "step" => Some(Command::Step),
-        "unload" => Some(Command::Unload),
-        "look" => Some(Command::Look),
-        "audit" => Some(Command::Audit),
-        "check" => Some(Command::Check),
-        _ => None,
+    if !has_keys(value, &["cmd", key]) {
+        return None;
     }
+    name_at(value, key)
 }
 
-#[tactic(auto, unfolding(crate::specs::Inner::Reading::login_of))]
-fn login_of(alloc: Global, value: &Value) -> Result<Option<Request>, AllocError>
-    ensures { IfOk result (λ request. request ≡ login_of (view value.now)) }
+/// The names under these two keys, where there is no other but `cmd`.
+#[tactic(auto, unfolding(crate::specs::Inner::Reading::read_names))]
+fn read_names(value: &Value, first: &str, second: &str) -> Option<(Name, Name)>
+    ensures { result ≡ read_names first.now second.now (view value.now) }
+{
+    if !has_keys(value, &["cmd", first, second]) {
+        return None;
+    }
+    let one = name_at(value, first)?;
+    let other = name_at(value, second)?;
+    Some((one, other))
+}
+
+/// The permission of a role: the object, the operation and the role.
+#[tactic(auto, unfolding(crate::specs::Inner::Reading::read_permission))]
+fn read_permission(value: &Value) -> Option<(Object, Operation, Name)>
+    ensures { result ≡ read_permission (view value.now) }
+{
+    if !has_keys(value, &["cmd", "object", "op", "role"]) {
+        return None;
+    }
+    let object = object_at(value, "object")?;
+    let operation = operation_at(value, "op")?;
+    let role = name_at(value, "role")?;
+    Some((object, operation, role))
+}
+
+/// A login: the roles and the user.
+#[tactic(auto, unfolding(crate::specs::Inner::Reading::read_login))]
+fn read_login(alloc: Global, value: &Value) -> Result<Option<AdminCommand>, AllocError>
+    ensures { IfOk result (λ command. command ≡ read_login (view value.now)) }
 {
     if !has_keys(value, &["cmd", "roles", "user"]) {
         return Ok(None);
@@ -185,182 +193,24 @@ fn login_of(alloc: Global, value: &Value) -> Result<Option<Request>, AllocError>
     let Some(user) = name_at(value, "user") else {
         return Ok(None);
     };
-    Ok(Some(Request::Login { roles, user }))
+    Ok(Some(AdminCommand::CreateSession { user, roles }))
 }
 
-#[tactic(auto, unfolding(crate::specs::Inner::Reading::logout_of))]
-fn logout_of(value: &Value) -> Option<Request>
-    ensures { result ≡ logout_of (view value.now) }
+/// A logout, which has no key but `cmd`.
+#[tactic(auto, unfolding(crate::specs::Inner::Reading::read_logout))]
+fn read_logout(value: &Value) -> Option<AdminCommand>
+    ensures { result ≡ read_logout (view value.now) }
 {
-    if has_keys(value, &["cmd"]) {
-        Some(Request::Logout)
-    } else {
-        None
-    }
-}
-
-#[tactic(auto, unfolding(crate::specs::Inner::Reading::grant_of))]
-fn grant_of(value: &Value) -> Option<Request>
-    ensures { result ≡ grant_of (view value.now) }
-{
-    if !has_keys(value, &["cmd", "object", "op", "role"]) {
+    if !has_keys(value, &["cmd"]) {
         return None;
     }
-    let object = object_at(value, "object")?;
-    let operation = operation_at(value, "op")?;
-    let role = name_at(value, "role")?;
-    Some(Request::Grant {
-        object,
-        operation,
-        role,
-    })
+    Some(AdminCommand::DeleteSession)
 }
 
-#[tactic(auto, unfolding(crate::specs::Inner::Reading::add_user_of))]
-fn add_user_of(value: &Value) -> Option<Request>
-    ensures { result ≡ add_user_of (view value.now) }
-{
-    if !has_keys(value, &["cmd", "user"]) {
-        return None;
-    }
-    let user = name_at(value, "user")?;
-    Some(Request::AddUser { user })
-}
-
-#[tactic(auto, unfolding(crate::specs::Inner::Reading::delete_user_of))]
-fn delete_user_of(value: &Value) -> Option<Request>
-    ensures { result ≡ delete_user_of (view value.now) }
-{
-    if !has_keys(value, &["cmd", "user"]) {
-        return None;
-    }
-    let user = name_at(value, "user")?;
-    Some(Request::DeleteUser { user })
-}
-
-#[tactic(auto, unfolding(crate::specs::Inner::Reading::add_role_of))]
-fn add_role_of(value: &Value) -> Option<Request>
-    ensures { result ≡ add_role_of (view value.now) }
-{
-    if !has_keys(value, &["cmd", "role"]) {
-        return None;
-    }
-    let role = name_at(value, "role")?;
-    Some(Request::AddRole { role })
-}
-
-#[tactic(auto, unfolding(crate::specs::Inner::Reading::assign_of))]
-fn assign_of(value: &Value) -> Option<Request>
-    ensures { result ≡ assign_of (view value.now) }
-{
-    if !has_keys(value, &["cmd", "role", "user"]) {
-        return None;
-    }
-    let role = name_at(value, "role")?;
-    let user = name_at(value, "user")?;
-    Some(Request::Assign { role, user })
-}
-
-#[tactic(auto, unfolding(crate::specs::Inner::Reading::deassign_of))]
-fn deassign_of(value: &Value) -> Option<Request>
-    ensures { result ≡ deassign_of (view value.now) }
-{
-    if !has_keys(value, &["cmd", "role", "user"]) {
-        return None;
-    }
-    let role = name_at(value, "role")?;
-    let user = name_at(value, "user")?;
-    Some(Request::Deassign { role, user })
-}
-
-#[tactic(auto, unfolding(crate::specs::Inner::Reading::revoke_of))]
-fn revoke_of(value: &Value) -> Option<Request>
-    ensures { result ≡ revoke_of (view value.now) }
-{
-    if !has_keys(value, &["cmd", "object", "op", "role"]) {
-        return None;
-    }
-    let object = object_at(value, "object")?;
-    let operation = operation_at(value, "op")?;
-    let role = name_at(value, "role")?;
-    Some(Request::Revoke {
-        object,
-        operation,
-        role,
-    })
-}
-
-#[tactic(auto, unfolding(crate::specs::Inner::Reading::disinherit_of))]
-fn disinherit_of(value: &Value) -> Option<Request>
-    ensures { result ≡ disinherit_of (view value.now) }
-{
-    if !has_keys(value, &["cmd", "junior", "senior"]) {
-        return None;
-    }
-    let junior = name_at(value, "junior")?;
-    let senior = name_at(value, "senior")?;
-    Some(Request::Disinherit { junior, senior })
-}
-
-#[tactic(auto, unfolding(crate::specs::Inner::Reading::activate_of))]
-fn activate_of(value: &Value) -> Option<Request>
-    ensures { result ≡ activate_of (view value.now) }
-{
-    if !has_keys(value, &["cmd", "role"]) {
-        return None;
-    }
-    let role = name_at(value, "role")?;
-    Some(Request::Activate { role })
-}
-
-#[tactic(auto, unfolding(crate::specs::Inner::Reading::drop_role_of))]
-fn drop_role_of(value: &Value) -> Option<Request>
-    ensures { result ≡ drop_role_of (view value.now) }
-{
-    if !has_keys(value, &["cmd", "role"]) {
-        return None;
-    }
-    let role = name_at(value, "role")?;
-    Some(Request::Drop { role })
-}
-
-#[tactic(auto, unfolding(crate::specs::Inner::Reading::delete_role_of))]
-fn delete_role_of(value: &Value) -> Option<Request>
-    ensures { result ≡ delete_role_of (view value.now) }
-{
-    if !has_keys(value, &["cmd", "role"]) {
-        return None;
-    }
-    let role = name_at(value, "role")?;
-    Some(Request::DeleteRole { role })
-}
-
-#[tactic(auto, unfolding(crate::specs::Inner::Reading::inherit_of))]
-fn inherit_of(value: &Value) -> Option<Request>
-    ensures { result ≡ inherit_of (view value.now) }
-{
-    if !has_keys(value, &["cmd", "junior", "senior"]) {
-        return None;
-    }
-    let junior = name_at(value, "junior")?;
-    let senior = name_at(value, "senior")?;
-    Some(Request::Inherit { junior, senior })
-}
-
-#[tactic(auto, unfolding(crate::specs::Inner::Reading::delete_set_of))]
-fn delete_set_of(value: &Value) -> Option<Request>
-    ensures { result ≡ delete_set_of (view value.now) }
-{
-    if !has_keys(value, &["cmd", "name"]) {
-        return None;
-    }
-    let name = name_at(value, "name")?;
-    Some(Request::DeleteSet { name })
-}
-
-#[tactic(auto, unfolding(crate::specs::Inner::Reading::create_set_of))]
-fn create_set_of(alloc: Global, value: &Value) -> Result<Option<Request>, AllocError>
-    ensures { IfOk result (λ request. request ≡ create_set_of (view value.now)) }
+/// A separation set: how many of its roles no session may hold, its name and its roles.
+#[tactic(auto, unfolding(crate::specs::Inner::Reading::read_set))]
+fn read_set(alloc: Global, value: &Value) -> Result<Option<AdminCommand>, AllocError>
+    ensures { IfOk result (λ command. command ≡ read_set (view value.now)) }
 {
     if !has_keys(value, &["cmd", "count", "name", "roles"]) {
         return Ok(None);
@@ -368,18 +218,113 @@ fn create_set_of(alloc: Global, value: &Value) -> Result<Option<Request>, AllocE
     let Some(count) = number_at(value, "count") else {
         return Ok(None);
     };
-    let Some(name) = name_at(value, "name") else {
+    let Some(set) = name_at(value, "name") else {
         return Ok(None);
     };
     let Some(roles) = roles_at(alloc, value, "roles")? else {
         return Ok(None);
     };
-    Ok(Some(Request::CreateSet { count, name, roles }))
+    Ok(Some(AdminCommand::CreateDsdSet { set, count, roles }))
 }
 
-#[tactic(auto, unfolding(crate::specs::Inner::Reading::load_of))]
-fn load_of(alloc: Global, value: &Value) -> Result<Option<Request>, AllocError>
-    ensures { IfOk result (λ request. request ≡ load_of (view value.now)) }
+/// The grant of a permission to a role, or its revocation, by this word.
+#[tactic(auto, unfolding(crate::specs::Inner::Reading::read_grant))]
+fn read_grant(value: &Value, word: &str) -> Option<AdminCommand>
+    ensures { result ≡ read_grant word.now (view value.now) }
+{
+    match word {
+        "grant" => {
+            let (object, operation, role) = read_permission(value)?;
+            Some(AdminCommand::GrantPermission {
+                role,
+                operation,
+                object,
+            })
+        }
+        "revoke" => {
+            let (object, operation, role) = read_permission(value)?;
+            Some(AdminCommand::RevokePermission {
+                role,
+                operation,
+                object,
+            })
+        }
+        _ => None,
+    }
+}
+
+/// The command of this word on who has which role, on permissions or on the order of roles.
+#[tactic(auto, unfolding(crate::specs::Inner::Reading::read_relation))]
+fn read_relation(value: &Value, word: &str) -> Option<AdminCommand>
+    ensures { result ≡ read_relation word.now (view value.now) }
+{
+    match word {
+        "assign" => {
+            let (role, user) = read_names(value, "role", "user")?;
+            Some(AdminCommand::AssignUser { user, role })
+        }
+        "deassign" => {
+            let (role, user) = read_names(value, "role", "user")?;
+            Some(AdminCommand::DeassignUser { user, role })
+        }
+        "inherit" => {
+            let (junior, senior) = read_names(value, "junior", "senior")?;
+            Some(AdminCommand::AddInheritance { senior, junior })
+        }
+        "disinherit" => {
+            let (junior, senior) = read_names(value, "junior", "senior")?;
+            Some(AdminCommand::DeleteInheritance { senior, junior })
+        }
+        _ => read_grant(value, word),
+    }
+}
+
+/// The policy command of this word, where it lists no roles.
+#[tactic(auto, unfolding(crate::specs::Inner::Reading::read_plain))]
+fn read_plain(value: &Value, word: &str) -> Option<AdminCommand>
+    ensures { result ≡ read_plain word.now (view value.now) }
+{
+    match word {
+        "logout" => read_logout(value),
+        "adduser" => read_name(value, "user").map(|user| AdminCommand::AddUser { user }),
+        "deluser" => read_name(value, "user").map(|user| AdminCommand::DeleteUser { user }),
+        "addrole" => read_name(value, "role").map(|role| AdminCommand::AddRole { role }),
+        "delrole" => read_name(value, "role").map(|role| AdminCommand::DeleteRole { role }),
+        "activate" => read_name(value, "role").map(|role| AdminCommand::AddActiveRole { role }),
+        "drop" => read_name(value, "role").map(|role| AdminCommand::DropActiveRole { role }),
+        "undsd" => read_name(value, "name").map(|set| AdminCommand::DeleteDsdSet { set }),
+        _ => read_relation(value, word),
+    }
+}
+
+/// The policy command of this word.
+#[tactic(auto, unfolding(crate::specs::Inner::Reading::read_policy))]
+fn read_policy(alloc: Global, value: &Value, word: &str) -> Result<Option<AdminCommand>, AllocError>
+    ensures { IfOk result (λ command. command ≡ read_policy word.now (view value.now)) }
+{
+    match word {
+        "login" => read_login(alloc, value),
+        "dsd" => read_set(alloc, value),
+        _ => Ok(read_plain(value, word)),
+    }
+}
+
+/// This command, on the slot that is the one field.
+#[tactic(auto, unfolding(crate::specs::Inner::Reading::read_on_slot))]
+fn read_on_slot(value: &Value, command: SlotCommand) -> Option<Request>
+    ensures { result ≡ read_on_slot command (view value.now) }
+{
+    if !has_keys(value, &["cmd", "slot"]) {
+        return None;
+    }
+    let slot = number_at(value, "slot")?;
+    Some(Request::Slot { slot, command })
+}
+
+/// A load: the main module, the slot and the text.
+#[tactic(auto, unfolding(crate::specs::Inner::Reading::read_load))]
+fn read_load(alloc: Global, value: &Value) -> Result<Option<Request>, AllocError>
+    ensures { IfOk result (λ request. request ≡ read_load (view value.now)) }
 {
     if !has_keys(value, &["cmd", "main", "slot", "text"]) {
         return Ok(None);
@@ -394,87 +339,67 @@ fn load_of(alloc: Global, value: &Value) -> Result<Option<Request>, AllocError>
         return Ok(None);
     };
     let text = Text::copied(alloc, text)?;
-    Ok(Some(Request::Load { main, slot, text }))
+    let command = SlotCommand::Load { main, text };
+    Ok(Some(Request::Slot { slot, command }))
 }
 
-#[tactic(auto, unfolding(crate::specs::Inner::Reading::offer_of))]
-fn offer_of(value: &Value) -> Option<Request>
-    ensures { result ≡ offer_of (view value.now) }
+/// An offer: the signal and the slot.
+#[tactic(auto, unfolding(crate::specs::Inner::Reading::read_offer))]
+fn read_offer(value: &Value) -> Option<Request>
+    ensures { result ≡ read_offer (view value.now) }
 {
     if !has_keys(value, &["cmd", "signal", "slot"]) {
         return None;
     }
     let signal = identifier_at(value, "signal")?;
     let slot = number_at(value, "slot")?;
-    Some(Request::Offer { signal, slot })
+    let command = SlotCommand::Offer { signal };
+    Some(Request::Slot { slot, command })
 }
 
-#[tactic(auto, unfolding(crate::specs::Inner::Reading::discard_of))]
-fn discard_of(value: &Value) -> Option<Request>
-    ensures { result ≡ discard_of (view value.now) }
-{
-    if !has_keys(value, &["cmd", "slot"]) {
-        return None;
-    }
-    let slot = number_at(value, "slot")?;
-    Some(Request::Discard { slot })
-}
-
-#[tactic(auto, unfolding(crate::specs::Inner::Reading::step_of))]
-fn step_of(value: &Value) -> Option<Request>
-    ensures { result ≡ step_of (view value.now) }
-{
-    if !has_keys(value, &["cmd", "slot"]) {
-        return None;
-    }
-    let slot = number_at(value, "slot")?;
-    Some(Request::Step { slot })
-}
-
-#[tactic(auto, unfolding(crate::specs::Inner::Reading::unload_of))]
-fn unload_of(value: &Value) -> Option<Request>
-    ensures { result ≡ unload_of (view value.now) }
-{
-    if !has_keys(value, &["cmd", "slot"]) {
-        return None;
-    }
-    let slot = number_at(value, "slot")?;
-    Some(Request::Unload { slot })
-}
-
-#[tactic(auto, unfolding(crate::specs::Inner::Reading::look_of))]
-fn look_of(value: &Value) -> Option<Request>
-    ensures { result ≡ look_of (view value.now) }
+/// A look: the instant and the slot.
+#[tactic(auto, unfolding(crate::specs::Inner::Reading::read_look))]
+fn read_look(value: &Value) -> Option<Request>
+    ensures { result ≡ read_look (view value.now) }
 {
     if !has_keys(value, &["cmd", "instant", "slot"]) {
         return None;
     }
     let instant = number_at(value, "instant")?;
     let slot = number_at(value, "slot")?;
-    Some(Request::Look { instant, slot })
+    let command = SlotCommand::Look { instant };
+    Some(Request::Slot { slot, command })
 }
 
-#[tactic(auto, unfolding(crate::specs::Inner::Reading::audit_of))]
-fn audit_of(value: &Value) -> Option<Request>
-    ensures { result ≡ audit_of (view value.now) }
-{
-    if !has_keys(value, &["cmd", "slot"]) {
-        return None;
-    }
-    let slot = number_at(value, "slot")?;
-    Some(Request::Audit { slot })
-}
-
-#[tactic(auto, unfolding(crate::specs::Inner::Reading::check_of))]
-fn check_of(value: &Value) -> Option<Request>
-    ensures { result ≡ check_of (view value.now) }
+/// A check: the object and the operation.
+#[tactic(auto, unfolding(crate::specs::Inner::Reading::read_check))]
+fn read_check(value: &Value) -> Option<Request>
+    ensures { result ≡ read_check (view value.now) }
 {
     if !has_keys(value, &["cmd", "object", "op"]) {
         return None;
     }
     let object = object_at(value, "object")?;
     let operation = operation_at(value, "op")?;
-    Some(Request::Check { object, operation })
+    Some(Request::Check { operation, object })
+}
+
+/// The request of this word.
+#[tactic(auto, unfolding(crate::specs::Inner::Reading::read_request))]
+fn read_request(alloc: Global, value: &Value, word: &str) -> Result<Option<Request>, AllocError>
+    ensures { IfOk result (λ request. request ≡ read_request word.now (view value.now)) }
+{
+    match word {
+        "load" => read_load(alloc, value),
+        "offer" => Ok(read_offer(value)),
+        "discard" => Ok(read_on_slot(value, SlotCommand::Discard)),
+        "step" => Ok(read_on_slot(value, SlotCommand::Step)),
+        "unload" => Ok(read_on_slot(value, SlotCommand::Unload)),
+        "look" => Ok(read_look(value)),
+        "audit" => Ok(read_on_slot(value, SlotCommand::Audit)),
+        "check" => Ok(read_check(value)),
+        _ => Ok(read_policy(alloc, value, word)?.map(Request::Policy)),
+    }
 }
 
 /// The request of a value.
@@ -482,34 +407,9 @@ fn check_of(value: &Value) -> Option<Request>
 fn request_of(alloc: Global, value: &Value) -> Result<Option<Request>, AllocError>
     ensures { IfOk result (λ request. request ≡ request_of (view value.now)) }
 {
-    let Some(command) = text_at(value, "cmd").and_then(command_of) else {
-        return Ok(None);
-    };
-    match command {
-        Command::Login => login_of(alloc, value),
-        Command::Logout => Ok(logout_of(value)),
-        Command::Grant => Ok(grant_of(value)),
-        Command::AddUser => Ok(add_user_of(value)),
-        Command::DeleteUser => Ok(delete_user_of(value)),
-        Command::AddRole => Ok(add_role_of(value)),
-        Command::Assign => Ok(assign_of(value)),
-        Command::Deassign => Ok(deassign_of(value)),
-        Command::Revoke => Ok(revoke_of(value)),
-        Command::Disinherit => Ok(disinherit_of(value)),
-        Command::Activate => Ok(activate_of(value)),
-        Command::Drop => Ok(drop_role_of(value)),
-        Command::DeleteRole => Ok(delete_role_of(value)),
-        Command::Inherit => Ok(inherit_of(value)),
-        Command::CreateSet => create_set_of(alloc, value),
-        Command::DeleteSet => Ok(delete_set_of(value)),
-        Command::Load => load_of(alloc, value),
-        Command::Offer => Ok(offer_of(value)),
-        Command::Discard => Ok(discard_of(value)),
-        Command::Step => Ok(step_of(value)),
-        Command::Unload => Ok(unload_of(value)),
-        Command::Look => Ok(look_of(value)),
-        Command::Audit => Ok(audit_of(value)),
-        Command::Check => Ok(check_of(value)),
+    match text_at(value, "cmd") {
+        Some(word) => read_request(alloc, value, word),
+        None => Ok(None),
     }
 }
 

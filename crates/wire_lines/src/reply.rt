@@ -7,13 +7,15 @@ ghost use Rattle.json.specs.Print.{quoted};
 ghost use Rattle.serde_json.specs.Data.{object, array, string, no_members};
 ghost use Rattle.serde_json.specs.View.{view, items_of};
 ghost use Rattle.rbac_policy.specs.Texts.{operation_text, object_text};
-ghost use Rattle.access_core.specs.Refusals.{code_of, name_of};
+ghost use Rattle.rbac_admin.specs.Refusals.{code_of as policy_code, name_of as policy_name};
 ghost use Rattle.wire_lines.specs.Requests.{text_member, number_member, texts_member};
-ghost use Rattle.wire_lines.specs.Replies.{refusal_members, refused_with, signals_json, shown_json, reply_json, line_of};
+ghost use Rattle.wire_lines.specs.Replies.{refusal_members, refused_with, named_by_policy};
+ghost use Rattle.wire_lines.specs.Replies.{signals_json, shown_json, reply_json, line_of};
 ghost use Rattle.access_core.specs.declared.reply.Reply.TheVariants.{Refused, Login, Changed, Load, Discard, Step};
 ghost use Rattle.access_core.specs.declared.reply.Reply.TheVariants.{Unload, Audit, Check};
 ghost use Rattle.access_core.specs.declared.reply.Change.TheVariants as change;
 ghost use Rattle.access_core.specs.declared.refusal.Refusal.TheVariants as refusal;
+ghost use Rattle.rbac_admin.specs.declared.refusals.Refusal.TheVariants as policy;
 ghost use Rattle.est_text.specs.declared.place.Place.{Place};
 
 use crate::accepted::{discard_line, load_line, offer_line, step_line, unload_line};
@@ -22,6 +24,7 @@ use access_core::refusal::{Refusal, limit_text, table_text};
 use access_core::reply::{Reply, ShownSignal};
 use est_text::identifier::Identifier;
 use est_text::place::Place;
+use rbac_admin::refusals::Refusal as PolicyRefusal;
 use rbac_policy::commands::SessionId;
 use rbac_policy::names::Name;
 use rbac_policy::objects::{Object, Operation};
@@ -54,193 +57,167 @@ fn shown(alloc: Global, signals: &[ShownSignal]) -> Result<Value, AllocError>
 }
 
 /// A refusal that names nothing.
-fn plain(alloc: Global, refusal: &Refusal) -> Result<Value, AllocError>
-    ensures { IfOk result (λ v. view v ≡ object (refused_with refusal.now no_members)) }
+fn plain(alloc: Global, code: u8, fault: &str) -> Result<Value, AllocError>
+    ensures { IfOk result (λ v. view v ≡ object (refused_with code fault.now no_members)) }
 {
-    let (code, fault) = (refusal.code(), refusal.name());
     json!(in alloc; {"code": code, "fault": fault})
 }
 
 /// A refusal that names a text under a key that comes after `fault`.
-fn with_text(alloc: Global, refusal: &Refusal, key: &str, text: &str) -> Result<Value, AllocError>
-    requires code { slice_cmp nat_cmp key.now (codes "code") ≡ Ordering.Greater }
-    requires fault { slice_cmp nat_cmp key.now (codes "fault") ≡ Ordering.Greater }
-    ensures { IfOk result (λ v. view v ≡ object (refused_with refusal.now
+fn with_text(
+    alloc: Global,
+    code: u8,
+    fault: &str,
+    key: &str,
+    text: &str,
+) -> Result<Value, AllocError>
+    requires after_code { slice_cmp nat_cmp key.now (codes "code") ≡ Ordering.Greater }
+    requires after_fault { slice_cmp nat_cmp key.now (codes "fault") ≡ Ordering.Greater }
+    ensures { IfOk result (λ v. view v ≡ object (refused_with code fault.now
         (text_member key.now text.now no_members))) }
 {
-    let (code, fault) = (refusal.code(), refusal.name());
     json!(in alloc; {"code": code, "fault": fault, key: text})
 }
 
 /// A refusal of a permission.
 fn permission(
     alloc: Global,
-    refusal: &Refusal,
+    code: u8,
+    fault: &str,
     operation: &Operation,
     on: &Object,
 ) -> Result<Value, AllocError>
-    ensures { IfOk result (λ v. view v ≡ object (refused_with refusal.now
+    ensures { IfOk result (λ v. view v ≡ object (refused_with code fault.now
         (text_member (codes "object") (object_text on.now) (text_member (codes "op")
         (operation_text operation.now) no_members)))) }
 {
-    let (code, fault) = (refusal.code(), refusal.name());
     let on = on.text(alloc)?;
     json!(in alloc; {"code": code, "fault": fault, "object": on.as_str(), "op": operation.text()})
 }
 
 /// A refusal at a place of a module text.
-fn at_place(alloc: Global, refusal: &Refusal, place: &Place) -> Result<Value, AllocError>
-    ensures { IfOk result (λ v. view v ≡ object (number_member (codes "code") (code_of refusal.now)
+fn at_place(alloc: Global, code: u8, fault: &str, place: &Place) -> Result<Value, AllocError>
+    ensures { IfOk result (λ v. view v ≡ object (number_member (codes "code") code
         (number_member (codes "column") place.now.column (text_member (codes "fault")
-        (name_of refusal.now) (number_member (codes "line") place.now.line no_members))))) }
+        fault.now (number_member (codes "line") place.now.line no_members))))) }
 {
-    let (code, fault) = (refusal.code(), refusal.name());
     json!(in alloc; {"code": code, "column": place.column, "fault": fault, "line": place.line})
 }
 
 /// A refusal of a separation set.
 fn separation(
     alloc: Global,
-    refusal: &Refusal,
+    code: u8,
+    fault: &str,
     session: &SessionId,
     set: &Name,
 ) -> Result<Value, AllocError>
-    ensures { IfOk result (λ v. view v ≡ object (refused_with refusal.now
+    ensures { IfOk result (λ v. view v ≡ object (refused_with code fault.now
         (number_member (codes "session") session.now (text_member (codes "set") set.now
         no_members)))) }
 {
-    let (code, fault) = (refusal.code(), refusal.name());
     json!(in alloc; {"code": code, "fault": fault, "session": session.number(), "set": set.as_str()})
 }
 
 /// A refusal of a relation that excludes a signal.
 fn excluded(
     alloc: Global,
-    refusal: &Refusal,
+    code: u8,
+    fault: &str,
     relation: u8,
     signal: &Identifier,
 ) -> Result<Value, AllocError>
-    ensures { IfOk result (λ v. view v ≡ object (refused_with refusal.now
+    ensures { IfOk result (λ v. view v ≡ object (refused_with code fault.now
         (number_member (codes "relation") relation (text_member (codes "signal") signal.now
         no_members)))) }
 {
-    let (code, fault) = (refusal.code(), refusal.name());
     json!(in alloc; {"code": code, "fault": fault, "relation": relation, "signal": signal.as_str()})
 }
 
 /// A refusal of a relation that misses a signal.
 fn implied(
     alloc: Global,
-    refusal: &Refusal,
+    code: u8,
+    fault: &str,
     relation: u8,
     missing: &Identifier,
 ) -> Result<Value, AllocError>
-    ensures { IfOk result (λ v. view v ≡ object (refused_with refusal.now
+    ensures { IfOk result (λ v. view v ≡ object (refused_with code fault.now
         (text_member (codes "missing") missing.now (number_member (codes "relation") relation
         no_members)))) }
 {
-    let (code, fault) = (refusal.code(), refusal.name());
     json!(in alloc; {"code": code, "fault": fault, "missing": missing.as_str(), "relation": relation})
 }
 
 /// A refusal that names a relation alone.
-fn semantics(alloc: Global, refusal: &Refusal, relation: u64) -> Result<Value, AllocError>
-    ensures { IfOk result (λ v. view v ≡ object (refused_with refusal.now
+fn semantics(alloc: Global, code: u8, fault: &str, relation: u64) -> Result<Value, AllocError>
+    ensures { IfOk result (λ v. view v ≡ object (refused_with code fault.now
         (number_member (codes "relation") relation no_members))) }
 {
-    let (code, fault) = (refusal.code(), refusal.name());
     json!(in alloc; {"code": code, "fault": fault, "relation": relation})
 }
 
 /// A refusal that names undecided signals.
-fn stuck(alloc: Global, refusal: &Refusal, undecided: &[Identifier]) -> Result<Value, AllocError>
-    ensures { IfOk result (λ v. view v ≡ object (refused_with refusal.now
+fn stuck(
+    alloc: Global,
+    code: u8,
+    fault: &str,
+    undecided: &[Identifier],
+) -> Result<Value, AllocError>
+    ensures { IfOk result (λ v. view v ≡ object (refused_with code fault.now
         (texts_member (codes "undecided") undecided.now no_members))) }
 {
-    let (code, fault) = (refusal.code(), refusal.name());
     let undecided = names(alloc, undecided)?;
     json!(in alloc; {"code": code, "fault": fault, "undecided": undecided})
 }
 
 /// A refusal of a version.
-fn behind(alloc: Global, refusal: &Refusal, found: u64, seen: u64) -> Result<Value, AllocError>
-    ensures { IfOk result (λ v. view v ≡ object (refused_with refusal.now
+fn behind(alloc: Global, code: u8, fault: &str, found: u64, seen: u64) -> Result<Value, AllocError>
+    ensures { IfOk result (λ v. view v ≡ object (refused_with code fault.now
         (number_member (codes "found") found (number_member (codes "seen") seen no_members)))) }
 {
-    let (code, fault) = (refusal.code(), refusal.name());
     json!(in alloc; {"code": code, "fault": fault, "found": found, "seen": seen})
 }
 
-/// What a refusal of a module text says, or one for want of memory.
-fn refused_text(alloc: Global, refusal: &Refusal) -> Result<Value, AllocError>
-    requires { 69 < code_of refusal.now }
-    ensures { IfOk result (λ v. view v ≡ object (refusal_members refusal.now)) }
+/// What a refusal of the policy says.
+fn refused_by_policy(alloc: Global, refusal: &PolicyRefusal) -> Result<Value, AllocError>
+    ensures { IfOk result (λ v. view v ≡ object (refused_with (policy_code refusal.now)
+        (policy_name refusal.now) (named_by_policy refusal.now))) }
 {
+    let (code, fault) = refusal.label();
     match refusal {
-        Refusal::Lexical { place } | Refusal::Syntax { place } => at_place(alloc, refusal, place),
-        Refusal::UnknownModule { name }
-        | Refusal::RecursiveRun { name }
-        | Refusal::UnknownName { name }
-        | Refusal::DuplicateName { name }
-        | Refusal::EmitInput { name }
-        | Refusal::BadRename { name } => with_text(alloc, refusal, "name", name.as_str()),
-        Refusal::TooLarge { limit } => with_text(alloc, refusal, "limit", limit_text(limit)),
-        Refusal::Semantics { relation } => semantics(alloc, refusal, *relation),
-        _ => plain(alloc, refusal),
-    }
-}
-
-/// What a refusal of a slot says, or one that comes after those in the table.
-fn refused_on_slot(alloc: Global, refusal: &Refusal) -> Result<Value, AllocError>
-    requires { 39 < code_of refusal.now }
-    ensures { IfOk result (λ v. view v ≡ object (refusal_members refusal.now)) }
-{
-    match refusal {
-        Refusal::Excluded { relation, signal } => excluded(alloc, refusal, *relation, signal),
-        Refusal::Implied { relation, missing } => implied(alloc, refusal, *relation, missing),
-        Refusal::Stuck { undecided } => stuck(alloc, refusal, undecided.as_slice()),
-        Refusal::Behind { found, seen } => behind(alloc, refusal, *found, *seen),
-        Refusal::NoSlot
-        | Refusal::Occupied
-        | Refusal::Empty
-        | Refusal::UnknownSignal
-        | Refusal::NotInput
-        | Refusal::AlreadyOffered
-        | Refusal::NoInstant
-        | Refusal::JournalFull => plain(alloc, refusal),
-        _ => refused_text(alloc, refusal),
-    }
-}
-
-/// What a refusal of the policy says, or one that comes after those in the table.
-fn refused_by_policy(alloc: Global, refusal: &Refusal) -> Result<Value, AllocError>
-    requires { 9 < code_of refusal.now }
-    ensures { IfOk result (λ v. view v ≡ object (refusal_members refusal.now)) }
-{
-    match refusal {
-        Refusal::Permission { operation, object } => permission(alloc, refusal, operation, object),
-        Refusal::DsdViolated { session, set } => separation(alloc, refusal, session, set),
-        Refusal::NotAuthorized { role }
-        | Refusal::AlreadyActive { role }
-        | Refusal::NotActive { role }
-        | Refusal::UnknownRole { role }
-        | Refusal::RoleExists { role } => with_text(alloc, refusal, "role", role.as_str()),
-        Refusal::UnknownUser { user } | Refusal::UserExists { user } => {
-            with_text(alloc, refusal, "user", user.as_str())
+        PolicyRefusal::Permission { operation, object } => {
+            permission(alloc, code, fault, operation, object)
         }
-        Refusal::DsdExists { set } | Refusal::NoDsd { set } | Refusal::RoleInDsd { set } => {
-            with_text(alloc, refusal, "set", set.as_str())
+        PolicyRefusal::DsdViolated { set, session } => separation(alloc, code, fault, session, set),
+        PolicyRefusal::NotAuthorized { role }
+        | PolicyRefusal::AlreadyActive { role }
+        | PolicyRefusal::NotActive { role }
+        | PolicyRefusal::UnknownRole { role }
+        | PolicyRefusal::RoleExists { role } => with_text(
+            alloc,
+            code,
+            fault,
+            "role",
+            role.as_str(),
+        ),
+        PolicyRefusal::UnknownUser { user } | PolicyRefusal::UserExists { user } => {
+            with_text(alloc, code, fault, "user", user.as_str())
         }
-        Refusal::Full { table } => with_text(alloc, refusal, "table", table_text(table)),
-        Refusal::Cycle
-        | Refusal::AlreadyAssigned
-        | Refusal::NotAssigned
-        | Refusal::AlreadyGranted
-        | Refusal::NotGranted
-        | Refusal::EdgeExists
-        | Refusal::NoEdge
-        | Refusal::DsdShape => plain(alloc, refusal),
-        _ => refused_on_slot(alloc, refusal),
+        PolicyRefusal::DsdExists { set }
+        | PolicyRefusal::NoDsd { set }
+        | PolicyRefusal::RoleInDsd { set } => with_text(alloc, code, fault, "set", set.as_str()),
+        PolicyRefusal::Full { table } => with_text(alloc, code, fault, "table", table_text(table)),
+        PolicyRefusal::NoSession
+        | PolicyRefusal::SessionsExhausted
+        | PolicyRefusal::Cycle
+        | PolicyRefusal::AlreadyAssigned
+        | PolicyRefusal::NotAssigned
+        | PolicyRefusal::AlreadyGranted
+        | PolicyRefusal::NotGranted
+        | PolicyRefusal::EdgeExists
+        | PolicyRefusal::NoEdge
+        | PolicyRefusal::DsdShape => plain(alloc, code, fault),
     }
 }
 
@@ -248,14 +225,38 @@ fn refused_by_policy(alloc: Global, refusal: &Refusal) -> Result<Value, AllocErr
 fn refused(alloc: Global, refusal: &Refusal) -> Result<Value, AllocError>
     ensures { IfOk result (λ v. view v ≡ object (refusal_members refusal.now)) }
 {
+    let (code, fault) = refusal.label();
     match refusal {
+        Refusal::Policy(refusal) => refused_by_policy(alloc, refusal),
+        Refusal::Excluded { relation, signal } => excluded(alloc, code, fault, *relation, signal),
+        Refusal::Implied { relation, missing } => implied(alloc, code, fault, *relation, missing),
+        Refusal::Stuck { undecided } => stuck(alloc, code, fault, undecided.as_slice()),
+        Refusal::Behind { found, seen } => behind(alloc, code, fault, *found, *seen),
+        Refusal::Lexical { place } | Refusal::Syntax { place } => at_place(
+            alloc, code, fault, place,
+        ),
+        Refusal::UnknownModule { name }
+        | Refusal::RecursiveRun { name }
+        | Refusal::UnknownName { name }
+        | Refusal::DuplicateName { name }
+        | Refusal::EmitInput { name }
+        | Refusal::BadRename { name } => with_text(alloc, code, fault, "name", name.as_str()),
+        Refusal::TooLarge { limit } => with_text(alloc, code, fault, "limit", limit_text(limit)),
+        Refusal::Semantics { relation } => semantics(alloc, code, fault, *relation),
         Refusal::TooLong
         | Refusal::NotJson
         | Refusal::NotARequest
-        | Refusal::NoSession
         | Refusal::AlreadyLoggedIn
-        | Refusal::SessionsExhausted => plain(alloc, refusal),
-        _ => refused_by_policy(alloc, refusal),
+        | Refusal::NoSlot
+        | Refusal::Occupied
+        | Refusal::Empty
+        | Refusal::UnknownSignal
+        | Refusal::NotInput
+        | Refusal::AlreadyOffered
+        | Refusal::NoInstant
+        | Refusal::InstantLoop
+        | Refusal::JournalFull
+        | Refusal::Memory => plain(alloc, code, fault),
     }
 }
 
@@ -389,7 +390,8 @@ pub fn reply_lines_are_these()
         ≡ codes "{\"code\":2,\"fault\":\"NotJson\"}\n" }
     ensures memory { line_of (Refused refusal.Memory)
         ≡ codes "{\"code\":90,\"fault\":\"Memory\"}\n" }
-    ensures unknown_user { (user : List ℕ) → line_of (Refused (refusal.UnknownUser user))
+    ensures unknown_user { (user : List ℕ)
+        → line_of (Refused (refusal.Policy (policy.UnknownUser user)))
         ≡ codes "{\"code\":25,\"fault\":\"UnknownUser\",\"user\":" ++ (quoted user ++ codes "}\n") }
     ensures syntax { (place : Place) → line_of (Refused (refusal.Syntax place))
         ≡ codes "{\"code\":71,\"column\":" ++ (decimal place.column ++

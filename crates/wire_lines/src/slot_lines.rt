@@ -8,9 +8,10 @@ ghost use Rattle.json.specs.Token.{begin_object, end_object, key, string};
 ghost use Rattle.serde_json.specs.Data.{unsigned};
 ghost use Rattle.serde_json.specs.Read.{number_of};
 ghost use Rattle.wire_lines.specs.Requests.{IsRequest};
-ghost use Rattle.wire_lines.specs.Inner.SlotTokens.{IsNumberAt, IsSlot, IsOffer, IsLook, IsCommand};
+ghost use Rattle.wire_lines.specs.Inner.SlotTokens.{IsSignal, IsNumberAt, IsSlot, IsCommand, IsShort};
 
 use crate::request::Request;
+use access_core::command::SlotCommand;
 use est_text::identifier::Identifier;
 use fast_float::Numeral;
 use json::{Reader, Scratch, Token};
@@ -81,33 +82,6 @@ fn take_end(reader: &mut Reader<'_>) -> Option<()>
     }
 }
 
-/// The slot, where it is the last member.
-fn read_slot(reader: &mut Reader<'_>) -> Option<u64>
-    ensures { IfSome result (IsSlot reader.old) }
-{
-    let slot = take_number(reader, "slot")?;
-    take_end(reader)?;
-    Some(slot)
-}
-
-/// The input and the slot, where they are the last members.
-fn read_offer(reader: &mut Reader<'_>) -> Option<(Identifier, u64)>
-    ensures { IfSome result (λ found. IsOffer reader.old found.0 found.1) }
-{
-    let signal = Identifier::from_text(take_text(reader, "signal")?)?;
-    let slot = read_slot(reader)?;
-    Some((signal, slot))
-}
-
-/// The instant and the slot, where they are the last members.
-fn read_look(reader: &mut Reader<'_>) -> Option<(u64, u64)>
-    ensures { IfSome result (λ found. IsLook reader.old found.0 found.1) }
-{
-    let instant = take_number(reader, "instant")?;
-    let slot = read_slot(reader)?;
-    Some((instant, slot))
-}
-
 /// Takes the brace that begins an object, and the command's word, which is its first member.
 fn take_word<'a>(reader: &mut Reader<'a>) -> Option<&'a str>
     ensures { IfSome result (λ word. reader.old ≡ begin_object ∷ key (codes "cmd") ∷ string word.now ∷ reader.new) }
@@ -118,33 +92,48 @@ fn take_word<'a>(reader: &mut Reader<'a>) -> Option<&'a str>
     take_text(reader, "cmd")
 }
 
-/// The request of a command of this word, by the members behind it.
-fn read_command(reader: &mut Reader<'_>, word: &str) -> Option<Request>
-    ensures { IfSome result (IsCommand word.now reader.old) }
+/// Takes the signal that comes next.
+fn take_signal(reader: &mut Reader<'_>) -> Option<Identifier>
+    ensures { IfSome result (λ signal. IsSignal reader.old signal reader.new) }
+{
+    Identifier::from_text(take_text(reader, "signal")?)
+}
+
+/// Takes what the command of this word has before its slot.
+fn take_command(reader: &mut Reader<'_>, word: &str) -> Option<SlotCommand>
+    ensures { IfSome result (λ command. IsCommand word.now reader.old command reader.new) }
 {
     match word {
-        "offer" => {
-            let (signal, slot) = read_offer(reader)?;
-            Some(Request::Offer { signal, slot })
-        }
-        "look" => {
-            let (instant, slot) = read_look(reader)?;
-            Some(Request::Look { instant, slot })
-        }
-        "step" => Some(Request::Step {
-            slot: read_slot(reader)?,
+        "offer" => Some(SlotCommand::Offer {
+            signal: take_signal(reader)?,
         }),
-        "discard" => Some(Request::Discard {
-            slot: read_slot(reader)?,
+        "discard" => Some(SlotCommand::Discard),
+        "step" => Some(SlotCommand::Step),
+        "unload" => Some(SlotCommand::Unload),
+        "look" => Some(SlotCommand::Look {
+            instant: take_number(reader, "instant")?,
         }),
-        "unload" => Some(Request::Unload {
-            slot: read_slot(reader)?,
-        }),
-        "audit" => Some(Request::Audit {
-            slot: read_slot(reader)?,
-        }),
+        "audit" => Some(SlotCommand::Audit),
         _ => None,
     }
+}
+
+/// The slot, where it is the last member.
+fn read_slot(reader: &mut Reader<'_>) -> Option<u64>
+    ensures { IfSome result (IsSlot reader.old) }
+{
+    let slot = take_number(reader, "slot")?;
+    take_end(reader)?;
+    Some(slot)
+}
+
+/// The request of a command of this word, by the members after it.
+fn read_members(reader: &mut Reader<'_>, word: &str) -> Option<Request>
+    ensures { IfSome result (IsShort word.now reader.old) }
+{
+    let command = take_command(reader, word)?;
+    let slot = read_slot(reader)?;
+    Some(Request::Slot { slot, command })
 }
 
 /// The request of a short line that is spelt so.
@@ -161,5 +150,5 @@ pub(crate) fn slot_request(scratch: &mut Scratch, line: &[u8]) -> Option<Request
         return None;
     };
     let word = take_word(&mut reader)?;
-    read_command(&mut reader, word)
+    read_members(&mut reader, word)
 }

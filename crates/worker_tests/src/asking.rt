@@ -5,7 +5,7 @@ use access_core::command::SlotCommand;
 use access_core::reply::Reply;
 use est_text::identifier::Identifier;
 use policy_board::board::Board;
-use policy_board::history::Naming;
+use policy_board::history::BoardName;
 use policy_board::seat::{Receipt, Seat};
 use rbac_policy::commands::{AdminCommand, SessionId};
 use rbac_policy::names::{Name, RoleNames};
@@ -54,13 +54,13 @@ pub(crate) fn revoke(role: Name, operation: Operation, slot: SlotNumber) -> Admi
 }
 
 /// A policy command, which is accepted.
-fn give<J: Naming, R: Wait + Abort>(
+fn give<B: BoardName, R: Wait + Abort>(
     rt: &R,
-    board: &Board<J>,
-    seat: &mut Seat<J>,
+    board: &Board<B>,
+    seat: &mut Seat<B>,
     session: Option<SessionId>,
     command: AdminCommand,
-) -> Receipt<J> {
+) -> Receipt<B> {
     board
         .admin(rt, seat, session, command)
         .ok()
@@ -68,21 +68,21 @@ fn give<J: Naming, R: Wait + Abort>(
 }
 
 /// A policy command of root, which is accepted.
-pub(crate) fn order<J: Naming, R: Wait + Abort>(
+pub(crate) fn order<B: BoardName, R: Wait + Abort>(
     rt: &R,
-    board: &Board<J>,
-    seat: &mut Seat<J>,
+    board: &Board<B>,
+    seat: &mut Seat<B>,
     command: AdminCommand,
-) -> Receipt<J> {
+) -> Receipt<B> {
     give(rt, board, seat, Some(root()), command)
 }
 
 /// Logs the user in, in this role, and answers the session.
-pub(crate) fn enter<J: Naming, R: Wait + Abort>(
+pub(crate) fn enter<B: BoardName, R: Wait + Abort>(
     rt: &R,
     alloc: Global,
-    board: &Board<J>,
-    seat: &mut Seat<J>,
+    board: &Board<B>,
+    seat: &mut Seat<B>,
     user: Name,
     role: Name,
 ) -> SessionId {
@@ -93,12 +93,12 @@ pub(crate) fn enter<J: Naming, R: Wait + Abort>(
 }
 
 /// Grants root loads and steps of the slot, and loads the module there: the first entry of the slot.
-pub(crate) fn begin<J: Naming, R: Wait + Abort>(
+pub(crate) fn begin<B: BoardName, R: Wait + Abort>(
     rt: &R,
     alloc: Global,
-    board: &Board<J>,
-    table: &SlotTable<J>,
-    seat: &mut Seat<J>,
+    board: &Board<B>,
+    table: &SlotTable<B>,
+    seat: &mut Seat<B>,
     number: u8,
 ) {
     let slot = SlotNumber::new(number).expect(rt, "a slot");

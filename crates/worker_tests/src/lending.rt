@@ -2,7 +2,7 @@
 ghost use denote.Param.{param};
 ghost use denote.Param.Send.{IsSend};
 
-use policy_board::history::Naming;
+use policy_board::history::BoardName;
 use slot_table::table::SlotTable;
 
 /// What threads are lent: a value of this type. Of the type that lends it nothing else is known, and threads may share it.
@@ -11,8 +11,8 @@ pub(crate) trait Lends<T> {
     fn lent(&self) -> &T;
 }
 
-impl<J: Naming> Lends<SlotTable<J>> for SlotTable<J> {
-    fn lent(&self) -> &SlotTable<J> {
+impl<B: BoardName> Lends<SlotTable<B>> for SlotTable<B> {
+    fn lent(&self) -> &SlotTable<B> {
         self
     }
 }

@@ -8,7 +8,7 @@ use crate::server::{Server, open};
 use access_core::command::SlotCommand;
 use access_core::reply::Reply;
 use policy_board::board::Board;
-use policy_board::history::{Fresh, Naming};
+use policy_board::history::{BoardName, Fresh};
 use policy_board::reader::SlotReader;
 use policy_board::seat::Seat;
 use rbac_policy::names::Name;
@@ -40,15 +40,15 @@ const GIVEN: usize = BEFORE + CHANGES - 4;
 
 /// A worker: its seat, how often it asked, and how many receipts the seat should keep.
 #[derive(Drop)]
-struct Worker<J: Naming> {
-    seat: Seat<J>,
+struct Worker<B: BoardName> {
+    seat: Seat<B>,
     asked: usize,
     kept: usize,
 }
 
-impl<J: Naming> Worker<J> {
+impl<B: BoardName> Worker<B> {
     /// One that has asked nothing.
-    fn new(seat: Seat<J>) -> Worker<J> {
+    fn new(seat: Seat<B>) -> Worker<B> {
         let kept = seat.kept().len();
         Worker {
             seat,
@@ -65,7 +65,7 @@ impl<J: Naming> Worker<J> {
 }
 
 /// Takes the permission to step the last slot from root, or gives it again, in turn.
-fn change<J: Naming, R: Wait>(rt: &R, board: &Board<J>, mut worker: Worker<J>) -> Turn<Worker<J>>
+fn change<B: BoardName, R: Wait>(rt: &R, board: &Board<B>, mut worker: Worker<B>) -> Turn<Worker<B>>
     ensures { IsTurn (λ before after. Unit {0}) worker result }
 {
     if worker.asked >= CHANGES {
@@ -83,12 +83,12 @@ fn change<J: Naming, R: Wait>(rt: &R, board: &Board<J>, mut worker: Worker<J>) -
 }
 
 /// Steps one slot after the other.
-fn step<J: Naming, R: Wait>(
+fn step<B: BoardName, R: Wait>(
     rt: &R,
-    board: &Board<J>,
-    table: &SlotTable<J>,
-    mut worker: Worker<J>,
-) -> Turn<Worker<J>>
+    board: &Board<B>,
+    table: &SlotTable<B>,
+    mut worker: Worker<B>,
+) -> Turn<Worker<B>>
     ensures { IsTurn (λ before after. Unit {0}) worker result }
 {
     if worker.asked >= COMMANDS * SLOTS as usize {
@@ -102,17 +102,17 @@ fn step<J: Naming, R: Wait>(
 
 /// What workers share.
 #[derive(Drop)]
-struct Service<'a, J: Naming, T> {
-    board: &'a Board<J>,
+struct Service<'a, B: BoardName, T> {
+    board: &'a Board<B>,
     table: &'a T,
 }
 
-impl<'a, J: Naming + Send, T: Lends<SlotTable<J>>> Work for Service<'a, J, T> {
-    type Seat = Worker<J>;
+impl<'a, B: BoardName + Send, T: Lends<SlotTable<B>>> Work for Service<'a, B, T> {
+    type Seat = Worker<B>;
 
     ghost turn = { λ before after. Unit {0} };
 
-    fn take_turn<R: Wait>(&self, rt: &R, number: usize, worker: Worker<J>) -> Turn<Worker<J>> {
+    fn take_turn<R: Wait>(&self, rt: &R, number: usize, worker: Worker<B>) -> Turn<Worker<B>> {
         if number == 0 {
             change(rt, self.board, worker)
         } else {
@@ -122,25 +122,25 @@ impl<'a, J: Naming + Send, T: Lends<SlotTable<J>>> Work for Service<'a, J, T> {
 }
 
 /// The workers take their turns, each in a thread of its own.
-fn run_over<J: Naming + Send + Sync, T: Lends<SlotTable<J>> + Sync, R: Threads + Wait + Sync>(
+fn run_over<B: BoardName + Send + Sync, T: Lends<SlotTable<B>> + Sync, R: Threads + Wait + Sync>(
     rt: &R,
     alloc: Global,
-    board: &Board<J>,
+    board: &Board<B>,
     table: &T,
-    workers: Vec<Worker<J>>,
-) -> Result<Vec<Worker<J>>, AllocError> {
+    workers: Vec<Worker<B>>,
+) -> Result<Vec<Worker<B>>, AllocError> {
     let service = Service { board, table };
     run_each(rt, alloc, &service, workers)
 }
 
 /// Root logs in at the last of the seats, and a module runs in each slot. Its worker is the first.
-fn begin_all<J: Naming, R: Wait + Abort>(
+fn begin_all<B: BoardName, R: Wait + Abort>(
     rt: &R,
     alloc: Global,
-    board: &Board<J>,
-    table: &SlotTable<J>,
-    mut seat: Seat<J>,
-) -> Worker<J> {
+    board: &Board<B>,
+    table: &SlotTable<B>,
+    mut seat: Seat<B>,
+) -> Worker<B> {
     enter(rt, alloc, board, &mut seat, Name::root(), Name::root());
     for slot in 0..SLOTS {
         begin(rt, alloc, board, table, &mut seat, slot);
@@ -149,12 +149,12 @@ fn begin_all<J: Naming, R: Wait + Abort>(
 }
 
 /// The first worker, and one for each of the seats.
-fn workers_of<J: Naming, R: Abort>(
+fn workers_of<B: BoardName, R: Abort>(
     rt: &R,
     alloc: Global,
-    first: Worker<J>,
-    seats: Vec<Seat<J>>,
-) -> Vec<Worker<J>> {
+    first: Worker<B>,
+    seats: Vec<Seat<B>>,
+) -> Vec<Worker<B>> {
     let mut workers = vec![in alloc; first].ok().expect(rt, "room");
     for seat in seats {
         workers.push(Worker::new(seat)).ok().expect(rt, "room");
@@ -163,11 +163,11 @@ fn workers_of<J: Naming, R: Abort>(
 }
 
 /// The seats of the workers, and how many receipts they keep: those that they should.
-fn seats_of<J: Naming, R: Abort>(
+fn seats_of<B: BoardName, R: Abort>(
     rt: &R,
     alloc: Global,
-    workers: Vec<Worker<J>>,
-) -> (Vec<Seat<J>>, usize) {
+    workers: Vec<Worker<B>>,
+) -> (Vec<Seat<B>>, usize) {
     let mut seats = Vec::new(alloc);
     let mut kept = 0usize;
     for worker in workers {
@@ -180,22 +180,22 @@ fn seats_of<J: Naming, R: Abort>(
 }
 
 /// All workers take their turns, and the server is closed. Answers the histories, and how many receipts there were.
-fn serve<J: Naming + Send + Sync, R: Threads + Wait + Abort + Sync>(
+fn serve<B: BoardName + Send + Sync, R: Threads + Wait + Abort + Sync>(
     rt: &R,
     alloc: Global,
     fresh: Fresh,
 ) -> (Histories, usize)
-    requires { fresh.seen.book ≡ J.book }
+    requires { fresh.seen.book ≡ B.book }
 {
     let Server {
         board,
         mut seats,
         table,
-    } = open::<J, R>(rt, alloc, fresh, THREADS);
+    } = open::<B, R>(rt, alloc, fresh, THREADS);
     let first = seats.pop().expect(rt, "a seat");
     let first = begin_all(rt, alloc, &board, &table, first);
     let workers = workers_of(rt, alloc, first, seats);
-    may_cross::<SlotReader<J>>();
+    may_cross::<SlotReader<B>>();
     let workers = run_over(rt, alloc, &board, &table, workers)
         .ok()
         .expect(rt, "threads");

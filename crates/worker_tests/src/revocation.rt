@@ -9,9 +9,10 @@ use access_core::refusal::Refusal;
 use access_core::reply::Reply;
 use audit_report::audit::check;
 use policy_board::board::Board;
-use policy_board::history::{Fresh, Naming};
+use policy_board::history::{BoardName, Fresh};
 use policy_board::reader::SlotReader;
 use policy_board::seat::{Receipt, Seat};
+use rbac_admin::refusals::Refusal as PolicyRefusal;
 use rbac_policy::commands::{AdminCommand, SessionId};
 use rbac_policy::names::Name;
 use rbac_policy::objects::{Operation, SlotNumber};
@@ -32,10 +33,10 @@ const STEPS: u32 = 3;
 const BEFORE: usize = 4 + 3 + 3 + 1;
 
 /// Who is served: root, who changes the policy; ann, whose permission is given and taken; and one more client of root's session.
-struct Seats<J: Naming> {
-    giver: Seat<J>,
-    asker: Seat<J>,
-    third: Seat<J>,
+struct Seats<B: BoardName> {
+    giver: Seat<B>,
+    asker: Seat<B>,
+    third: Seat<B>,
 }
 
 /// The session that ann logs in with, the second of all.
@@ -44,12 +45,12 @@ fn ann() -> SessionId {
 }
 
 /// A module runs in slot 0, and ann is logged in as a driver, who may do nothing yet.
-fn prepare<J: Naming, R: Wait + Abort>(
+fn prepare<B: BoardName, R: Wait + Abort>(
     rt: &R,
     alloc: Global,
-    board: &Board<J>,
-    table: &SlotTable<J>,
-    seats: &mut Seats<J>,
+    board: &Board<B>,
+    table: &SlotTable<B>,
+    seats: &mut Seats<B>,
 ) {
     let (user, role, first) = (name(rt, "ann"), name(rt, "driver"), Name::root());
     let giver = &mut seats.giver;
@@ -63,24 +64,24 @@ fn prepare<J: Naming, R: Wait + Abort>(
 }
 
 /// What the session is answered to a step of slot 0.
-fn step<J: Naming, R: Wait>(
+fn step<B: BoardName, R: Wait>(
     rt: &R,
-    board: &Board<J>,
-    table: &SlotTable<J>,
-    seat: &mut Seat<J>,
+    board: &Board<B>,
+    table: &SlotTable<B>,
+    seat: &mut Seat<B>,
     session: SessionId,
 ) -> Reply {
     table.command(rt, board, seat, session, 0, SlotCommand::Step)
 }
 
 /// The session steps slot 0, as far as it may. What its seat has seen never falls.
-fn step_on<J: Naming, R: Wait + Abort>(
+fn step_on<B: BoardName, R: Wait + Abort>(
     rt: &R,
-    board: &Board<J>,
-    table: &SlotTable<J>,
-    mut seat: Seat<J>,
+    board: &Board<B>,
+    table: &SlotTable<B>,
+    mut seat: Seat<B>,
     session: SessionId,
-) -> Seat<J> {
+) -> Seat<B> {
     for _ in 0..STEPS {
         let before = seat.seen();
         step(rt, board, table, &mut seat, session);
@@ -90,12 +91,12 @@ fn step_on<J: Naming, R: Wait + Abort>(
 }
 
 /// Root gives the command, and hands its receipt over.
-fn change<J: Naming, R: Wait + Abort>(
+fn change<B: BoardName, R: Wait + Abort>(
     rt: &R,
-    board: &Board<J>,
-    mut seat: Seat<J>,
+    board: &Board<B>,
+    mut seat: Seat<B>,
     command: AdminCommand,
-) -> (Seat<J>, Receipt<J>) {
+) -> (Seat<B>, Receipt<B>) {
     let receipt = order(rt, board, &mut seat, command);
     (seat, receipt)
 }
@@ -103,10 +104,10 @@ fn change<J: Naming, R: Wait + Abort>(
 /// Root gives the command in a thread of its own, while two more threads step. Where they join, ann is told. Answers the version,
 /// too.
 fn change_at_once<
-    J: Naming + Send + Sync,
-    T: Lends<SlotTable<J>> + Sync,
+    B: BoardName + Send + Sync,
+    T: Lends<SlotTable<B>> + Sync,
     R: Threads + Wait + Abort + Sync,
->(rt: &R, board: &Board<J>, table: &T, seats: Seats<J>, command: AdminCommand) -> (Seats<J>, u64) {
+>(rt: &R, board: &Board<B>, table: &T, seats: Seats<B>, command: AdminCommand) -> (Seats<B>, u64) {
     let Seats {
         giver,
         asker,
@@ -135,10 +136,10 @@ fn change_at_once<
 
 /// A grant that ann is told of, and then a revocation: her next step is accepted, and refused.
 fn play_round<
-    J: Naming + Send + Sync,
-    T: Lends<SlotTable<J>> + Sync,
+    B: BoardName + Send + Sync,
+    T: Lends<SlotTable<B>> + Sync,
     R: Threads + Wait + Abort + Sync,
->(rt: &R, board: &Board<J>, table: &T, seats: Seats<J>) -> Seats<J> {
+>(rt: &R, board: &Board<B>, table: &T, seats: Seats<B>) -> Seats<B> {
     let role = name(rt, "driver");
     let slot = SlotNumber::new(0).expect(rt, "a slot");
     let granted = grant(role, Operation::Step, slot);
@@ -148,19 +149,22 @@ fn play_round<
     let revoked = revoke(role, Operation::Step, slot);
     let (mut seats, told) = change_at_once(rt, board, table, seats, revoked);
     let reply = step(rt, board, table.lent(), &mut seats.asker, ann());
-    assert!(rt; matches!(reply, Reply::Refused(Refusal::Permission { .. })));
+    assert!(rt;
+        matches!(
+            reply,
+            Reply::Refused(Refusal::Policy(PolicyRefusal::Permission { .. }))
+        )
+    );
     assert_eq!(rt; seats.asker.seen(), told);
     seats
 }
 
 /// So many rounds; then root removes ann, and she has no session any more.
-fn play<J: Naming + Send + Sync, T: Lends<SlotTable<J>> + Sync, R: Threads + Wait + Abort + Sync>(
-    rt: &R,
-    board: &Board<J>,
-    table: &T,
-    seats: Seats<J>,
-    rounds: u32,
-) -> Seats<J> {
+fn play<
+    B: BoardName + Send + Sync,
+    T: Lends<SlotTable<B>> + Sync,
+    R: Threads + Wait + Abort + Sync,
+>(rt: &R, board: &Board<B>, table: &T, seats: Seats<B>, rounds: u32) -> Seats<B> {
     let mut seats = seats;
     for _ in 0..rounds {
         seats = play_round(rt, board, table, seats);
@@ -170,32 +174,37 @@ fn play<J: Naming + Send + Sync, T: Lends<SlotTable<J>> + Sync, R: Threads + Wai
     };
     let (mut seats, told) = change_at_once(rt, board, table, seats, removed);
     let reply = step(rt, board, table.lent(), &mut seats.asker, ann());
-    assert!(rt; matches!(reply, Reply::Refused(Refusal::NoSession)));
+    assert!(rt;
+        matches!(
+            reply,
+            Reply::Refused(Refusal::Policy(PolicyRefusal::NoSession))
+        )
+    );
     assert_eq!(rt; seats.asker.seen(), told);
     seats
 }
 
 /// After so many rounds the server is closed, and nothing is found in its histories.
-fn serve<J: Naming + Send + Sync, R: Threads + Wait + Abort + Sync>(
+fn serve<B: BoardName + Send + Sync, R: Threads + Wait + Abort + Sync>(
     rt: &R,
     alloc: Global,
     fresh: Fresh,
     rounds: u32,
 ) -> Histories
-    requires { fresh.seen.book ≡ J.book }
+    requires { fresh.seen.book ≡ B.book }
 {
     let Server {
         board,
         mut seats,
         table,
-    } = open::<J, R>(rt, alloc, fresh, 3);
+    } = open::<B, R>(rt, alloc, fresh, 3);
     let mut seats = Seats {
         giver: seats.pop().expect(rt, "a seat"),
         asker: seats.pop().expect(rt, "a seat"),
         third: seats.pop().expect(rt, "a seat"),
     };
     prepare(rt, alloc, &board, &table, &mut seats);
-    may_cross::<SlotReader<J>>();
+    may_cross::<SlotReader<B>>();
     let Seats {
         giver,
         asker,

@@ -2,36 +2,37 @@
 ghost use Rattle.std.specs.Prelude.{◌≡◌, ◌≤◌};
 
 use policy_board::board::Board;
-use policy_board::history::{Fresh, Naming};
+use policy_board::history::{BoardName, Fresh};
 use policy_board::opening::Opened;
 use policy_board::seat::Seat;
 use seat_receipts::receipts::SEATS;
 use slot_table::table::SlotTable;
 use std::alloc::Global;
 use std::process::Abort;
+use std::sync::Wait;
 
 /// A board with its seats, and the slots of its readers.
-pub(crate) struct Server<J: Naming> {
-    pub board: Board<J>,
-    pub seats: Vec<Seat<J>>,
-    pub table: SlotTable<J>,
+pub(crate) struct Server<B: BoardName> {
+    pub board: Board<B>,
+    pub seats: Vec<Seat<B>>,
+    pub table: SlotTable<B>,
 }
 
 /// A board with so many seats, and its slots.
-pub(crate) fn open<J: Naming, R: Abort>(
+pub(crate) fn open<B: BoardName, R: Wait + Abort>(
     rt: &R,
     alloc: Global,
     fresh: Fresh,
     count: usize,
-) -> Server<J>
-    requires name { fresh.seen.book ≡ J.book }
+) -> Server<B>
+    requires name { fresh.seen.book ≡ B.book }
     requires count { (1 ≤ count) × (count ≤ SEATS) }
 {
     let Opened {
         board,
         seats,
         readers,
-    } = Board::<J>::open(alloc, fresh, count)
+    } = Board::<B>::open(rt, alloc, fresh, count)
         .ok()
         .expect(rt, "a board");
     Server {

@@ -11,7 +11,7 @@ use client_loop::shared_desk::SharedDesk;
 use line_reader::meter::{MeteredMemory, MeteredReader, MeteredWriter};
 use line_reader::serving::Why;
 use policy_board::board::Board;
-use policy_board::history::{Fresh, Naming};
+use policy_board::history::{BoardName, Fresh};
 use policy_board::seat::Seat;
 use slot_table::table::SlotTable;
 use std::alloc::Global;
@@ -102,12 +102,12 @@ fn answers_of<R: Wait + Abort, D: Desk>(rt: &R, alloc: Global, desk: &mut D) -> 
 
 /// What a seat at this board and table is answered, which then has seen the whole list, and keeps a receipt of each
 /// of the six policy entries and four slot entries that it added.
-fn answers_at<J: Naming, R: Wait + Abort>(
+fn answers_at<B: BoardName, R: Wait + Abort>(
     rt: &R,
     alloc: Global,
-    board: &Board<J>,
-    table: &SlotTable<J>,
-    seat: Seat<J>,
+    board: &Board<B>,
+    table: &SlotTable<B>,
+    seat: Seat<B>,
 ) -> Vec<u8> {
     let mut desk = SharedDesk {
         rt,
@@ -128,14 +128,14 @@ fn answers_at<J: Naming, R: Wait + Abort>(
 }
 
 /// What the seat of a new board is answered.
-fn answers_at_a_board<J: Naming, R: Wait + Abort>(rt: &R, alloc: Global, fresh: Fresh) -> Vec<u8>
-    requires { fresh.seen.book ≡ J.book }
+fn answers_at_a_board<B: BoardName, R: Wait + Abort>(rt: &R, alloc: Global, fresh: Fresh) -> Vec<u8>
+    requires { fresh.seen.book ≡ B.book }
 {
     let Server {
         board,
         mut seats,
         table,
-    } = open::<J, R>(rt, alloc, fresh, 1);
+    } = open::<B, R>(rt, alloc, fresh, 1);
     let seat = seats.pop().expect(rt, "a seat");
     let answers = answers_at(rt, alloc, &board, &table, seat);
     board.close().journal(rt);

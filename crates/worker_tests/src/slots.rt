@@ -7,7 +7,7 @@ use crate::server::{Server, open};
 use access_core::command::SlotCommand;
 use access_core::reply::Reply;
 use policy_board::board::Board;
-use policy_board::history::{Fresh, Naming};
+use policy_board::history::{BoardName, Fresh};
 use policy_board::reader::SlotReader;
 use policy_board::seat::Seat;
 use rbac_policy::names::Name;
@@ -34,13 +34,13 @@ fn bit(place: u64) -> u64 {
 }
 
 /// Gives steps of the slot. Answers the places of their entries, as bits. Versions never fall.
-fn step_often<J: Naming, R: Wait + Abort>(
+fn step_often<B: BoardName, R: Wait + Abort>(
     rt: &R,
-    board: &Board<J>,
-    table: &SlotTable<J>,
-    mut seat: Seat<J>,
+    board: &Board<B>,
+    table: &SlotTable<B>,
+    mut seat: Seat<B>,
     slot: u8,
-) -> (Seat<J>, u64) {
+) -> (Seat<B>, u64) {
     let mut places = 0;
     let mut newest = 0;
     for _ in 0..STEPS {
@@ -65,16 +65,16 @@ fn step_often<J: Naming, R: Wait + Abort>(
 
 /// Two threads step these slots, each at a seat of its own.
 fn step_at_once<
-    J: Naming + Send + Sync,
-    T: Lends<SlotTable<J>> + Sync,
+    B: BoardName + Send + Sync,
+    T: Lends<SlotTable<B>> + Sync,
     R: Threads + Wait + Abort + Sync,
 >(
     rt: &R,
-    board: &Board<J>,
+    board: &Board<B>,
     table: &T,
-    seats: (Seat<J>, Seat<J>),
+    seats: (Seat<B>, Seat<B>),
     slots: (u8, u8),
-) -> ((Seat<J>, u64), (Seat<J>, u64)) {
+) -> ((Seat<B>, u64), (Seat<B>, u64)) {
     let (one, other) = seats;
     join(
         rt,
@@ -84,19 +84,19 @@ fn step_at_once<
 }
 
 /// Two threads step these slots, in each of which a module runs; then the server is closed.
-fn step_both<J: Naming + Send + Sync, R: Threads + Wait + Abort + Sync>(
+fn step_both<B: BoardName + Send + Sync, R: Threads + Wait + Abort + Sync>(
     rt: &R,
     alloc: Global,
     fresh: Fresh,
     slots: (u8, u8),
 ) -> (u64, u64)
-    requires { fresh.seen.book ≡ J.book }
+    requires { fresh.seen.book ≡ B.book }
 {
     let Server {
         board,
         mut seats,
         table,
-    } = open::<J, R>(rt, alloc, fresh, 2);
+    } = open::<B, R>(rt, alloc, fresh, 2);
     let mut one = seats.pop().expect(rt, "a seat");
     let other = seats.pop().expect(rt, "a seat");
     enter(rt, alloc, &board, &mut one, Name::root(), Name::root());
@@ -104,7 +104,7 @@ fn step_both<J: Naming + Send + Sync, R: Threads + Wait + Abort + Sync>(
     if slots.0 != slots.1 {
         begin(rt, alloc, &board, &table, &mut one, slots.1);
     }
-    may_cross::<SlotReader<J>>();
+    may_cross::<SlotReader<B>>();
     let ((one, first), (other, second)) = step_at_once(rt, &board, &table, (one, other), slots);
     let seats = vec![in alloc; one, other].ok().expect(rt, "room");
     assert!(rt; table.close(rt, alloc, board, seats).is_ok());

@@ -5,7 +5,7 @@ use crate::clients::{Client, Clients};
 use crate::meeting::Meeting;
 use crate::server::{Server, open};
 use client_loop::workers::run_workers;
-use policy_board::history::{Fresh, Naming};
+use policy_board::history::{BoardName, Fresh};
 use rbac_policy::commands::SessionId;
 use rbac_policy::journal::PolicyJournal;
 use reactor_core::entry::{Action, SlotEntry};
@@ -56,18 +56,18 @@ const LEAST_SEEN: u64 = 8;
 
 /// Two workers serve two clients, each on a slot of its own. The first answer of all waits for one of the other worker. Then the
 /// server is closed, each entry of which is one that a seat has the receipt of.
-fn serve_two<J: Naming + Send + Sync, R: Threads + Wait + Abort + Clock + Sync>(
+fn serve_two<B: BoardName + Send + Sync, R: Threads + Wait + Abort + Clock + Sync>(
     rt: &R,
     alloc: Global,
     fresh: Fresh,
 ) -> Histories
-    requires { fresh.seen.book ≡ J.book }
+    requires { fresh.seen.book ≡ B.book }
 {
     let Server {
         board,
         seats,
         table,
-    } = open::<J, R>(rt, alloc, fresh, 2);
+    } = open::<B, R>(rt, alloc, fresh, 2);
     let clients = [Client::new(ON_SLOT_0), Client::new(ON_SLOT_1)];
     let source = Clients { clients: &clients };
     let gate = Meeting::new(rt);

@@ -12,10 +12,12 @@ use Rattle.rbac_policy.specs.Names.{is_name}
 use Rattle.rbac_policy.specs.Texts.{operation_of, object_of}
 use Rattle.rbac_policy.specs.declared.objects.Operation.{Operation}
 use Rattle.rbac_policy.specs.declared.objects.Object.{Object}
-use Rattle.wire_lines.specs.declared.request.Command.{Command}
-use Rattle.wire_lines.specs.declared.request.Command.TheVariants as command
+use Rattle.rbac_policy.specs.declared.commands.AdminCommand.{AdminCommand}
+use Rattle.rbac_policy.specs.declared.commands.AdminCommand.TheVariants.{AddUser, DeleteUser, AddRole, DeleteRole, AssignUser, DeassignUser, GrantPermission, RevokePermission, AddInheritance, DeleteInheritance, CreateDsdSet, DeleteDsdSet, CreateSession, DeleteSession, AddActiveRole, DropActiveRole}
+use Rattle.access_core.specs.declared.command.SlotCommand.{SlotCommand}
+use Rattle.access_core.specs.declared.command.SlotCommand.TheVariants.{Load, Offer, Discard, Step, Unload, Look, Audit}
 use Rattle.wire_lines.specs.declared.request.Request.{Request}
-use Rattle.wire_lines.specs.declared.request.Request.TheVariants as request
+use Rattle.wire_lines.specs.declared.request.Request.TheVariants.{Policy, Slot, Check}
 
 -- the name that a text is
 abbrev pub name_of : List ℕ → Option (List ℕ)
@@ -89,199 +91,157 @@ roles_from ds = if nat_le (length ds) LISTED_ROLES then names_from ds else None
 unfoldable pub roles_at : List ℕ → Data → Option (List (List ℕ))
 roles_at key d = option_and_then (λ ds. roles_from (list_of ds)) (option_and_then as_array (get key d))
 
--- the command of a word
-unfoldable pub command_of : List ℕ → Option Command
-command_of s =
-    if bytes_eq s (codes "login") then Some command.Login
-    else (if bytes_eq s (codes "logout") then Some command.Logout
-    else (if bytes_eq s (codes "grant") then Some command.Grant
-    else (if bytes_eq s (codes "adduser") then Some command.AddUser
-    else (if bytes_eq s (codes "deluser") then Some command.DeleteUser
-    else (if bytes_eq s (codes "addrole") then Some command.AddRole
-    else (if bytes_eq s (codes "delrole") then Some command.DeleteRole
-    else (if bytes_eq s (codes "assign") then Some command.Assign
-    else (if bytes_eq s (codes "deassign") then Some command.Deassign
-    else (if bytes_eq s (codes "revoke") then Some command.Revoke
-    else (if bytes_eq s (codes "inherit") then Some command.Inherit
-    else (if bytes_eq s (codes "disinherit") then Some command.Disinherit
-    else (if bytes_eq s (codes "dsd") then Some command.CreateSet
-    else (if bytes_eq s (codes "undsd") then Some command.DeleteSet
-    else (if bytes_eq s (codes "activate") then Some command.Activate
-    else (if bytes_eq s (codes "drop") then Some command.Drop
-    else (if bytes_eq s (codes "load") then Some command.Load
-    else (if bytes_eq s (codes "offer") then Some command.Offer
-    else (if bytes_eq s (codes "discard") then Some command.Discard
-    else (if bytes_eq s (codes "step") then Some command.Step
-    else (if bytes_eq s (codes "unload") then Some command.Unload
-    else (if bytes_eq s (codes "look") then Some command.Look
-    else (if bytes_eq s (codes "audit") then Some command.Audit
-    else (if bytes_eq s (codes "check") then Some command.Check
-    else None)))))))))))))))))))))))
+-- ---- the fields of a command, by its keys
 
--- the value as a login
-unfoldable pub login_of : Data → Option Request
-login_of d =
+-- the name under this key, where there is no other but `cmd`
+unfoldable pub read_name : (key : List ℕ) → Data → Option (List ℕ)
+read_name key d = if has_keys d (codes "cmd" ∷ key ∷ []) then name_at key d else None
+
+-- the names under these two keys, where there is no other but `cmd`
+unfoldable pub read_names : (first second : List ℕ) → Data → Option (List ℕ × List ℕ)
+read_names first second d =
+    if has_keys d (codes "cmd" ∷ first ∷ second ∷ [])
+    then option_and_then (λ one. option_map (λ other. (one, other)) (name_at second d))
+    (name_at first d)
+    else None
+
+-- the permission of a role
+unfoldable pub read_permission : Data → Option (Object × Operation × List ℕ)
+read_permission d =
+    if has_keys d (codes "cmd" ∷ codes "object" ∷ codes "op" ∷ codes "role" ∷ [])
+    then option_and_then (λ object. option_and_then (λ operation.
+    option_map (λ role. (object, operation, role)) (name_at (codes "role") d))
+    (operation_at (codes "op") d)) (object_at (codes "object") d)
+    else None
+
+-- ---- policy commands
+
+-- a login: the roles and the user
+unfoldable pub read_login : Data → Option AdminCommand
+read_login d =
     if has_keys d (codes "cmd" ∷ codes "roles" ∷ codes "user" ∷ [])
-    then option_and_then (λ roles. option_map (request.Login roles) (name_at (codes "user") d)) (roles_at (codes "roles") d) else None
-
--- the value as a logout
-unfoldable pub logout_of : Data → Option Request
-logout_of d = if has_keys d (codes "cmd" ∷ []) then Some request.Logout else None
-
--- the value as a grant
-unfoldable pub grant_of : Data → Option Request
-grant_of d =
-    if has_keys d (codes "cmd" ∷ codes "object" ∷ codes "op" ∷ codes "role" ∷ [])
-    then option_and_then (λ object. option_and_then (λ operation. option_map (request.Grant object operation) (name_at (codes "role") d)) (operation_at (codes "op") d)) (object_at (codes "object") d)
+    then option_and_then (λ roles.
+    option_map (λ user. CreateSession user roles) (name_at (codes "user") d))
+    (roles_at (codes "roles") d)
     else None
 
--- the value as the command `adduser`
-unfoldable pub add_user_of : Data → Option Request
-add_user_of d =
-    if has_keys d (codes "cmd" ∷ codes "user" ∷ [])
-    then option_map request.AddUser (name_at (codes "user") d) else None
+-- a logout, which has no key but `cmd`
+unfoldable pub read_logout : Data → Option AdminCommand
+read_logout d = if has_keys d (codes "cmd" ∷ []) then Some DeleteSession else None
 
--- the value as the command `deluser`
-unfoldable pub delete_user_of : Data → Option Request
-delete_user_of d =
-    if has_keys d (codes "cmd" ∷ codes "user" ∷ [])
-    then option_map request.DeleteUser (name_at (codes "user") d) else None
-
--- the value as the command `addrole`
-unfoldable pub add_role_of : Data → Option Request
-add_role_of d =
-    if has_keys d (codes "cmd" ∷ codes "role" ∷ [])
-    then option_map request.AddRole (name_at (codes "role") d) else None
-
--- the value as the command `assign`
-unfoldable pub assign_of : Data → Option Request
-assign_of d =
-    if has_keys d (codes "cmd" ∷ codes "role" ∷ codes "user" ∷ [])
-    then option_and_then (λ role. option_map (request.Assign role) (name_at (codes "user") d)) (name_at (codes "role") d) else None
-
--- the value as the command `deassign`
-unfoldable pub deassign_of : Data → Option Request
-deassign_of d =
-    if has_keys d (codes "cmd" ∷ codes "role" ∷ codes "user" ∷ [])
-    then option_and_then (λ role. option_map (request.Deassign role) (name_at (codes "user") d)) (name_at (codes "role") d) else None
-
--- the value as the command `revoke`
-unfoldable pub revoke_of : Data → Option Request
-revoke_of d =
-    if has_keys d (codes "cmd" ∷ codes "object" ∷ codes "op" ∷ codes "role" ∷ [])
-    then option_and_then (λ object. option_and_then (λ operation. option_map (request.Revoke object operation) (name_at (codes "role") d)) (operation_at (codes "op") d)) (object_at (codes "object") d) else None
-
--- the value as the command `disinherit`
-unfoldable pub disinherit_of : Data → Option Request
-disinherit_of d =
-    if has_keys d (codes "cmd" ∷ codes "junior" ∷ codes "senior" ∷ [])
-    then option_and_then (λ junior. option_map (request.Disinherit junior) (name_at (codes "senior") d)) (name_at (codes "junior") d) else None
-
--- the value as the command `activate`
-unfoldable pub activate_of : Data → Option Request
-activate_of d =
-    if has_keys d (codes "cmd" ∷ codes "role" ∷ [])
-    then option_map request.Activate (name_at (codes "role") d) else None
-
--- the value as the command `drop`
-unfoldable pub drop_role_of : Data → Option Request
-drop_role_of d =
-    if has_keys d (codes "cmd" ∷ codes "role" ∷ [])
-    then option_map request.Drop (name_at (codes "role") d) else None
-
--- the value as the command `delrole`
-unfoldable pub delete_role_of : Data → Option Request
-delete_role_of d =
-    if has_keys d (codes "cmd" ∷ codes "role" ∷ [])
-    then option_map request.DeleteRole (name_at (codes "role") d) else None
-
--- the value as the command `inherit`
-unfoldable pub inherit_of : Data → Option Request
-inherit_of d =
-    if has_keys d (codes "cmd" ∷ codes "junior" ∷ codes "senior" ∷ [])
-    then option_and_then (λ junior. option_map (request.Inherit junior) (name_at (codes "senior") d)) (name_at (codes "junior") d) else None
-
--- the value as the command `undsd`
-unfoldable pub delete_set_of : Data → Option Request
-delete_set_of d =
-    if has_keys d (codes "cmd" ∷ codes "name" ∷ [])
-    then option_map request.DeleteSet (name_at (codes "name") d) else None
-
--- the value as the command `dsd`
-unfoldable pub create_set_of : Data → Option Request
-create_set_of d =
+-- a separation set: how many, its name and its roles
+unfoldable pub read_set : Data → Option AdminCommand
+read_set d =
     if has_keys d (codes "cmd" ∷ codes "count" ∷ codes "name" ∷ codes "roles" ∷ [])
-    then option_and_then (λ count. option_and_then (λ name. option_map (request.CreateSet count name) (roles_at (codes "roles") d)) (name_at (codes "name") d)) (number_at (codes "count") d)
+    then option_and_then (λ count. option_and_then (λ name.
+    option_map (λ roles. CreateDsdSet name count roles) (roles_at (codes "roles") d))
+    (name_at (codes "name") d)) (number_at (codes "count") d)
     else None
 
--- the value as a load
-unfoldable pub load_of : Data → Option Request
-load_of d =
+-- the grant of a permission to a role, or its revocation, by this word
+unfoldable pub read_grant : (word : List ℕ) → Data → Option AdminCommand
+read_grant word d =
+    if bytes_eq word (codes "grant")
+    then option_map (λ p. GrantPermission p.2 p.1 p.0) (read_permission d)
+    else (if bytes_eq word (codes "revoke")
+    then option_map (λ p. RevokePermission p.2 p.1 p.0) (read_permission d)
+    else None)
+
+-- the command of this word on who has which role, on permissions or on the order of roles
+unfoldable pub read_relation : (word : List ℕ) → Data → Option AdminCommand
+read_relation word d =
+    if bytes_eq word (codes "assign")
+    then option_map (λ p. AssignUser p.1 p.0) (read_names (codes "role") (codes "user") d)
+    else (if bytes_eq word (codes "deassign")
+    then option_map (λ p. DeassignUser p.1 p.0) (read_names (codes "role") (codes "user") d)
+    else (if bytes_eq word (codes "inherit")
+    then option_map (λ p. AddInheritance p.1 p.0)
+    (read_names (codes "junior") (codes "senior") d)
+    else (if bytes_eq word (codes "disinherit")
+    then option_map (λ p. DeleteInheritance p.1 p.0)
+    (read_names (codes "junior") (codes "senior") d)
+    else read_grant word d)))
+
+-- the policy command of this word, where it lists no roles
+unfoldable pub read_plain : (word : List ℕ) → Data → Option AdminCommand
+read_plain word d =
+    if bytes_eq word (codes "logout") then read_logout d
+    else (if bytes_eq word (codes "adduser") then option_map AddUser (read_name (codes "user") d)
+    else (if bytes_eq word (codes "deluser") then option_map DeleteUser (read_name (codes "user") d)
+    else (if bytes_eq word (codes "addrole") then option_map AddRole (read_name (codes "role") d)
+    else (if bytes_eq word (codes "delrole") then option_map DeleteRole (read_name (codes "role") d)
+    else (if bytes_eq word (codes "activate")
+    then option_map AddActiveRole (read_name (codes "role") d)
+    else (if bytes_eq word (codes "drop")
+    then option_map DropActiveRole (read_name (codes "role") d)
+    else (if bytes_eq word (codes "undsd") then option_map DeleteDsdSet (read_name (codes "name") d)
+    else read_relation word d)))))))
+
+-- the policy command of this word
+unfoldable pub read_policy : (word : List ℕ) → Data → Option AdminCommand
+read_policy word d =
+    if bytes_eq word (codes "login") then read_login d
+    else (if bytes_eq word (codes "dsd") then read_set d
+    else read_plain word d)
+
+-- ---- commands on slots, and checks
+
+-- this command, on the slot that is the one field
+unfoldable pub read_on_slot : SlotCommand → Data → Option Request
+read_on_slot asked d =
+    if has_keys d (codes "cmd" ∷ codes "slot" ∷ [])
+    then option_map (λ slot. Slot slot asked) (number_at (codes "slot") d)
+    else None
+
+-- a load: the main module, the slot and the text
+unfoldable pub read_load : Data → Option Request
+read_load d =
     if has_keys d (codes "cmd" ∷ codes "main" ∷ codes "slot" ∷ codes "text" ∷ [])
-    then option_and_then (λ main. option_and_then (λ slot. option_map (request.Load main slot) (text_at (codes "text") d)) (number_at (codes "slot") d)) (identifier_at (codes "main") d)
+    then option_and_then (λ main. option_and_then (λ slot.
+    option_map (λ text. Slot slot (Load main text)) (text_at (codes "text") d))
+    (number_at (codes "slot") d)) (identifier_at (codes "main") d)
     else None
 
--- the value as an offer
-unfoldable pub offer_of : Data → Option Request
-offer_of d =
+-- an offer: the signal and the slot
+unfoldable pub read_offer : Data → Option Request
+read_offer d =
     if has_keys d (codes "cmd" ∷ codes "signal" ∷ codes "slot" ∷ [])
-    then option_and_then (λ signal. option_map (request.Offer signal) (number_at (codes "slot") d)) (identifier_at (codes "signal") d) else None
+    then option_and_then (λ signal.
+    option_map (λ slot. Slot slot (Offer signal)) (number_at (codes "slot") d))
+    (identifier_at (codes "signal") d)
+    else None
 
--- the value as a discard
-unfoldable pub discard_of : Data → Option Request
-discard_of d = if has_keys d (codes "cmd" ∷ codes "slot" ∷ []) then option_map request.Discard (number_at (codes "slot") d) else None
-
--- the value as a step
-unfoldable pub step_of : Data → Option Request
-step_of d = if has_keys d (codes "cmd" ∷ codes "slot" ∷ []) then option_map request.Step (number_at (codes "slot") d) else None
-
--- the value as an unload
-unfoldable pub unload_of : Data → Option Request
-unload_of d = if has_keys d (codes "cmd" ∷ codes "slot" ∷ []) then option_map request.Unload (number_at (codes "slot") d) else None
-
--- the value as a look
-unfoldable pub look_of : Data → Option Request
-look_of d =
+-- a look: the instant and the slot
+unfoldable pub read_look : Data → Option Request
+read_look d =
     if has_keys d (codes "cmd" ∷ codes "instant" ∷ codes "slot" ∷ [])
-    then option_and_then (λ instant. option_map (request.Look instant) (number_at (codes "slot") d)) (number_at (codes "instant") d) else None
+    then option_and_then (λ instant.
+    option_map (λ slot. Slot slot (Look instant)) (number_at (codes "slot") d))
+    (number_at (codes "instant") d)
+    else None
 
--- the value as an audit
-unfoldable pub audit_of : Data → Option Request
-audit_of d = if has_keys d (codes "cmd" ∷ codes "slot" ∷ []) then option_map request.Audit (number_at (codes "slot") d) else None
-
--- the value as a check
-unfoldable pub check_of : Data → Option Request
-check_of d =
+-- a check: the object and the operation
+unfoldable pub read_check : Data → Option Request
+read_check d =
     if has_keys d (codes "cmd" ∷ codes "object" ∷ codes "op" ∷ [])
-    then option_and_then (λ object. option_map (request.Check object) (operation_at (codes "op") d)) (object_at (codes "object") d) else None
+    then option_and_then (λ object.
+    option_map (λ operation. Check operation object) (operation_at (codes "op") d))
+    (object_at (codes "object") d)
+    else None
 
--- the request of a value, once its command is known
-abbrev pub fields_of : Command → Data → Option Request
-fields_of command.Login d = login_of d
-fields_of command.Logout d = logout_of d
-fields_of command.Grant d = grant_of d
-fields_of command.AddUser d = add_user_of d
-fields_of command.DeleteUser d = delete_user_of d
-fields_of command.AddRole d = add_role_of d
-fields_of command.Assign d = assign_of d
-fields_of command.Deassign d = deassign_of d
-fields_of command.Revoke d = revoke_of d
-fields_of command.Disinherit d = disinherit_of d
-fields_of command.Activate d = activate_of d
-fields_of command.Drop d = drop_role_of d
-fields_of command.DeleteRole d = delete_role_of d
-fields_of command.Inherit d = inherit_of d
-fields_of command.CreateSet d = create_set_of d
-fields_of command.DeleteSet d = delete_set_of d
-fields_of command.Load d = load_of d
-fields_of command.Offer d = offer_of d
-fields_of command.Discard d = discard_of d
-fields_of command.Step d = step_of d
-fields_of command.Unload d = unload_of d
-fields_of command.Look d = look_of d
-fields_of command.Audit d = audit_of d
-fields_of command.Check d = check_of d
+-- the request of this word
+unfoldable pub read_request : (word : List ℕ) → Data → Option Request
+read_request word d =
+    if bytes_eq word (codes "load") then read_load d
+    else (if bytes_eq word (codes "offer") then read_offer d
+    else (if bytes_eq word (codes "discard") then read_on_slot Discard d
+    else (if bytes_eq word (codes "step") then read_on_slot Step d
+    else (if bytes_eq word (codes "unload") then read_on_slot Unload d
+    else (if bytes_eq word (codes "look") then read_look d
+    else (if bytes_eq word (codes "audit") then read_on_slot Audit d
+    else (if bytes_eq word (codes "check") then read_check d
+    else option_map Policy (read_policy word d))))))))
 
 -- the request of a value
 unfoldable pub request_of : Data → Option Request
-request_of d = option_and_then (λ c. fields_of c d) (option_and_then command_of (text_at (codes "cmd") d))
+request_of d = option_and_then (λ word. read_request word d) (text_at (codes "cmd") d)

@@ -1,13 +1,12 @@
 use Rattle.std.proofs.Common.{◌≡◌, sym, subst}
 use Rattle.access_events.specs.declared.event.Event.TheVariants as event
 use Rattle.access_events.specs.Runs.{EventStep}
-use Rattle.access_events.proofs.Copying.{same_command}
 use Rattle.access_events.proofs.run.answer_event.Goals as goal
 
-pub returns-in_ok-clone-in-Admin : goal.returns-in_ok-clone-in-Admin
-returns-in_ok-clone-in-Admin c =
+pub returns-in_ok-try_clone-in-Admin : goal.returns-in_ok-try_clone-in-Admin
+returns-in_ok-try_clone-in-Admin c =
     let command = c.in-Admin.command in
-    let copy = c.in_ok-clone-in-Admin.field-0 in
-    let same : copy ≡ command = same_command command copy c.in_ok-clone-in-Admin.ensures.cases in
-    subst (λ e. EventStep e c.args.hall.now c.admin.result c.admin.new.self) (sym c.in-Admin.is)
-    (subst (λ given. EventStep (event.Admin c.in-Admin.seat c.in-Admin.session given) c.args.hall.now c.admin.result c.admin.new.self) same c.admin.ensures)
+    let copy = c.in_ok-try_clone-in-Admin.field-0 in
+    let same : copy ≡ command = c.in_ok-try_clone-in-Admin.ensures in
+    subst (λ e. EventStep e c.args.desk.now c.admin.result c.admin.new.self) (sym c.in-Admin.is)
+    (subst (λ given. EventStep (event.Admin c.in-Admin.seat c.in-Admin.session given) c.args.desk.now c.admin.result c.admin.new.self) same c.admin.ensures)

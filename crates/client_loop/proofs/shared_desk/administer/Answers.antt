@@ -18,5 +18,6 @@ returns g c =
           c.reply_of.ensures.refused (λ entry p. c.reply_of.ensures.accepted entry a.0 a.1 p) a.4;
       seat_knows = a.5.known;
       seat_seen = a.5.seen;
+      seat_read = a.5.read;
       seat_keeps = keeps_added a.0 a.1 c.admin.result c.args.seat.now c.admin.new.seat c.args.session c.args.command a.4 a.5;
     }

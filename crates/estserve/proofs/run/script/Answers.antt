@@ -1,5 +1,6 @@
 use Rattle.std.proofs.Common.{inr}
 use Rattle.client_loop.specs.Logins.{session_of}
+use Rattle.estserve.proofs.Devices.{failed_in_run}
 use Rattle.estserve.proofs.run.script.Goals as goal
 
 pub returns-clause-runs : goal.returns-clause-runs
@@ -17,3 +18,9 @@ returns-clause-runs g c = inr (record {
   };
   ends = c.finish.ensures.ends;
 })
+
+pub returns-clause-devices : goal.returns-clause-devices
+returns-clause-devices g c = record {
+  read = λ is. c.serve-why.ensures.read_fault (c.finish.ensures.read is);
+  write = λ is. failed_in_run _ _ _ _ (c.finish.ensures.write is) c.serve-why.ensures.write_fault c.serve-why.ensures.unfailed_writer;
+}

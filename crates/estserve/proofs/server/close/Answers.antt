@@ -10,6 +10,7 @@ returns-in-Ok-clause-closes g c =
       policy = c.in-Ok.histories.policy;
       slots = c.in-Ok.histories.slots;
       are = record {
+        run = c.in-Ok.ensures.run;
         one = c.in-Ok.ensures.one;
         rises = c.in-Ok.ensures.rises;
         sound = nothing_is_found _ _ sixteen c.in-Ok.ensures.list c.in-Ok.ensures.legal;

@@ -1,3 +1,4 @@
+use Rattle.std.proofs.Common.{◌≡◌}
 use Rattle.std.specs.Io.KnownBytes.{prepend_known}
 use Rattle.line_reader.specs.Readers.{held_bytes, weight}
 use Rattle.line_reader.specs.Inner.Turns.{IsSound}
@@ -12,6 +13,8 @@ invariant-loop-why g l = record {
       (record { ahead = prepend_known (held_bytes l.fn.lines) (g.R.Read.remaining l.fn.reader.device); desk = (l.fn.answerer, l.fn.desk) })
       (record { ahead = prepend_known (held_bytes l.lines) (g.R.Read.remaining l.reader.device); desk = (l.answerer, l.desk) })
       (g.W.Write.contents l.fn.writer.device) (g.W.Write.contents l.writer.device) (waiting_bytes l.fn.replies) (waiting_bytes l.replies);
+  unfailed_reader : l.reader.faults ≡ l.fn.reader.faults;
+  unfailed_writer : l.writer.faults ≡ l.fn.writer.faults;
 }
 
 abbrev pub decreases-loop-why : goal.decreases-loop-why

@@ -10,7 +10,7 @@ invariant-loop-at g l = record {
       (g.R.Read.remaining l.reader.device);
   weighs : weight l.reader.left l.self ≤ weight l.fn.reader.left l.fn.self;
   unread : ((l.reader ≡ l.fn.reader) × (held_bytes l.self ≡ held_bytes l.fn.self)) ⊎ HasNoEnd (held_bytes l.fn.self);
-  unfailed : l.reader.failed ≡ l.fn.reader.failed;
+  unfailed : l.reader.faults ≡ l.fn.reader.faults;
   going : l.self.ending ≡ None;
 }
 

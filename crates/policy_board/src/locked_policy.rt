@@ -1,0 +1,194 @@
+//! What lies under the admin lock: the writer, and the journal of all accepted entries.
+ghost use Rattle.std.specs.Prelude.{◌≡◌, ◌++◌, ◌∷◌, [], ◌<◌, List, Some, IsNone, length, IfOk, MatchResult};
+ghost use Rattle.rbac_policy.specs.declared.commands.Entry.{Entry};
+ghost use Rattle.rbac_policy.specs.StandsFor.{StandsFor};
+ghost use Rattle.refusal_rules.specs.Rules.{accept, MayRefuse, ◌▸◌, Answers};
+ghost use Rattle.rbac_admin.specs.PolicyLists.{Begins, IsAccepted, IsPolicyList};
+ghost use Rattle.policy_board.specs.PolicyCommands.{AdminStep, IsPublished, IsRefused, SeatAfter, session_made};
+ghost use Rattle.policy_board.specs.Inner.Keeping.{KeepsAnswer};
+ghost use Rattle.seat_receipts.specs.declared.mismatch.TheConstants.{POLICY_LIST};
+ghost use Rattle.seat_receipts.specs.declared.mismatch.Mismatch.TheVariants.{Count};
+
+use crate::history::BoardName;
+use crate::publisher::Publisher;
+use crate::reader::SlotReader;
+use crate::refusal::Refusal;
+use crate::seat::{Receipt, Seat};
+use rbac_admin::decisions::decide;
+use rbac_admin::room::has_room;
+use rbac_policy::commands::{AdminCommand, Entry, SessionId};
+use rbac_policy::journal::PolicyJournal;
+use rbac_policy::policy::Policy;
+use seat_receipts::mismatch::{Mismatch, POLICY_LIST};
+use seat_receipts::receipt::Kept;
+use std::alloc::AllocError;
+use std::marker::Model;
+use std::sync::Wait;
+
+/// The writer and the journal. A contract sees the journal, which is all that is published.
+pub struct LockedPolicy<B: BoardName> {
+    publisher: Option<Publisher<B>>,
+    journal: PolicyJournal,
+}
+
+impl<B: BoardName> Model for LockedPolicy<B> {
+    ghost use Rattle.std.specs.Prelude.{◌≡◌, List, Some};
+    ghost use Rattle.rbac_policy.specs.declared.commands.Entry.{Entry};
+
+    ghost Value = { List Entry };
+
+    ghost view = { λ d. d.journal };
+
+    ghost invariant = { λ d. d.publisher ≡ Some d.journal };
+}
+
+// The place is empty.
+fn put_back<T>(place: &mut Option<T>, value: T)
+    requires { IsNone place.old }
+    ensures { place.new ≡ Some value }
+{
+    match place.replace(value) {
+        None => {}
+        Some(_) => unreachable!(),
+    }
+}
+
+// Three copies of the entry: one is published, one goes into the answer, and one into the receipt that the seat keeps.
+fn copies(entry: &Entry) -> Result<(Entry, Entry, Entry), AllocError>
+    ensures { IfOk result (λ all. (all.0 ≡ entry.now) × (all.1 ≡ entry.now) × (all.2 ≡ entry.now)) }
+{
+    let published = entry.clone()?;
+    let told = entry.clone()?;
+    let kept = entry.clone()?;
+    Ok((published, told, kept))
+}
+
+// The session that the entry, which the policy took in last, has made.
+fn session_made(policy: &Policy, entry: &Entry) -> Option<SessionId>
+    ensures { (before : List Entry) → StandsFor policy.now (before ++ entry.now ∷ [])
+        → result ≡ session_made before entry.now }
+{
+    if entry.command.is_login() {
+        Some(SessionId::new(policy.logins()))
+    } else {
+        None
+    }
+}
+
+impl<B: BoardName> LockedPolicy<B> {
+    /// Of a writer that shows the list of the journal.
+    pub fn new(publisher: Publisher<B>, journal: PolicyJournal) -> LockedPolicy<B>
+        requires { publisher ≡ journal }
+        ensures { result ≡ journal }
+    {
+        LockedPolicy {
+            publisher: Some(publisher),
+            journal,
+        }
+    }
+
+    // Publishes the entry, and has the seat keep its receipt. All that may be refused has been asked, but for memory,
+    // which is taken first.
+    fn append<R: Wait>(
+        &mut self,
+        rt: &R,
+        seat: &mut Seat<B>,
+        entry: Entry,
+    ) -> Result<Receipt<B>, Refusal>
+        requires { IsAccepted self.old entry }
+        ensures answer { Answers (MayRefuse Refusal.Memory ▸ accept) (λ refusal. IsRefused refusal self.old result
+            self.new) (IsPublished entry self.old result self.new) }
+        ensures seat { KeepsAnswer seat.old result self.new seat.new }
+    {
+        let Ok((published, told, kept)) = copies(&entry) else {
+            return Err(Refusal::Memory);
+        };
+        seat.room()?;
+        let Ok(()) = self.journal.push(entry) else {
+            return Err(Refusal::Memory);
+        };
+        let publisher = self.publisher.take().unwrap().publish(rt, published);
+        let receipt = Receipt {
+            session: session_made(publisher.policy(), &told),
+            entry: told,
+            list: publisher.front(),
+        };
+        put_back(&mut self.publisher, publisher);
+        seat.keep(Kept::Admin {
+            version: receipt.version(),
+            entry: kept,
+        });
+        Ok(receipt)
+    }
+
+    // The answer to a policy command: its entry is decided on the policy that is published, and appended where there is room.
+    fn answer<R: Wait>(
+        &mut self,
+        rt: &R,
+        seat: &mut Seat<B>,
+        session: Option<SessionId>,
+        command: AdminCommand,
+    ) -> Result<Receipt<B>, Refusal>
+        ensures step { AdminStep self.old session command result self.new }
+        ensures seat { KeepsAnswer seat.old result self.new seat.new }
+    {
+        let policy = self.publisher.as_ref().unwrap().policy();
+        let entry = match decide(policy, session, command) {
+            Ok(entry) => entry,
+            Err(refusal) => return Err(Refusal::Policy(refusal)),
+        };
+        if !has_room(self.journal.entries(), &entry.command) {
+            return Err(Refusal::JournalFull);
+        }
+        self.append(rt, seat, entry)
+    }
+
+    /// Answers a policy command. An accepted one adds its entry at the end, and publishes it. The seat then knows the
+    /// list, and keeps the receipt of an accepted one.
+    pub fn admin<R: Wait>(
+        &mut self,
+        rt: &R,
+        seat: &mut Seat<B>,
+        session: Option<SessionId>,
+        command: AdminCommand,
+    ) -> Result<Receipt<B>, Refusal>
+        ensures known { Begins seat.old.known self.old }
+        ensures list { IsPolicyList self.old }
+        ensures step { AdminStep self.old session command result self.new }
+        ensures seat { SeatAfter seat.old result self.new seat.new }
+    {
+        let publisher = self.publisher.as_ref().unwrap();
+        publisher.wait_whole(rt, seat.known());
+        seat.know(&publisher.front());
+        let answer = self.answer(rt, seat, session, command);
+        if let Ok(receipt) = &answer {
+            seat.know(receipt.list());
+        }
+        answer
+    }
+
+    /// Whether what the reader saw is a beginning of the journal.
+    pub fn compare(&self, reader: &SlotReader<B>) -> Result<(), Mismatch>
+        ensures { MatchResult result
+            (λ _. Begins reader.now self.now)
+            (λ mismatch. (mismatch ≡ Count POLICY_LIST) × (length self.now < length reader.now)) }
+    {
+        if reader
+            .front()
+            .begins(&self.publisher.as_ref().unwrap().front())
+        {
+            return Ok(());
+        }
+        Err(Mismatch::Count { slot: POLICY_LIST })
+    }
+
+    /// Waits for the readers, ends the writer, and gives the journal.
+    pub fn into_journal<R: Wait>(self, rt: &R) -> PolicyJournal
+        ensures same { result ≡ self }
+        ensures list { IsPolicyList self }
+    {
+        let LockedPolicy { publisher, journal } = self;
+        publisher.unwrap().take(rt);
+        journal
+    }
+}
