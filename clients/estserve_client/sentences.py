@@ -46,6 +46,7 @@ SENTENCES = {
     "AlreadyOffered": "it is pending already",
     "NoInstant": "there was no such instant since the load",
     "JournalFull": "the journal is full",
+    "Behind": "{found} policy entries were read, and {seen} were seen before; send it again",
     "Lexical": "no token stands at line {line}, column {column}",
     "Syntax": "the text cannot go on so at line {line}, column {column}",
     "UnknownModule": "there is no module {name}",
