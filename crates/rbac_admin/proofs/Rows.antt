@@ -15,7 +15,7 @@ use Rattle.rbac_admin.specs.declared.refusals.Refusal.TheVariants as refusal
 use Rattle.rbac_admin.specs.Refusals.{row_of, NamesObjects, table_text}
 
 -- the table of this word
-table_back : List ℕ → Table
+abbrev table_back : List ℕ → Table
 table_back text =
     if bytes_eq text (codes "users") then Users
     else (if bytes_eq text (codes "roles") then Roles
@@ -29,11 +29,11 @@ table_is Permissions = refl
 table_is Sessions = refl
 table_is Sets = refl
 
-permission_back : Option Operation → Object → Option Refusal
+abbrev permission_back : Option Operation → Object → Option Refusal
 permission_back operation object = option_map (λ (o : Operation). refusal.Permission o object) operation
 
 -- the refusal of this number and these fields
-pub policy_back : ℕ → Fields → Option Refusal
+abbrev pub policy_back : ℕ → Fields → Option Refusal
 policy_back code fields =
     if code == 4 then Some refusal.NoSession
     else (if code == 6 then Some refusal.SessionsExhausted

@@ -15,7 +15,7 @@ use crate::loaded::Module;
 use crate::reactor::instant::Instant;
 use crate::reactor::parts::{Parts, check_relations, join};
 use crate::reading::read_module;
-use crate::refusal::Refusal;
+use crate::refusal::{ModuleRefusal, Refusal};
 use crate::text::Text;
 use est_kernel::interface::Interface;
 use est_kernel::state::State;
@@ -240,7 +240,7 @@ impl Reactor {
                 mask,
                 present: (instant.inputs | instant.outputs) & mask,
             }),
-            None => Err(Refusal::NoInstant),
+            None => Err(Refusal::Module(ModuleRefusal::NoInstant)),
         }
     }
 }
