@@ -17,7 +17,7 @@ ghost use Rattle.access_core.specs.declared.reply.Reply.TheVariants.{Unload, Aud
 ghost use Rattle.access_core.specs.declared.reply.Change.TheVariants as change;
 ghost use Rattle.access_core.specs.declared.refusal.Refusal.TheVariants as refusal;
 ghost use Rattle.rbac_admin.specs.declared.refusals.Refusal.TheVariants as policy;
-ghost use Rattle.reactor_core.specs.declared.refusal.ModuleRefusal.TheVariants as module;
+ghost use Rattle.reactor_core.specs.declared.refusal.ModuleRefusal.TheVariants as of_module;
 ghost use Rattle.est_text.specs.declared.place.Place.{Place};
 
 use crate::accepted::{discard_line, load_line, offer_line, step_line, unload_line};
@@ -412,7 +412,7 @@ pub fn reply_lines_are_these()
     ensures unknown_user { (user : List ℕ)
         → line_of (Refused (refusal.Policy (policy.UnknownUser user)))
         ≡ codes "{\"code\":25,\"fault\":\"UnknownUser\",\"user\":" ++ (quoted user ++ codes "}\n") }
-    ensures syntax { (place : Place) → line_of (Refused (refusal.Module (module.Syntax place)))
+    ensures syntax { (place : Place) → line_of (Refused (refusal.Module (of_module.Syntax place)))
         ≡ codes "{\"code\":71,\"column\":" ++ (decimal place.column ++
         (codes ",\"fault\":\"Syntax\",\"line\":" ++ (decimal place.line ++ codes "}\n"))) }
 {}
