@@ -1,3 +1,3 @@
-pub mod Reading
-pub mod SlotTokens
+pub mod Members
+pub mod Commands
 pub mod LookTokens
