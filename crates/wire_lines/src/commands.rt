@@ -2,18 +2,18 @@
 //!
 //! Commands with the same keys share a reader.
 ghost use Rattle.std.specs.Prelude.{◌≡◌, codes, option_map, IfOk};
-ghost use Rattle.rbac_policy.specs.Texts.{operation_of, object_of};
-ghost use Rattle.wire_lines.specs.Inner.Members.{name_of, parsed_after, number_after, last, ends};
-ghost use Rattle.wire_lines.specs.Inner.Commands.{request_of, permission_values, two_values};
-ghost use Rattle.wire_lines.specs.Inner.Commands.{rows, policy_rows, relation_rows, request_in, request_at};
+ghost use Rattle.json.specs.Lex.{tokens};
+ghost use Rattle.wire_lines.specs.Inner.Members.{name_of, parsed_after, number_after, two_values, permission_values, last};
+ghost use Rattle.wire_lines.specs.Inner.Commands.{request_of, request_in, request_at, rows, policy_rows, plain_rows, relation_rows};
 ghost use Rattle.wire_lines.specs.Inner.Commands.{slot_alone, main_slot_text, signal_slot, instant_slot};
 ghost use Rattle.wire_lines.specs.Inner.Commands.{object_operation, roles_user, count_name_roles};
+ghost use Rattle.wire_lines.specs.declared.request.Request.TheVariants.{Policy};
 
 use crate::members::{take_end, take_identifier, take_name, take_number, take_object};
-use crate::members::{take_operation, take_roles, take_text, begin_object};
+use crate::members::{take_operation, take_roles, take_text, take_word};
 use crate::request::Request;
 use access_core::command::SlotCommand;
-use json::Reader;
+use json::{Reader, Scratch};
 use rbac_policy::commands::AdminCommand;
 use rbac_policy::names::Name;
 use rbac_policy::objects::{Object, Operation};
@@ -104,10 +104,167 @@ fn load(alloc: Global, reader: &mut Reader<'_>) -> Result<Option<Request>, Alloc
     let Some(slot) = take_number(reader, "slot") else {
         return Ok(None);
     };
-    let Some(text) = last_text(reader) else {
+    let Some(text) = take_text(reader, "text") else {
         return Ok(None);
     };
+    if take_end(reader).is_none() {
+        return Ok(None);
+    }
     let text = Text::copied(alloc, text)?;
     let command = SlotCommand::Load { main, text };
     Ok(Some(Request::Slot { slot, command }))
+}
+
+/// This command, on the slot that is its one member.
+#[tactic(auto, unfolding(crate::specs::Inner::Commands::request_of))]
+fn on_slot(reader: &mut Reader<'_>, command: SlotCommand) -> Option<Request>
+    ensures { result ≡ request_of (slot_alone command) reader.old }
+{
+    let slot = last_slot(reader)?;
+    Some(Request::Slot { slot, command })
+}
+
+/// An offer: the signal and the slot.
+#[tactic(auto, unfolding(crate::specs::Inner::Commands::request_of))]
+fn offer(reader: &mut Reader<'_>) -> Option<Request>
+    ensures { result ≡ request_of signal_slot reader.old }
+{
+    let signal = take_identifier(reader, "signal")?;
+    let slot = last_slot(reader)?;
+    let command = SlotCommand::Offer { signal };
+    Some(Request::Slot { slot, command })
+}
+
+/// A look: the instant and the slot.
+#[tactic(auto, unfolding(crate::specs::Inner::Commands::request_of))]
+fn look(reader: &mut Reader<'_>) -> Option<Request>
+    ensures { result ≡ request_of instant_slot reader.old }
+{
+    let instant = take_number(reader, "instant")?;
+    let slot = last_slot(reader)?;
+    let command = SlotCommand::Look { instant };
+    Some(Request::Slot { slot, command })
+}
+
+/// A check: the object and the operation.
+#[tactic(auto, unfolding(crate::specs::Inner::Commands::request_of))]
+fn check(reader: &mut Reader<'_>) -> Option<Request>
+    ensures { result ≡ request_of object_operation reader.old }
+{
+    let object = take_object(reader)?;
+    let operation = take_operation(reader)?;
+    take_end(reader)?;
+    Some(Request::Check { operation, object })
+}
+
+/// The command of this word on who has which role, on permissions or on the order of roles.
+#[tactic(auto, unfolding(crate::specs::Inner::Commands::request_of))]
+fn relation(reader: &mut Reader<'_>, word: &str) -> Option<AdminCommand>
+    ensures { option_map Policy result ≡ request_in relation_rows word.now reader.old }
+{
+    match word {
+        "assign" => {
+            let (role, user) = two_names(reader, "role", "user")?;
+            Some(AdminCommand::AssignUser { user, role })
+        }
+        "deassign" => {
+            let (role, user) = two_names(reader, "role", "user")?;
+            Some(AdminCommand::DeassignUser { user, role })
+        }
+        "inherit" => {
+            let (junior, senior) = two_names(reader, "junior", "senior")?;
+            Some(AdminCommand::AddInheritance { senior, junior })
+        }
+        "disinherit" => {
+            let (junior, senior) = two_names(reader, "junior", "senior")?;
+            Some(AdminCommand::DeleteInheritance { senior, junior })
+        }
+        "grant" => {
+            let (object, operation, role) = permission(reader)?;
+            Some(AdminCommand::GrantPermission {
+                role,
+                operation,
+                object,
+            })
+        }
+        "revoke" => {
+            let (object, operation, role) = permission(reader)?;
+            Some(AdminCommand::RevokePermission {
+                role,
+                operation,
+                object,
+            })
+        }
+        _ => None,
+    }
+}
+
+/// The policy command of this word, where it lists no roles.
+#[tactic(auto, unfolding(crate::specs::Inner::Commands::request_of))]
+fn plain(reader: &mut Reader<'_>, word: &str) -> Option<AdminCommand>
+    ensures { option_map Policy result ≡ request_in plain_rows word.now reader.old }
+{
+    match word {
+        "logout" => take_end(reader).map(|_| AdminCommand::DeleteSession),
+        "adduser" => last_name(reader, "user").map(|user| AdminCommand::AddUser { user }),
+        "deluser" => last_name(reader, "user").map(|user| AdminCommand::DeleteUser { user }),
+        "addrole" => last_name(reader, "role").map(|role| AdminCommand::AddRole { role }),
+        "delrole" => last_name(reader, "role").map(|role| AdminCommand::DeleteRole { role }),
+        "activate" => last_name(reader, "role").map(|role| AdminCommand::AddActiveRole { role }),
+        "drop" => last_name(reader, "role").map(|role| AdminCommand::DropActiveRole { role }),
+        "undsd" => last_name(reader, "name").map(|set| AdminCommand::DeleteDsdSet { set }),
+        _ => relation(reader, word),
+    }
+}
+
+/// The request of this word, where it is a policy command.
+fn policy(
+    alloc: Global,
+    reader: &mut Reader<'_>,
+    word: &str,
+) -> Result<Option<Request>, AllocError>
+    ensures { IfOk result (λ request. request ≡ request_in policy_rows word.now reader.old) }
+{
+    match word {
+        "login" => login(alloc, reader),
+        "dsd" => separation(alloc, reader),
+        _ => Ok(plain(reader, word).map(Request::Policy)),
+    }
+}
+
+/// The request of this word.
+fn request_of(
+    alloc: Global,
+    reader: &mut Reader<'_>,
+    word: &str,
+) -> Result<Option<Request>, AllocError>
+    ensures { IfOk result (λ request. request ≡ request_in rows word.now reader.old) }
+{
+    match word {
+        "step" => Ok(on_slot(reader, SlotCommand::Step)),
+        "look" => Ok(look(reader)),
+        "offer" => Ok(offer(reader)),
+        "check" => Ok(check(reader)),
+        "load" => load(alloc, reader),
+        "discard" => Ok(on_slot(reader, SlotCommand::Discard)),
+        "unload" => Ok(on_slot(reader, SlotCommand::Unload)),
+        "audit" => Ok(on_slot(reader, SlotCommand::Audit)),
+        _ => policy(alloc, reader, word),
+    }
+}
+
+/// The request of a text whose members stand in the order of their keys.
+#[tactic(auto, unfolding(crate::specs::Inner::Commands::request_at))]
+pub(crate) fn request_at(
+    alloc: Global,
+    scratch: &mut Scratch,
+    text: &str,
+) -> Result<Option<Request>, AllocError>
+    ensures { IfOk result (λ request. request ≡ request_at (tokens text.now)) }
+{
+    let mut reader = Reader::new(text, scratch)?;
+    match take_word(&mut reader) {
+        Some(word) => request_of(alloc, &mut reader, word),
+        None => Ok(None),
+    }
 }

@@ -2,12 +2,12 @@
 //!
 //! Each call takes one member, or answers that the next one is not of this key and kind. A line whose keys stand in
 //! another order is not read here.
-ghost use Rattle.std.specs.Prelude.{◌≡◌, ◌==◌, ◌≤◌, slice_index, length, IfOk, IfSome, option_map};
-ghost use Rattle.est_text.specs.Identifiers.{is_identifier};
+ghost use Rattle.std.specs.Prelude.{◌≡◌, ◌==◌, ◌≤◌, ◌+◌, slice_index, length, codes, IfOk, IfSome, option_map};
 ghost use Rattle.rbac_policy.specs.declared.names.TheConstants.{LISTED_ROLES};
 ghost use Rattle.rbac_policy.specs.Texts.{operation_of, object_of};
-ghost use Rattle.wire_lines.specs.Inner.Members.{whole_of, after_key, front_text, front_number, begins_array, text_after, number_after};
-ghost use Rattle.wire_lines.specs.Inner.Members.{name_of, identifier_of, parsed_after, names_in, roles_after, is_end};
+ghost use Rattle.wire_lines.specs.Inner.Members.{whole_of, after_key, front_text, front_number, begins_object};
+ghost use Rattle.wire_lines.specs.Inner.Members.{begins_array, text_after, number_after, name_of, identifier_of};
+ghost use Rattle.wire_lines.specs.Inner.Members.{parsed_after, names_in, roles_after, ends, word_at};
 
 use est_text::identifier::Identifier;
 use fast_float::Numeral;
@@ -40,7 +40,7 @@ fn take_key(reader: &mut Reader<'_>, name: &str) -> Option<()>
 {
     match reader.next_key() {
         Ok(Some(found)) if found == name => Some(()),
-        _ => None,
+        Ok(_) | Err(_) => None,
     }
 }
 
@@ -64,6 +64,16 @@ fn next_number<'a>(reader: &mut Reader<'a>) -> Option<&'a str>
     }
 }
 
+/// Takes the brace that begins an object.
+fn begin_object(reader: &mut Reader<'_>) -> Option<()>
+    ensures { option_map (λ _. reader.new) result ≡ begins_object reader.old }
+{
+    match reader.next() {
+        Some(Token::BeginObject) => Some(()),
+        _ => None,
+    }
+}
+
 /// Takes the bracket that begins an array.
 fn begin_array(reader: &mut Reader<'_>) -> Option<()>
     ensures { option_map (λ _. reader.new) result ≡ begins_array reader.old }
@@ -72,6 +82,15 @@ fn begin_array(reader: &mut Reader<'_>) -> Option<()>
         Some(Token::BeginArray) => Some(()),
         _ => None,
     }
+}
+
+/// Takes the brace that begins an object, and the word of its command, which is its first member.
+#[tactic(auto, unfolding(crate::specs::Inner::Members::word_at))]
+pub(crate) fn take_word<'a>(reader: &mut Reader<'a>) -> Option<&'a str>
+    ensures { option_map (λ word. (word.now, reader.new)) result ≡ word_at reader.old }
+{
+    begin_object(reader)?;
+    take_text(reader, "cmd")
 }
 
 /// Takes the text that comes next, under this key.
@@ -163,10 +182,13 @@ pub(crate) fn take_roles(
 
 /// Takes the brace that ends the object, and the text with it.
 pub(crate) fn take_end(reader: &mut Reader<'_>) -> Option<()>
-    ensures { IfSomeElse result }
+    ensures { result ≡ ends reader.old }
 {
-    match reader.next_key() {
-        Ok(None) if reader.next().is_none() => Some(()),
-        _ => None,
+    let Ok(None) = reader.next_key() else {
+        return None;
+    };
+    match reader.next() {
+        None => Some(()),
+        Some(_) => None,
     }
 }

@@ -9,7 +9,7 @@ use Rattle.rbac_policy.specs.declared.commands.AdminCommand.{AdminCommand}
 use Rattle.rbac_policy.specs.declared.commands.AdminCommand.TheVariants.{AddUser, DeleteUser, AddRole, DeleteRole, AssignUser, DeassignUser, GrantPermission, RevokePermission, AddInheritance, DeleteInheritance, CreateDsdSet, DeleteDsdSet, CreateSession, DeleteSession, AddActiveRole, DropActiveRole}
 use Rattle.access_core.specs.declared.command.SlotCommand.{SlotCommand}
 use Rattle.access_core.specs.declared.command.SlotCommand.TheVariants.{Load, Offer, Discard, Step, Unload, Look, Audit}
-use Rattle.wire_lines.specs.Inner.Members.{name_of, identifier_of, parsed_after, text_after, number_after, roles_after, begins_object, ends, last}
+use Rattle.wire_lines.specs.Inner.Members.{name_of, identifier_of, parsed_after, text_after, number_after, roles_after, two_values, permission_values, word_at, ends, last}
 use Rattle.wire_lines.specs.declared.request.Request.{Request}
 use Rattle.wire_lines.specs.declared.request.Request.TheVariants.{Policy, Slot, Check}
 
@@ -31,11 +31,8 @@ pub data Shape : Type 0 where
 unfoldable pub request_of : Shape → List Token → Option Request
 request_of (nothing request) tokens = option_map (λ _. request) (ends tokens)
 request_of (one_name key make) tokens = option_map (λ name. Policy (make name)) (last (parsed_after name_of key tokens))
-request_of (two_names first second make) tokens =
-    option_and_then (λ one. option_map (λ other. Policy (make one.0 other)) (last (parsed_after name_of second one.1))) (parsed_after name_of first tokens)
-request_of (permission make) tokens =
-    option_and_then (λ on. option_and_then (λ operation. option_map (λ role. Policy (make on.0 operation.0 role)) (last (parsed_after name_of (codes "role") operation.1)))
-    (parsed_after operation_of (codes "op") on.1)) (parsed_after object_of (codes "object") tokens)
+request_of (two_names first second make) tokens = option_map (λ p. Policy (make p.0 p.1)) (two_values first second tokens)
+request_of (permission make) tokens = option_map (λ p. Policy (make p.0 p.1 p.2)) (permission_values tokens)
 request_of roles_user tokens =
     option_and_then (λ roles. option_map (λ user. Policy (CreateSession user roles.0)) (last (parsed_after name_of (codes "user") roles.1))) (roles_after tokens)
 request_of count_name_roles tokens =
@@ -56,7 +53,7 @@ request_of object_operation tokens =
 abbrev pub Row : Type 0
 Row = List ℕ × Shape
 
--- the commands on permissions and on the order of roles
+-- the commands on who has which role, on permissions and on the order of roles
 abbrev pub relation_rows : List Row
 relation_rows =
     (codes "assign", two_names (codes "role") (codes "user") (λ role user. AssignUser user role))
@@ -67,15 +64,19 @@ relation_rows =
     ∷ (codes "revoke", permission (λ on operation role. RevokePermission role operation on))
     ∷ []
 
--- the other policy commands
-abbrev pub policy_rows : List Row
-policy_rows =
-    (codes "login", roles_user) ∷ (codes "logout", nothing (Policy DeleteSession))
+-- the policy commands that list no roles
+abbrev pub plain_rows : List Row
+plain_rows =
+    (codes "logout", nothing (Policy DeleteSession))
     ∷ (codes "adduser", one_name (codes "user") AddUser) ∷ (codes "deluser", one_name (codes "user") DeleteUser)
     ∷ (codes "addrole", one_name (codes "role") AddRole) ∷ (codes "delrole", one_name (codes "role") DeleteRole)
     ∷ (codes "activate", one_name (codes "role") AddActiveRole) ∷ (codes "drop", one_name (codes "role") DropActiveRole)
-    ∷ (codes "dsd", count_name_roles) ∷ (codes "undsd", one_name (codes "name") DeleteDsdSet)
+    ∷ (codes "undsd", one_name (codes "name") DeleteDsdSet)
     ∷ relation_rows
+
+-- the policy commands
+abbrev pub policy_rows : List Row
+policy_rows = (codes "login", roles_user) ∷ (codes "dsd", count_name_roles) ∷ plain_rows
 
 -- the commands on slots, checks, and all policy commands
 abbrev pub rows : List Row
@@ -91,4 +92,4 @@ request_in (row ∷ more) word tokens = if bytes_eq word row.0 then request_of r
 
 -- the request of an object: the word is its first member
 unfoldable pub request_at : List Token → Option Request
-request_at tokens = option_and_then (λ word. request_in rows word.0 word.1) (option_and_then (text_after (codes "cmd")) (begins_object tokens))
+request_at tokens = option_and_then (λ word. request_in rows word.0 word.1) (word_at tokens)

@@ -8,6 +8,9 @@ use Rattle.serde_json.specs.Read.{number_of}
 use Rattle.est_text.specs.Identifiers.{is_identifier}
 use Rattle.rbac_policy.specs.declared.names.TheConstants.{LISTED_ROLES}
 use Rattle.rbac_policy.specs.Names.{is_name}
+use Rattle.rbac_policy.specs.Texts.{operation_of, object_of}
+use Rattle.rbac_policy.specs.declared.objects.Operation.{Operation}
+use Rattle.rbac_policy.specs.declared.objects.Object.{Object}
 
 -- the whole number that a number's text is
 unfoldable pub whole_of : List ℕ → Option ℕ
@@ -139,3 +142,18 @@ ends tokens = option_and_then (λ p. if_end p.0 p.1) (read_key tokens)
 -- a value that nothing follows but the end of its object
 abbrev pub last : {A : Type 0} → Option (A × List Token) → Option A
 last found = option_and_then (λ p. option_map (λ _. p.0) (ends p.1)) found
+
+-- the word of an object's command, which is its first member
+unfoldable pub word_at : List Token → Option (List ℕ × List Token)
+word_at tokens = option_and_then (text_after (codes "cmd")) (begins_object tokens)
+
+-- the names under two keys, the second of which is the last
+unfoldable pub two_values : (first second : List ℕ) → List Token → Option (List ℕ × List ℕ)
+two_values first second tokens =
+    option_and_then (λ one. option_map (λ other. (one.0, other)) (last (parsed_after name_of second one.1))) (parsed_after name_of first tokens)
+
+-- an object, an operation, and a role, which is the last
+unfoldable pub permission_values : List Token → Option (Object × Operation × List ℕ)
+permission_values tokens =
+    option_and_then (λ on. option_and_then (λ operation. option_map (λ role. (on.0, operation.0, role)) (last (parsed_after name_of (codes "role") operation.1)))
+    (parsed_after operation_of (codes "op") on.1)) (parsed_after object_of (codes "object") tokens)
