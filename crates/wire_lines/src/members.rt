@@ -2,12 +2,12 @@
 //!
 //! Each call takes one member, or answers that the next one is not of this key and kind. A line whose keys stand in
 //! another order is not read here.
-ghost use Rattle.std.specs.Prelude.{◌≡◌, ◌==◌, ◌≤◌, ◌+◌, slice_index, length, codes, IfOk, IfSome, option_map};
+ghost use Rattle.std.specs.Prelude.{◌≡◌, ◌==◌, ◌≤◌, slice_index, length, codes, IfOk, IfSome, option_map, option_and_then};
 ghost use Rattle.rbac_policy.specs.declared.names.TheConstants.{LISTED_ROLES};
 ghost use Rattle.rbac_policy.specs.Texts.{operation_of, object_of};
 ghost use Rattle.wire_lines.specs.Inner.Members.{whole_of, after_key, front_text, front_number, begins_object};
 ghost use Rattle.wire_lines.specs.Inner.Members.{begins_array, text_after, number_after, name_of, identifier_of};
-ghost use Rattle.wire_lines.specs.Inner.Members.{parsed_after, names_in, roles_after, ends, word_at};
+ghost use Rattle.wire_lines.specs.Inner.Members.{parsed_after, names_in, listed, roles_after, ends, word_at};
 
 use est_text::identifier::Identifier;
 use fast_float::Numeral;
@@ -35,12 +35,13 @@ fn whole_number(text: &str) -> Option<u64>
 }
 
 /// Takes the key that comes next, where it is this one.
+#[tactic(auto, unfolding(crate::specs::Inner::Members::after_key))]
 fn take_key(reader: &mut Reader<'_>, name: &str) -> Option<()>
     ensures { option_map (λ _. reader.new) result ≡ after_key name.now reader.old }
 {
-    match reader.next_key() {
-        Ok(Some(found)) if found == name => Some(()),
-        Ok(_) | Err(_) => None,
+    match reader.next() {
+        Some(Token::Key(found)) if found == name => Some(()),
+        _ => None,
     }
 }
 
@@ -145,20 +146,24 @@ pub(crate) fn take_operation(reader: &mut Reader<'_>) -> Option<Operation>
 }
 
 /// Takes the names that come next, up to the bracket behind them: no more than a command may list.
+#[tactic(auto, unfolding(crate::specs::Inner::Members::names_in))]
 fn take_names(alloc: Global, reader: &mut Reader<'_>) -> Result<Option<Vec<Name>>, AllocError>
     ensures names { IfOk result (λ names. option_map (λ v. (v.items, reader.new)) names
-        ≡ names_in (LISTED_ROLES + 1) reader.old) }
+        ≡ option_and_then listed (names_in reader.old)) }
     ensures count { IfOk result (λ names. IfSome names (λ v. length v.items ≤ LISTED_ROLES)) }
 {
     let mut names = Vec::new(alloc);
-    for _ in 0..=LISTED_ROLES {
-        if reader.take_end_array() {
-            return Ok(Some(names));
+    while names.len() <= LISTED_ROLES {
+        match reader.next() {
+            Some(Token::EndArray) => return Ok(Some(names)),
+            Some(Token::String(text)) => {
+                let Some(name) = Name::from_text(text) else {
+                    return Ok(None);
+                };
+                names.push(name)?;
+            }
+            _ => return Ok(None),
         }
-        let Some(name) = next_text(reader).and_then(Name::from_text) else {
-            return Ok(None);
-        };
-        names.push(name)?;
     }
     Ok(None)
 }
@@ -181,10 +186,11 @@ pub(crate) fn take_roles(
 }
 
 /// Takes the brace that ends the object, and the text with it.
+#[tactic(auto, unfolding(crate::specs::Inner::Members::ends))]
 pub(crate) fn take_end(reader: &mut Reader<'_>) -> Option<()>
     ensures { result ≡ ends reader.old }
 {
-    let Ok(None) = reader.next_key() else {
+    let Some(Token::EndObject) = reader.next() else {
         return None;
     };
     match reader.next() {

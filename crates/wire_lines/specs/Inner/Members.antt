@@ -1,8 +1,7 @@
 -- What the next tokens of a line are, member by member; for private clauses. Each function gives a value and the tokens that are left.
-use Rattle.std.specs.Prelude.{ℕ, zero, suc, ◌+◌, List, [], ◌∷◌, ◌++◌, codes, Bool, true, false, Option, Some, None, option_map, option_and_then, if◌then◌else◌}
+use Rattle.std.specs.Prelude.{ℕ, nat_le, length, List, [], ◌∷◌, ◌++◌, codes, Bool, true, false, Option, Some, None, option_map, option_and_then, if◌then◌else◌}
 use Rattle.std.specs.Str.{bytes_eq}
-use Rattle.json.specs.Token.{Token, begin_object, end_object, begin_array, end_array, key, string, number, boolean, null, bad}
-use Rattle.json.specs.Json.{read_key, after_end_array}
+use Rattle.json.specs.Token.{Token, begin_object, end_object, begin_array, end_array, key, string, number}
 use Rattle.serde_json.specs.Find.{as_u64}
 use Rattle.serde_json.specs.Read.{number_of}
 use Rattle.est_text.specs.Identifiers.{is_identifier}
@@ -24,70 +23,35 @@ name_of text = if is_name text then Some text else None
 abbrev pub identifier_of : List ℕ → Option (List ℕ)
 identifier_of text = if is_identifier text then Some text else None
 
--- what follows a key, if it is this one
-abbrev pub if_key : List ℕ → Option (List ℕ) → List Token → Option (List Token)
-if_key name None left = None
-if_key name (Some found) left = if bytes_eq found name then Some left else None
-
 -- what follows this key
 unfoldable pub after_key : List ℕ → List Token → Option (List Token)
-after_key name tokens = option_and_then (λ p. if_key name p.0 p.1) (read_key tokens)
+after_key name [] = None
+after_key name (key found ∷ left) = if bytes_eq found name then Some left else None
+after_key name (_ ∷ left) = None
 
 -- the text that comes first
 abbrev pub front_text : List Token → Option (List ℕ × List Token)
 front_text [] = None
-front_text (begin_object ∷ left) = None
-front_text (end_object ∷ left) = None
-front_text (begin_array ∷ left) = None
-front_text (end_array ∷ left) = None
-front_text (key text ∷ left) = None
 front_text (string text ∷ left) = Some (text, left)
-front_text (number text ∷ left) = None
-front_text (boolean b ∷ left) = None
-front_text (null ∷ left) = None
-front_text (bad ∷ left) = None
+front_text (_ ∷ left) = None
 
 -- the text of the number that comes first
 abbrev pub front_number : List Token → Option (List ℕ × List Token)
 front_number [] = None
-front_number (begin_object ∷ left) = None
-front_number (end_object ∷ left) = None
-front_number (begin_array ∷ left) = None
-front_number (end_array ∷ left) = None
-front_number (key text ∷ left) = None
-front_number (string text ∷ left) = None
 front_number (number text ∷ left) = Some (text, left)
-front_number (boolean b ∷ left) = None
-front_number (null ∷ left) = None
-front_number (bad ∷ left) = None
+front_number (_ ∷ left) = None
 
 -- what follows the bracket that begins an array
 abbrev pub begins_array : List Token → Option (List Token)
 begins_array [] = None
-begins_array (begin_object ∷ left) = None
-begins_array (end_object ∷ left) = None
 begins_array (begin_array ∷ left) = Some left
-begins_array (end_array ∷ left) = None
-begins_array (key text ∷ left) = None
-begins_array (string text ∷ left) = None
-begins_array (number text ∷ left) = None
-begins_array (boolean b ∷ left) = None
-begins_array (null ∷ left) = None
-begins_array (bad ∷ left) = None
+begins_array (_ ∷ left) = None
 
 -- what follows the brace that begins an object
 abbrev pub begins_object : List Token → Option (List Token)
 begins_object [] = None
 begins_object (begin_object ∷ left) = Some left
-begins_object (end_object ∷ left) = None
-begins_object (begin_array ∷ left) = None
-begins_object (end_array ∷ left) = None
-begins_object (key text ∷ left) = None
-begins_object (string text ∷ left) = None
-begins_object (number text ∷ left) = None
-begins_object (boolean b ∷ left) = None
-begins_object (null ∷ left) = None
-begins_object (bad ∷ left) = None
+begins_object (_ ∷ left) = None
 
 -- what a text is, and what is left
 abbrev pub parsed : {A : Type 0} → (List ℕ → Option A) → List ℕ × List Token → Option (A × List Token)
@@ -109,35 +73,31 @@ parsed_after parse name tokens = option_and_then (parsed parse) (text_after name
 abbrev pub with_front : List (List ℕ) → Option (List (List ℕ) × List Token) → Option (List (List ℕ) × List Token)
 with_front front names = option_map (λ found. (front ++ found.0, found.1)) names
 
--- no name, where an array ends here, or else the names that are so read
-abbrev pub none_at_end : Option (List Token) → Option (List (List ℕ) × List Token) → Option (List (List ℕ) × List Token)
-none_at_end (Some left) more = Some ([], left)
-none_at_end None more = more
+-- the names up to the bracket that ends their array
+unfoldable pub names_in : List Token → Option (List (List ℕ) × List Token)
+names_in [] = None
+names_in (end_array ∷ left) = Some ([], left)
+names_in (string text ∷ left) = option_and_then (λ name. with_front (name ∷ []) (names_in left)) (name_of text)
+names_in (_ ∷ left) = None
 
--- the names up to the bracket that ends their array, where they and the bracket are no more than so many tokens
-unfoldable pub names_in : ℕ → List Token → Option (List (List ℕ) × List Token)
-names_in zero tokens = None
-names_in (suc turns) tokens =
-    none_at_end (after_end_array tokens)
-    (option_and_then (λ first. with_front (first.0 ∷ []) (names_in turns first.1)) (option_and_then (parsed name_of) (front_text tokens)))
+-- no more names than a command may list
+abbrev pub listed : List (List ℕ) × List Token → Option (List (List ℕ) × List Token)
+listed found = if nat_le (length found.0) LISTED_ROLES then Some found else None
 
--- the roles under the key `roles`: no more than a command may list
+-- the roles under the key `roles`
 unfoldable pub roles_after : List Token → Option (List (List ℕ) × List Token)
-roles_after tokens = option_and_then (names_in (LISTED_ROLES + 1)) (option_and_then begins_array (after_key (codes "roles") tokens))
+roles_after tokens = option_and_then listed (option_and_then names_in (option_and_then begins_array (after_key (codes "roles") tokens)))
 
 -- nothing is left
 abbrev pub no_more : List Token → Option (Unit {0})
 no_more [] = Some tt
 no_more (t ∷ tokens) = None
 
--- what the brace that ends an object is, where the text ends behind it
-abbrev pub if_end : Option (List ℕ) → List Token → Option (Unit {0})
-if_end None left = no_more left
-if_end (Some name) left = None
-
 -- the object ends here, and the text with it
 unfoldable pub ends : List Token → Option (Unit {0})
-ends tokens = option_and_then (λ p. if_end p.0 p.1) (read_key tokens)
+ends [] = None
+ends (end_object ∷ left) = no_more left
+ends (_ ∷ left) = None
 
 -- a value that nothing follows but the end of its object
 abbrev pub last : {A : Type 0} → Option (A × List Token) → Option A
