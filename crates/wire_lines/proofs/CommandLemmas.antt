@@ -329,7 +329,7 @@ request_back (Check operation on) f = rw (object_back on f, operation_back opera
 
 -- a text that has the members of a request in order is read as that request
 pub in_order_back : (text : List ℕ) (r : Request) → Fits r → IsInOrder text (object (members_of r)) → request_at (tokens text) ≡ Some r
-in_order_back text r f order = ap request_at (tokens_from_order text _ order (said_has_no_float (said.spelling r).said)) ∙ request_back r f
+in_order_back text r f order = ap request_at (tokens_from_order text (object (members_of r)) order (said_has_no_float (said.spelling r).said)) ∙ request_back r f
 
 -- ---- told apart
 

@@ -38,7 +38,8 @@ fn last_slot(reader: &mut Reader<'_>) -> Option<u64>
     Some(slot)
 }
 
-/// The names under these two keys.
+/// The names under these two keys, the second of which is the last.
+#[tactic(auto, unfolding(crate::specs::Inner::Members::two_values))]
 fn two_names(reader: &mut Reader<'_>, first: &str, second: &str) -> Option<(Name, Name)>
     ensures { result ≡ two_values first.now second.now reader.old }
 {
@@ -48,6 +49,7 @@ fn two_names(reader: &mut Reader<'_>, first: &str, second: &str) -> Option<(Name
 }
 
 /// The permission of a role: the object, the operation and the role.
+#[tactic(auto, unfolding(crate::specs::Inner::Members::permission_values))]
 fn permission(reader: &mut Reader<'_>) -> Option<(Object, Operation, Name)>
     ensures { result ≡ permission_values reader.old }
 {
