@@ -6,12 +6,12 @@ ghost use Rattle.est_syntax.specs.Views.{relation_view};
 ghost use Rattle.est_kernel.specs.declared.interface.TheConstants.{MOST_SIGNALS};
 ghost use Rattle.est_relations.specs.declared.relations.TheConstants.{MOST_RELATIONS};
 ghost use Rattle.est_link.specs.MainModule.{kernel_kind, declaration_of, declarations_of, place_of, IsRelation, AreRelations};
-ghost use Rattle.est_link.specs.MainRelations.{first_lawless};
-ghost use Rattle.est_link.specs.Modules.{program_of};
-ghost use Rattle.est_link.specs.Duplicates.{redeclared};
+ghost use Rattle.est_checks.specs.LawlessRelations.{first_lawless};
+ghost use Rattle.est_modules.specs.Modules.{program_of};
+ghost use Rattle.est_checks.specs.Duplicates.{redeclared};
 
-use crate::head::{Declared, Head, Kind};
-use crate::relations::relations_of;
+use est_modules::head::{Declared, Head, Kind};
+use est_modules::relations::relations_of;
 use est_kernel::interface::{Declaration, Interface, Kind as KernelKind};
 use est_kernel::statement::InterfaceSignal;
 use est_reduce::body::Body;

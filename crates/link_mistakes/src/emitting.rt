@@ -1,15 +1,15 @@
 //! What modules emit, and by which names.
 ghost use Rattle.std.specs.Prelude.{◌≡◌, ℕ, List, [], map, IfOk};
 ghost use Rattle.std.specs.List.{list_any};
-ghost use Rattle.est_link.specs.Duplicates.{stands_in};
-ghost use Rattle.est_link.specs.Emissions.{emitted_of, emits_here};
-ghost use Rattle.est_link.specs.Modules.{program_of};
-ghost use Rattle.est_link.specs.Occurrences.{occurrences};
-ghost use Rattle.est_link.specs.Renamings.{renamed};
+ghost use Rattle.est_modules.specs.Visible.{stands_in};
+ghost use Rattle.est_checks.specs.Emissions.{emitted_of, emits_here};
+ghost use Rattle.est_modules.specs.Modules.{program_of};
+ghost use Rattle.est_modules.specs.Occurrences.{occurrences};
+ghost use Rattle.est_modules.specs.Renamings.{renamed};
 ghost use Rattle.est_syntax.specs.Views.{renaming_view};
 
-use est_link::emission::Emission;
-use est_link::head::Head;
+use est_checks::emission::Emission;
+use est_modules::head::Head;
 use est_link::{emissions, renamings};
 use est_syntax::tree::Renaming;
 use est_text::identifier::Identifier;
