@@ -12,4 +12,5 @@ pub mod Quieting
 pub mod RunsThere
 pub mod Sending
 pub mod Sums
+pub mod Unbinding
 pub mod Uniqueness

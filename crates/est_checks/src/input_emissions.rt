@@ -7,6 +7,7 @@ ghost use Rattle.est_modules.specs.Modules.{program_of, program_named, first_in_
 ghost use Rattle.est_modules.specs.Occurrences.{first_of, occurrences};
 ghost use Rattle.est_checks.specs.Emissions.{is_refused, is_refused_in_run, refused_in_run, refused_at, emitted_of};
 
+use crate::emission::{Emission, is_emitted};
 use crate::place_check::{Check, first_in_body};
 use crate::harmless_runs::{Harmless, harmless_of};
 use est_modules::head::{Declared, Head, head_named};

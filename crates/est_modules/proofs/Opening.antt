@@ -2,16 +2,12 @@
 use mathlib.Core.Path.{fun_ext}
 use Rattle.std.proofs.Common.{◌≡◌, ◌||◌, not, ℕ, List, [], ◌∷◌, ◌++◌, Option, Some, None, Bool, true, false, cond, Bor, IfSome, map, filter, option_map, refl, ap, sym, ◌∙◌, subst}
 use Rattle.std.proofs.lemmas.Option.{none-some}
-use Rattle.std.specs.List.{AllByRecursion, find}
+use Rattle.std.specs.List.{find}
 use Rattle.std.specs.Str.{bytes_eq}
-use Rattle.est_syntax.specs.Tree.{NamesTree, RenamingTree}
-use Rattle.est_modules.specs.Modules.{Program, is_declared}
+use Rattle.est_syntax.specs.Tree.{NamesTree}
 use Rattle.est_modules.specs.Occurrences.{Binder, signals}
 use Rattle.est_modules.specs.OpenNames.{Open, open_of, outside, open_at, AreOpen}
-use Rattle.est_modules.specs.Renamings.{is_renamed}
-use Rattle.est_modules.specs.Visible.{is_among, is_local, is_tick}
-use Rattle.est_checks.specs.UnknownNames.{is_unbound}
-use Rattle.est_modules.specs.declared.head.Declared.{Declared}
+use Rattle.est_modules.specs.Visible.{is_among, is_local}
 use Rattle.est_modules.specs.declared.open_names.Kept.{Kept}
 use Rattle.est_modules.proofs.Testing.{same_bytes, some_same}
 
@@ -29,7 +25,7 @@ joined false true u v = refl
 joined false false u v = refl
 
 -- what neither of two tests takes away
-taken_twice : {X : Type 0} (p q : X → Bool) (xs : List X) → filter (λ x. not (p x)) (filter (λ x. not (q x)) xs) ≡ filter (λ x. not (p x || q x)) xs
+pub taken_twice : {X : Type 0} (p q : X → Bool) (xs : List X) → filter (λ x. not (p x)) (filter (λ x. not (q x)) xs) ≡ filter (λ x. not (p x || q x)) xs
 taken_twice p q [] = refl
 taken_twice p q (x ∷ xs) =
     passed (λ x. not (p x)) x (filter (λ x. not (q x)) xs) (not (q x))
@@ -73,36 +69,3 @@ found_open base bs m (j ∷ ks) k h e =
 pub open_found : (m : List ℕ) (ks : List Kept) (r : Option (Bor Kept)) → option_map (λ (k : Bor Kept). k.now) r ≡ find (λ (j : Kept). bytes_eq j.module_name m) ks → IfSome r (λ (k : Bor Kept). (base : List ℕ → List (List ℕ)) (bs : List Binder) → AreOpen base bs (map open_of ks) → k.now.names.items ≡ open_at bs (base m))
 open_found m ks None e = tt
 open_found m ks (Some k) e = λ base bs h. found_open base bs m ks k.now h (sym e)
-
--- ---- names that are unbound
-
-found_among : {X : Type 0} (p : X → Bool) (x : X) (ys : List X) (b : Bool) → find p (cond b (x ∷ ys) ys) ≡ cond b (cond (p x) (Some x) (find p ys)) (find p ys)
-found_among p x ys true = refl
-found_among p x ys false = refl
-
-three_tests : (r l v : Bool) (d : Declared) (o : Option Declared) → option_map (λ (d : Declared). d.name) (cond (not (r || (l || v))) (Some d) o) ≡ cond (not (l || v)) (cond (not r) (Some d.name) (option_map (λ (d : Declared). d.name) o)) (option_map (λ (d : Declared). d.name) o)
-three_tests true true true d o = refl
-three_tests true true false d o = refl
-three_tests true false true d o = refl
-three_tests true false false d o = refl
-three_tests false true true d o = refl
-three_tests false true false d o = refl
-three_tests false false true d o = refl
-three_tests false false false d o = refl
-
--- the first unbound name, among those that no place round the run declares
-first_open : (p : Program) (bs : List Binder) (rs : List RenamingTree) (ds : List Declared) → option_map (λ (d : Declared). d.name) (find (λ (d : Declared). is_unbound p bs rs d.name) ds) ≡ find (λ n. not (is_renamed rs n)) (filter (λ n. not (is_local bs n || (is_declared p.interface n || is_tick n))) (map (λ (d : Declared). d.name) ds))
-unfolding is_unbound
-first_open p bs rs [] = refl
-first_open p bs rs (d ∷ ds) =
-    let seen = is_declared p.interface d.name || is_tick d.name in
-    let left = filter (λ n. not (is_local bs n || (is_declared p.interface n || is_tick n))) (map (λ (d : Declared). d.name) ds) in
-    three_tests (is_renamed rs d.name) (is_local bs d.name) seen d (find (λ (d : Declared). is_unbound p bs rs d.name) ds)
-    ∙ ap (λ o. cond (not (is_local bs d.name || seen)) (cond (not (is_renamed rs d.name)) (Some d.name) o) o) (first_open p bs rs ds)
-    ∙ sym (found_among (λ n. not (is_renamed rs n)) d.name left (not (is_local bs d.name || seen)))
-
--- the same among the names that are not visible outermost
-pub first_unbound : (p : Program) (bs : List Binder) (rs : List RenamingTree) (ds : List Declared) → option_map (λ (d : Declared). d.name) (find (λ (d : Declared). is_unbound p bs rs d.name) ds) ≡ find (λ n. not (is_renamed rs n)) (open_at bs (filter (λ n. not (is_declared p.interface n || is_tick n)) (map (λ (d : Declared). d.name) ds)))
-first_unbound p bs rs ds =
-    first_open p bs rs ds
-    ∙ sym (ap (find (λ n. not (is_renamed rs n))) (taken_twice (is_local bs) (λ n. is_declared p.interface n || is_tick n) (map (λ (d : Declared). d.name) ds)))

@@ -6,7 +6,7 @@ use Rattle.est_modules.specs.OpenNames.{open_at}
 use Rattle.est_modules.specs.Renamings.{is_renamed}
 use Rattle.est_modules.specs.Scopes.{binders_of}
 use Rattle.est_checks.specs.Unseen.{unseen_in, unseen_by}
-use Rattle.est_modules.proofs.Opening.{first_unbound}
+use Rattle.est_checks.proofs.Unbinding.{first_unbound}
 use Rattle.est_checks.proofs.unknown_names.unbound_in.Goals as goal
 
 pub returns-in-Some : goal.returns-in-Some
