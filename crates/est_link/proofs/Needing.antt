@@ -58,8 +58,6 @@ runs_among P bs (par p q) h = (
   runs_among P bs q (λ o x. h o (Contains-append_right (occurrences bs p) (occurrences bs q) o x)),
 )
 
--- ---- modules of one name each
-
 -- ---- the set of what main runs
 
 row_is : (ps : List Program) (i : ℕ) (p : Program) → slice_get ps i ≡ Some p → slice_index_or (run_rows ps) i [] ≡ places_run ps p
@@ -154,7 +152,3 @@ front_past ps order set names k front absent i lt has q here = elim (cases_lt i 
       let last : i ≡ k = omega (arith, behind, lt) in
       absurd (absent (subst (λ j. Contains set (slice_index order j)) last has))
 ]
-
--- ---- places in an order
-
-

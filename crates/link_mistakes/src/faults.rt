@@ -19,7 +19,7 @@ use est_checks::missing_modules::first_missing;
 use est_modules::scope::{Act, Scope};
 use est_checks::unknown_names::UnknownName;
 use est_checks::unseen_names::unseen_of;
-use est_link::{duplicates, emission};
+use est_checks::{duplicates, input_emissions};
 use est_text::identifier::Identifier;
 use std::alloc::{AllocError, Global};
 
@@ -135,7 +135,7 @@ pub fn first_refused<'a>(
     ensures { IfOk result (λ name. name ≡ first_in_bodies (refused_at (map program_of heads.now)
         (emitted_of table.now)) (map program_of heads.now)) }
 {
-    emission::first_refused(alloc, heads, table)
+    input_emissions::first_refused(alloc, heads, table)
 }
 
 /// The number of the first lawless relation of the main module.
