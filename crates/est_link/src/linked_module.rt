@@ -12,14 +12,14 @@ ghost use Rattle.est_checks.specs.MissingModules.{first_missing};
 ghost use Rattle.est_reduce.specs.Bound.{IsBound};
 ghost use Rattle.est_reduce.specs.Views.{body_of};
 
-use crate::flatten::Linked;
-use est_modules::head::Head;
-use crate::needed::{names_along, needed_places};
-use est_modules::module_order::place_named;
 use crate::body_table::bodies_along;
+use crate::flatten::Linked;
+use crate::needed::{names_along, needed_places};
+use est_modules::head::Head;
+use est_modules::module_order::place_named;
+use est_modules::place_order::Order;
 use est_reduce::body::Body;
 use est_text::identifier::Identifier;
-use est_modules::place_order::Order;
 use std::alloc::{AllocError, Global};
 
 /// The place of the entry of a name.

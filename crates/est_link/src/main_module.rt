@@ -10,10 +10,10 @@ ghost use Rattle.est_checks.specs.LawlessRelations.{first_lawless};
 ghost use Rattle.est_modules.specs.Modules.{program_of};
 ghost use Rattle.est_checks.specs.Duplicates.{redeclared};
 
-use est_modules::head::{Declared, Head, Kind};
-use est_modules::relations::relations_of;
 use est_kernel::interface::{Declaration, Interface, Kind as KernelKind};
 use est_kernel::statement::InterfaceSignal;
+use est_modules::head::{Declared, Head, Kind};
+use est_modules::relations::relations_of;
 use est_reduce::body::Body;
 use est_reduce::flat::Flat;
 use est_relations::relations::{Members, Relation, Relations};

@@ -13,13 +13,13 @@ ghost use Rattle.est_syntax.specs.Views.{library_view};
 ghost use Rattle.est_text.specs.Identifiers.{is_identifier};
 
 use est_checks::fault::LinkFault;
-use est_modules::head::Head;
 use est_link::{link, linked_module};
+use est_modules::head::Head;
+use est_modules::place_order::Order;
 use est_reduce::body::Body;
 use est_reduce::flat::Flat;
 use est_syntax::tree::Library;
 use est_text::identifier::Identifier;
-use est_modules::place_order::Order;
 use std::alloc::{AllocError, Global};
 
 /// The flat body of main, from those of the modules that it runs.

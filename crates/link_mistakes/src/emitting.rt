@@ -9,8 +9,8 @@ ghost use Rattle.est_modules.specs.Renamings.{renamed};
 ghost use Rattle.est_syntax.specs.Views.{renaming_view};
 
 use est_checks::emission::Emission;
-use est_modules::head::Head;
 use est_checks::module_emissions;
+use est_modules::head::Head;
 use est_modules::renamings;
 use est_syntax::tree::Renaming;
 use est_text::identifier::Identifier;

@@ -8,18 +8,18 @@ ghost use Rattle.est_modules.specs.Occurrences.{first_of, occurrences};
 ghost use Rattle.est_checks.specs.BadRenamings.{bad_renaming_at};
 ghost use Rattle.est_checks.specs.UnknownNames.{unknown_at};
 
-use est_checks::place_check::{Check, first_in_bodies, first_in_body};
+use est_checks::bad_renamings::BadRename;
 use est_checks::emission::Emission;
 use est_checks::fault::LinkFault;
-use est_modules::head::{Head, head_named};
-use est_modules::open_names::OpenNames;
 use est_checks::lawless_relations::first_lawless;
-use est_checks::bad_renamings::BadRename;
 use est_checks::missing_modules::first_missing;
-use est_modules::scope::{Act, Scope};
+use est_checks::place_check::{Check, first_in_bodies, first_in_body};
 use est_checks::unknown_names::UnknownName;
 use est_checks::unseen_names::unseen_of;
 use est_checks::{duplicates, input_emissions};
+use est_modules::head::{Head, head_named};
+use est_modules::open_names::OpenNames;
+use est_modules::scope::{Act, Scope};
 use est_text::identifier::Identifier;
 use std::alloc::{AllocError, Global};
 

@@ -1,6 +1,6 @@
 //! What a reactor refuses.
-use est_kernel::limits::Limit as KernelLimit;
 use est_checks::fault::{Limit as LinkLimit, LinkFault};
+use est_kernel::limits::Limit as KernelLimit;
 use est_reduce::fault::ReduceFault;
 use est_relations::refusal::Refusal as PendingRefusal;
 use est_syntax::parse::ParseFault;
