@@ -11,7 +11,9 @@ use Rattle.est_kernel.specs.Term.{Name, outer, inner, Query, tick, of, negated, 
 use Rattle.est_kernel.specs.View.{query_of, queries_of, joint_of}
 use Rattle.est_kernel.specs.declared.statement.Test.{Test}
 use Rattle.est_kernel.specs.declared.statement.Operands.{Operands}
-use Rattle.est_kernel.specs.declared.statement.Test.TheViews.{out-Operands}
+use Rattle.est_kernel.specs.declared.statement.Test.TheViews.{Joined, out-Operands, roll-Operands}
+use Rattle.est_kernel.specs.declared.statement.Test.TheOpen.{Operands-F}
+use Rattle.est_kernel.specs.declared.statement.Connective.{Connective}
 use Rattle.est_kernel.specs.declared.statement.Test.TheFolds.{the_lemmas}
 
 mutual
@@ -29,6 +31,10 @@ mutual
 -- what operands are, as the code has them
 pub operands_seen : (o : Operands) → joint_of o ≡ record { first = query_of (out-Operands o).first.value; later = queries_of (query_of (out-Operands o).second.value) (map query_of (out-Operands o).later.items) }
 operands_seen o = search (rules, the_lemmas)
+
+-- what a connective asks, as it is made
+pub joined_seen : (c : Connective) (p : Operands-F Test Operands) → query_of (Joined c (roll-Operands p)) ≡ joined c (query_of p.first.value) (queries_of (query_of p.second.value) (map query_of p.later.items))
+joined_seen c p = search (rules, the_lemmas)
 
 -- how many words further operands have, with the one before each
 abbrev pub words_of : List Test → ℕ

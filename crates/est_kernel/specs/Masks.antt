@@ -1,10 +1,8 @@
 -- Statements whose numbers have their bits in masks of 64 (this project's own form).
 use Rattle.std.specs.Prelude.{◌+◌, ◌<◌}
-use Rattle.est_kernel.specs.Scope.{EachSignal}
 use Rattle.est_kernel.specs.Term.{Name, outer, inner}
-use Rattle.est_kernel.specs.View.{name_of, query_of}
+use Rattle.est_kernel.specs.View.{name_of}
 use Rattle.est_kernel.specs.declared.statement.Signal.{Signal}
-use Rattle.est_kernel.specs.declared.statement.Test.{Test}
 use Rattle.est_kernel.specs.declared.statement.Statement.{Statement}
 use Rattle.est_kernel.specs.declared.statement.Statement.TheVariants.{Nothing, Pause, Emit, Present', Suspend', Seq', Loop', Par', Trap', Exit, Local' as Binder'}
 
@@ -17,17 +15,13 @@ HasNameBit (inner n) = n < 64
 abbrev pub HasSignalBit : Signal → Type 0
 HasSignalBit s = HasNameBit (name_of s)
 
--- the number of each signal of a test has a bit
-abbrev pub HasTestBits : Test → Type 0
-HasTestBits t = EachSignal HasNameBit (query_of t)
-
--- each local signal's number and each exit's code has a bit
+-- the number of each local signal that is bound or emitted, and the code of each exit, has a bit
 abbrev pub FitsMasks : Statement → Type 0
 FitsMasks Nothing = Unit {0}
 FitsMasks (Pause n) = Unit {0}
 FitsMasks (Emit s) = HasSignalBit s
-FitsMasks (Present' t a p b q) = HasTestBits t × FitsMasks p × FitsMasks q
-FitsMasks (Suspend' t a p) = HasTestBits t × FitsMasks p
+FitsMasks (Present' t a p b q) = FitsMasks p × FitsMasks q
+FitsMasks (Suspend' t a p) = FitsMasks p
 FitsMasks (Seq' a p b q) = FitsMasks p × FitsMasks q
 FitsMasks (Loop' a p) = FitsMasks p
 FitsMasks (Par' a p b q) = FitsMasks p × FitsMasks q

@@ -1,9 +1,9 @@
 //! The interface of a module: its signals in declaration order, each an input, an output or both.
 
-ghost use Rattle.std.specs.Prelude.{◌≡◌, ◌++◌, ◌∷◌, [], ◌≤◌, ◌<◌, length, IfOk, IfSome, OnErr, option_map, IsTrue, ◌↔◌, false, Some, slice_get};
+ghost use Rattle.std.specs.Prelude.{◌≡◌, ◌++◌, ◌∷◌, [], ◌≤◌, ◌<◌, length, IfOk, IfSome, OnErr, option_map, IsTrue, ◌↔◌, Bool, false, Some, slice_get};
 ghost use Rattle.std.specs.List.{position, list_any};
 ghost use Rattle.est_kernel.specs.Bits.{bits};
-ghost use Rattle.est_kernel.specs.Interfaces.{offerable, emittable, is_named, HasDistinctNames};
+ghost use Rattle.est_kernel.specs.Interfaces.{declares, offerable, emittable, is_named, HasDistinctNames};
 
 use crate::mask;
 use crate::statement::InterfaceSignal;
@@ -180,7 +180,7 @@ impl Interface {
     /// The kind of a signal.
     pub fn kind(&self, signal: InterfaceSignal) -> Kind
         requires { signal.index < length self.now }
-        ensures { option_map (λ d. d.kind) (slice_get self.now signal.index) ≡ Some result }
+        ensures { (passes : Kind → Bool) → declares passes self.now signal.index ≡ passes result }
     {
         self.declarations[signal.index as usize].kind
     }
