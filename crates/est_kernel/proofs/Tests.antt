@@ -4,7 +4,7 @@ use Rattle.std.specs.Prelude.{◌≤◌, Bool, true, false, ◌&&◌, nat_lt, �
 use Rattle.std.specs.List.{fold}
 use Rattle.std.proofs.lemmas.Bool.Decides.{nat_tests}
 use Rattle.est_kernel.specs.declared.interface.Declaration.{Declaration}
-use Rattle.est_kernel.specs.Inner.Counting.{Counts, is_seen, each_signal, each_signal_of_all, each_signal_of_joint}
+use Rattle.est_kernel.specs.Inner.Counting.{is_seen, each_signal, each_signal_of_all, each_signal_of_joint}
 use Rattle.est_kernel.specs.Limits.{word_count, later_word_count, joint_word_count}
 use Rattle.est_kernel.specs.Scope.{EachSignal, EachSignalOfAll, IsVisible, IsAsked}
 use Rattle.est_kernel.specs.Term.{Name, outer, inner, Query, tick, of, negated, joined, Queries, last, more}

@@ -11,7 +11,7 @@ use Rattle.est_kernel.specs.declared.statement.Test.TheViews.{out-Operands}
 use Rattle.est_kernel.proofs.Tests.{operands_seen}
 use Rattle.est_meaning.specs.declared.status.Status.{Status}
 use Rattle.est_meaning.specs.declared.status.Status.TheVariants.{Present, Absent, Unknown}
-use Rattle.est_meaning.specs.Status.{Env, opposite, and_status, or_status, joint_status, status_of, status_of_all, status_of_joint}
+use Rattle.est_meaning.specs.Status.{Env, and_status, or_status, joint_status, status_of, status_of_all, status_of_joint}
 
 and_in_turn : (u v w : Status) → and_status (and_status u v) w ≡ and_status u (and_status v w)
 and_in_turn Present v w = refl
@@ -48,8 +48,8 @@ listed_status c e v t (u ∷ us) = sym (joint_in_turn c v (status_of e t) _) ∙
 -- the status of operands, from the first and the second on
 pub operands_status : (c : Connective) (e : Env) (o : Operands)
     → status_of_joint c e (joint_of o) ≡ fold (joined_with c e)
-        (joint_status c (status_of e (query_of (out-Operands o).first.value)) (status_of e (query_of (out-Operands o).second.value)))
-        (out-Operands o).later.items
+    (joint_status c (status_of e (query_of (out-Operands o).first.value)) (status_of e (query_of (out-Operands o).second.value)))
+    (out-Operands o).later.items
 operands_status c e o =
     let parts = out-Operands o in
     ap (status_of_joint c e) (operands_seen o)

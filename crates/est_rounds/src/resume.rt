@@ -10,8 +10,8 @@ ghost use Rattle.est_kernel.specs.declared.statement.Statement.TheVariants.{Susp
 ghost use Rattle.est_meaning.specs.States.{is_live};
 ghost use Rattle.est_rounds.specs.Judging.{Judges, JudgesInDoubt};
 
-use crate::answer::answer_to;
 use crate::acts::{Acts, Judgement};
+use crate::answer::answer_to;
 use crate::signal_set::{self, Env};
 use crate::start::{then_start, then_start_maybe};
 use est_kernel::completion::Completion;

@@ -11,8 +11,8 @@ ghost use Rattle.est_rounds.specs.Views.{acts_of};
 ghost use Rattle.est_meaning.specs.MustCan.{can_then};
 ghost use Rattle.est_rounds.specs.Judging.{can_by, can_follow, may_by, must_by, must_follow};
 
-use crate::answer::answer_to;
 use crate::acts::{Acts, Judgement};
+use crate::answer::answer_to;
 use crate::signal_set::{self, Env};
 use est_kernel::code_set::CodeSet;
 use est_kernel::completion::Completion;
