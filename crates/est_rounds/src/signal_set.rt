@@ -1,6 +1,7 @@
 //! Sets of signals as masks, and what is known of each signal.
 
 ghost use Rattle.std.specs.Prelude.{◌≡◌, ◌<◌};
+ghost use Rattle.est_kernel.specs.Bits.{bits};
 ghost use Rattle.est_kernel.specs.Masks.{HasSignalBit};
 ghost use Rattle.est_kernel.specs.Term.{inner};
 ghost use Rattle.est_kernel.specs.View.{name_of};
@@ -77,13 +78,21 @@ pub fn has_local(a: SignalSet, s: LocalSignal) -> bool
     mask::has(a.local, s.index as u8)
 }
 
+/// Whether the number is in the mask; one that has no bit there isn't.
+#[tactic(auto, using(est_kernel::proofs::Masks::bits_above))]
+fn has_place(mask: u64, n: u16) -> bool
+    ensures { result ≡ bits mask n }
+{
+    n < 64 && mask::has(mask, n as u8)
+}
+
 /// Whether the signal is a member.
 pub fn has_signal(a: SignalSet, s: Signal) -> bool
     ensures { result ≡ set_of a (name_of s) }
 {
     match s {
         Signal::Interface(s) => mask::has(a.interface, s.index),
-        Signal::Local(s) => s.index < 64 && mask::has(a.local, s.index as u8),
+        Signal::Local(s) => has_place(a.local, s.index),
     }
 }
 
