@@ -5,7 +5,7 @@ use Rattle.est_kernel.specs.Scope.{IsAsked, IsEmitted}
 use Rattle.est_kernel.specs.declared.interface.Declaration.{Declaration}
 use Rattle.est_reduce.specs.Bodies.{Body, nothing, pause, halt, emit, sustain, exit, await, present, suspend, abort, weak_abort, repeat, repeat_each, every, trap, signal, seq, par}
 
--- each signal is of the interface or of a `signal` round it, no input is emitted, and each exit has its trap,
+-- each signal is of the interface or of a `signal` round it, what is an input alone is not emitted, and each exit has its trap,
 -- with so many traps and so many local signals round the whole
 abbrev pub IsBound : List Declaration → (traps locals : ℕ) → Body → Type 0
 IsBound i traps locals nothing = Unit {0}

@@ -8,6 +8,8 @@
 //! counts the statements of the linked module before it makes a body of them, and a body of at most 2,048 statements is at
 //! most as deep. A level of such a recursion takes some 1.8 KB of stack, so 2,048 levels stay under 4 MB.
 
+use est_kernel::statement::Connective;
+
 /// A signal that is bound.
 #[derive(Clone, Copy, PartialEq, Eq, Debug)]
 pub enum BoundSignal {
@@ -17,17 +19,35 @@ pub enum BoundSignal {
     Inner(u32),
 }
 
-/// What a statement asks.
-#[derive(Clone, Copy, PartialEq, Eq, Debug)]
+/// What a statement asks: an expression over signals.
+#[derive(Drop)]
+#[cycle(test)]
 pub enum BoundTest {
     /// `tick`, which is present in every instant.
     Tick,
     /// Whether this signal is present.
     Of(BoundSignal),
+    /// `not t`
+    Not(Box<BoundTest>),
+    /// `t and u and v`, `t or u or v`
+    Joined(Connective, BoundOperands),
+}
+
+/// Two tests or more, with one connective between them. A list, so that what goes over a test is no deeper than its
+/// expressions lie in one another.
+#[derive(Drop)]
+#[cycle(test)]
+pub struct BoundOperands {
+    /// The first test.
+    pub first: Box<BoundTest>,
+    /// The second.
+    pub second: Box<BoundTest>,
+    /// The others, in their order.
+    pub later: Vec<BoundTest>,
 }
 
 /// What a statement waits for, or is watched by.
-#[derive(Clone, Copy, PartialEq, Eq, Debug)]
+#[derive(Drop)]
 pub struct Wait {
     /// Whether `immediate` is written: the test is asked in the first instant too.
     pub immediate: bool,

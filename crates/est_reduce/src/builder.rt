@@ -86,17 +86,17 @@ pub fn statement(place: &Place<'_>, body: &Body) -> Result<Statement, AllocError
         Body::Emit(signal) => Ok(Statement::Emit(pieces::signal(*signal))),
         Body::Sustain(signal) => pieces::sustain(alloc, pieces::signal(*signal)),
         Body::Exit(trap) => Ok(Statement::exit(exit_index(place.exits, *trap))),
-        Body::Await(wait) => pieces::wait(alloc, *wait),
+        Body::Await(wait) => pieces::wait(alloc, wait),
         Body::Present(test, p, q) => {
-            let test = pieces::test(*test);
+            let test = pieces::test(alloc, test)?;
             Statement::present(alloc, test, statement(place, p)?, statement(place, q)?)
         }
-        Body::Suspend(wait, p) => pieces::suspend(alloc, *wait, statement(place, p)?),
-        Body::Abort(wait, p) => pieces::abort(alloc, *wait, reduce_in_fresh(place, p)?),
-        Body::WeakAbort(wait, p) => pieces::weak_abort(alloc, *wait, reduce_in_fresh(place, p)?),
+        Body::Suspend(wait, p) => pieces::suspend(alloc, wait, statement(place, p)?),
+        Body::Abort(wait, p) => pieces::abort(alloc, wait, reduce_in_fresh(place, p)?),
+        Body::WeakAbort(wait, p) => pieces::weak_abort(alloc, wait, reduce_in_fresh(place, p)?),
         Body::Loop(p) => Statement::repeat(alloc, statement(place, p)?),
-        Body::LoopEach(test, p) => pieces::loop_each(alloc, *test, reduce_in_fresh(place, p)?),
-        Body::Every(wait, p) => pieces::every(alloc, *wait, reduce_in_fresh(place, p)?),
+        Body::LoopEach(test, p) => pieces::loop_each(alloc, test, reduce_in_fresh(place, p)?),
+        Body::Every(wait, p) => pieces::every(alloc, wait, reduce_in_fresh(place, p)?),
         Body::Trap(p) => Statement::trap(alloc, reduce_in_trap(place, p)?),
         Body::Signal(count, p) => {
             let inner = reduce_in_signals(place, *count, p)?;

@@ -6,7 +6,6 @@
 #![tactic(auto)]
 
 pub mod body;
-pub mod bound;
 mod builder;
 pub mod fault;
 pub mod flat;
