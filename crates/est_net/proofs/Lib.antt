@@ -1,0 +1,5 @@
+mod Deciding
+pub mod ListLemmas
+mod Chaining
+mod Growing
+mod Laying

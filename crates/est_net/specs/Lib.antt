@@ -1,0 +1,4 @@
+pub mod Cells
+pub mod Links
+pub mod Layout
+pub mod Building
