@@ -1,6 +1,8 @@
 -- In a reaction a signal is present exactly where it is emitted.
-use Rattle.std.proofs.Common.{◌≡◌, ◌≢◌, ℕ, zero, suc, Bool, true, false, inl, refl, ap, sym, ◌∙◌, arith}
+use Rattle.std.proofs.Common.{◌≡◌, ◌≢◌, ℕ, zero, suc, Bool, true, false, ◌||◌, List, inl, refl, ap, sym, ◌∙◌, subst, arith}
 use Rattle.std.proofs.lemmas.Bool.{eq-eqb, both_ways}
+use Rattle.est_kernel.specs.Interfaces.{emittable}
+use Rattle.est_kernel.specs.declared.interface.Declaration.{Declaration}
 use Rattle.est_kernel.specs.Term.{outer, inner, Term, signal}
 use Rattle.est_meaning.specs.declared.status.Status.{Status}
 use Rattle.est_meaning.specs.declared.status.Status.TheVariants.{Unknown}
@@ -8,11 +10,11 @@ use Rattle.est_meaning.specs.Knowledge.{KnowsLess}
 use Rattle.est_meaning.specs.Laws.{IsWithinPlaces, IsDecidedAs, IsDecidedWithin}
 use Rattle.est_meaning.specs.MustCan.{Acts, sure, must, can, status_within, env_within}
 use Rattle.est_meaning.specs.Reaction.{Reacts}
-use Rattle.est_meaning.specs.Rounds.{JudgedSignals, first_env, round, env_after, how_many, last_env}
+use Rattle.est_meaning.specs.Rounds.{JudgedSignals, judged_signals, first_env, round, env_after, how_many, last_env}
 use Rattle.est_meaning.specs.Rules.{Gives}
 use Rattle.est_meaning.specs.Signals.{Signals}
 use Rattle.est_meaning.specs.Status.{Env, with_local, verdict}
-use Rattle.est_meaning.proofs.RoundsComeToRest.{settles}
+use Rattle.est_meaning.proofs.RoundsComeToRest.{settles, judged_within}
 use Rattle.est_meaning.proofs.KnowledgeIsMonotone.{monotone, local_below, less_same}
 use Rattle.est_meaning.proofs.DecidedByMust.{gives_must, gives_can}
 
@@ -74,6 +76,16 @@ pub offered_decided : (j : JudgedSignals) (inputs : ℕ → Bool) (t : Term) (n 
 offered_decided j inputs t n h =
     decided_as (last_env j inputs t (outer n)) (inputs n)
     (stays_offered (how_many j.has j.places) j inputs t n h ∙ one_answer (inputs n))
+
+-- each signal of an interface that may be emitted
+pub either_decided : (interface : List Declaration) (inputs : ℕ → Bool) (t : Term) (outputs : ℕ → Bool) (u : Term)
+    → Reacts (judged_signals interface inputs) inputs t outputs u → (n : ℕ) → emittable interface n ≡ true
+    → IsDecidedAs (last_env (judged_signals interface inputs) inputs t (outer n)) (inputs n || outputs n)
+either_decided interface inputs t outputs u r n h = by_offer (inputs n) refl
+  where
+    by_offer : (b : Bool) → inputs n ≡ b → IsDecidedAs (last_env (judged_signals interface inputs) inputs t (outer n)) (inputs n || outputs n)
+    by_offer true e = subst (λ b. IsDecidedAs (last_env (judged_signals interface inputs) inputs t (outer n)) b) (rw e refl) (offered_decided (judged_signals interface inputs) inputs t n (rw (e, h) refl))
+    by_offer false e = subst (λ b. IsDecidedAs (last_env (judged_signals interface inputs) inputs t (outer n)) b) (rw e refl) (judged_decided (judged_signals interface inputs) (judged_within interface inputs) inputs t outputs u r n (rw (e, h) refl))
 
 own_status : (e : Env) (s : ℕ) (v : Status) → with_local e s v (inner s) ≡ v
 unfolding with_local

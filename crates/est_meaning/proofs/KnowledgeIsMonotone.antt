@@ -2,12 +2,14 @@
 use Rattle.std.specs.Prelude.{◌≡◌, ℕ, zero, suc, ◌+◌, Bool, true, false, not, cond, ◌&&◌, max}
 use Rattle.std.proofs.Common.{inl, inr, ap, sym, ◌∙◌, refl, arith, subst}
 use Rattle.std.proofs.lemmas.Bool.{or_cases, and_parts, both_ways}
-use Rattle.est_kernel.specs.Term.{inner, Query, tick, of, Term, nothing, pause, emit, present, suspend, held, seq, loop, par, trap, exit, signal}
+use Rattle.est_kernel.specs.Term.{inner, Query, tick, of, negated, joined, Queries, last, more, Term, nothing, pause, emit, present, suspend, held, seq, loop, par, trap, exit, signal}
 use Rattle.est_kernel.specs.Codes.{Codes, no_codes, code, either_code, but_zero, max_codes, some_up_to, codes_out_of_trap, code_out_of_trap}
+use Rattle.est_kernel.specs.declared.statement.Connective.{Connective}
+use Rattle.est_kernel.specs.declared.statement.Connective.TheVariants.{And, Or}
 use Rattle.est_meaning.specs.Signals.{Signals, no_signals, union, without, same_name}
 use Rattle.est_meaning.specs.declared.status.Status.{Status}
 use Rattle.est_meaning.specs.declared.status.Status.TheVariants.{Present, Absent, Unknown}
-use Rattle.est_meaning.specs.Status.{Env, status_of, with_local, verdict, by_status}
+use Rattle.est_meaning.specs.Status.{Env, opposite, and_status, or_status, joint_status, status_of, status_of_all, with_local, verdict, by_status}
 use Rattle.est_meaning.specs.MustCan.{Acts, no_acts, just_code, either, together, acts_out_of_trap, hide, may_stay, must_then, can_then, Mode, sure, maybe, next_mode, must, can, env_within}
 use Rattle.est_meaning.specs.Knowledge.{IsBelow, KnowsLess, IsIn, IsWithin}
 use Rattle.est_meaning.proofs.CodeSetLemmas.{both_true, max_mono, out_of_trap_mono, up_to_found, code_true}
@@ -249,9 +251,58 @@ in_doubt : (t : Term) → Monotone t → (m : Mode) (e : Env) → IsWithin (can 
 in_doubt t h sure e = h.eased e
 in_doubt t h maybe e = same_within _
 
-query_below : (e f : Env) (s : Query) → KnowsLess e f → IsBelow (status_of e s) (status_of f s)
-query_below e f tick k = inr refl
-query_below e f (of s) k = k s
+-- with more known of the sides, more is known of a test
+opposite_below : (v w : Status) → IsBelow v w → IsBelow (opposite v) (opposite w)
+opposite_below v w (inl h) = inl (ap opposite h)
+opposite_below v w (inr h) = inr (ap opposite h)
+
+and_below : (v w x y : Status) → IsBelow v w → IsBelow x y → IsBelow (and_status v x) (and_status w y)
+and_below v w x y (inr h) (inr i) = inr (rw (h, i) refl)
+and_below v w x y (inr h) (inl i) = rw (h, i) (unknown_side w)
+  where
+    unknown_side : (w : Status) → IsBelow (and_status w Unknown) (and_status w y)
+    unknown_side Present = inl refl
+    unknown_side Absent = inr refl
+    unknown_side Unknown = inl refl
+and_below v w x y (inl h) (inr i) = rw (h, i) (unknown_first y)
+  where
+    unknown_first : (y : Status) → IsBelow (and_status Unknown y) (and_status w y)
+    unknown_first Present = inl refl
+    unknown_first Absent = inr (sym (both w))
+      where
+        both : (w : Status) → and_status w Absent ≡ Absent
+        both Present = refl
+        both Absent = refl
+        both Unknown = refl
+    unknown_first Unknown = inl refl
+and_below v w x y (inl h) (inl i) = rw (h, i) (inl refl)
+
+or_is_and : (v w : Status) → or_status v w ≡ opposite (and_status (opposite v) (opposite w))
+or_is_and Present w = refl
+or_is_and Absent Present = refl
+or_is_and Absent Absent = refl
+or_is_and Absent Unknown = refl
+or_is_and Unknown Present = refl
+or_is_and Unknown Absent = refl
+or_is_and Unknown Unknown = refl
+
+or_below : (v w x y : Status) → IsBelow v w → IsBelow x y → IsBelow (or_status v x) (or_status w y)
+or_below v w x y h i = rw (or_is_and v x, or_is_and w y) (opposite_below _ _ (and_below _ _ _ _ (opposite_below v w h) (opposite_below x y i)))
+
+joint_below : (c : Connective) (v w x y : Status) → IsBelow v w → IsBelow x y → IsBelow (joint_status c v x) (joint_status c w y)
+joint_below And v w x y h i = and_below v w x y h i
+joint_below Or v w x y h i = or_below v w x y h i
+
+mutual
+  query_below : (e f : Env) (t : Query) → KnowsLess e f → IsBelow (status_of e t) (status_of f t)
+  query_below e f tick k = inr refl
+  query_below e f (of s) k = k s
+  query_below e f (negated t) k = opposite_below _ _ (query_below e f t k)
+  query_below e f (joined c t ts) k = joint_below c _ _ _ _ (query_below e f t k) (queries_below c e f ts k)
+
+  queries_below : (c : Connective) (e f : Env) (ts : Queries) → KnowsLess e f → IsBelow (status_of_all c e ts) (status_of_all c f ts)
+  queries_below c e f (last t) k = query_below e f t k
+  queries_below c e f (more t ts) k = joint_below c _ _ _ _ (query_below e f t k) (queries_below c e f ts k)
 
 -- of a choice
 must_chosen : (v w : Status) (a b c d : Acts) → IsBelow v w → IsWithin a c → IsWithin b d

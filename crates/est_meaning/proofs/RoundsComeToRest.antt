@@ -1,18 +1,17 @@
 -- Rounds only learn, and there are enough of them.
-use Rattle.std.proofs.Common.{◌≡◌, ◌≤◌, ◌<◌, ℕ, zero, suc, ◌+◌, Bool, true, false, cond, ◌&&◌, inl, inr, refl, ap, sym, ◌∙◌, arith, List, length}
+use Rattle.std.proofs.Common.{◌≡◌, ◌≤◌, ◌<◌, ℕ, zero, suc, ◌+◌, Bool, true, false, not, cond, ◌&&◌, inl, inr, refl, ap, sym, ◌∙◌, arith, List, length}
 use Rattle.std.proofs.lemmas.Bool.{and_parts, both_ways, cases_eq, cases_lt}
 use mathlib.Core.Path.{fun_ext}
 use Rattle.est_kernel.proofs.Interfaces.{declares_beyond}
-use Rattle.est_kernel.specs.Interfaces.{outputs_of}
+use Rattle.est_kernel.specs.Interfaces.{can_be_emitted, emittable}
 use Rattle.est_kernel.specs.Term.{outer, inner, Term}
 use Rattle.est_kernel.specs.declared.interface.Declaration.{Declaration}
-use Rattle.est_kernel.specs.declared.interface.Kind.TheVariants.{Output}
 use Rattle.est_meaning.specs.declared.status.Status.{Status}
 use Rattle.est_meaning.specs.declared.status.Status.TheVariants.{Present, Absent, Unknown}
 use Rattle.est_meaning.specs.Status.{Env, verdict, is_unknown}
 use Rattle.est_meaning.specs.MustCan.{sure, must, can}
 use Rattle.est_meaning.specs.Knowledge.{IsBelow, KnowsLess}
-use Rattle.est_meaning.specs.Rounds.{JudgedSignals, judged_outputs, first_env, round, env_after, how_many, last_env}
+use Rattle.est_meaning.specs.Rounds.{JudgedSignals, judged_signals, first_env, round, env_after, how_many, last_env}
 use Rattle.est_meaning.specs.Laws.{IsWithinPlaces}
 use Rattle.est_meaning.proofs.KnowledgeIsMonotone.{verdict_below, monotone, must_can}
 use Rattle.est_meaning.proofs.SettledLemmas.{settled}
@@ -152,9 +151,9 @@ settles j w inputs t m l =
     let still = rw c at (enough j w inputs t rounds 0 few) in
     sym (settled m rounds l j t (first_env j inputs) still)
 
--- the outputs of an interface have places of it
-pub outputs_within : (interface : List Declaration) → IsWithinPlaces (judged_outputs interface)
-outputs_within interface n h = elim (cases_lt n (length interface)) [
+-- what is judged of an interface has places of it
+pub judged_within : (interface : List Declaration) (inputs : ℕ → Bool) → IsWithinPlaces (judged_signals interface inputs)
+judged_within interface inputs n h = elim (cases_lt n (length interface)) [
   | inl l ↦ l
-  | inr g ↦ absurd (both_ways (outputs_of interface n) (declares_beyond Output interface n g) h)
+  | inr g ↦ absurd (both_ways (emittable interface n) (declares_beyond can_be_emitted interface n g) (and_parts (emittable interface n) (not (inputs n)) h).0)
 ]

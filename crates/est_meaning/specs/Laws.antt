@@ -1,7 +1,8 @@
 -- The laws of the meaning, as the functions of the module of laws promise them (after Berry, The Constructive Semantics of
 -- Pure Esterel; the rounds and the states of fixed size are this project's own form).
-use Rattle.std.specs.Prelude.{◌≡◌, ◌≢◌, ◌≤◌, ◌<◌, ◌^◌, ◌↔◌, ℕ, suc, Bool, true, false, List, length, All}
+use Rattle.std.specs.Prelude.{◌≡◌, ◌≢◌, ◌≤◌, ◌<◌, ◌^◌, ◌↔◌, ℕ, suc, Bool, true, false, ◌||◌, List, length, All}
 use Rattle.est_kernel.specs.Codes.{code}
+use Rattle.est_kernel.specs.Interfaces.{emittable}
 use Rattle.est_kernel.specs.StartCodes.{IsLoopSafe}
 use Rattle.est_kernel.specs.Term.{outer, inner, Term, signal}
 use Rattle.est_kernel.specs.PauseNumbers.{HasDistinctPauses}
@@ -14,7 +15,7 @@ use Rattle.est_kernel.specs.declared.statement.Statement.{Statement}
 use Rattle.est_meaning.specs.Knowledge.{KnowsLess, IsWithin}
 use Rattle.est_meaning.specs.MustCan.{Acts, Mode, sure, maybe, must, can, env_within}
 use Rattle.est_meaning.specs.Reaction.{Reacts}
-use Rattle.est_meaning.specs.Rounds.{JudgedSignals, judged_outputs, first_env, env_after, how_many, last_env}
+use Rattle.est_meaning.specs.Rounds.{JudgedSignals, judged_signals, first_env, env_after, how_many, last_env}
 use Rattle.est_meaning.specs.Rules.{Gives, HasNoRule}
 use Rattle.est_meaning.specs.Signals.{Signals, without}
 use Rattle.est_meaning.specs.States.{IsState, state_term}
@@ -97,13 +98,13 @@ known_after n j inputs t = env_after n j t (first_env j inputs)
 -- Rounds come to rest. Why care: an instant takes a bounded number of rounds, and an output that is called undecided is one
 -- that no further look at the program would decide.
 -- From the first environment on a round never takes back what was decided; after as many rounds as there are judged signals
--- nothing changes; and the outputs of an interface are signals that may be judged so
+-- nothing changes; and what is judged of an interface are signals that may be judged so
 pub record RoundsComeToRest : Type 0 where
   pub learns : (j : JudgedSignals) (inputs : ℕ → Bool) (t : Term) (n : ℕ)
       → KnowsLess (known_after n j inputs t) (known_after (suc n) j inputs t)
   pub settles : (j : JudgedSignals) → IsWithinPlaces j → (inputs : ℕ → Bool) (t : Term) (m : ℕ)
       → how_many j.has j.places ≤ m → known_after m j inputs t ≡ last_env j inputs t
-  pub outputs : (interface : List Declaration) → IsWithinPlaces (judged_outputs interface)
+  pub judged : (interface : List Declaration) (inputs : ℕ → Bool) → IsWithinPlaces (judged_signals interface inputs)
 
 -- a status says whether a signal is there: it is decided, present exactly where the signal is there, absent exactly where not
 pub record IsDecidedAs (v : Status) (is_there : Bool) : Type 0 where
@@ -133,6 +134,9 @@ pub record EmittedIsPresent : Type 0 where
       → IsDecidedAs (last_env j inputs t (outer n)) (outputs n)
   pub offered : (j : JudgedSignals) (inputs : ℕ → Bool) (t : Term) (n : ℕ)
       → j.has n ≡ false → IsDecidedAs (last_env j inputs t (outer n)) (inputs n)
+  pub either : (interface : List Declaration) (inputs : ℕ → Bool) (t : Term) (outputs : ℕ → Bool) (u : Term)
+      → Reacts (judged_signals interface inputs) inputs t outputs u → (n : ℕ) → emittable interface n ≡ true
+      → IsDecidedAs (last_env (judged_signals interface inputs) inputs t (outer n)) (inputs n || outputs n)
   pub within : (s : ℕ) (p : Term) (e : Env) (o : Signals) (k : ℕ) (u : Term)
       → Gives (signal s p) e o k u → IsDecidedWithin s p e o k
 

@@ -1,6 +1,6 @@
 -- Rounds: the judging of the interface's signals, as outermost local signals (this project's own form).
-use Rattle.std.specs.Prelude.{ℕ, zero, suc, ◌+◌, Bool, false, cond, List, length}
-use Rattle.est_kernel.specs.Interfaces.{outputs_of}
+use Rattle.std.specs.Prelude.{ℕ, zero, suc, ◌+◌, Bool, false, not, ◌&&◌, cond, List, length}
+use Rattle.est_kernel.specs.Interfaces.{emittable}
 use Rattle.est_kernel.specs.Term.{outer, inner, Term}
 use Rattle.est_kernel.specs.declared.interface.Declaration.{Declaration}
 use Rattle.est_meaning.specs.declared.status.Status.TheVariants.{Absent, Unknown}
@@ -12,11 +12,13 @@ pub record JudgedSignals : Type 0 where
   pub places : ℕ
   pub has : ℕ → Bool
 
--- the outputs of an interface, as the signals that the rounds judge
-abbrev pub judged_outputs : List Declaration → JudgedSignals
-judged_outputs interface = record { places = length interface; has = outputs_of interface }
+-- the signals of an interface that the rounds judge in an instant with these inputs: those that may be emitted, outputs and
+-- inputoutputs, as far as the offer doesn't settle them
+abbrev pub judged_signals : List Declaration → (ℕ → Bool) → JudgedSignals
+judged_signals interface inputs = record { places = length interface; has = λ n. emittable interface n && not (inputs n) }
 
--- the first environment: judged signals are unknown, all others are present just where they are inputs of the instant
+-- the first environment: judged signals are unknown, all others are present just where they are inputs of the instant. So an
+-- inputoutput that is offered is present and stays so, and another starts as unknown
 unfoldable pub first_env : JudgedSignals → (ℕ → Bool) → Env
 first_env j inputs (outer n) = cond (j.has n) Unknown (verdict (inputs n) false)
 first_env j inputs (inner n) = Absent

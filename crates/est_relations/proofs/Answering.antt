@@ -9,10 +9,8 @@ use Rattle.std.proofs.lemmas.List.Sums.{position_or_len_is}
 use Rattle.std.proofs.lemmas.Option.{same_Some}
 use Rattle.refusal_rules.proofs.RuleLemmas.{refuse, pass}
 use Rattle.est_kernel.specs.Bits.{bits}
-use Rattle.est_kernel.specs.Interfaces.{inputs_of, outputs_of, same_kind}
+use Rattle.est_kernel.specs.Interfaces.{can_be_offered, offerable}
 use Rattle.est_kernel.specs.declared.interface.Declaration.{Declaration}
-use Rattle.est_kernel.specs.declared.interface.Kind.{Kind}
-use Rattle.est_kernel.specs.declared.interface.Kind.TheVariants.{Input, Output}
 use Rattle.est_kernel.proofs.Interfaces.{declares_beyond}
 use Rattle.est_kernel.proofs.Masks.{bits_zero}
 use Rattle.est_relations.specs.Inner.Names.{IsNewInput, RefusesName}
@@ -63,19 +61,11 @@ all_there test (y ∷ ys) (suc n) x h s = all_there test ys n x (and_second (tes
 
 -- ---- signals
 
-pub input_within : (i : List Declaration) (n : ℕ) → inputs_of i n ≡ true → n < length i
+pub input_within : (i : List Declaration) (n : ℕ) → offerable i n ≡ true → n < length i
 input_within i n h = elim (cases_lt n (length i)) [
   | inl lt ↦ lt
-  | inr le ↦ absurd (false≢true (sym (declares_beyond Input i n le) ∙ h))
+  | inr le ↦ absurd (false≢true (sym (declares_beyond can_be_offered i n le) ∙ h))
 ]
-
-no_input_and_output : (i : List Declaration) (n : ℕ) → inputs_of i n ≡ true → outputs_of i n ≡ true → ⊥
-no_input_and_output [] n h o = false≢true h
-no_input_and_output (d ∷ ds) zero h o = kinds d.kind h o where
-  kinds : (k : Kind) → same_kind k Input ≡ true → same_kind k Output ≡ true → ⊥
-  kinds Input h o = false≢true o
-  kinds Output h o = false≢true h
-no_input_and_output (d ∷ ds) (suc n) h o = no_input_and_output ds n h o
 
 same_place : (i : List Declaration) (name : List ℕ) (m n : ℕ) → place_of i name ≡ Some m → place_of i name ≡ Some n → m ≡ n
 same_place i name m n p q = same_Some m n (sym p ∙ q)
@@ -106,7 +96,7 @@ kept_with i rs mask place name k new h = record {
   over_inputs = k.over_inputs;
   inputs = λ n b. elim (or_true (bits mask n) (nat_eq place n) (sym (with_bits mask place n) ∙ b)) [
     | inl was ↦ k.inputs n was
-    | inr comes ↦ ap (inputs_of i) (sym (nat_same place n comes)) ∙ new.input
+    | inr comes ↦ ap (offerable i) (sym (nat_same place n comes)) ∙ new.input
   ];
   kept = h;
 }
@@ -120,16 +110,16 @@ member_within i rs mask place number m k b = input_within i m (k.inputs m (found
 pub missing_within : (i : List Declaration) (rs : List Relation) (mask number m : ℕ) → AreOverInputs i rs
     → IsFirstLacking rs mask number m → m < length i
 missing_within i rs mask number m h l =
-    let over : (inputs_of i l.condition.index && inputs_of i l.missing.index) ≡ true =
-    all_there (is_within (inputs_of i)) rs l.index (Implication l.condition l.missing) h l.is in
-    input_within i m (ap (inputs_of i) l.place ∙ and_second (inputs_of i l.condition.index) (inputs_of i l.missing.index) over)
+    let over : (offerable i l.condition.index && offerable i l.missing.index) ≡ true =
+    all_there (is_within (offerable i)) rs l.index (Implication l.condition l.missing) h l.is in
+    input_within i m (ap (offerable i) l.place ∙ and_second (offerable i l.condition.index) (offerable i l.missing.index) over)
 
 -- ---- the answers
 
 not_output : (i : List Declaration) (name : List ℕ) (place : ℕ) → place_of i name ≡ Some place
-    → inputs_of i place ≡ true → IsOutputName i name → ⊥
+    → offerable i place ≡ true → IsOutputName i name → ⊥
 not_output i name place there input o =
-    no_input_and_output i o.place (ap (inputs_of i) (same_place i name o.place place o.there there) ∙ input) o.output
+    false≢true (sym o.output ∙ (ap (offerable i) (same_place i name o.place place o.there there) ∙ input))
 
 not_pending : (i : List Declaration) (mask : ℕ) (name : List ℕ) (place : ℕ) → place_of i name ≡ Some place
     → bits mask place ≡ false → IsPendingName i mask name → ⊥

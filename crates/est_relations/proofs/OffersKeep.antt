@@ -7,10 +7,8 @@ use Rattle.std.proofs.lemmas.Bool.Decides.{nat_tests}
 use Rattle.std.proofs.lemmas.Option.{get_or_from_slice_get}
 use Rattle.refusal_rules.proofs.RuleLemmas.{all_passed}
 use Rattle.est_kernel.specs.Bits.{bits}
-use Rattle.est_kernel.specs.Interfaces.{inputs_of, outputs_of, is_named, same_kind}
+use Rattle.est_kernel.specs.Interfaces.{offerable, is_named}
 use Rattle.est_kernel.specs.declared.interface.Declaration.{Declaration}
-use Rattle.est_kernel.specs.declared.interface.Kind.{Kind}
-use Rattle.est_kernel.specs.declared.interface.Kind.TheVariants.{Input, Output}
 use Rattle.est_relations.specs.Inner.Names.{IsNewInput}
 use Rattle.est_relations.specs.Keeping.{has_one_at_most, keeps_exclusion}
 use Rattle.est_relations.specs.Offers.{PendingInputs, place_of, with_place, KeepsExclusions, IsFirstExcluded, OfferAnswer, offer_rules, Adds}
@@ -44,20 +42,9 @@ first_failing keep (x ∷ xs) h = at_head (keep x) refl h (first_failing keep xs
     fails = rest.fails;
   }
 
--- a place that is found lies within
-place_within : (i : List Declaration) (name : List ℕ) (place : ℕ) → place_of i name ≡ Some place → place < length i
-place_within i name place h = within (position_or_len (is_named name) i) (length i) h where
-  within : (at l : ℕ) → cond (nat_lt at l) (Some at) None ≡ Some place → place < l
-  within at l h = grind (arith, nat_tests)
-
--- what is no output is an input
-input_there : (i : List Declaration) (n : ℕ) → n < length i → (outputs_of i n ≡ true → ⊥) → inputs_of i n ≡ true
-input_there [] n h o = absurd (omega arith)
-input_there (d ∷ ds) zero h o = kinds d.kind o where
-  kinds : (k : Kind) → (same_kind k Output ≡ true → ⊥) → same_kind k Input ≡ true
-  kinds Input o = refl
-  kinds Output o = absurd (o refl)
-input_there (d ∷ ds) (suc n) h o = input_there ds n (omega arith) o
+-- what is not refused as an output may be offered
+input_there : (i : List Declaration) (n : ℕ) → (offerable i n ≡ false → ⊥) → offerable i n ≡ true
+input_there i n o = elim (cases_Bool (offerable i n)) [ inl t ↦ t | inr f ↦ absurd (o f) ]
 
 no_fault : {A E : Type 0} (x : A) (e : E) → Ok x ≡ Err e → ⊥
 no_fault x e h = cc
@@ -125,7 +112,7 @@ offer_keeps before after name k answer =
     let adds = all.1.1 in
     let new : IsNewInput before.interface before.mask name adds.place = record {
       there = adds.there;
-      input = input_there before.interface adds.place (place_within before.interface name adds.place adds.there)
+      input = input_there before.interface adds.place
           (λ o. all.0.1.0 (record { place = adds.place; there = adds.there; output = o }));
       new = not_true (bits before.mask adds.place)
           (λ b. all.0.1.1.0 (record { place = adds.place; there = adds.there; pending = b }));

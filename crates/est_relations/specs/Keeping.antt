@@ -1,7 +1,7 @@
 -- Relations between inputs, and which sets of inputs keep them (Berry, The Esterel v5 Language Primer, input relations).
 use Rattle.std.specs.Prelude.{◌≡◌, ℕ, Bool, true, ◌&&◌, ◌||◌, not, nat_eq, List}
 use Rattle.std.specs.List.{list_all}
-use Rattle.est_kernel.specs.Interfaces.{inputs_of}
+use Rattle.est_kernel.specs.Interfaces.{offerable}
 use Rattle.est_kernel.specs.declared.interface.Declaration.{Declaration}
 use Rattle.est_relations.specs.declared.relations.Relation.{Relation}
 use Rattle.est_relations.specs.declared.relations.Relation.TheVariants.{Exclusion, Implication}
@@ -35,4 +35,4 @@ is_within signals (Implication condition implied) = signals condition.index && s
 
 -- each signal of each relation is an input
 abbrev pub AreOverInputs : List Declaration → List Relation → Type 0
-AreOverInputs interface relations = list_all (is_within (inputs_of interface)) relations ≡ true
+AreOverInputs interface relations = list_all (is_within (offerable interface)) relations ≡ true

@@ -3,7 +3,7 @@ use Rattle.std.specs.Prelude.{◌≡◌, ℕ, ◌+◌, ◌^◌, true, not, List,
 use Rattle.std.specs.List.{find, list_all}
 use Rattle.refusal_rules.specs.Rules.{Rules, Says, Unless, Naming, accept, ◌▸◌, Answers}
 use Rattle.est_kernel.specs.Bits.{bits}
-use Rattle.est_kernel.specs.Interfaces.{inputs_of, outputs_of, is_named}
+use Rattle.est_kernel.specs.Interfaces.{offerable, is_named}
 use Rattle.est_kernel.specs.declared.interface.Declaration.{Declaration}
 use Rattle.est_kernel.specs.declared.statement.InterfaceSignal.{InterfaceSignal}
 use Rattle.est_relations.specs.Keeping.{keeps, keeps_exclusion, AreLawful, AreOverInputs}
@@ -33,7 +33,7 @@ with_place mask place = bit_or mask (2 ^ place)
 -- the pending inputs are inputs, and they keep each exclusion; and the relations are between inputs
 pub record KeepsExclusions (interface : List Declaration) (relations : List Relation) (mask : ℕ) : Type 0 where
   pub over_inputs : AreOverInputs interface relations
-  pub inputs : (n : ℕ) → bits mask n ≡ true → inputs_of interface n ≡ true
+  pub inputs : (n : ℕ) → bits mask n ≡ true → offerable interface n ≡ true
   pub kept : list_all (keeps_exclusion (bits mask)) relations ≡ true
 
 -- a signal of the interface has this name
@@ -41,11 +41,11 @@ pub record IsSignalName (interface : List Declaration) (name : List ℕ) : Type 
   pub place : ℕ
   pub there : place_of interface name ≡ Some place
 
--- the name is that of an output
+-- the name is that of a signal that may not be offered: of an output alone
 pub record IsOutputName (interface : List Declaration) (name : List ℕ) : Type 0 where
   pub place : ℕ
   pub there : place_of interface name ≡ Some place
-  pub output : outputs_of interface place ≡ true
+  pub output : offerable interface place ≡ false
 
 -- the name is that of a signal that is pending
 pub record IsPendingName (interface : List Declaration) (mask : ℕ) (name : List ℕ) : Type 0 where

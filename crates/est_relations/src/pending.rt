@@ -7,7 +7,7 @@ ghost use Rattle.est_relations.specs.Offers.{KeepsExclusions, OfferAnswer, Ready
 use crate::refusal::Refusal;
 use crate::relations::Relations;
 use crate::violations::{first_broken, first_lacking};
-use est_kernel::interface::{Interface, Kind};
+use est_kernel::interface::Interface;
 use est_kernel::mask;
 use est_kernel::statement::InterfaceSignal;
 use est_text::identifier::Identifier;
@@ -32,7 +32,7 @@ impl<'a> Model for Pending<'a> {
     ghost invariant = { λ p. KeepsExclusions p.interface.now p.relations.now p.inputs };
 }
 
-/// The input of this name, where it is not pending.
+/// The signal of this name, where it may be offered and is not pending.
 fn offered(
     interface: &Interface,
     pending: u64,
@@ -45,7 +45,7 @@ fn offered(
     let Some(signal) = interface.find(name) else {
         return Err(Refusal::UnknownSignal);
     };
-    if interface.kind(signal) == Kind::Output {
+    if !interface.kind(signal).can_be_offered() {
         return Err(Refusal::NotInput);
     }
     if mask::has(pending, signal.index) {
@@ -84,7 +84,7 @@ fn joined(
 }
 
 impl<'a> Pending<'a> {
-    /// Nothing is pending. That the relations are between inputs of the interface is the caller's condition: a `Flat` of
+    /// Nothing is pending. That the relations are between signals of the interface that may be offered is the caller's condition: a `Flat` of
     /// `est_reduce` says so of its own.
     pub fn new(interface: &'a Interface, relations: &'a Relations) -> Pending<'a>
         requires { AreOverInputs interface.now relations.now }
@@ -118,7 +118,7 @@ impl<'a> Pending<'a> {
     }
 
     /// Makes the input of this name pending, where that keeps each exclusion. It is refused, and nothing changes, by
-    /// the first of these that holds: no signal has the name, it is an output's, its signal is pending already, or an
+    /// the first of these that holds: no signal has the name, it is that of an output alone, its signal is pending already, or an
     /// exclusion would not hold.
     pub fn offer(&mut self, name: &Identifier) -> Result<(), Refusal>
         ensures { OfferAnswer self.old name.now result self.new }

@@ -101,7 +101,7 @@ fn first_among(members: &[InterfaceSignal], signals: u64) -> Option<&InterfaceSi
         .find(|member| mask::has(signals, member.index))
 }
 
-/// A relation between inputs.
+/// A relation between signals that may be offered: it is about the offers alone.
 #[derive(Drop)]
 pub enum Relation {
     /// `A # B # C`: at most one of them is present.
@@ -180,11 +180,11 @@ impl Relations {
         Ok(())
     }
 
-    /// Whether each signal of each relation is an input.
+    /// Whether each signal of each relation may be offered.
     pub fn are_over_inputs(&self, interface: &Interface) -> bool
         ensures { IsTrue result ↔ AreOverInputs interface.now self.now }
     {
-        are_within(&self.relations, interface.inputs())
+        are_within(&self.relations, interface.offerable())
     }
 
     /// The relations, in order.

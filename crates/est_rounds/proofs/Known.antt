@@ -1,7 +1,9 @@
 -- What is known, on masks.
-use Rattle.std.proofs.Common.{◌≡◌, ℕ, Bool, true, false, not, ◌&&◌, ◌||◌, cond, refl, ap, sym, ◌∙◌}
+use Rattle.std.proofs.Common.{◌≡◌, ℕ, Bool, true, false, not, ◌&&◌, ◌||◌, cond, List, refl, ap, sym, ◌∙◌}
 use mathlib.Core.Path.{fun_ext}
 use Rattle.est_kernel.specs.Bits.{bits}
+use Rattle.est_kernel.specs.Interfaces.{emittable}
+use Rattle.est_kernel.specs.declared.interface.Declaration.{Declaration}
 use Rattle.est_kernel.specs.Term.{outer, inner, Term}
 use Rattle.est_kernel.proofs.Masks.{bits_zero}
 use Rattle.est_meaning.specs.Status as meaning
@@ -12,6 +14,12 @@ use Rattle.est_rounds.specs.Views.{set_of, env_of, judged_by}
 use Rattle.est_rounds.specs.declared.judged.JudgedSignals.{JudgedSignals}
 use Rattle.est_rounds.specs.declared.signal_set.Env.{Env}
 use Rattle.est_rounds.specs.declared.signal_set.SignalSet.{SignalSet}
+
+-- the signals that are judged, as a mask
+pub judged_signals_are : (i : List Declaration) (inputs may_be judged : ℕ → Bool) → may_be ≡ emittable i
+    → ((n : ℕ) → judged n ≡ (may_be n && not (inputs n)))
+    → judged ≡ (λ n. emittable i n && not (inputs n))
+judged_signals_are i inputs may_be judged e f = fun_ext (λ n. f n ∙ ap (λ (g : ℕ → Bool). g n && not (inputs n)) e)
 
 first_verdict : (o i : Bool) → meaning.verdict (i && not o) (o || i) ≡ cond o Unknown (meaning.verdict i false)
 first_verdict true true = refl

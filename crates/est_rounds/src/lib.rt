@@ -5,6 +5,7 @@
 #![tactic(auto)]
 
 mod acts;
+mod answer;
 pub mod engine;
 mod judged;
 mod resume;

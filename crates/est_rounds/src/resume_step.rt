@@ -4,13 +4,14 @@
 //! circle of calls goes deeper than that.
 
 ghost use Rattle.std.specs.Prelude.{◌<◌, ◌||◌};
-ghost use Rattle.est_kernel.specs.Masks.{FitsMasks, HasTestBit};
+ghost use Rattle.est_kernel.specs.Masks.{FitsMasks};
 ghost use Rattle.est_kernel.specs.PauseNumbers.{has_pause, HasDistinctPauses, AreApart};
 ghost use Rattle.est_meaning.specs.States.{IsExclusive};
 ghost use Rattle.est_kernel.specs.Pauses.{pauses_of};
 ghost use Rattle.est_kernel.specs.declared.statement.Statement.TheVariants.{Suspend', Seq', Loop', Par', Trap', Local'};
 ghost use Rattle.est_rounds.specs.Steps.{AreClear, AreExclusive, GoesOn, IsClear, KeepsOthers, TakeTurns, TakesOver};
 
+use crate::answer::answer_to;
 use crate::resume::{has_live, resume_sure};
 use crate::signal_set::{self, Env};
 use crate::step::{Step, both, start_step};
@@ -89,7 +90,7 @@ pub fn resume_step(s: &Statement, pauses: &PauseSet, env: &Env, next: &mut Pause
             Resumed::Stuck => Resumed::Stuck,
             Resumed::Moved(step) => Resumed::Moved(step),
         },
-        Statement::Suspend(t, p) => resume_suspend(*t, p, pauses, env, next),
+        Statement::Suspend(t, p) => resume_suspend(t, p, pauses, env, next),
         Statement::Seq(p, q) => resume_seq(p, q, pauses, env, next),
         Statement::Loop(p) => resume_loop(p, pauses, env, next),
         Statement::Par(p, q) => resume_par(p, q, pauses, env, next),
@@ -102,20 +103,20 @@ pub fn resume_step(s: &Statement, pauses: &PauseSet, env: &Env, next: &mut Pause
 /// What `suspend p when t` does from its pauses.
 #[cycle(resume)]
 fn resume_suspend(
-    t: Test,
+    t: &Test,
     p: &Statement,
     pauses: &PauseSet,
     env: &Env,
     next: &mut PauseSet,
 ) -> Resumed
-    requires fits { HasTestBit t × FitsMasks p.now }
+    requires fits { FitsMasks p.now }
     requires distinct { HasDistinctPauses p.now }
     requires exclusive { IsExclusive p.now (pauses_of pauses.now) }
     requires clear { IsClear p.now next.old }
-    ensures resumed { (x : _) → GoesOn result (Suspend' t x p.now) pauses.now env.now next.new }
+    ensures resumed { (x : _) → GoesOn result (Suspend' t.now x p.now) pauses.now env.now next.new }
     ensures others { KeepsOthers (has_pause p.now) next.old next.new }
 {
-    match signal_set::answer_to(env, t) {
+    match answer_to(env, t) {
         Status::Absent => resume_step(p, pauses, env, next),
         Status::Present => {
             if has_live(p, pauses) {

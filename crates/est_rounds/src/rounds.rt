@@ -1,4 +1,4 @@
-//! Reactions by rounds over the outputs.
+//! Reactions by rounds over the signals that may be emitted.
 
 ghost use Rattle.std.specs.Prelude.{◌≡◌, IfSome, IfNone, ℕ, cond};
 ghost use Rattle.est_kernel.specs.Bits.{bits};
@@ -26,14 +26,14 @@ use est_kernel::mask;
 use est_kernel::pause_set::PauseSet;
 use est_kernel::state::{Inputs, Outcome, State, Stuck};
 
-/// The signals that are judged for a kernel: its outputs.
-fn judged_signals(kernel: &Kernel) -> JudgedSignals
-    ensures { judged_by result ≡ judged_of kernel.now }
+/// The signals that are judged for a kernel in an instant with these inputs: those that may be emitted and aren't offered.
+fn judged_signals(kernel: &Kernel, inputs: u64) -> JudgedSignals
+    ensures { judged_by result ≡ judged_of kernel.now (bits inputs) }
 {
     let interface = kernel.interface();
     JudgedSignals {
         places: interface.len() as u8,
-        signals: interface.outputs(),
+        signals: mask::minus(interface.emittable(), inputs),
     }
 }
 
@@ -157,7 +157,7 @@ fn step_of(kernel: &Kernel, state: &State, env: &Env, next: &mut PauseSet) -> Op
     }
 }
 
-/// The engine that judges all outputs in rounds, each over the whole kernel.
+/// The engine that judges all signals that may be emitted in rounds, each over the whole kernel.
 ///
 /// A round's work grows with each nesting of local signals, at most six deep, and else with the kernel's size.
 #[derive(Clone, Copy)]
@@ -176,7 +176,7 @@ impl Engine for Rounds {
     ghost is_for = { λ _ _. Unit {0} };
 
     fn react(&mut self, kernel: &Kernel, state: &State, inputs: &Inputs) -> Result<Outcome, Stuck> {
-        let judged = judged_signals(kernel);
+        let judged = judged_signals(kernel, inputs.signals);
         let env = last_known(kernel, state, judged, inputs.signals);
         let mut next = PauseSet::new();
         match step_of(kernel, state, &env, &mut next) {

@@ -12,6 +12,7 @@ ghost use Rattle.est_meaning.specs.MustCan.{can_then};
 ghost use Rattle.est_rounds.specs.Judging.{can_by, can_follow, may_by, must_by, must_follow};
 
 use crate::acts::{Acts, Judgement};
+use crate::answer::answer_to;
 use crate::signal_set::{self, Env};
 use est_kernel::code_set::CodeSet;
 use est_kernel::completion::Completion;
@@ -31,7 +32,7 @@ pub fn start_maybe(s: &Statement, env: &Env) -> Acts
             signals: signal_set::only_signal(*s),
             codes: CodeSet::single(Completion::End),
         },
-        Statement::Present(t, p, q) => match signal_set::answer_to(env, *t) {
+        Statement::Present(t, p, q) => match answer_to(env, t) {
             Status::Present => start_maybe(p, env),
             Status::Absent => start_maybe(q, env),
             Status::Unknown => start_maybe(p, env).or(start_maybe(q, env)),
@@ -103,7 +104,7 @@ pub fn start_sure(s: &Statement, env: &Env) -> Judgement
             signals: signal_set::only_signal(*s),
             codes: CodeSet::single(Completion::End),
         }),
-        Statement::Present(t, p, q) => match signal_set::answer_to(env, *t) {
+        Statement::Present(t, p, q) => match answer_to(env, t) {
             Status::Present => start_sure(p, env),
             Status::Absent => start_sure(q, env),
             Status::Unknown => Judgement {

@@ -17,6 +17,7 @@ ghost use Rattle.est_meaning.specs.Signals.{no_signals, union, without};
 ghost use Rattle.est_rounds.specs.Views.{set_of};
 ghost use Rattle.est_rounds.specs.Steps.{AreClear, HaveSamePauses, IfBegun, IsClear, IsStuckBy, KeepsAllBut, KeepsOthers, emitted, greater_code};
 
+use crate::answer::answer_to;
 use crate::signal_set::{self, Env, SignalSet};
 use crate::start::start_sure;
 use est_kernel::completion::Completion;
@@ -161,7 +162,7 @@ pub fn start_step(s: &Statement, env: &Env, next: &mut PauseSet) -> Option<Step>
             signals: signal_set::only_signal(*s),
             completion: Completion::End,
         }),
-        Statement::Present(t, p, q) => match signal_set::answer_to(env, *t) {
+        Statement::Present(t, p, q) => match answer_to(env, t) {
             Status::Present => start_step(p, env, next),
             Status::Absent => start_step(q, env, next),
             Status::Unknown => None,

@@ -1,7 +1,7 @@
 -- Counts that stop at the largest number of their type (this project's own form).
-use Rattle.std.specs.Prelude.{◌≡◌, ◌+◌, ◌<◌, ◌↔◌, ℕ, Bool, IsTrue, List, MatchOption, Option, min}
+use Rattle.std.specs.Prelude.{◌≡◌, ◌+◌, ◌<◌, ◌↔◌, ◌&&◌, ℕ, Bool, true, nat_lt, IsTrue, List, length, MatchOption, Option, min}
 use Rattle.est_kernel.specs.Scope.{IsClosed}
-use Rattle.est_kernel.specs.Term.{Term}
+use Rattle.est_kernel.specs.Term.{Name, outer, inner, Query, tick, of, negated, joined, Queries, last, more, Joint, Term}
 use Rattle.est_kernel.specs.declared.interface.Declaration.{Declaration}
 
 -- counted counts n, as far as 32 bits hold it
@@ -16,3 +16,25 @@ TellsClosed answer i traps locals t =
 -- what is left of a room where so much is needed, or that it has not so much
 abbrev pub LeavesRoom : Option ℕ → (room needed : ℕ) → Type 0
 LeavesRoom answer room needed = MatchOption answer (room < needed) (λ left. left + needed ≡ room)
+
+-- whether a signal is of the interface or of so many local ones
+abbrev pub is_seen : List Declaration → ℕ → Name → Bool
+is_seen i locals (outer n) = nat_lt n (length i)
+is_seen i locals (inner n) = nat_lt n locals
+
+abbrev mutual
+  -- whether each signal of a test passes
+  pub each_signal : (Name → Bool) → Query → Bool
+  each_signal f tick = true
+  each_signal f (of s) = f s
+  each_signal f (negated t) = each_signal f t
+  each_signal f (joined c t ts) = each_signal f t && each_signal_of_all f ts
+
+  -- whether each signal of these tests passes
+  pub each_signal_of_all : (Name → Bool) → Queries → Bool
+  each_signal_of_all f (last t) = each_signal f t
+  each_signal_of_all f (more t ts) = each_signal f t && each_signal_of_all f ts
+
+-- whether each signal of operands passes
+abbrev pub each_signal_of_joint : (Name → Bool) → Joint → Bool
+each_signal_of_joint f o = each_signal f o.first && each_signal_of_all f o.later

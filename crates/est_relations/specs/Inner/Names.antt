@@ -1,7 +1,7 @@
 -- Names that are offered (this project's own form).
 use Rattle.std.specs.Prelude.{◌≡◌, ℕ, true, false, List, Some, None, Ok, Err}
 use Rattle.est_kernel.specs.Bits.{bits}
-use Rattle.est_kernel.specs.Interfaces.{inputs_of}
+use Rattle.est_kernel.specs.Interfaces.{offerable}
 use Rattle.est_kernel.specs.declared.interface.Declaration.{Declaration}
 use Rattle.est_relations.specs.Offers.{pending_inputs, place_of, IsOutputName, IsPendingName, KeepsExclusions, OfferAnswer}
 use Rattle.est_relations.specs.declared.relations.Relation.{Relation}
@@ -11,7 +11,7 @@ use Rattle.est_relations.specs.declared.refusal.Refusal.TheVariants.{UnknownSign
 -- the name is that of the input at this place, which is not pending
 pub record IsNewInput (interface : List Declaration) (mask : ℕ) (name : List ℕ) (place : ℕ) : Type 0 where
   pub there : place_of interface name ≡ Some place
-  pub input : inputs_of interface place ≡ true
+  pub input : offerable interface place ≡ true
   pub new : bits mask place ≡ false
 
 -- why a name is no input's that is not pending
