@@ -1,7 +1,7 @@
 -- What a table that grows keeps.
-use Rattle.std.proofs.Common.{◌≡◌, ◌≢◌, ◌⊎◌, inl, inr, ℕ, zero, suc, ◌+◌, ◌-◌, ◌<◌, ◌≤◌, Bool, true, false, cond, List, [], ◌∷◌, ◌++◌, length, set, Some, refl, sym, ap, ◌∙◌, subst, arith, length-append, replicate}
+use Rattle.std.proofs.Common.{◌≡◌, ◌≢◌, ◌⊎◌, inl, inr, ℕ, zero, suc, ◌+◌, ◌-◌, ◌<◌, ◌≤◌, Bool, true, false, cond, List, [], ◌∷◌, ◌++◌, length, get_or, set, Some, refl, sym, ap, ◌∙◌, subst, arith, length-append, replicate}
 use Rattle.std.proofs.lemmas.List.{append_assoc, length-replicate, length_push, append-nil}
-use Rattle.std.proofs.lemmas.Option.{slice_get_within}
+use Rattle.std.proofs.lemmas.Option.{slice_get_within, get_or_from_slice_get, slice_get-get_or}
 use Rattle.std.specs.Prelude.{slice_get, slice_index, nat_lt}
 use Rattle.std.proofs.lemmas.Bool.{ltb-true}
 use mathlib.Core.Path.{fun_ext}
@@ -11,14 +11,15 @@ use Rattle.est_kernel.specs.View.{name_of, query_of}
 use Rattle.est_kernel.specs.declared.statement.Statement.{Statement}
 use Rattle.est_kernel.specs.declared.statement.Statement.TheVariants.{Nothing, Pause, Emit, Present', Suspend', Seq', Loop', Par', Trap', Exit, Local' as Binder'}
 use Rattle.est_meaning.specs.declared.status.Status.TheVariants.{Unknown}
-use Rattle.est_net.specs.Building.{chart, sources_of, site_at, next_node, next_cell, AreEmissions, WellMade, IsClosedAt, Keeps, Grows, AddsNode, Notes, Joins}
-use Rattle.est_net.specs.Layout.{Chart, Source, input, judged, nowhere, Sources, Site, IsLinked, IsNode, AsksSource, Asks, IsMember, LaidEmit, LaidTest, LaidLocal, IfMain, Laid}
+use Rattle.est_kernel.proofs.Tests.{each_implies}
+use Rattle.est_net.specs.Building.{chart, signal_source, sources_of, site_at, next_node, next_cell, AreEmissions, WellMade, IsClosedAt, Keeps, Grows, AddsNode, Notes, Joins}
+use Rattle.est_net.specs.Layout.{Chart, Source, input, judged, nowhere, Sources, Site, source_status, IsReader, IsLinked, IsNode, Asks, IsMember, LaidEmit, LaidTest, LaidLocal, IfMain, Laid}
 use Rattle.est_net.specs.Links.{IsChained, IsLinkAdded}
 use Rattle.est_net.specs.declared.layout.Layout.{Layout}
 use Rattle.est_net.specs.declared.layout.Place.{Place}
 use Rattle.est_net.specs.declared.links.Link.{Link}
 use Rattle.est_net.specs.declared.node.Asked.{Asked}
-use Rattle.est_net.specs.declared.node.Asked.TheVariants.{Input, Status}
+use Rattle.est_net.specs.declared.node.Asked.TheVariants.{Tick, Input, Status}
 use Rattle.est_net.specs.declared.plan.Plan.{Plan}
 use Rattle.est_net.specs.declared.node.Kind.{Kind}
 use Rattle.est_net.specs.declared.node.Node.{Node}
@@ -49,15 +50,16 @@ member_keeps : (lo : ℕ) (C D : Chart) (main : Bool) (x n : ℕ) → Keeps lo C
 member_keeps lo C D true x n k h = linked_keeps C.members D.members x n k.members h
 member_keeps lo C D false x n k h = tt
 
-source_keeps : (lo : ℕ) (C D : Chart) (f : Source) (n : ℕ) (a : Asked) → Keeps lo C D → AsksSource C f n a → AsksSource D f n a
-source_keeps lo C D (input i) n a k h = h
-source_keeps lo C D (judged x) n a k h =
-    (h.0, k.signals x h.0 h.1, h.2, linked_keeps C.readers D.readers x n k.readers h.3)
-source_keeps lo C D nowhere n a k h = h
+reader_keeps : (lo : ℕ) (C D : Chart) (n : ℕ) (f : Source) → Keeps lo C D → IsReader C n f → IsReader D n f
+reader_keeps lo C D n (input i) k h = tt
+reader_keeps lo C D n (judged x c) k h = linked_keeps C.readers D.readers x n k.readers h
+reader_keeps lo C D n nowhere k h = tt
 
 pub asks_keeps : (lo : ℕ) (C D : Chart) (f : Sources) (q : Query) (n : ℕ) (a : Asked) → Keeps lo C D → Asks C f q n a → Asks D f q n a
-asks_keeps lo C D f tick n a k h = h
-asks_keeps lo C D f (of s) n a k h = source_keeps lo C D (f s) n a k h
+asks_keeps lo C D f q n a k h = record {
+  tells = h.tells;
+  readers = each_implies (λ s. IsReader C n (f s)) (λ s. IsReader D n (f s)) (λ s r. reader_keeps lo C D n (f s) k r) q h.readers;
+}
 
 test_keeps : (lo : ℕ) (C D : Chart) (main : Bool) (q : Query) (n c : ℕ) (w : Site) (f : Asked → Kind) (m : ℕ) → lo ≤ n → Keeps lo C D
     → LaidTest C main q n c w f m → LaidTest D main q n c w f m
@@ -74,7 +76,7 @@ pub laid_keeps : (lo : ℕ) (C D : Chart) (main : Bool) (s : Statement) (n c : �
 laid_keeps lo C D main Nothing n c w l k h = k.nodes n _ l h
 laid_keeps lo C D main (Pause i) n c w l k h = (k.nodes n _ l h.0, member_keeps lo C D main w.scope n k h.1)
 laid_keeps lo C D main (Emit s) n c w l k h = record {
-  signal = h.signal; meant = h.meant; node = k.nodes n _ l h.node;
+  signal = h.signal; cell = h.cell; meant = h.meant; has_cell = k.signals h.signal _ h.has_cell; node = k.nodes n _ l h.node;
   linked = linked_keeps C.emitters D.emitters h.signal n k.emitters h.linked;
 }
 laid_keeps lo C D main (Exit i) n c w l k h = k.nodes n _ l h
@@ -116,13 +118,26 @@ grows_then a b c m k m' k' h g = record {
   made = g.made;
 }
 
-pub same_sources : (a b : Layout) → b.inside.items ≡ a.inside.items → b.ranks.items ≡ a.ranks.items → b.outputs ≡ a.outputs
-    → (s : Name) → sources_of b s ≡ sources_of a s
-same_sources a b i r o (outer n) = rw (r, o) refl
-same_sources a b i r o (inner n) = rw i refl
+cond_same : (b : Bool) (x y z : Source) → (b ≡ true → x ≡ y) → cond b x z ≡ cond b y z
+cond_same true x y z h = h refl
+cond_same false x y z h = refl
 
-pub sources_same : (a b : Layout) (m k : ℕ) → Grows a b m k → sources_of b ≡ sources_of a
-sources_same a b m k g = fun_ext (same_sources a b g.inside g.ranks g.outputs)
+signal_same : (a b : Layout) (m k x : ℕ) → Grows a b m k → x < length a.plan.signals.items → signal_source b x ≡ signal_source a x
+signal_same a b m k x g w =
+    let L = a.plan.signals.items in
+    ap (λ (c : ℕ). judged x c)
+    (get_or_from_slice_get b.plan.signals.items x (get_or L x 0) 0 (g.keeps.signals x (get_or L x 0) (slice_get-get_or L x 0 w)))
+
+same_sources : (a b : Layout) (m k : ℕ) → WellMade a → Grows a b m k → (s : Name) → sources_of b s ≡ sources_of a s
+same_sources a b m k w g (outer n) =
+    rw (g.ranks, g.outputs) (cond_same (bits a.outputs n) _ _ (input n)
+    (λ h. signal_same a b m k (slice_index a.ranks.items n) g (w.ranks n h)))
+same_sources a b m k w g (inner n) =
+    rw g.inside (cond_same (nat_lt n (length a.inside.items)) _ _ nowhere
+    (λ h. signal_same a b m k (slice_index a.inside.items n) g (w.inside n (ltb-true n (length a.inside.items) h))))
+
+pub sources_same : (a b : Layout) (m k : ℕ) → WellMade a → Grows a b m k → sources_of b ≡ sources_of a
+sources_same a b m k w g = fun_ext (same_sources a b m k w g)
 
 pub closed_same : (a b : Layout) (m k t : ℕ) (p : Term) → Grows a b m k → IsClosedAt a t p → IsClosedAt b t p
 closed_same a b m k t p g h = record {
@@ -239,10 +254,20 @@ joins scope a b w added last chained nodes cells same = record {
 }
 
 pub notes_input : (a : Layout) (n : ℕ) → WellMade a → bits a.outputs n ≡ false → Notes (of (outer n)) (Input n) a a
-notes_input a n w o = record { asks = rw o refl; grows = grows_not a w }
+notes_input a n w o = record {
+  asks = record {
+    tells = λ cells inputs. rw o refl;
+    readers = subst (λ (z : Source). IsReader (chart a) (next_node a) z)
+        (let e : input n ≡ sources_of a (outer n) = rw o refl in e) tt;
+  };
+  grows = grows_not a w;
+}
 
-pub notes_judged : (a b : Layout) (s : Name) (x c : ℕ) → WellMade a → sources_of a s ≡ judged x
-    → slice_get a.plan.signals.items x ≡ Some c
+pub notes_tick : (a : Layout) → WellMade a → Notes tick Tick a a
+notes_tick a w = record { asks = record { tells = λ cells inputs. refl; readers = tt }; grows = grows_not a w }
+
+pub notes_judged : (a b : Layout) (s : Name) (x c : ℕ) → WellMade a → sources_of a s ≡ signal_source a x
+    → c ≡ slice_index a.plan.signals.items x
     → IsLinkAdded x (next_node a) a.plan.readers.links.items b.plan.readers.links.items
     → length b.plan.readers.last.items ≡ length a.plan.readers.last.items
     → IsChained b.plan.readers.links.items b.plan.readers.last.items
@@ -257,8 +282,10 @@ notes_judged a b s x c w means cell added last chained plan cells inside ranks o
     let members : b.plan.members.links.items ≡ a.plan.members.links.items = ap (λ (z : Plan). z.members.links.items) plan in
     let members_last : b.plan.members.last.items ≡ a.plan.members.last.items = ap (λ (z : Plan). z.members.last.items) plan in
     record {
-      asks = subst (λ (z : Source). AsksSource (chart b) z (next_node a) (Status c)) (sym means)
-          (c, rw signals cell, refl, added_linked x (next_node a) _ _ added);
+      asks = record {
+        tells = λ cells inputs. subst (λ (z : Source). cells c ≡ source_status cells inputs z) (sym means) (ap cells cell);
+        readers = subst (λ (z : Source). IsReader (chart b) (next_node a) z) (sym means) (added_linked x (next_node a) _ _ added);
+      };
       grows = record {
         keeps = record {
           nodes = λ i y l e. rw nodes e;
@@ -286,13 +313,13 @@ notes_judged a b s x c w means cell added last chained plan cells inside ranks o
       };
     }
 
-has_number : (b : Bool) (y x : ℕ) (f : Source) (m : ℕ) → cond b (judged y) f ≡ judged x → (f ≢ judged x) → (b ≡ true → y < m) → x < m
-has_number true y x f m e d h = let i : y ≡ x = cc in rw (← i) (h refl)
-has_number false y x f m e d h = absurd (d e)
+has_number : (b : Bool) (y x c d : ℕ) (f : Source) (m : ℕ) → cond b (judged y c) f ≡ judged x d → (f ≢ judged x d) → (b ≡ true → y < m) → x < m
+has_number true y x c d f m e n h = let i : y ≡ x = cc in rw (← i) (h refl)
+has_number false y x c d f m e n h = absurd (n e)
 
-pub number_in : (a : Layout) (s : Name) (x : ℕ) → WellMade a → sources_of a s ≡ judged x → x < length a.plan.signals.items
+pub number_in : (a : Layout) (s : Name) (x : ℕ) → WellMade a → sources_of a s ≡ signal_source a x → x < length a.plan.signals.items
 number_in a (outer n) x w e =
-    has_number (bits a.outputs n) (slice_index a.ranks.items n) x (input n) _ e (λ z. cc) (λ h. w.ranks n h)
+    has_number (bits a.outputs n) (slice_index a.ranks.items n) x _ _ (input n) _ e (λ z. cc) (λ h. w.ranks n h)
 number_in a (inner n) x w e =
-    has_number (nat_lt n (length a.inside.items)) (slice_index a.inside.items n) x nowhere _ e (λ z. cc)
+    has_number (nat_lt n (length a.inside.items)) (slice_index a.inside.items n) x _ _ nowhere _ e (λ z. cc)
     (λ h. w.inside n (ltb-true n (length a.inside.items) h))

@@ -1,6 +1,6 @@
 -- What is at a place of a list that has grown, or in which a place was set.
-use Rattle.std.proofs.Common.{◌≡◌, ◌≢◌, ◌⊎◌, inl, inr, ℕ, zero, suc, ◌+◌, ◌<◌, List, [], ◌∷◌, ◌++◌, length, set, Option, Some, None, refl, sym, ap, ◌∙◌, arith}
-use Rattle.std.specs.Prelude.{slice_get}
+use Rattle.std.proofs.Common.{◌≡◌, ◌≢◌, ◌⊎◌, inl, inr, ℕ, zero, suc, ◌+◌, ◌<◌, List, [], ◌∷◌, ◌++◌, length, set, Option, Some, None, IfOk, refl, sym, ap, ◌∙◌, arith}
+use Rattle.std.specs.Prelude.{slice_get, Result, Ok, Err}
 
 pub get_grown : {X : Type 0} (xs ys : List X) (i : ℕ) (x : X) → slice_get xs i ≡ Some x → slice_get (xs ++ ys) i ≡ Some x
 get_grown [] ys i x h = let e : None ≡ Some x = h in cc
@@ -38,3 +38,9 @@ same_or_not (suc x) (suc y) = elim (same_or_not x y) [ inl e ↦ inl (ap suc e) 
 
 pub some_same : {X : Type 0} (x y : X) → Some x ≡ Some y → x ≡ y
 some_same x y h = cc
+
+-- three facts of an Ok together
+pub all_ok : {T E : Type 0} (r : Result T E) (P Q R S : T → Type 0) → ((x : T) → P x → Q x → R x → S x)
+    → IfOk r P → IfOk r Q → IfOk r R → IfOk r S
+all_ok (Ok x) P Q R S f p q s = f x p q s
+all_ok (Err e) P Q R S f p q s = tt

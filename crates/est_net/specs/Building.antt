@@ -1,21 +1,22 @@
 -- What a table is while it is being made (this project's own form).
 use Rattle.std.specs.Prelude.{◌≡◌, ◌<◌, ◌≤◌, ℕ, suc, ◌+◌, Bool, true, false, cond, List, [], ◌∷◌, ◌++◌, length, Some, slice_get, slice_index, nat_lt, replicate, set}
 use Rattle.est_kernel.specs.Bits.{bits}
-use Rattle.est_kernel.specs.Interfaces.{outputs_of}
+use Rattle.est_kernel.specs.Interfaces.{emittable}
 use Rattle.est_kernel.specs.Limits.{trap_depth}
-use Rattle.est_kernel.specs.Scope.{IsClosed}
-use Rattle.est_kernel.specs.Term.{Name, outer, inner, Query, Term}
+use Rattle.est_kernel.specs.Scope.{IsClosed, EachSignal, EachSignalOfAll}
+use Rattle.est_kernel.specs.Term.{Name, outer, inner, Query, Joint, Term}
 use Rattle.est_kernel.specs.View.{name_of, term_of}
 use Rattle.est_kernel.specs.declared.interface.Declaration.{Declaration}
+use Rattle.est_kernel.specs.declared.statement.Connective.{Connective}
 use Rattle.est_kernel.specs.declared.statement.Signal.{Signal}
 use Rattle.est_kernel.specs.declared.statement.Signal.TheVariants.{Interface, Local}
-use Rattle.est_kernel.specs.declared.statement.Test.{Test}
-use Rattle.est_kernel.specs.declared.statement.Test.TheVariants.{Tick, Status}
 use Rattle.est_kernel.specs.declared.statement.Statement.{Statement}
+use Rattle.est_meaning.specs.Status.{joint_status, status_of_joint}
+use Rattle.est_meaning.specs.declared.status.Status.{Status}
 use Rattle.est_meaning.specs.declared.status.Status.TheVariants.{Unknown}
 use Rattle.est_cells.specs.Rows.{nodes}
 use Rattle.est_cells.specs.Tables.{sheet_size}
-use Rattle.est_net.specs.Layout.{Chart, chart_of, Sources, judged, input, nowhere, Site, part_site, restart_site, IfMain, IsNode, Asks, IsMember, Laid, LaidEmit, LaidLocal}
+use Rattle.est_net.specs.Layout.{Chart, chart_of, Source, Sources, judged, input, nowhere, Site, part_site, restart_site, IfMain, IsNode, Asks, IsMember, Laid, LaidEmit, LaidLocal, IsReader, asked_status, env_at}
 use Rattle.est_net.specs.Links.{IsChained}
 use Rattle.est_net.specs.declared.layout.Layout.{Layout}
 use Rattle.est_net.specs.declared.layout.Part.{Part}
@@ -31,10 +32,14 @@ use Rattle.est_net.specs.declared.node.Node.{Node}
 abbrev pub chart : Layout → Chart
 chart l = chart_of l.plan
 
+-- a signal by its number
+abbrev pub signal_source : Layout → ℕ → Source
+signal_source l x = judged x (slice_index l.plan.signals.items x)
+
 -- what the names mean where the next statement is laid out
 abbrev pub sources_of : Layout → Sources
-sources_of l (outer n) = cond (bits l.outputs n) (judged (slice_index l.ranks.items n)) (input n)
-sources_of l (inner n) = cond (nat_lt n (length l.inside.items)) (judged (slice_index l.inside.items n)) nowhere
+sources_of l (outer n) = cond (bits l.outputs n) (signal_source l (slice_index l.ranks.items n)) (input n)
+sources_of l (inner n) = cond (nat_lt n (length l.inside.items)) (signal_source l (slice_index l.inside.items n)) nowhere
 
 abbrev pub site_at : Place → Sources → Site
 site_at p f = record { begin = p.begin; parent = p.parent; scope = p.scope; traps = p.traps; sources = f }
@@ -66,7 +71,7 @@ pub record WellMade (l : Layout) : Type 0 where
 pub record IsClosedAt (l : Layout) (traps : ℕ) (t : Term) : Type 0 where
   pub interface : List Declaration
   pub closed : IsClosed interface traps (length l.inside.items) t
-  pub outputs : (n : ℕ) → bits l.outputs n ≡ outputs_of interface n
+  pub outputs : (n : ℕ) → bits l.outputs n ≡ emittable interface n
   pub ranks : length l.ranks.items ≡ length interface
 
 -- what stands in the first chart from place lo on stands in the second
@@ -108,28 +113,23 @@ pub record Joins (main : Bool) (scope : ℕ) (a b : Layout) : Type 0 where
   pub grows : Grows a b 0 0
 
 -- the statement is laid out behind a node, whose cells the first has, and so many nodes and cells later
-abbrev pub LaidBehind : (part : Part) → (nodes cells : ℕ) → (a b : Layout) → Type 0
-LaidBehind part m k a b = Laid (chart b) part.main part.statement.now (suc (next_node a) + m) (next_cell a + k)
-    (site_at part.place (sources_of a))
-
-abbrev pub part_nodes : Part → ℕ
-part_nodes p = nodes p.main p.statement.now
-
-abbrev pub part_cells : Part → ℕ
-part_cells p = sheet_size p.main p.statement.now p.place.traps
+abbrev pub LaidBehind : (main : Bool) (p : Statement) (place : Place) → (nodes cells : ℕ) → (a b : Layout) → Type 0
+LaidBehind main p place m k a b =
+    Laid (chart b) main p (suc (next_node a) + m) (next_cell a + k) (site_at place (sources_of a))
 
 -- a node with two parts
-pub record LaysTwo (main : Bool) (k : Kind) (at : Place) (p q : Part) (a b : Layout) : Type 0 where
-  pub node : IsNode (chart b) main (next_node a) (next_cell a) (site_at at (sources_of a)) k (suc (next_node a) + part_nodes p)
-  pub first : LaidBehind p 0 (at.traps + 3) a b
-  pub second : LaidBehind q (part_nodes p) (at.traps + 3 + part_cells p) a b
-  pub grows : Grows a b (suc (part_nodes p + part_nodes q)) (at.traps + 3 + part_cells p + part_cells q)
+pub record LaysTwo (main : Bool) (k : Kind) (at : Place) (pm : Bool) (p : Statement) (pw : Place) (qm : Bool) (q : Statement) (qw : Place)
+    (a b : Layout) : Type 0 where
+  pub node : IsNode (chart b) main (next_node a) (next_cell a) (site_at at (sources_of a)) k (suc (next_node a) + nodes pm p)
+  pub first : LaidBehind pm p pw 0 (at.traps + 3) a b
+  pub second : LaidBehind qm q qw (nodes pm p) (at.traps + 3 + sheet_size pm p pw.traps) a b
+  pub grows : Grows a b (suc (nodes pm p + nodes qm q)) (at.traps + 3 + sheet_size pm p pw.traps + sheet_size qm q qw.traps)
 
 -- a node with one part
-pub record LaysOne (main : Bool) (k : Kind) (at : Place) (p : Part) (a b : Layout) : Type 0 where
+pub record LaysOne (main : Bool) (k : Kind) (at : Place) (pm : Bool) (p : Statement) (pw : Place) (a b : Layout) : Type 0 where
   pub node : IsNode (chart b) main (next_node a) (next_cell a) (site_at at (sources_of a)) k (suc (next_node a))
-  pub first : LaidBehind p 0 (at.traps + 3) a b
-  pub grows : Grows a b (suc (part_nodes p)) (at.traps + 3 + part_cells p)
+  pub first : LaidBehind pm p pw 0 (at.traps + 3) a b
+  pub grows : Grows a b (suc (nodes pm p)) (at.traps + 3 + sheet_size pm p pw.traps)
 
 -- what a part has to meet where it is laid out
 pub record IsPart (p : Part) (l : Layout) : Type 0 where
@@ -160,7 +160,7 @@ pub record AddsSignal (x : ℕ) (a b : Layout) : Type 0 where
 pub record IsClosedInside (l : Layout) (traps : ℕ) (t : Term) : Type 0 where
   pub interface : List Declaration
   pub closed : IsClosed interface traps (length l.inside.items + 1) t
-  pub outputs : (n : ℕ) → bits l.outputs n ≡ outputs_of interface n
+  pub outputs : (n : ℕ) → bits l.outputs n ≡ emittable interface n
   pub ranks : length l.ranks.items ≡ length interface
 
 -- an emission
@@ -182,9 +182,13 @@ abbrev pub IsVisibleHere : Layout → Signal → Type 0
 IsVisibleHere l (Interface s) = s.index < length l.ranks.items
 IsVisibleHere l (Local s) = s.index < length l.inside.items
 
-abbrev pub IsAskedHere : Layout → Test → Type 0
-IsAskedHere l Tick = Unit {0}
-IsAskedHere l (Status s) = IsVisibleHere l s
+-- a name has a meaning here
+abbrev pub IsNamedHere : Layout → Name → Type 0
+IsNamedHere l (outer n) = n < length l.ranks.items
+IsNamedHere l (inner n) = n < length l.inside.items
+
+abbrev pub IsAskedHere : Layout → Query → Type 0
+IsAskedHere l q = EachSignal (IsNamedHere l) q
 
 abbrev pub IsEmittedHere : Layout → Signal → Type 0
 IsEmittedHere l (Interface s) = (s.index < length l.ranks.items) × (bits l.outputs s.index ≡ true)
@@ -209,3 +213,19 @@ pub record LaysLoop (main : Bool) (at : Place) (p : Statement) (a b : Layout) : 
       (next_cell a + at.traps + 3 + sheet_size main p at.traps) (restart_site (site_at at (sources_of a)) (next_node a)))
   pub grows : Grows a b (suc (nodes main p + cond main (nodes false p) 0))
       (at.traps + 3 + sheet_size main p at.traps + cond main (sheet_size false p at.traps) 0)
+
+abbrev pub IsJointAskedHere : Layout → Joint → Type 0
+IsJointAskedHere l o = EachSignal (IsNamedHere l) o.first × EachSignalOfAll (IsNamedHere l) o.later
+
+-- both, with the connective between them
+pub record IsJoined (c : Connective) (t u asked : Asked) : Type 0 where
+  pub tells : (cells : ℕ → Status) (inputs : ℕ → Bool)
+      → asked_status cells inputs asked ≡ joint_status c (asked_status cells inputs t) (asked_status cells inputs u)
+
+-- the next node is among the readers of what operands ask
+pub record NotesJoint (c : Connective) (o : Joint) (asked : Asked) (a b : Layout) : Type 0 where
+  pub tells : (cells : ℕ → Status) (inputs : ℕ → Bool)
+      → asked_status cells inputs asked ≡ status_of_joint c (env_at cells inputs (sources_of a)) o
+  pub first : EachSignal (λ s. IsReader (chart b) (next_node a) (sources_of a s)) o.first
+  pub later : EachSignalOfAll (λ s. IsReader (chart b) (next_node a) (sources_of a s)) o.later
+  pub grows : Grows a b 0 0

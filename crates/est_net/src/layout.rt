@@ -2,15 +2,15 @@
 
 ghost use Rattle.std.specs.Prelude.{◌≡◌, ◌<◌, ◌≤◌, ◌+◌, ◌^◌, suc, length, IfOk, replicate, ◌++◌, false};
 ghost use Rattle.est_kernel.specs.Limits.{trap_depth};
-ghost use Rattle.est_kernel.specs.View.{name_of, query_of, term_of};
+ghost use Rattle.est_kernel.specs.Term.{of};
+ghost use Rattle.est_kernel.specs.View.{joint_of, name_of, query_of, term_of};
 ghost use Rattle.est_meaning.specs.declared.status.Status.TheVariants.{Unknown};
-ghost use Rattle.est_net.specs.Building.{AddsNode, AddsSignal, Notes, Joins, Lays, LaysOne, LaysTwo, LaysEmit, LaysLocal, IsPart, SetsSecond, IsClosedAt, IsClosedInside, WellMade, IsEmittedHere, IsVisibleHere, IsAskedHere, sources_of, part_place, suspended_place, trapped_place, restart_place, LaysLoop};
-ghost use Rattle.est_net.specs.Layout.{judged};
+ghost use Rattle.est_net.specs.Building.{AddsNode, AddsSignal, Notes, Joins, Lays, LaysOne, LaysTwo, LaysEmit, LaysLocal, IsPart, SetsSecond, IsClosedAt, IsClosedInside, WellMade, IsEmittedHere, IsVisibleHere, IsAskedHere, IsJointAskedHere, IsJoined, NotesJoint, sources_of, signal_source, part_place, suspended_place, trapped_place, restart_place, LaysLoop};
 
 use crate::node::{Asked, Begin, Kind, Node};
 use crate::plan::Plan;
 use est_kernel::mask;
-use est_kernel::statement::{Signal, Statement, Test};
+use est_kernel::statement::{Connective, Operands, Signal, Statement, Test};
 use est_meaning::status::Status;
 use std::alloc::{AllocError, Global};
 
@@ -124,6 +124,8 @@ pub struct Part<'a> {
 /// A table that is being made.
 #[derive(Drop)]
 pub struct Layout {
+    /// Where its memory is taken.
+    pub alloc: Global,
     /// How its cells hang together.
     pub plan: Plan,
     /// Its cells, all open.
@@ -144,6 +146,22 @@ fn open_cells(cells: &mut Vec<Status>, count: usize) -> Result<(), AllocError>
         cells.push(Status::Unknown)?;
     }
     Ok(())
+}
+
+/// Both, with a connective between them, or memory was refused.
+fn joined(
+    alloc: Global,
+    connective: Connective,
+    first: Asked,
+    second: Asked,
+) -> Result<Asked, AllocError>
+    ensures { IfOk result (λ asked. IsJoined connective first second asked) }
+{
+    Ok(Asked::Joined(
+        connective,
+        Box::new(alloc, first)?,
+        Box::new(alloc, second)?,
+    ))
 }
 
 /// Says which node is the second part of node n.
@@ -185,7 +203,7 @@ impl Layout {
     /// The number of a signal that has one.
     fn number_of(&self, signal: Signal) -> usize
         requires { IsEmittedHere self.now signal }
-        ensures { sources_of self.now (name_of signal) ≡ judged result }
+        ensures { sources_of self.now (name_of signal) ≡ signal_source self.now result }
     {
         match signal {
             Signal::Interface(s) => self.ranks[s.index as usize],
@@ -197,7 +215,7 @@ impl Layout {
     fn note_signal(&mut self, signal: Signal) -> Result<Asked, AllocError>
         requires made { WellMade self.old }
         requires visible { IsVisibleHere self.old signal }
-        ensures { IfOk result (λ asked. Notes (query_of (Test.Status signal)) asked self.old self.new) }
+        ensures { IfOk result (λ asked. Notes (of (name_of signal)) asked self.old self.new) }
     {
         if let Signal::Interface(s) = signal {
             if !mask::has(self.outputs, s.index) {
@@ -210,16 +228,44 @@ impl Layout {
         Ok(Asked::Status(self.plan.signals[number]))
     }
 
-    /// Has the next node among the readers of what it asks, or memory was refused. Answers what it asks.
-    fn note(&mut self, test: Test) -> Result<Asked, AllocError>
+    /// Has the next node among the readers of what it asks, or memory was refused. Answers what it asks. It goes as deep as
+    /// the test is.
+    #[cycle(note)]
+    fn note(&mut self, test: &Test) -> Result<Asked, AllocError>
         requires made { WellMade self.old }
-        requires asked { IsAskedHere self.old test }
-        ensures { IfOk result (λ asked. Notes (query_of test) asked self.old self.new) }
+        requires asked { IsAskedHere self.old (query_of test.now) }
+        ensures { IfOk result (λ asked. Notes (query_of test.now) asked self.old self.new) }
     {
         match test {
             Test::Tick => Ok(Asked::Tick),
-            Test::Status(signal) => self.note_signal(signal),
+            Test::Status(signal) => self.note_signal(*signal),
+            Test::Not(test) => {
+                let asked = self.note(test)?;
+                Ok(Asked::Not(Box::new(self.alloc, asked)?))
+            }
+            Test::Joined(connective, operands) => self.note_all(*connective, operands),
         }
+    }
+
+    /// The same of operands.
+    #[cycle(note)]
+    fn note_all(
+        &mut self,
+        connective: Connective,
+        operands: &Operands,
+    ) -> Result<Asked, AllocError>
+        requires made { WellMade self.old }
+        requires asked { IsJointAskedHere self.old (joint_of operands.now) }
+        ensures { IfOk result (λ asked. NotesJoint connective (joint_of operands.now) asked self.old self.new) }
+    {
+        let first = self.note(&operands.first)?;
+        let second = self.note(&operands.second)?;
+        let mut all = joined(self.alloc, connective, first, second)?;
+        for test in &operands.later {
+            let asked = self.note(test)?;
+            all = joined(self.alloc, connective, all, asked)?;
+        }
+        Ok(all)
     }
 
     /// Has the next node among those right under the suspension, where it can go on, or memory was refused.
@@ -249,7 +295,8 @@ impl Layout {
         requires traps { at.traps < 65536 }
         requires first { IsPart p self.old }
         requires second { IsPart q self.old }
-        ensures { IfOk result (λ _. LaysTwo main kind at p.entry q.entry self.old self.new) }
+        ensures { IfOk result (λ _. LaysTwo main kind at p.entry.main p.entry.statement.now p.entry.place
+            q.entry.main q.entry.statement.now q.entry.place self.old self.new) }
     {
         let node = self.plan.nodes.len();
         self.add_node(main, kind, at, node, at.traps + 3)?;
@@ -272,7 +319,7 @@ impl Layout {
         requires made { WellMade self.old }
         requires traps { at.traps < 65536 }
         requires first { IsPart p self.old }
-        ensures { IfOk result (λ _. LaysOne main kind at p.entry self.old self.new) }
+        ensures { IfOk result (λ _. LaysOne main kind at p.entry.main p.entry.statement.now p.entry.place self.old self.new) }
     {
         let node = self.plan.nodes.len();
         self.add_node(main, kind, at, node + 1, at.traps + 3)?;
@@ -365,13 +412,13 @@ impl Layout {
                 self.add_node(main, Kind::Exit(k.index as usize + 2), at, node, cells)
             }
             Statement::Present(test, p, q) => {
-                let asked = self.note(*test)?;
+                let asked = self.note(test)?;
                 let first = at.holds(main, Begin::Then, p, node);
                 let second = at.holds(main, Begin::Else, q, node);
                 self.lay_two(main, Kind::Present(asked), at, first, second)
             }
             Statement::Suspend(test, p) => {
-                let asked = self.note(*test)?;
+                let asked = self.note(test)?;
                 self.join(main, at.scope)?;
                 self.lay_one(main, Kind::Suspend(asked), at, at.suspends(main, p, node))
             }

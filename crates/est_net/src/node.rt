@@ -1,16 +1,20 @@
 //! Nodes: the statements of a kernel in their incarnations, each before its parts.
 
-use est_kernel::statement::PauseIndex;
+use est_kernel::statement::{Connective, PauseIndex};
 
 /// What a test asks, and where the answer is.
-#[derive(Clone, Copy)]
+#[derive(Drop)]
 pub enum Asked {
     /// `tick`, which is present in every instant.
     Tick,
-    /// An input, by its place in the interface.
+    /// An input alone, by its place in the interface.
     Input(u8),
     /// Another signal, by the cell of its status.
     Status(usize),
+    /// That this does not hold.
+    Not(Box<Asked>),
+    /// Both, with a connective between them.
+    Joined(Connective, Box<Asked>, Box<Asked>),
 }
 
 /// What decides whether a node is begun.
@@ -31,7 +35,7 @@ pub enum Begin {
 }
 
 /// What a node is, and what is its own.
-#[derive(Clone, Copy)]
+#[derive(Drop)]
 pub enum Kind {
     /// `nothing`.
     Nothing,
@@ -58,7 +62,7 @@ pub enum Kind {
 }
 
 /// A statement in an incarnation. Its first part, where it has one, is the next node.
-#[derive(Clone, Copy)]
+#[derive(Drop)]
 pub struct Node {
     /// What it is.
     pub kind: Kind,

@@ -1,5 +1,5 @@
 use Rattle.std.proofs.Common.{refl, arith, ◌≡◌, ◌+◌, ℕ, length, subst}
-use Rattle.std.proofs.lemmas.Result.{IfOk-weaker}
+use Rattle.est_net.proofs.ListLemmas.{all_ok}
 use Rattle.est_net.specs.Building.{AddsNode}
 use Rattle.est_net.specs.Links.{IsLinkAdded}
 use Rattle.est_net.specs.declared.node.Kind.TheVariants as kind
@@ -13,6 +13,6 @@ returns c =
     let x = c.number_of-number.result in
     let e : c.len-node.result ≡ length a.plan.nodes.items = omega (arith, c.len-node.ensures, a.plan.nodes.ok.0) in
     let h = subst (λ (n : ℕ). AddsNode c.args.main (kind.Emit x) c.args.at n (c.args.at.traps + 3) a m) e c.in_ok-add_node.ensures in
-    IfOk-weaker c.add.result _ _ (λ z g.
-    lays_emit c.args.main c.args.signal c.args.at x a m _ c.number_of-number.ensures h (rw e at g) ? ? refl refl refl refl refl)
-    c.add.ensures.links
+    all_ok c.add.result _ _ _ _ (λ z g l k.
+    lays_emit c.args.main c.args.signal c.args.at x a m _ c.requires.made c.number_of-number.ensures h (rw e at g) l k refl refl refl refl refl)
+    c.add.ensures.links c.add.ensures.last c.add.ensures.chained
