@@ -1,6 +1,6 @@
 //! What an audit finds in journals that were changed.
 use crate::changes::{Change, apply};
-use crate::journals::{audit, opening_script, report_on};
+use crate::journals::{Written, audit, opening_script, report_on, stamped, stepped};
 use std::alloc::Global;
 use std::test::Fail;
 
@@ -10,6 +10,11 @@ fn is_found(alloc: Global, changes: &[Change], wanted: &str) -> Result<bool, Fai
     for change in changes {
         apply(alloc, &mut written, *change)?;
     }
+    is_told(alloc, written, wanted)
+}
+
+/// Whether the audit says this of the journals.
+fn is_told(alloc: Global, written: Written, wanted: &str) -> Result<bool, Fail> {
     match audit(alloc, written)? {
         Ok(()) => Ok(wanted == "ok"),
         Err(finding) => Ok(format!(in alloc; "{finding}")?.as_str() == wanted),
@@ -111,6 +116,24 @@ fn of_two_faults_the_first_counts(rt: HostRuntime) -> Result<(), Fail> {
         ),
     ];
     assert_eq!(rt; count_found(rt.alloc(), &rows)?, 5);
+    Ok(())
+}
+
+/// The journals of the opening script, with further steps, so that its slot has so many entries.
+fn stepped_on(alloc: Global, entries: usize) -> Result<Written, Fail> {
+    let mut written = opening_script(alloc)?;
+    for _ in written.slot.len()..entries {
+        written.slot.push(stamped(9, 1, stepped(0, 0)))?;
+    }
+    Ok(written)
+}
+
+/// A slot's journal at its limit, and one with an entry too many, which is all that is wrong with it.
+#[test]
+fn an_entry_too_many(rt: HostRuntime) -> Result<(), Fail> {
+    let alloc = rt.alloc();
+    assert!(rt; is_told(alloc, stepped_on(alloc, 65_536)?, "ok")?);
+    assert!(rt; is_told(alloc, stepped_on(alloc, 65_537)?, "refused 0 65537 67")?);
     Ok(())
 }
 
