@@ -48,11 +48,7 @@ fn close<B: BoardName, R: Wait, O: Write>(
 
 /// Serves the connections of a source over a board of this name as it opens, at a seat for each worker. When all workers have
 /// ended, the source's socket is closed, and then the server, so that no client comes to one that will not answer.
-fn serve_source<
-    B: BoardName + Send + Sync,
-    R: Threads + Wait + Net + Files + Sync,
-    O: Write,
->(
+fn serve_source<B: BoardName + Send + Sync, R: Threads + Wait + Net + Files + Sync, O: Write>(
     rt: &R,
     alloc: Global,
     fresh: Fresh,

@@ -87,7 +87,11 @@ impl Quota {
     /// # Errors
     ///
     /// Where memory was refused.
-    pub fn new(alloc: Global, workers: usize, connections: Option<u64>) -> Result<Quota, AllocError> {
+    pub fn new(
+        alloc: Global,
+        workers: usize,
+        connections: Option<u64>,
+    ) -> Result<Quota, AllocError> {
         let Some(connections) = connections else {
             return Ok(Quota::Unlimited);
         };

@@ -342,12 +342,21 @@ fn compare(rt: &impl Abort, alloc: Global, replies: &[Reply], lines: &[Line]) {
     }
 }
 
+/// The run of these events. Where it is refused memory there is no world, and the same run is done
+/// with memory.
+fn run(rt: &impl Abort, alloc: Global, events: &[Event]) -> World {
+    match run_events(alloc, events) {
+        Ok(world) => world,
+        Err(_) => run_events(alloc, events).expect(rt, "memory"),
+    }
+}
+
 /// The run of the opening lines and then of the story; each event is told as its line says.
 pub fn follow(rt: &impl Abort, alloc: Global, opening: &[Line], story: &[Line]) -> World {
     let mut events = Vec::new(alloc);
     add_events(rt, alloc, &mut events, opening);
     add_events(rt, alloc, &mut events, story);
-    let world = run_events(alloc, &events).expect(rt, "room");
+    let world = run(rt, alloc, &events);
     let (first, rest) = world
         .replies()
         .split_at_checked(opening.len())
