@@ -66,8 +66,8 @@ pub record IsNoOrder (words : List Text) (answer : Result ⊤ Fault) (written af
   pub of_words : IsOfWords why given
   pub silent : Keeps written after
 
--- what the order asks for is done: of a script with the report or without; of a service by so many workers, and
--- standard output gets the report of its end alone
+-- what the command line asks for is done: a script, with the report or without; or a service by this number of
+-- workers, where standard output gets nothing but the report at its end
 abbrev pub Does : Order → (refused : Bool) → (ahead : Option (List ℕ)) → Result ⊤ Fault → (written after : Option (List ℕ)) → Type 0
 Does (Script log report) refused ahead answer written after = RunsScript refused report ahead answer written after
 Does (Serve service) refused ahead answer written after = ServesSocket service.workers answer written after
@@ -78,7 +78,7 @@ pub record DoesOrder (words : List Text) (refused : Bool) (ahead : Option (List 
   pub is : IsOrder words order
   pub does : Does order refused ahead answer written after
 
--- the words are no order, or the one that they are is done
+-- rejects a bad command line, or runs it
 abbrev pub Obeys : (words : List Text) → (refused : Bool) → (ahead : Option (List ℕ)) → Result ⊤ Fault → (written after : Option (List ℕ)) → Type 0
 Obeys words refused ahead answer written after = IsNoOrder words answer written after ⊎ DoesOrder words refused ahead answer written after
 
