@@ -3,44 +3,38 @@ use Rattle.std.proofs.Common.{◌≡◌, ◌≤◌, ℕ, ◌+◌, None, List, ar
 use Rattle.std.specs.Prelude.{if◌then◌else◌, nat_lt, Some}
 use Rattle.std.proofs.lemmas.Bool.Decides.{nat_tests}
 use Rattle.est_kernel.specs.Limits.{statement_count, loop_depth, trap_depth, local_depth, limit_passed}
-use Rattle.est_kernel.specs.Masks.{HasSignalBit, HasTestBit, FitsMasks}
-use Rattle.est_kernel.specs.Scope.{IsAsked, IsClosed, IsEmitted, IsVisible}
+use Rattle.est_kernel.specs.Masks.{HasNameBit, FitsMasks}
+use Rattle.est_kernel.specs.Scope.{IsClosed, IsEmitted, IsVisible}
+use Rattle.est_kernel.specs.Term.{Name, outer, inner}
+use Rattle.est_kernel.proofs.Tests.{each_implies}
 use Rattle.est_kernel.specs.View.{name_of, query_of, term_of}
 use Rattle.est_kernel.specs.declared.interface.Declaration.{Declaration}
 use Rattle.est_kernel.specs.declared.limits.Limit.TheVariants.{Statements, Loops, Traps, Locals}
 use Rattle.est_kernel.specs.declared.limits.TheConstants.{MOST_STATEMENTS, MOST_LOOPS, MOST_TRAPS, MOST_LOCALS}
-use Rattle.est_kernel.specs.declared.statement.Signal.{Signal}
-use Rattle.est_kernel.specs.declared.statement.Signal.TheVariants.{Interface, Local}
-use Rattle.est_kernel.specs.declared.statement.Test.{Test}
-use Rattle.est_kernel.specs.declared.statement.Test.TheVariants.{Tick, Status}
 use Rattle.est_kernel.specs.declared.statement.Statement.{Statement}
 use Rattle.est_kernel.specs.declared.statement.Statement.TheVariants.{Nothing, Pause, Emit, Present', Suspend', Seq', Loop', Par', Trap', Exit, Local' as Binder'}
 
-visible_bit : (i : List Declaration) (locals : ℕ) (s : Signal) → IsVisible i locals (name_of s) → locals ≤ 64 → HasSignalBit s
-visible_bit i locals (Interface s) h l = tt
-visible_bit i locals (Local s) h l = omega (arith, h, l)
+visible_bit : (i : List Declaration) (locals : ℕ) → locals ≤ 64 → (s : Name) → IsVisible i locals s → HasNameBit s
+visible_bit i locals l (outer n) h = tt
+visible_bit i locals l (inner n) h = omega (arith, h, l)
 
-emitted_bit : (i : List Declaration) (locals : ℕ) (s : Signal) → IsEmitted i locals (name_of s) → locals ≤ 64 → HasSignalBit s
-emitted_bit i locals (Interface s) h l = tt
-emitted_bit i locals (Local s) h l = omega (arith, h, l)
-
-test_bit : (i : List Declaration) (locals : ℕ) (t : Test) → IsAsked i locals (query_of t) → locals ≤ 64 → HasTestBit t
-test_bit i locals Tick h l = tt
-test_bit i locals (Status s) h l = visible_bit i locals s h l
+emitted_bit : (i : List Declaration) (locals : ℕ) → locals ≤ 64 → (s : Name) → IsEmitted i locals s → HasNameBit s
+emitted_bit i locals l (outer n) h = tt
+emitted_bit i locals l (inner n) h = omega (arith, h, l)
 
 -- where few binders lie round each other, each number has its bit
 pub few_binders : (i : List Declaration) (traps locals : ℕ) (s : Statement) → IsClosed i traps locals (term_of s)
     → traps + trap_depth (term_of s) ≤ 62 → locals + local_depth (term_of s) ≤ 64 → FitsMasks s
 few_binders i traps locals Nothing h t l = tt
 few_binders i traps locals (Pause n) h t l = tt
-few_binders i traps locals (Emit s) h t l = emitted_bit i locals s h (omega (arith, l))
+few_binders i traps locals (Emit s) h t l = emitted_bit i locals (omega (arith, l)) (name_of s) h
 few_binders i traps locals (Present' k x p y q) h t l = (
-  test_bit i locals k h.0 (omega (arith, l)),
+  each_implies _ _ (visible_bit i locals (omega (arith, l))) (query_of k) h.0,
   few_binders i traps locals p h.1 (omega (arith, t)) (omega (arith, l)),
   few_binders i traps locals q h.2 (omega (arith, t)) (omega (arith, l)),
 )
 few_binders i traps locals (Suspend' k x p) h t l =
-    (test_bit i locals k h.0 (omega (arith, l)), few_binders i traps locals p h.1 t l)
+    (each_implies _ _ (visible_bit i locals (omega (arith, l))) (query_of k) h.0, few_binders i traps locals p h.1 t l)
 few_binders i traps locals (Seq' x p y q) h t l = (
   few_binders i traps locals p h.0 (omega (arith, t)) (omega (arith, l)),
   few_binders i traps locals q h.1 (omega (arith, t)) (omega (arith, l)),

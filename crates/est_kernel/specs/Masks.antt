@@ -1,29 +1,33 @@
 -- Statements whose numbers have their bits in masks of 64 (this project's own form).
 use Rattle.std.specs.Prelude.{◌+◌, ◌<◌}
+use Rattle.est_kernel.specs.Scope.{EachSignal}
+use Rattle.est_kernel.specs.Term.{Name, outer, inner}
+use Rattle.est_kernel.specs.View.{name_of, query_of}
 use Rattle.est_kernel.specs.declared.statement.Signal.{Signal}
-use Rattle.est_kernel.specs.declared.statement.Signal.TheVariants.{Interface, Local}
 use Rattle.est_kernel.specs.declared.statement.Test.{Test}
-use Rattle.est_kernel.specs.declared.statement.Test.TheVariants.{Tick, Status}
 use Rattle.est_kernel.specs.declared.statement.Statement.{Statement}
 use Rattle.est_kernel.specs.declared.statement.Statement.TheVariants.{Nothing, Pause, Emit, Present', Suspend', Seq', Loop', Par', Trap', Exit, Local' as Binder'}
 
--- a signal's number has a bit; a signal of the interface has it by its type
-abbrev pub HasSignalBit : Signal → Type 0
-HasSignalBit (Interface s) = Unit {0}
-HasSignalBit (Local s) = s.index < 64
+-- a local signal's number has a bit; a signal of the interface has it by its type
+abbrev pub HasNameBit : Name → Type 0
+HasNameBit (outer n) = Unit {0}
+HasNameBit (inner n) = n < 64
 
--- what is asked has a bit
-abbrev pub HasTestBit : Test → Type 0
-HasTestBit Tick = Unit {0}
-HasTestBit (Status s) = HasSignalBit s
+-- a signal's number has a bit
+abbrev pub HasSignalBit : Signal → Type 0
+HasSignalBit s = HasNameBit (name_of s)
+
+-- the number of each signal of a test has a bit
+abbrev pub HasTestBits : Test → Type 0
+HasTestBits t = EachSignal HasNameBit (query_of t)
 
 -- each local signal's number and each exit's code has a bit
 abbrev pub FitsMasks : Statement → Type 0
 FitsMasks Nothing = Unit {0}
 FitsMasks (Pause n) = Unit {0}
 FitsMasks (Emit s) = HasSignalBit s
-FitsMasks (Present' t a p b q) = HasTestBit t × FitsMasks p × FitsMasks q
-FitsMasks (Suspend' t a p) = HasTestBit t × FitsMasks p
+FitsMasks (Present' t a p b q) = HasTestBits t × FitsMasks p × FitsMasks q
+FitsMasks (Suspend' t a p) = HasTestBits t × FitsMasks p
 FitsMasks (Seq' a p b q) = FitsMasks p × FitsMasks q
 FitsMasks (Loop' a p) = FitsMasks p
 FitsMasks (Par' a p b q) = FitsMasks p × FitsMasks q

@@ -2,14 +2,14 @@
 
 ghost use Rattle.std.specs.Prelude.{◌↔◌, ℕ, IsTrue};
 ghost use Rattle.est_kernel.specs.Inner.Counting.{Counts, TellsClosed};
-ghost use Rattle.est_kernel.specs.Scope.{IsAsked, IsClosed, IsEmitted, IsVisible};
-ghost use Rattle.est_kernel.specs.View.{name_of, query_of, term_of};
+ghost use Rattle.est_kernel.specs.Scope.{AreAsked, IsAsked, IsClosed, IsEmitted, IsVisible};
+ghost use Rattle.est_kernel.specs.View.{joint_of, name_of, query_of, term_of};
 
 use crate::interface::Interface;
 use crate::mask;
-use crate::statement::{Signal, Statement, Test};
+use crate::statement::{Operands, Signal, Statement, Test};
 
-/// Whether each signal is of the interface or of a binder round it, no input is emitted, each exit has its trap, and each
+/// Whether each signal is of the interface or of a binder round it, what is an input alone is not emitted, each exit has its trap, and each
 /// local signal's number is the number of those round its binder.
 pub fn is_closed(interface: &Interface, s: &Statement) -> bool
     ensures { IsTrue result ↔ IsClosed interface.now 0 0 (term_of s.now) }
@@ -27,22 +27,38 @@ fn is_visible(interface: &Interface, locals: u32, s: Signal) -> bool
     }
 }
 
-/// Whether what is asked is `tick` or a visible signal.
-fn is_asked(interface: &Interface, locals: u32, test: Test) -> bool
-    ensures { (l : ℕ) → Counts l locals → IsTrue result ↔ IsAsked interface.now l (query_of test) }
+/// Whether each signal of a test is visible.
+#[cycle(asked)]
+fn is_asked(interface: &Interface, locals: u32, test: &Test) -> bool
+    ensures { (l : ℕ) → Counts l locals → IsTrue result ↔ IsAsked interface.now l (query_of test.now) }
 {
     match test {
         Test::Tick => true,
-        Test::Status(s) => is_visible(interface, locals, s),
+        Test::Status(s) => is_visible(interface, locals, *s),
+        Test::Not(t) => is_asked(interface, locals, t),
+        Test::Joined(_, operands) => are_asked(interface, locals, operands),
     }
 }
 
-/// Whether the signal is an output, or of one of so many local signals.
+/// Whether each signal of the operands is visible.
+#[cycle(asked)]
+fn are_asked(interface: &Interface, locals: u32, operands: &Operands) -> bool
+    ensures { (l : ℕ) → Counts l locals → IsTrue result ↔ AreAsked interface.now l (joint_of operands.now) }
+{
+    let mut asked = is_asked(interface, locals, &operands.first)
+        && is_asked(interface, locals, &operands.second);
+    for test in &operands.later {
+        asked = asked && is_asked(interface, locals, test);
+    }
+    asked
+}
+
+/// Whether the signal is an output or an inputoutput, or of one of so many local signals.
 fn is_emitted(interface: &Interface, locals: u32, s: Signal) -> bool
     ensures { (l : ℕ) → Counts l locals → IsTrue result ↔ IsEmitted interface.now l (name_of s) }
 {
     match s {
-        Signal::Interface(s) => mask::has(interface.outputs(), s.index),
+        Signal::Interface(s) => mask::has(interface.emittable(), s.index),
         Signal::Local(s) => (s.index as u32) < locals,
     }
 }
@@ -56,12 +72,12 @@ fn is_closed_within(interface: &Interface, traps: u32, locals: u32, s: &Statemen
         Statement::Nothing | Statement::Pause(_) => true,
         Statement::Emit(s) => is_emitted(interface, locals, *s),
         Statement::Present(t, p, q) => {
-            is_asked(interface, locals, *t)
+            is_asked(interface, locals, t)
                 && is_closed_within(interface, traps, locals, p)
                 && is_closed_within(interface, traps, locals, q)
         }
         Statement::Suspend(t, p) => {
-            is_asked(interface, locals, *t) && is_closed_within(interface, traps, locals, p)
+            is_asked(interface, locals, t) && is_closed_within(interface, traps, locals, p)
         }
         Statement::Seq(p, q) | Statement::Par(p, q) => {
             is_closed_within(interface, traps, locals, p)

@@ -2,10 +2,10 @@
 
 ghost use Rattle.std.specs.Prelude.{◌≡◌, ◌≤◌};
 ghost use Rattle.est_kernel.specs.Inner.Counting.{LeavesRoom};
-ghost use Rattle.est_kernel.specs.View.{term_of};
-ghost use Rattle.est_kernel.specs.Limits.{statement_count, loop_depth, trap_depth, local_depth, limit_passed};
+ghost use Rattle.est_kernel.specs.View.{joint_of, query_of, term_of};
+ghost use Rattle.est_kernel.specs.Limits.{joint_word_count, statement_count, word_count, loop_depth, trap_depth, local_depth, limit_passed};
 
-use crate::statement::Statement;
+use crate::statement::{Operands, Statement, Test};
 
 /// The most statements of a kernel.
 pub const MOST_STATEMENTS: u16 = 2048;
@@ -99,6 +99,31 @@ fn nesting_of(s: &Statement) -> Depths
     }
 }
 
+/// What is left of a room for statements once the words of a test have theirs, if they fit. It goes no deeper than the room.
+#[cycle(words)]
+fn room_after_test(t: &Test, room: u16) -> Option<u16>
+    ensures { LeavesRoom result room (word_count (query_of t.now)) }
+{
+    match t {
+        Test::Tick | Test::Status(_) => Some(room),
+        Test::Not(t) => room_after_test(t, room.checked_sub(1)?),
+        Test::Joined(_, operands) => room_after_operands(operands, room.checked_sub(1)?),
+    }
+}
+
+/// The same of operands, whose first connective has its room already.
+#[cycle(words)]
+fn room_after_operands(operands: &Operands, room: u16) -> Option<u16>
+    ensures { LeavesRoom result (room + 1) (joint_word_count (joint_of operands.now)) }
+{
+    let first = room_after_test(&operands.first, room)?;
+    let mut left = room_after_test(&operands.second, first)?;
+    for test in &operands.later {
+        left = room_after_test(test, left.checked_sub(1)?)?;
+    }
+    Some(left)
+}
+
 /// What is left of a room for statements, if they fit. It goes no deeper than the room, whatever statement comes.
 fn room_after(s: &Statement, room: u16) -> Option<u16>
     ensures { LeavesRoom result room (statement_count (term_of s.now)) }
@@ -111,11 +136,13 @@ fn room_after(s: &Statement, room: u16) -> Option<u16>
         Statement::Nothing | Statement::Pause(_) | Statement::Emit(_) | Statement::Exit(_) => {
             Some(room)
         }
-        Statement::Present(_, p, q) | Statement::Seq(p, q) | Statement::Par(p, q) => {
+        Statement::Present(t, p, q) => {
+            let room = room_after_test(t, room)?;
             room_after(q, room_after(p, room)?)
         }
-        Statement::Suspend(_, p)
-        | Statement::Loop(p)
+        Statement::Suspend(t, p) => room_after(p, room_after_test(t, room)?),
+        Statement::Seq(p, q) | Statement::Par(p, q) => room_after(q, room_after(p, room)?),
+        Statement::Loop(p)
         | Statement::Trap(p)
         | Statement::Local(_, p) => room_after(p, room),
     }
