@@ -1,0 +1,4 @@
+mod bodies;
+mod faults;
+mod links;
+mod strangers;

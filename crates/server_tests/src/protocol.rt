@@ -1,0 +1,4 @@
+mod connections;
+mod logins;
+mod replies;
+mod requests;
