@@ -108,8 +108,8 @@ class Table:
 
 
 def table_lines(seen: Seen) -> List[str]:
-    """The lines of a table: a row an instant, with the inputs, the inouts, if there are any, and the
-    outputs that were present.
+    """The lines of a table: a row an instant, with the inputs, the inouts where there are any, and
+    the outputs that were present.
     """
     table = Table(seen)
     table.widen(seen.instants)

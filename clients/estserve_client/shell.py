@@ -140,8 +140,8 @@ class Shell(cmd.Cmd):
         return "\n".join([first, *more])
 
     def instant_line(self, slot: int, instant: Instant) -> str:
-        """What is said of an instant: its outputs and inputoutputs, or all that was present where the
-        module isn't known here.
+        """What is said of an instant: its outputs and inputoutputs, or all that was present where
+        the module isn't known here.
         """
         told = f"instant {instant.number}"
         if not instant.signals:

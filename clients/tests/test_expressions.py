@@ -82,25 +82,27 @@ TESTED = [
     ("every", "every immediate {} do emit O end every"),
 ]
 INOUT = "module M: inputoutput B, C; input A; output O; relation A # B; {} end module"
-# Texts of which M is loaded, the fault that estserve answers, its name, and the places that are drawn.
+# Texts of which M is loaded, the fault that estserve answers, its name, the places that are drawn.
 PLACES = [
     (INOUT.format("await A and not X;\npresent (B or X) and X then emit O end"), "UnknownName", "X",
-     ["1:82", "2:15", "2:22"]),
-    (INOUT.format("loop emit B each not (X)"), "UnknownName", "X", ["1:87"]),
+     ["1:80", "2:15", "2:22"]),
+    (INOUT.format("loop emit B each not (X)"), "UnknownName", "X", ["1:86"]),
     ("module M: input A; inputoutput B,\nA; nothing end module", "DuplicateName", "A", ["2:1"]),
     ("module M: inputoutput tick; nothing end module", "DuplicateName", "tick", ["1:23"]),
-    ("module M: input A; inputoutput B; output O;\nrelation A # B, B => A, B # O; emit O end module",
-     "Semantics", 3, ["2:29"]),
+    ("module M: input A; inputoutput B; output O;\n"
+     "relation A # B, B => A, B # O; emit O end module", "Semantics", 3, ["2:29"]),
     ("module M: input A; run N [signal A/B] end module\n"
-     "module N: inputoutput B; present not B then emit B end end module", "EmitInput", "A", ["1:24"]),
+     "module N: inputoutput B; present not B then emit B end end module",
+     "EmitInput", "A", ["1:24"]),
     (INOUT.format("run N") + "\nmodule N: inputoutput B, D; nothing end module", "UnknownName", "D",
-     ["1:67"]),
-    (INOUT.format("loop present A or not A then pause end end"), "InstantLoop", "", ["1:63"]),
+     ["1:68"]),
+    (INOUT.format("loop present A or not A then pause end end"), "InstantLoop", "", ["1:64"]),
 ]  # fmt: skip
 # Texts that have none of these faults.
 FAULTLESS = [
     INOUT.format("emit B; sustain C"),
-    INOUT.format("run N [signal C/D]") + " module N: inputoutput B; output D; emit B; emit D end module",
+    INOUT.format("run N [signal C/D]")
+    + " module N: inputoutput B; output D; emit B; emit D end module",
     "module M: inputoutput A, B; relation A # B, B => A; nothing end module",
     INOUT.format("loop [present A and B then pause else halt end] end"),
 ]
@@ -127,12 +129,14 @@ STUCK = [
      ["emit O", "present O or not O"]),
     ("module M: input A; output O, P; present [A or O] then emit P else emit O end end module",
      ["O", "P"], ["emit O", "present A or O"]),
-    ("module M: inputoutput B; output O; present not (B or tick and not O) then emit O end end module",
+    ("module M: inputoutput B; output O;\n"
+     "present not (B or tick and not O) then emit O end end module",
      ["O"], ["emit O", "present not (B or tick and not O)"]),
     ("module M: inputoutput B; present B else emit B end end module", ["B"],
      ["emit B", "present B"]),
     ("module N: inputoutput X; output Y; present not X or Y then emit Y end end module\n"
-     "module M: inputoutput B; output O; run N [signal B/X, O/Y] || present O then emit B end end module",
+     "module M: inputoutput B; output O;\n"
+     "run N [signal B/X, O/Y] || present O then emit B end end module",
      ["B", "O"], ["emit Y (O)", "present not X (B) or Y (O)"]),
 ]  # fmt: skip
 BUS = (EXAMPLES / "shared_bus" / "shared_bus.strl").read_text()
@@ -263,7 +267,7 @@ class Pictures(unittest.TestCase):
         rows = [{name: name in present for name in [*names, "O"]} for present in (["O"], names)]
         lines = [table.head(), *(table.row(number, row) for number, row in enumerate(rows, 1))]
         self.assertEqual(lines[0], "instant  inputs  inouts                outputs")
-        self.assertEqual(lines[1], "      1" + " " * 34 + "O")
+        self.assertEqual(lines[1], "      1" + " " * 32 + "O")
         self.assertEqual(
             rows_of(lines), [("instant", "inputs", "inouts", "outputs"), ("1", "", "", "O"),
                              ("2", "", " ".join(names), "")]
@@ -385,9 +389,9 @@ class OnTheProgram(unittest.TestCase):
     def test_stops_are_where_they_are_said_to_be(self):
         for body, at, _ in STOPS:
             text = module_of(body)
-            refusal = self.refusal_of(text)
+            fields = self.refusal_of(text).fields
             wanted = text.index(at, text.index(body)) + 1
-            self.assertEqual((refusal.fields.get("line"), refusal.fields.get("column")), (1, wanted), body)
+            self.assertEqual((fields.get("line"), fields.get("column")), (1, wanted), body)
 
     def test_stuck_instants(self):
         for text, undecided, _ in STUCK:
