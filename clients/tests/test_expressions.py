@@ -5,10 +5,12 @@ import contextlib
 import io
 import os
 import pathlib
+import re
 import tempfile
+import time
 import unittest
 
-from support import EXAMPLES, needs_expressions, read_vcd, run_client
+from support import EXAMPLES, ROOT, needs_expressions, read_vcd, run_client
 
 import estserve
 from estserve_client.applying import wrong_permission
@@ -139,6 +141,36 @@ STUCK = [
      "run N [signal B/X, O/Y] || present O then emit B end end module",
      ["B", "O"], ["emit Y (O)", "present not X (B) or Y (O)"]),
 ]  # fmt: skip
+# Each statement that has a test: how many statements its kernel has besides the test, and how often
+# that stands there.
+SIZES = [
+    ("await {}", 7, 1),
+    ("await immediate {}", 7, 1),
+    ("present {} then pause end", 3, 1),
+    ("suspend pause when {}", 2, 1),
+    ("suspend pause when immediate {}", 6, 2),
+    ("abort pause when {}", 12, 2),
+    ("abort pause when immediate {}", 14, 3),
+    ("weak abort pause when {}", 11, 1),
+    ("weak abort pause when immediate {}", 11, 1),
+    ("loop pause each {}", 16, 2),
+    ("every {} do pause end", 24, 3),
+    ("every immediate {} do pause end", 24, 3),
+]
+STATEMENTS, UNITS = 2_048, 128  # a kernel has at most so many, and so many may be open at once
+# What stands before a test, what closes the statement, and how many units are open there.
+OPEN = [
+    ("await ", "", 0),
+    ("await [", "]", 0),
+    ("present ", " then pause end", 1),
+    ("abort pause when ", "", 1),
+    ("suspend pause when immediate [", "] end suspend", 1),
+    ("weak abort pause when ", "", 1),
+    ("loop pause each ", "", 1),
+    ("every ", " do pause end", 1),
+    ("[ await ", " ]", 1),
+]
+LANGUAGE = (ROOT / "docs" / "LANGUAGE.md").read_text()
 BUS = (EXAMPLES / "shared_bus" / "shared_bus.strl").read_text()
 SIGNALS = [("A", "input"), ("B", "inout"), ("O", "output"), ("C", "inout")]
 SEEN = Seen(
@@ -150,6 +182,14 @@ SEEN = Seen(
         {"A": True, "O": True, "C": True},
     ],
 )
+
+
+def rows_of_instants():
+    """The rows of docs/LANGUAGE.md with instants: a module's body, what is offered, what comes."""
+    head = "| Body of the module | Offered | Present |\n|---|---|---|\n"
+    for row in LANGUAGE.partition(head)[2].partition("\n\n")[0].splitlines():
+        body, offered, told = (cell.strip() for cell in re.split(r"(?<!\\)\|", row)[1:-1])
+        yield body.strip("`").replace("\\|", "|"), offered.split("; "), told.split("; ")
 
 
 def module_of(body):
@@ -240,6 +280,14 @@ class Reading(unittest.TestCase):
         self.assertEqual([one.name, other.name], ["STATION_1", "STATION_2"])
         self.assertIn(("LINE", "LINE"), one.signals)
         self.assertNotIn("SECOND", dict(one.signals))  # bound to a local signal
+
+
+    def test_the_rows_of_the_document_are_read(self):
+        rows = list(rows_of_instants())
+        self.assertGreater(len(rows), 5)
+        for body, offered, told in rows:
+            self.assertIsNotNone(parse(f"module M: {body} end module"), body)
+            self.assertEqual(len(offered), len(told), body)
 
 
 class Pictures(unittest.TestCase):
@@ -401,6 +449,50 @@ class OnTheProgram(unittest.TestCase):
                     self.client.step(0)
                 self.client.unload(0)
                 self.assertEqual(raised.exception.fields["undecided"], undecided)
+
+    def test_the_rows_of_the_document(self):
+        for op, object in [("offer", "0.A"), ("offer", "0.B"), ("observe", "0.A")]:
+            self.client.grant("root", op, object)
+        for body, offered, wanted in rows_of_instants():
+            with self.subTest(body):
+                self.client.load(0, "M", f"module M: {body} end module")
+                self.assertEqual([self.instant(names) for names in offered], wanted)
+                self.client.unload(0)
+
+    def instant(self, offered):
+        """What comes of an instant in which these are offered, as the document tells it."""
+        names = [] if offered == "none" else offered.split(", ")
+        try:
+            return ", ".join(self.client.instant(0, names).present) or "none"
+        except estserve.Refusal as refusal:
+            return f"Stuck: {', '.join(refusal.fields['undecided'])}"
+
+    def test_how_often_a_test_counts(self):
+        for form, others, times in SIZES:
+            most = (STATEMENTS - others) // times
+            for words in (most, most + 1):
+                refusal = self.refusal_of(module_of(form.format("A" + " or A" * words)))
+                limit = refusal and (refusal.fault, refusal.fields["limit"])
+                wanted = None if words == most else ("TooLarge", "statements")
+                self.assertEqual(limit, wanted, (form, words))
+
+    def test_how_many_may_be_open(self):
+        for before, after, opened in OPEN:
+            most = UNITS - opened
+            for begin, end in (("not ", ""), ("(", ")")):
+                for number in (most, most + 1):
+                    text = module_of(f"{before}{begin * number}A{end * number}{after}")
+                    refusal = self.refusal_of(text)
+                    limit = refusal and (refusal.fault, refusal.fields["limit"])
+                    wanted = None if number == most else ("TooLarge", "nesting")
+                    self.assertEqual(limit, wanted, (before, begin, number))
+
+    def test_a_text_that_is_one_test(self):
+        for test in (" or ".join(["A"] * 12_000), "not " * 15_000 + "A", "(" * 60_000):
+            begun = time.monotonic()
+            refusal = self.refusal_of(module_of(f"await {test}"))
+            self.assertEqual(refusal.fault, "TooLarge")
+            self.assertLess(time.monotonic() - begun, 5)  # a busy machine; bench measures it
 
     def test_the_inouts_of_a_run(self):
         with tempfile.TemporaryDirectory() as name:
