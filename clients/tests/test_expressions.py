@@ -13,7 +13,7 @@ import unittest
 from support import EXAMPLES, ROOT, needs_expressions, read_vcd, run_client
 
 import estserve
-from estserve_client.applying import wrong_permission
+from estserve_client.applying import warnings_of, wrong_permission
 from estserve_client.expecting import rows_of
 from estserve_client.fault_places import places_of
 from estserve_client.inputs import read_inputs
@@ -23,6 +23,7 @@ from estserve_client.library_text import join_texts
 from estserve_client.load_faults import load_fault
 from estserve_client.module_text import main_of
 from estserve_client.pictures import Seen, Table, table_lines, vcd_lines, wave_lines
+from estserve_client.policy_file import read_file
 from estserve_client.scopes import scopes_of
 from estserve_client.shell import Shell
 from estserve_client.stage import Scenario, fault_of_inputs, grants_of
@@ -365,6 +366,17 @@ class Words(unittest.TestCase):
         self.assertIsNone(wrong_permission("observe", "LINE", kinds))
         self.assertIn("as an output", wrong_permission("offer", "A_WON", kinds))
         self.assertIn("no step on a signal", wrong_permission("step", "LINE", kinds))
+
+    def test_a_policy_is_warned_of_what_nobody_can_offer(self):
+        policy = read_file(
+            'roles = ["d"]\n[modules]\n0 = "bus.strl"\n[permissions]\n'
+            'd = ["offer 0.LINE", "offer 0.B_WON", "step 0.LINE"]\n'
+        )
+        with tempfile.TemporaryDirectory() as name:
+            (pathlib.Path(name) / "bus.strl").write_text(BUS)
+            told = [warning.partition("bus.strl ")[2] for warning in warnings_of(policy, f"{name}/p")]
+        wanted = ["gives B_WON as an output, which nobody can offer", "knows no step on a signal"]
+        self.assertEqual(told, wanted)
 
     def shell(self):
         """A shell that knows the module, and speaks with nobody."""
