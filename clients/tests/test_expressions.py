@@ -374,7 +374,8 @@ class Words(unittest.TestCase):
         )
         with tempfile.TemporaryDirectory() as name:
             (pathlib.Path(name) / "bus.strl").write_text(BUS)
-            told = [warning.partition("bus.strl ")[2] for warning in warnings_of(policy, f"{name}/p")]
+            lines = list(warnings_of(policy, f"{name}/p"))
+        told = [line.partition("bus.strl ")[2] for line in lines]
         wanted = ["gives B_WON as an output, which nobody can offer", "knows no step on a signal"]
         self.assertEqual(told, wanted)
 
