@@ -101,6 +101,7 @@ bench: build
 	python3 bench/closing.py $(PROGRAM)
 	python3 bench/waits.py $(PROGRAM)
 	python3 bench/gateway.py $(PROGRAM)
+	python3 bench/client.py $(PROGRAM)
 
 faults:
 	python3 tests/faults/run
