@@ -6,7 +6,7 @@ use line_reader::exchange::next_line;
 use line_reader::lines::{LINE_BYTES, Line, LineFault, LineReader};
 use line_reader::meter::{MeteredMemory, MeteredReader, MeteredWriter, READS};
 use line_reader::replies::{Replies, WriteFault};
-use line_reader::serving::{Answerer, Why, serve};
+use line_reader::serving::{Answerer, Why, answer_connection};
 use std::alloc::{AllocError, Global};
 use std::io;
 use std::io::{ErrorKind, Read, Write};
@@ -227,7 +227,7 @@ fn echoed(alloc: Global, reader: TwoParts<'_>, room: usize) -> (Why, Vec<u8>) {
         room,
     });
     let mut memory = MeteredMemory::new(alloc);
-    let why = serve(
+    let why = answer_connection(
         &mut memory,
         &mut reader,
         &mut writer,
@@ -335,7 +335,7 @@ fn faults_before_a_connection_are_none_of_its_own(rt: HostRuntime) -> Result<(),
     assert!(rt; reader.read(&mut [0; 4]) == None);
     assert!(rt; writer.write(b"lost") == None);
     assert!(rt; memory.zeros(usize::MAX / 2).is_err());
-    let why = serve(
+    let why = answer_connection(
         &mut memory,
         &mut reader,
         &mut writer,

@@ -27,7 +27,7 @@ pub(crate) struct Turn {
 }
 
 /// A policy command of the session that the connection holds.
-fn administer<D: Desk>(desk: &mut D, held: &Option<SessionId>, command: AdminCommand) -> Reply
+fn command_policy<D: Desk>(desk: &mut D, held: &Option<SessionId>, command: AdminCommand) -> Reply
     ensures { Held D.answers held.now (λ session. to_policy (Some session) command)
         desk.old result desk.new }
 {
@@ -118,7 +118,7 @@ fn ask_policy<D: Desk>(desk: &mut D, login: Option<Login>, command: AdminCommand
         AdminCommand::CreateSession { user, roles } => ask_login(desk, login, user, roles),
         AdminCommand::DeleteSession => ask_logout(desk, login),
         command => {
-            let reply = administer(desk, &held_session(&login), command);
+            let reply = command_policy(desk, &held_session(&login), command);
             Turn { reply, login }
         }
     }

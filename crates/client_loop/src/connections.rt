@@ -8,7 +8,7 @@ ghost use Rattle.client_loop.specs.Logins.{session_of};
 use crate::desk::Desk;
 use crate::gate::Gate;
 use crate::login::Login;
-use crate::serving::{End, serve_through};
+use crate::serving::{End, serve_gated};
 use crate::source::Connection;
 use line_reader::meter::{MeteredMemory, MeteredReader, MeteredWriter};
 use line_reader::serving::Why;
@@ -64,7 +64,7 @@ pub fn serve_connection<R: Wait, I: Read + Drop, O: Write + Drop, D: Desk, G: Ga
     let mut memory = MeteredMemory::new(alloc);
     let mut input = MeteredReader::new(reader);
     let mut output = MeteredWriter::new(writer);
-    let End { why, left } = serve_through(&mut memory, &mut input, &mut output, desk, gate, worker);
+    let End { why, left } = serve_gated(&mut memory, &mut input, &mut output, desk, gate, worker);
     log_out_left(rt, desk, left);
     Served {
         why,

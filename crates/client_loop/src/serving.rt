@@ -59,7 +59,7 @@ fn answer_lines<R: Read, W: Write, D: Desk, G: Gate>(
         gate,
         worker,
     };
-    let why = serving::serve(memory, reader, writer, &mut client, desk, too_long_line());
+    let why = serving::answer_connection(memory, reader, writer, &mut client, desk, too_long_line());
     let Client {
         login,
         requests: _,
@@ -83,7 +83,7 @@ fn leave<D: Desk>(desk: &mut D, held: Option<Login>) -> Option<Login>
 }
 
 /// Serves a connection to its end over this desk, as `serve` does, and has this worker go through the gate round each answer.
-pub fn serve_through<R: Read, W: Write, D: Desk, G: Gate>(
+pub fn serve_gated<R: Read, W: Write, D: Desk, G: Gate>(
     memory: &mut MeteredMemory,
     reader: &mut MeteredReader<R>,
     writer: &mut MeteredWriter<W>,
@@ -125,5 +125,5 @@ pub fn serve<R: Read, W: Write, D: Desk>(
     ensures unfailed_writer { (result.why ≡ why.WriteFault → ⊥) →
         writer.new.faults ≡ writer.old.faults }
 {
-    serve_through(memory, reader, writer, desk, &OpenGate, 0)
+    serve_gated(memory, reader, writer, desk, &OpenGate, 0)
 }

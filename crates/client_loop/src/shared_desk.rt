@@ -71,7 +71,7 @@ fn reply_of<B: BoardName>(answer: Result<Receipt<B>, Refusal>) -> Reply
 }
 
 /// Answers a policy command, under the admin lock.
-fn administer<B: BoardName, R: Wait>(
+fn command_board<B: BoardName, R: Wait>(
     rt: &R,
     board: &Board<B>,
     seat: &mut Seat<B>,
@@ -87,7 +87,7 @@ impl<'a, B: BoardName, R: Wait> Desk for SharedDesk<'a, B, R> {
     ghost answers = { λ before ask given after. SharedAnswers before ask given after };
 
     fn admin(&mut self, session: Option<SessionId>, command: AdminCommand) -> Reply {
-        administer(self.rt, self.board, &mut self.seat, session, command)
+        command_board(self.rt, self.board, &mut self.seat, session, command)
     }
 
     fn slot(&mut self, session: SessionId, number: u64, command: SlotCommand) -> Reply {

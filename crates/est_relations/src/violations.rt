@@ -5,6 +5,7 @@ ghost use Rattle.est_kernel.specs.Bits.{bits};
 ghost use Rattle.est_relations.specs.Keeping.{keeps, keeps_exclusion};
 ghost use Rattle.est_relations.specs.Inner.Violations.{Excludes, Lacks};
 ghost use Rattle.est_relations.specs.Offers.{with_place, IsFirstBroken, IsFirstLacking};
+ghost use Rattle.est_relations.specs.declared.relations.TheConstants.{MOST_RELATIONS};
 
 use crate::relations::Relation;
 use est_kernel::mask;
@@ -45,7 +46,7 @@ fn excluded_by(
 
 /// The first exclusion that would not hold with this signal, which is not pending.
 pub fn first_broken(relations: &[Relation], pending: u64, signal: InterfaceSignal) -> Option<Broken>
-    requires few { length relations.now ≤ 32 }
+    requires few { length relations.now ≤ MOST_RELATIONS }
     requires kept { list_all (keeps_exclusion (bits pending)) relations.now ≡ true }
     requires new { bits pending signal.index ≡ false }
     ensures { MatchOption result
@@ -84,7 +85,7 @@ fn lacking_by(relation: &Relation, pending: u64) -> Option<InterfaceSignal>
 
 /// The first relation that does not hold, where each exclusion does.
 pub fn first_lacking(relations: &[Relation], pending: u64) -> Option<Broken>
-    requires few { length relations.now ≤ 32 }
+    requires few { length relations.now ≤ MOST_RELATIONS }
     requires kept { list_all (keeps_exclusion (bits pending)) relations.now ≡ true }
     ensures { MatchOption result
         (list_all (keeps (bits pending)) relations.now ≡ true)

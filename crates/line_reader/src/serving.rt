@@ -169,10 +169,11 @@ fn answer_all<R: Read, W: Write, D, A: Answerer<D>>(
     }
 }
 
-/// Serves a connection to its end: each line that the reader gives is answered by the desk, in turn. Answers wait until no whole line is held,
-/// or no more have room, and are written before the next read and before the end. An over-long line is answered by `refusal`, and ends the
+/// Answers a connection to its end: each line that the reader gives is answered by the desk, in
+/// turn. Answers wait until no whole line is held, or no more have room, and are written before the
+/// next read and before the end. An over-long line is answered by `refusal`, and ends the
 /// connection.
-pub fn serve<R: Read, W: Write, D, A: Answerer<D>>(
+pub fn answer_connection<R: Read, W: Write, D, A: Answerer<D>>(
     memory: &mut MeteredMemory,
     reader: &mut MeteredReader<R>,
     writer: &mut MeteredWriter<W>,

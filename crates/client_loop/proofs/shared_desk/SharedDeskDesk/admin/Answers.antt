@@ -6,6 +6,9 @@ use Rattle.client_loop.proofs.shared_desk.SharedDeskDesk.admin.Goals as goal
 
 pub returns-clause-logout : goal.returns-clause-logout
 returns-clause-logout g c is =
-    let step = c.administer.ensures.step [] in
-    logout_reply c.args.session (desk_with c.administer.ensures.old []) c.administer.result (desk_with c.administer.ensures.new [])
-    (subst (λ command. AdminStep c.args.session command (desk_with c.administer.ensures.old []) c.administer.result (desk_with c.administer.ensures.new [])) is step)
+    let step = c.command_board.ensures.step [] in
+    logout_reply c.args.session (desk_with c.command_board.ensures.old [])
+    c.command_board.result (desk_with c.command_board.ensures.new [])
+    (subst (λ command. AdminStep c.args.session command
+    (desk_with c.command_board.ensures.old []) c.command_board.result
+    (desk_with c.command_board.ensures.new [])) is step)

@@ -1,6 +1,6 @@
 use Rattle.std.proofs.Common.{inl}
 use Rattle.line_reader.proofs.Running.{finished, cut_short, from_nothing, faulted}
-use Rattle.line_reader.proofs.serving.serve.Goals as goal
+use Rattle.line_reader.proofs.serving.answer_connection.Goals as goal
 
 pub returns-in-WriteFault-clause-serves : goal.returns-in-WriteFault-clause-serves
 returns-in-WriteFault-clause-serves g c =

@@ -1,5 +1,5 @@
 use Rattle.client_loop.proofs.SharedLemmas.{keeps_added, published, step_same}
-use Rattle.client_loop.proofs.shared_desk.administer.Goals as goal
+use Rattle.client_loop.proofs.shared_desk.command_board.Goals as goal
 
 pub reply_of-requires : goal.reply_of-requires
 reply_of-requires g c =
