@@ -15,7 +15,7 @@ use Rattle.access_core.specs.declared.refusal.Refusal.TheVariants.{JournalFull, 
 use Rattle.access_core.specs.declared.reply.Reply.{Reply}
 use Rattle.access_core.specs.declared.reply.Reply.TheVariants.{Refused, Discard as Discarded, Unload as Unloaded}
 use Rattle.access_core.specs.Answering.{ByRules, no_memory}
-use Rattle.access_core.specs.Conversions.{of_reactor}
+use Rattle.access_core.specs.Refusals.{of_reactor}
 use Rattle.access_core.specs.SlotStep.{entry_rules, AddsEntry}
 
 module _ {Given : ReactorRefusal → Type 0} {Told : Refusal → Type 0} {Added Accepted : Type 0} where

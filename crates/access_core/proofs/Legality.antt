@@ -21,7 +21,7 @@ use Rattle.access_core.specs.declared.command.SlotCommand.TheVariants.{Load, Off
 use Rattle.access_core.specs.declared.reply.Reply.{Reply}
 use Rattle.access_core.specs.declared.reply.Reply.TheVariants.{Load as Loaded, Offer as Offered}
 use Rattle.access_core.specs.Answering.{IsRefused}
-use Rattle.access_core.specs.Conversions.{of_reactor}
+use Rattle.access_core.specs.Refusals.{of_reactor}
 use Rattle.access_core.specs.Needs.{Needs, IsAccepted}
 use Rattle.access_core.specs.Journals.{command_of, last_version, Judges, Adds, IsLegalEntry, AreLegal, IsLegal}
 use Rattle.access_core.specs.SlotStep.{SlotStep, slot_rules, Does, stamp_of}

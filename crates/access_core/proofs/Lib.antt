@@ -1,3 +1,4 @@
+mod Rows
 pub mod Places
 pub mod Running
 pub mod Deciding

@@ -21,13 +21,13 @@ use Rattle.reactor_core.proofs.OneMeaning.{OneModule, same_running, same_outcome
 use Rattle.access_core.specs.declared.command.SlotCommand.{SlotCommand}
 use Rattle.access_core.specs.declared.command.SlotCommand.TheVariants.{Load, Offer, Discard, Step, Unload, Look, Audit}
 use Rattle.access_core.specs.declared.refusal.Refusal.{Refusal}
-use Rattle.access_core.specs.declared.refusal.Refusal.TheVariants.{Implied, Stuck, Memory}
+use Rattle.access_core.specs.declared.refusal.Refusal.TheVariants.{Stuck, Memory}
 use Rattle.access_core.specs.declared.reply.Reply.{Reply}
 use Rattle.access_core.specs.declared.reply.Reply.TheVariants.{Refused, Load as Loaded, Offer as Offered, Discard as Discarded, Step as Stepped, Unload as Unloaded, Look as Shown}
 use Rattle.access_core.specs.Answering.{IsRefused}
-use Rattle.access_core.specs.Conversions.{of_reactor}
+use Rattle.access_core.specs.Refusals.{of_reactor}
 use Rattle.access_core.specs.Shown.{Sees, name_at, status_at, names_of, shown_of}
-use Rattle.access_core.specs.SlotStep.{SlotStep, slot_rules, Does, Loads, Offers, Steps, Looks, NamesUndecided, stamp_of, no_reaction}
+use Rattle.access_core.specs.SlotStep.{SlotStep, slot_rules, Does, Loads, Offers, Steps, Looks, NamesUndecided, stamp_of, no_reaction, implied}
 use Rattle.reactor_core.specs.Instants.{not_ready}
 use Rattle.access_core.proofs.OneNaming.{one_excluded, one_lacking, one_undecided, same_mask, same_sight, same_kept}
 use Rattle.access_core.proofs.Settling.{IsSettled, AllSettled, settled_unless, settled_says, settled_apart, settled_converted, both_answers}
@@ -148,12 +148,12 @@ module _ (modules : OneModule) (one_load : OneLoad) (entries : List Entry) (slot
         let same = one_excluded (pending_of r) signal one.0 other.0 one.1 other.1 x y in
         ap (λ (n : ℕ). (n, one.1)) same.0 ∙ ap (λ (name : List ℕ). (other.0, name)) same.1
 
-  lacking_settled : IsSettled IsWant (not_ready Implied before)
+  lacking_settled : IsSettled IsWant (not_ready implied before)
   lacking_settled = record {
     exclusive = λ refusal _ lacks keeps. ready_or_lacking modules before lacks.0 lacks.1 lacks.3 keeps;
     one = λ a b _ _ x y.
         let same = one_lacking modules before x.0 y.0 x.1 y.1 x.3 y.3 in
-        x.2 ∙ ap (λ n. Implied n x.1) same.0 ∙ ap (λ name. Implied y.0 name) same.1 ∙ sym y.2;
+        x.2 ∙ ap (λ n. implied n x.1) same.0 ∙ ap (λ name. implied y.0 name) same.1 ∙ sym y.2;
   }
 
   -- the names of the undecided outputs that the session sees

@@ -1,5 +1,5 @@
 -- Walking the places of an interface in order.
-use Rattle.std.proofs.Common.{◌≡◌, ◌≢◌, ◌↔◌, ⊎_elim, ℕ, ◌+◌, ◌<◌, Bool, true, false, cond, IsTrue, List, [], ◌∷◌, ◌++◌, length, map, filter, Some, slice_get, option_map, get_or, sym, ap, ◌∙◌, subst, arith, append-nil}
+use Rattle.std.proofs.Common.{◌≡◌, ◌≢◌, ◌↔◌, ⊎_elim, ℕ, zero, suc, ◌+◌, ◌<◌, Bool, true, false, cond, IsTrue, List, [], ◌∷◌, ◌++◌, length, map, filter, Some, slice_get, option_map, get_or, sym, ap, ◌∙◌, subst, refl, arith, append-nil}
 use Rattle.std.specs.List.{range_with_len}
 use Rattle.std.proofs.lemmas.List.{map-id, map-append}
 use Rattle.std.proofs.lemmas.List.FromFn.{filter_of_map_range_with_len_more}
@@ -107,3 +107,17 @@ read_there ds all place d same below = ap (λ xs. slice_get xs place) (sym same)
 
 pub marks_of : {D : Type 0} {P : D → Type 0} {xs : List D} {n a b : ℕ} → a ≡ b → Marks P xs n (bits b) → Marks P xs n (bits a)
 marks_of {P = P} {xs = xs} {n = n} e m = subst (λ s. Marks P xs n (bits s)) (sym e) m
+
+-- a list is what a function gives at each of its places in turn
+pub by_places : {A : Type 0} (f : ℕ → A) (xs : List A) (from n : ℕ) → length xs ≡ n
+    → ((i : ℕ) (other : A) → i < n → get_or xs i other ≡ f (from + i)) → xs ≡ map f (range_with_len from n)
+by_places f [] from zero long each = refl
+by_places f [] from (suc n) long each = absurd (omega arith)
+by_places f (x ∷ xs) from zero long each = absurd (omega arith)
+by_places {A = A} f (x ∷ xs) from (suc n) long each =
+    let here : from + 0 ≡ from = omega arith in
+    ap (λ (y : A). y ∷ xs) (each 0 x (omega arith) ∙ ap f here)
+    ∙ ap (λ (ys : List A). f from ∷ ys)
+    (by_places f xs (from + 1) n (omega arith) (λ i other below.
+    let next : from + suc i ≡ (from + 1) + i = omega arith in
+    each (suc i) other (omega arith) ∙ ap f next))

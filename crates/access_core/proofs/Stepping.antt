@@ -18,12 +18,12 @@ use Rattle.reactor_core.proofs.OneMeaning.{OneModule, is_loaded_where, not_both,
 use Rattle.access_core.specs.declared.command.SlotCommand.{SlotCommand}
 use Rattle.access_core.specs.declared.command.SlotCommand.TheVariants.{Step}
 use Rattle.access_core.specs.declared.refusal.Refusal.{Refusal}
-use Rattle.access_core.specs.declared.refusal.Refusal.TheVariants.{Implied, Stuck, JournalFull, Memory}
+use Rattle.access_core.specs.declared.refusal.Refusal.TheVariants.{Stuck, JournalFull, Memory}
 use Rattle.access_core.specs.declared.reply.Reply.{Reply}
 use Rattle.access_core.specs.declared.reply.Reply.TheVariants.{Refused, Step as Stepped}
-use Rattle.access_core.specs.Conversions.{of_reactor}
+use Rattle.access_core.specs.Refusals.{of_reactor}
 use Rattle.access_core.specs.Answering.{ByRules, no_memory}
-use Rattle.access_core.specs.SlotStep.{SlotStep, no_permission, empty, NamesUndecided, no_reaction, journal_full, settle_rules, step_rules, Steps, stamp_of}
+use Rattle.access_core.specs.SlotStep.{SlotStep, no_permission, empty, NamesUndecided, no_reaction, journal_full, settle_rules, step_rules, implied, Steps, stamp_of}
 use Rattle.access_core.specs.StuckSteps.{ReachesReactor, IsStuckExactly}
 
 module _ (stamp : Stamp) (settled : SettledInstant) (refused : ReactorRefusal × List SlotEntry) where
@@ -113,7 +113,7 @@ module _ (entries : List Entry) (slot session : ℕ) (stamp : Stamp) (before : L
   step_lacking refused (inl lacks) =
       let same : refused ≡ (lacks.refusal, before) = same_err refused (lacks.refusal, before) lacks.answered in
       let why = lacks.given in
-      refuse (Implied why.0 why.1) (why.0, why.1, refl, why.3) (record {
+      refuse (implied why.0 why.1) (why.0, why.1, refl, why.3) (record {
         replied = ap (λ (r : ReactorRefusal). Refused (of_reactor r)) (ap (λ (r : ReactorRefusal × List SlotEntry). r.0) same ∙ why.2);
         stays = ap (λ (r : ReactorRefusal × List SlotEntry). r.1) same;
       })

@@ -1,7 +1,6 @@
 pub mod Refusals
 pub mod Replies
 pub mod Answering
-pub mod Conversions
 pub mod Shown
 pub mod SlotState
 pub mod Holding

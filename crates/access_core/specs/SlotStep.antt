@@ -3,6 +3,7 @@
 use Rattle.std.specs.Prelude.{◌≡◌, ℕ, Bool, true, List, [], ◌∷◌, ◌++◌, Option, Some, None, Result, MatchResult, length, if◌then◌else◌}
 use Rattle.refusal_rules.specs.Rules.{Rule, Rules, Says, Unless, AllPass, FirstRefuses, accept, ◌▸◌, ◌▸▸◌}
 use Rattle.est_kernel.specs.Term.{Term}
+use Rattle.est_relations.specs.declared.refusal.Refusal.TheVariants.{Implied}
 use Rattle.rbac_policy.specs.declared.commands.Entry.{Entry}
 use Rattle.rbac_policy.specs.declared.objects.Operation.{Operation}
 use Rattle.rbac_policy.specs.declared.objects.Object.{Object}
@@ -16,18 +17,19 @@ use Rattle.reactor_core.specs.declared.entry.Action.{Action}
 use Rattle.reactor_core.specs.declared.entry.Action.TheVariants as action
 use Rattle.reactor_core.specs.declared.entry.SlotEntry.{SlotEntry}
 use Rattle.reactor_core.specs.declared.refusal.Refusal.{Refusal as ReactorRefusal}
+use Rattle.reactor_core.specs.declared.refusal.ModuleRefusal.TheVariants.{Pending, NoInstant}
 use Rattle.reactor_core.specs.Meaning.{entry, is_loaded, instants_of, Running, Runs}
 use Rattle.reactor_core.specs.Answers.{LoadAnswer, OfferAnswer, HasRoom, IsInstant, HasNoInstant}
 use Rattle.reactor_core.specs.Instants.{IsOutcome, HasNoOutcome, AddsInstant, not_ready}
 use Rattle.access_core.specs.declared.command.SlotCommand.{SlotCommand}
 use Rattle.access_core.specs.declared.command.SlotCommand.TheVariants.{Load, Offer, Discard, Step, Unload, Look, Audit}
 use Rattle.access_core.specs.declared.refusal.Refusal.{Refusal}
-use Rattle.access_core.specs.declared.refusal.Refusal.TheVariants.{Policy, Implied, Stuck, Occupied, Empty, NoInstant, JournalFull}
+use Rattle.access_core.specs.declared.refusal.Refusal.TheVariants.{Policy, Module, Stuck, Occupied, Empty, JournalFull}
 use Rattle.access_core.specs.declared.reply.Reply.{Reply}
 use Rattle.access_core.specs.declared.reply.Reply.TheVariants.{Load as Loaded, Offer as Offered, Discard as Discarded, Step as Stepped, Unload as Unloaded, Look as Shown, Audit as Audited}
 use Rattle.access_core.specs.Answering.{IsRefused, ByRules, no_memory}
 use Rattle.access_core.specs.Needs.{permission_of}
-use Rattle.access_core.specs.Conversions.{of_reactor}
+use Rattle.access_core.specs.Refusals.{of_reactor}
 use Rattle.access_core.specs.Shown.{Sees, shown_of, names_of}
 
 -- refuses a session that doesn't live
@@ -48,7 +50,11 @@ empty journal = Unless (is_loaded journal ≡ true) Empty
 
 -- refuses where the module that runs had no instant of this number since its load
 abbrev pub no_instant : List SlotEntry → (n : ℕ) → Rule Refusal
-no_instant journal n = Says NoInstant (HasNoInstant journal n)
+no_instant journal n = Says (Module NoInstant) (HasNoInstant journal n)
+
+-- the refusal of a step whose pending inputs lack one that a relation implies
+abbrev pub implied : (relation : ℕ) → (missing : List ℕ) → Refusal
+implied relation missing = Module (Pending (Implied relation missing))
 
 -- what an entry bears: the version at which its command was judged, and the session that gave it
 abbrev pub stamp_of : List Entry → (session : ℕ) → Stamp
@@ -152,7 +158,7 @@ settle_rules entries slot session journal = no_memory ▸ no_reaction entries sl
 
 -- the rules of a step where a module runs: its relations hold of the pending inputs, and then those of the instant
 abbrev pub step_rules : List Entry → (slot session : ℕ) → List SlotEntry → Rules Refusal
-step_rules entries slot session journal = not_ready Implied journal ▸ settle_rules entries slot session journal
+step_rules entries slot session journal = not_ready implied journal ▸ settle_rules entries slot session journal
 
 -- the rules of what the command asks of the slot
 abbrev pub journal_rules : List Entry → (slot session : ℕ) → SlotCommand → List SlotEntry → Rules Refusal

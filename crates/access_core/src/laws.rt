@@ -14,6 +14,8 @@ ghost use Rattle.access_core.specs.declared.refusal.Refusal.TheVariants.{Memory}
 ghost use Rattle.access_core.specs.Journals.{command_of, IsLegal, HasEnded};
 ghost use Rattle.rbac_admin.specs.PolicyLists.{Begins};
 ghost use Rattle.access_core.specs.declared.reply.Reply.TheVariants.{Refused};
+ghost use Rattle.access_core.specs.Refusals.{row_of, NamesObjects};
+ghost use Rattle.refusal_tables.specs.Rows.{TellsApart};
 
 use rbac_policy::laws::ended_sessions_stay_ended;
 use reactor_core::laws::{one_load, one_module};
@@ -90,3 +92,9 @@ pub fn ended_sessions_add_nothing()
 {
     ended_sessions_stay_ended();
 }
+
+/// Equal numbers and equal fields are of equal refusals, where each object that is named is one.
+pub fn refusals_are_told_apart()
+    ensures { (one other : Refusal) → NamesObjects one → NamesObjects other
+        → TellsApart row_of one other }
+{}

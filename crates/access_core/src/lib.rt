@@ -7,7 +7,6 @@
 #![tactic(auto)]
 
 pub mod command;
-mod conversions;
 pub mod laws;
 pub mod refusal;
 pub mod reply;

@@ -1,13 +1,10 @@
 //! Every refusal that a line can be answered by, with its number and its name.
 ghost use Rattle.std.specs.Prelude.{◌≡◌};
-ghost use Rattle.access_core.specs.Refusals.{code_of, name_of, limit_text, table_text};
+ghost use Rattle.access_core.specs.Refusals.{code_of, name_of};
 
 use crate::reply::SignalNames;
-use est_text::identifier::Identifier;
-use est_text::place::Place;
 use rbac_admin::refusals::Refusal as PolicyRefusal;
-use rbac_policy::commands::Table;
-use reactor_core::refusal::Limit;
+use reactor_core::refusal::{ModuleRefusal, Refusal as ReactorRefusal};
 
 /// Why a line was refused. A refusal leaves policy, slots, journals and pending signals as they were.
 #[derive(Drop)]
@@ -22,10 +19,8 @@ pub enum Refusal {
     AlreadyLoggedIn,
     /// The policy refuses the command; NoSession is also where there is no login on this connection.
     Policy(PolicyRefusal),
-    /// By this relation, counted from 1, this pending signal excludes the one that is offered.
-    Excluded { relation: u8, signal: Identifier },
-    /// This relation, counted from 1, asks for a signal that is missing.
-    Implied { relation: u8, missing: Identifier },
+    /// The module refuses the command.
+    Module(ModuleRefusal),
     /// The inputs have no constructive reaction. Those undecided outputs are named that the session may observe.
     Stuck { undecided: SignalNames },
     /// There is no slot of this number.
@@ -34,33 +29,10 @@ pub enum Refusal {
     Occupied,
     /// The slot holds no module.
     Empty,
-    /// The module has no such signal.
-    UnknownSignal,
-    /// The signal is an output.
-    NotInput,
-    AlreadyOffered,
-    /// There is no instant of this number since the load.
-    NoInstant,
     /// The journal has as many entries as it may have.
     JournalFull,
     /// A version was found that is older than one seen before, or newer than the policy list.
     Behind { found: u64, seen: u64 },
-    /// Here begins no token of a module text.
-    Lexical { place: Place },
-    /// The first token with which the tokens so far begin no module.
-    Syntax { place: Place },
-    UnknownModule { name: Identifier },
-    RecursiveRun { name: Identifier },
-    UnknownName { name: Identifier },
-    DuplicateName { name: Identifier },
-    EmitInput { name: Identifier },
-    BadRename { name: Identifier },
-    /// The body of a loop may end in the instant in which it begins.
-    InstantLoop,
-    /// The text or its module is beyond this limit.
-    TooLarge { limit: Limit },
-    /// This relation, counted from 1, is over a signal that is no input.
-    Semantics { relation: u64 },
     /// Memory was refused.
     Memory,
 }
@@ -77,29 +49,13 @@ impl Refusal {
             Refusal::NotARequest => (3, "NotARequest"),
             Refusal::AlreadyLoggedIn => (5, "AlreadyLoggedIn"),
             Refusal::Policy(refusal) => refusal.label(),
-            Refusal::Excluded { .. } => (40, "Excluded"),
-            Refusal::Implied { .. } => (41, "Implied"),
+            Refusal::Module(refusal) => refusal.label(),
             Refusal::Stuck { .. } => (50, "Stuck"),
             Refusal::NoSlot => (60, "NoSlot"),
             Refusal::Occupied => (61, "Occupied"),
             Refusal::Empty => (62, "Empty"),
-            Refusal::UnknownSignal => (63, "UnknownSignal"),
-            Refusal::NotInput => (64, "NotInput"),
-            Refusal::AlreadyOffered => (65, "AlreadyOffered"),
-            Refusal::NoInstant => (66, "NoInstant"),
             Refusal::JournalFull => (67, "JournalFull"),
             Refusal::Behind { .. } => (68, "Behind"),
-            Refusal::Lexical { .. } => (70, "Lexical"),
-            Refusal::Syntax { .. } => (71, "Syntax"),
-            Refusal::UnknownModule { .. } => (72, "UnknownModule"),
-            Refusal::RecursiveRun { .. } => (73, "RecursiveRun"),
-            Refusal::UnknownName { .. } => (74, "UnknownName"),
-            Refusal::DuplicateName { .. } => (75, "DuplicateName"),
-            Refusal::EmitInput { .. } => (76, "EmitInput"),
-            Refusal::BadRename { .. } => (77, "BadRename"),
-            Refusal::InstantLoop => (78, "InstantLoop"),
-            Refusal::TooLarge { .. } => (79, "TooLarge"),
-            Refusal::Semantics { .. } => (80, "Semantics"),
             Refusal::Memory => (90, "Memory"),
         }
     }
@@ -119,30 +75,17 @@ impl Refusal {
     }
 }
 
-/// The word that a refusal uses for a limit.
-pub fn limit_text(limit: &Limit) -> &'static str
-    ensures { result.now ≡ limit_text limit.now }
-{
-    match limit {
-        Limit::Nesting => "nesting",
-        Limit::Signals => "signals",
-        Limit::Relations => "relations",
-        Limit::Statements => "statements",
-        Limit::Loops => "loops",
-        Limit::Traps => "traps",
-        Limit::Locals => "locals",
-    }
-}
+impl From<ReactorRefusal> for Refusal {
+    ghost use Rattle.std.specs.Prelude.{◌≡◌};
+    ghost use Rattle.access_core.specs.Refusals.{of_reactor};
 
-/// The word that a refusal uses for a table of the policy.
-pub fn table_text(table: &Table) -> &'static str
-    ensures { result.now ≡ table_text table.now }
-{
-    match table {
-        Table::Users => "users",
-        Table::Roles => "roles",
-        Table::Permissions => "permissions",
-        Table::Sessions => "sessions",
-        Table::Sets => "sets",
+    ghost from_gives = { λ given refusal. refusal ≡ of_reactor given };
+
+    fn from(refusal: ReactorRefusal) -> Refusal {
+        match refusal {
+            ReactorRefusal::Module(refusal) => Refusal::Module(refusal),
+            ReactorRefusal::JournalFull => Refusal::JournalFull,
+            ReactorRefusal::Memory => Refusal::Memory,
+        }
     }
 }

@@ -25,6 +25,7 @@ use rbac_policy::objects::{Object, Operation, SLOTS, SlotNumber};
 use rbac_policy::policy::Policy;
 use reactor_core::journal::Journal;
 use std::alloc::{AllocError, Global};
+use std::array;
 use std::marker::Model;
 
 /// A policy with the list of its accepted entries, and sixteen slots. A contract sees the list and the slots.
@@ -137,24 +138,7 @@ fn find_slot(number: u64) -> Option<usize>
 fn make_slots(alloc: Global) -> [Slot; SLOTS as usize]
     ensures { result ≡ opening_desk.slots }
 {
-    [
-        make_slot(alloc, 0),
-        make_slot(alloc, 1),
-        make_slot(alloc, 2),
-        make_slot(alloc, 3),
-        make_slot(alloc, 4),
-        make_slot(alloc, 5),
-        make_slot(alloc, 6),
-        make_slot(alloc, 7),
-        make_slot(alloc, 8),
-        make_slot(alloc, 9),
-        make_slot(alloc, 10),
-        make_slot(alloc, 11),
-        make_slot(alloc, 12),
-        make_slot(alloc, 13),
-        make_slot(alloc, 14),
-        make_slot(alloc, 15),
-    ]
+    array::from_fn(|number| make_slot(alloc, number as u8))
 }
 
 /// Answers a command on the slot of this number, which this session gives, at this policy.

@@ -19,7 +19,6 @@ ghost use Rattle.access_core.specs.Holding.{journal_of, IsHeldRight};
 ghost use Rattle.access_core.specs.declared.reply.Reply.TheVariants.{Discard as Discarded, Unload as Unloaded};
 
 use crate::command::SlotCommand;
-use crate::conversions::of_reactor;
 use crate::refusal::Refusal;
 use crate::reply::Reply;
 use crate::shown::{find_observed, keep_seen, list_names, list_statuses};
@@ -33,6 +32,7 @@ use reactor_core::entry::Stamp;
 use reactor_core::journal::Journal;
 use reactor_core::reactor::Reactor;
 use reactor_core::reactor::instant::{Instant, Settled};
+use reactor_core::refusal::ModuleRefusal;
 use reactor_core::text::Text;
 use std::alloc::Global;
 use std::marker::Model;
@@ -106,7 +106,7 @@ fn show_instant(
             },
             Err(_) => Reply::Refused(Refusal::Memory),
         },
-        Err(_) => Reply::Refused(Refusal::NoInstant),
+        Err(_) => Reply::Refused(Refusal::Module(ModuleRefusal::NoInstant)),
     }
 }
 
@@ -142,7 +142,7 @@ fn offer_signal(reactor: &mut Reactor, stamp: Stamp, signal: &Identifier) -> Rep
             place: reactor.journal().len() as u64,
             version: stamp.version,
         },
-        Err(refusal) => Reply::Refused(of_reactor(refusal)),
+        Err(refusal) => Reply::Refused(Refusal::from(refusal)),
     }
 }
 
@@ -157,7 +157,7 @@ fn discard_inputs(reactor: &mut Reactor, stamp: Stamp) -> Reply
             place: reactor.journal().len() as u64,
             version: stamp.version,
         },
-        Err(refusal) => Reply::Refused(of_reactor(refusal)),
+        Err(refusal) => Reply::Refused(Refusal::from(refusal)),
     }
 }
 
@@ -177,7 +177,7 @@ fn unload_module(reactor: Reactor, stamp: Stamp) -> (Reply, Content)
             (reply, Content::Empty(journal))
         }
         Err((refusal, reactor)) => (
-            Reply::Refused(of_reactor(refusal)),
+            Reply::Refused(Refusal::from(refusal)),
             Content::Loaded(reactor),
         ),
     }
@@ -199,7 +199,7 @@ fn commit_step(settled: Settled, stamp: Stamp) -> (Reply, Reactor)
             };
             (reply, reactor)
         }
-        Err((refusal, reactor)) => (Reply::Refused(of_reactor(refusal)), reactor),
+        Err((refusal, reactor)) => (Reply::Refused(Refusal::from(refusal)), reactor),
     }
 }
 
@@ -240,7 +240,7 @@ fn step_reactor(
 {
     match reactor.open() {
         Ok(opened) => settle_step(alloc, policy, slot, session, opened),
-        Err((refusal, reactor)) => (Reply::Refused(of_reactor(refusal)), reactor),
+        Err((refusal, reactor)) => (Reply::Refused(Refusal::from(refusal)), reactor),
     }
 }
 
@@ -306,7 +306,7 @@ impl Slot {
                 }
                 Err((refusal, journal)) => {
                     self.content = Content::Empty(journal);
-                    Reply::Refused(of_reactor(refusal))
+                    Reply::Refused(Refusal::from(refusal))
                 }
             },
             Content::Loaded(reactor) => {

@@ -24,7 +24,7 @@ use Rattle.access_core.specs.declared.refusal.Refusal.{Refusal}
 use Rattle.access_core.specs.declared.reply.Reply.{Reply}
 use Rattle.access_core.specs.declared.reply.Reply.TheVariants.{Refused, Offer as Offered}
 use Rattle.access_core.specs.Answering.{IsRefused, ByRules}
-use Rattle.access_core.specs.Conversions.{of_reactor}
+use Rattle.access_core.specs.Refusals.{of_reactor}
 use Rattle.access_core.specs.Desk.{desk_at, no_slot, InSlot}
 use Rattle.access_core.specs.Needs.{IsAccepted}
 use Rattle.access_core.specs.SlotState.{SlotState}

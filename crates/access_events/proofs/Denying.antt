@@ -23,7 +23,7 @@ use Rattle.access_core.specs.declared.refusal.Refusal.TheVariants.{Policy, Journ
 use Rattle.access_core.specs.declared.reply.Reply.{Reply}
 use Rattle.access_core.specs.declared.reply.Reply.TheVariants.{Refused, Load as Loaded, Offer as Offered}
 use Rattle.access_core.specs.Answering.{IsRefused, ByRules, no_memory}
-use Rattle.access_core.specs.Conversions.{of_reactor}
+use Rattle.access_core.specs.Refusals.{of_reactor}
 use Rattle.access_core.specs.Desk.{desk_at, AdminStep, DeskStep, InSlot, Appends, list_full, change_of}
 use Rattle.access_core.specs.Needs.{IsAccepted}
 use Rattle.access_core.specs.SlotStep.{SlotStep, Loads, Offers, AddsEntry, Audits, stamp_of, journal_full, entry_rules as slot_entry_rules}

@@ -10,7 +10,8 @@ use Rattle.reactor_core.specs.declared.entry.SlotEntry.{SlotEntry}
 use Rattle.reactor_core.specs.Answers.{IsInstant}
 use Rattle.reactor_core.specs.Instants.{IsOutcome}
 use Rattle.reactor_core.specs.Meaning.{Running, pending_of}
-use Rattle.access_core.specs.declared.refusal.Refusal.TheVariants.{Policy, Behind, JournalFull, TooLarge, Memory}
+use Rattle.reactor_core.specs.declared.refusal.ModuleRefusal.TheVariants.{TooLarge}
+use Rattle.access_core.specs.declared.refusal.Refusal.TheVariants.{Policy, Module, Behind, JournalFull, Memory}
 use Rattle.access_core.specs.declared.reply.Reply.{Reply}
 use Rattle.access_core.specs.declared.reply.Reply.TheVariants.{Refused}
 
@@ -20,7 +21,7 @@ MeetsNoLimit (Refused (Behind found seen)) = ⊥
 MeetsNoLimit (Refused (Policy policy.SessionsExhausted)) = ⊥
 MeetsNoLimit (Refused (Policy (policy.Full table))) = ⊥
 MeetsNoLimit (Refused JournalFull) = ⊥
-MeetsNoLimit (Refused (TooLarge limit)) = ⊥
+MeetsNoLimit (Refused (Module (TooLarge limit))) = ⊥
 MeetsNoLimit (Refused Memory) = ⊥
 MeetsNoLimit _ = Unit {0}
 

@@ -16,12 +16,12 @@ use Rattle.reactor_core.specs.Meaning.{Running, Runs, pending_of}
 use Rattle.access_core.specs.declared.command.SlotCommand.{SlotCommand}
 use Rattle.access_core.specs.declared.command.SlotCommand.TheVariants.{Load, Offer, Discard, Step, Unload, Look, Audit}
 use Rattle.access_core.specs.declared.refusal.Refusal.{Refusal}
-use Rattle.access_core.specs.declared.refusal.Refusal.TheVariants.{Policy as OfPolicy, Implied}
+use Rattle.access_core.specs.declared.refusal.Refusal.TheVariants.{Policy as OfPolicy}
 use Rattle.access_core.specs.declared.reply.Reply.{Reply}
 use Rattle.access_core.specs.declared.reply.Reply.TheVariants.{Refused}
-use Rattle.access_core.specs.Conversions.{of_reactor}
+use Rattle.access_core.specs.Refusals.{of_reactor}
 use Rattle.access_core.specs.Desk.{no_slot, list_full}
-use Rattle.access_core.specs.SlotStep.{no_session, no_permission, occupied, empty, no_instant, no_reaction, journal_full}
+use Rattle.access_core.specs.SlotStep.{no_session, no_permission, occupied, empty, no_instant, no_reaction, implied, journal_full}
 use Rattle.access_events.specs.declared.event.Event.{Event}
 use Rattle.access_events.specs.declared.event.Event.TheVariants.{Admin, OnSlot}
 use Rattle.access_events.specs.Runs.{WorldState, journal_at, version_rules}
@@ -57,7 +57,7 @@ asked_rules entries slot session (Offer signal) journal =
 asked_rules entries slot session Discard journal =
     no_permission entries session ToStep (Slot slot) ▸ empty journal ▸ journal_full journal ▸ accept
 asked_rules entries slot session Step journal =
-    no_permission entries session ToStep (Slot slot) ▸ empty journal ▸ not_ready Implied journal ▸ no_reaction entries slot session journal
+    no_permission entries session ToStep (Slot slot) ▸ empty journal ▸ not_ready implied journal ▸ no_reaction entries slot session journal
     ▸ journal_full journal ▸ accept
 asked_rules entries slot session Unload journal =
     no_permission entries session ToLoad (Slot slot) ▸ empty journal ▸ journal_full journal ▸ accept

@@ -1,7 +1,7 @@
 //! Texts and their first faults, as a load of the module M answers them.
 use crate::reactors::{Held, Line, Told, call, parse_answer};
 use reactor_core::journal::Journal;
-use reactor_core::refusal::Refusal;
+use reactor_core::refusal::{ModuleRefusal, Refusal};
 use std::alloc::Global;
 use std::process::Abort;
 
@@ -212,7 +212,7 @@ fn no_front_of_a_module_is_one(rt: HostRuntime) {
         if let Some(text) = OPENING.get(..end) {
             let found = answer(&rt, alloc, text);
             assert!(rt;
-                matches!(found, Told::Refused(Refusal::Syntax(_))),
+                matches!(found, Told::Refused(Refusal::Module(ModuleRefusal::Syntax(_)))),
                 "{text}"
             );
         }

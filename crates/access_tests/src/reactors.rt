@@ -1,10 +1,11 @@
 //! Stories of one reactor: its calls and what they answer, as text, so that a story is a table.
+use est_relations::refusal::Refusal as PendingRefusal;
 use est_text::identifier::Identifier;
 use est_text::place::Place;
 use reactor_core::entry::{Action, Stamp};
 use reactor_core::journal::Journal;
 use reactor_core::reactor::Reactor;
-use reactor_core::refusal::{Limit, Refusal};
+use reactor_core::refusal::{Limit, ModuleRefusal, Refusal};
 use std::alloc::Global;
 use std::process::Abort;
 
@@ -68,27 +69,46 @@ fn limit(rt: &impl Abort, text: &str) -> Limit {
 }
 
 /// The refusal of these words, where it is one of a text.
-fn fault_of_text(rt: &impl Abort, words: &[&str]) -> Option<Refusal> {
+fn fault_of_text(rt: &impl Abort, words: &[&str]) -> Option<ModuleRefusal> {
     let fault = match words {
-        ["Lexical", line, column] => Refusal::Lexical(Place {
+        ["Lexical", line, column] => ModuleRefusal::Lexical(Place {
             line: number(rt, line),
             column: number(rt, column),
         }),
-        ["Syntax", line, column] => Refusal::Syntax(Place {
+        ["Syntax", line, column] => ModuleRefusal::Syntax(Place {
             line: number(rt, line),
             column: number(rt, column),
         }),
-        ["UnknownModule", name] => Refusal::UnknownModule(identifier(rt, name)),
-        ["RecursiveRun", name] => Refusal::RecursiveRun(identifier(rt, name)),
-        ["UnknownName", name] => Refusal::UnknownName(identifier(rt, name)),
-        ["DuplicateName", name] => Refusal::DuplicateName(identifier(rt, name)),
-        ["EmitInput", name] => Refusal::EmitInput(identifier(rt, name)),
-        ["BadRename", name] => Refusal::BadRename(identifier(rt, name)),
-        ["InstantLoop"] => Refusal::InstantLoop,
-        ["TooLarge", name] => Refusal::TooLarge(limit(rt, name)),
+        ["UnknownModule", name] => ModuleRefusal::UnknownModule(identifier(rt, name)),
+        ["RecursiveRun", name] => ModuleRefusal::RecursiveRun(identifier(rt, name)),
+        ["UnknownName", name] => ModuleRefusal::UnknownName(identifier(rt, name)),
+        ["DuplicateName", name] => ModuleRefusal::DuplicateName(identifier(rt, name)),
+        ["EmitInput", name] => ModuleRefusal::EmitInput(identifier(rt, name)),
+        ["BadRename", name] => ModuleRefusal::BadRename(identifier(rt, name)),
+        ["InstantLoop"] => ModuleRefusal::InstantLoop,
+        ["TooLarge", name] => ModuleRefusal::TooLarge(limit(rt, name)),
         ["Semantics", relation] => {
-            Refusal::Semantics(relation.parse::<usize>().ok().expect(rt, "a number"))
+            ModuleRefusal::Semantics(relation.parse::<usize>().ok().expect(rt, "a number"))
         }
+        _ => return None,
+    };
+    Some(fault)
+}
+
+/// The refusal of these words, where it is one of a signal or a relation.
+fn fault_of_signal(rt: &impl Abort, words: &[&str]) -> Option<PendingRefusal> {
+    let fault = match words {
+        ["UnknownSignal"] => PendingRefusal::UnknownSignal,
+        ["NotInput"] => PendingRefusal::NotInput,
+        ["AlreadyOffered"] => PendingRefusal::AlreadyOffered,
+        ["Excluded", relation, signal] => PendingRefusal::Excluded {
+            relation: relation.parse::<u8>().ok().expect(rt, "a number"),
+            signal: identifier(rt, signal),
+        },
+        ["Implied", relation, missing] => PendingRefusal::Implied {
+            relation: relation.parse::<u8>().ok().expect(rt, "a number"),
+            missing: identifier(rt, missing),
+        },
         _ => return None,
     };
     Some(fault)
@@ -96,21 +116,15 @@ fn fault_of_text(rt: &impl Abort, words: &[&str]) -> Option<Refusal> {
 
 /// The refusal of these words.
 fn refusal(rt: &impl Abort, words: &[&str]) -> Refusal {
-    match words {
-        ["UnknownSignal"] => Refusal::UnknownSignal,
-        ["NotInput"] => Refusal::NotInput,
-        ["AlreadyOffered"] => Refusal::AlreadyOffered,
-        ["Excluded", relation, signal] => Refusal::Excluded {
-            relation: relation.parse::<u8>().ok().expect(rt, "a number"),
-            signal: identifier(rt, signal),
-        },
-        ["Implied", relation, missing] => Refusal::Implied {
-            relation: relation.parse::<u8>().ok().expect(rt, "a number"),
-            missing: identifier(rt, missing),
-        },
-        ["NoInstant"] => Refusal::NoInstant,
-        ["JournalFull"] => Refusal::JournalFull,
-        _ => fault_of_text(rt, words).expect(rt, "a refusal"),
+    if let ["JournalFull"] = words {
+        return Refusal::JournalFull;
+    }
+    if let ["NoInstant"] = words {
+        return Refusal::Module(ModuleRefusal::NoInstant);
+    }
+    match fault_of_signal(rt, words) {
+        Some(fault) => Refusal::Module(ModuleRefusal::Pending(fault)),
+        None => Refusal::Module(fault_of_text(rt, words).expect(rt, "a refusal")),
     }
 }
 

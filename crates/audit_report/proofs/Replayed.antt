@@ -20,7 +20,7 @@ use Rattle.access_core.specs.declared.refusal.Refusal.TheVariants as refusal
 use Rattle.access_core.specs.declared.reply.Reply.{Reply}
 use Rattle.access_core.specs.declared.reply.Reply.TheVariants.{Refused, Load as Loaded, Offer as Offered}
 use Rattle.access_core.specs.Answering.{IsRefused}
-use Rattle.access_core.specs.Conversions.{of_reactor}
+use Rattle.access_core.specs.Refusals.{of_reactor}
 use Rattle.access_core.specs.Needs.{IsAccepted}
 use Rattle.access_core.specs.SlotStep.{SlotStep, slot_rules, Does, Loads, Offers, stamp_of}
 use Rattle.access_core.specs.Journals.{command_of, Judges, Adds}

@@ -78,8 +78,19 @@ fn fault_of(refusal: &Refusal) -> Fault
     ensures { result ≡ fault_of refusal.now }
 {
     match refusal {
+        Refusal::TooLong
+        | Refusal::NotJson
+        | Refusal::NotARequest
+        | Refusal::AlreadyLoggedIn
+        | Refusal::Policy(_)
+        | Refusal::Module(_)
+        | Refusal::Stuck { .. }
+        | Refusal::NoSlot
+        | Refusal::Occupied
+        | Refusal::Empty
+        | Refusal::JournalFull
+        | Refusal::Behind { .. } => Fault::Refused(refusal.code()),
         Refusal::Memory => Fault::Memory,
-        _ => Fault::Refused(refusal.code()),
     }
 }
 

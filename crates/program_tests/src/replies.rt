@@ -5,6 +5,7 @@ use est_text::identifier::Identifier;
 use est_text::place::Place;
 use rbac_admin::refusals::Refusal as PolicyRefusal;
 use rbac_policy::objects::{Object, Operation};
+use reactor_core::refusal::ModuleRefusal;
 use std::test::Fail;
 use wire_lines::reply::reply_line;
 
@@ -88,7 +89,7 @@ fn reply_texts(rt: HostRuntime) -> Result<(), Fail> {
             "{\"code\":90,\"fault\":\"Memory\"}\n",
         ),
         (
-            Reply::Refused(Refusal::Lexical { place }),
+            Reply::Refused(Refusal::Module(ModuleRefusal::Lexical(place))),
             "{\"code\":70,\"column\":11,\"fault\":\"Lexical\",\"line\":1}\n",
         ),
     ] {

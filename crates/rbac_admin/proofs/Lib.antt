@@ -6,3 +6,4 @@ pub mod Fitting
 pub mod Authorizing
 pub mod Shaping
 pub mod PolicyListLemmas
+pub mod Rows

@@ -1,56 +1,57 @@
--- The refusals of a policy command: their numbers and names (this project's own table).
-use Rattle.std.specs.Prelude.{ℕ, List, codes}
+-- The refusals of a policy command: what each tells (this project's own table).
+use Rattle.std.specs.Prelude.{◌≡◌, ℕ, List, [], ◌∷◌, codes}
+use Rattle.refusal_tables.specs.Rows.{Row, Number, Text}
+use Rattle.rbac_policy.specs.Texts.{IsObject, operation_text, object_text}
+use Rattle.rbac_policy.specs.declared.commands.Table.{Table}
+use Rattle.rbac_policy.specs.declared.commands.Table.TheVariants.{Users, Roles, Permissions, Sessions, Sets}
+use Rattle.rbac_policy.specs.declared.objects.Object.{Object}
+use Rattle.rbac_policy.specs.declared.objects.Operation.{Operation}
 use Rattle.rbac_admin.specs.declared.refusals.Refusal.{Refusal}
 use Rattle.rbac_admin.specs.declared.refusals.Refusal.TheVariants as refusal
 
+-- the word for a table of the policy
+abbrev pub table_text : Table → List ℕ
+table_text Users = codes "users"
+table_text Roles = codes "roles"
+table_text Permissions = codes "permissions"
+table_text Sessions = codes "sessions"
+table_text Sets = codes "sets"
+
+-- the number, the name and the fields of a refusal
+abbrev pub row_of : Refusal → Row
+row_of refusal.NoSession = record { code = 4; name = codes "NoSession"; fields = [] }
+row_of refusal.SessionsExhausted = record { code = 6; name = codes "SessionsExhausted"; fields = [] }
+row_of (refusal.Permission operation object) =
+    record { code = 10; name = codes "Permission"; fields = (codes "object", Text (object_text object)) ∷ (codes "op", Text (operation_text operation)) ∷ [] }
+row_of (refusal.DsdViolated set session) = record { code = 20; name = codes "DsdViolated"; fields = (codes "session", Number session) ∷ (codes "set", Text set) ∷ [] }
+row_of (refusal.NotAuthorized role) = record { code = 21; name = codes "NotAuthorized"; fields = (codes "role", Text role) ∷ [] }
+row_of (refusal.AlreadyActive role) = record { code = 22; name = codes "AlreadyActive"; fields = (codes "role", Text role) ∷ [] }
+row_of (refusal.NotActive role) = record { code = 23; name = codes "NotActive"; fields = (codes "role", Text role) ∷ [] }
+row_of refusal.Cycle = record { code = 24; name = codes "Cycle"; fields = [] }
+row_of (refusal.UnknownUser user) = record { code = 25; name = codes "UnknownUser"; fields = (codes "user", Text user) ∷ [] }
+row_of (refusal.UnknownRole role) = record { code = 26; name = codes "UnknownRole"; fields = (codes "role", Text role) ∷ [] }
+row_of (refusal.UserExists user) = record { code = 27; name = codes "UserExists"; fields = (codes "user", Text user) ∷ [] }
+row_of (refusal.RoleExists role) = record { code = 28; name = codes "RoleExists"; fields = (codes "role", Text role) ∷ [] }
+row_of refusal.AlreadyAssigned = record { code = 29; name = codes "AlreadyAssigned"; fields = [] }
+row_of refusal.NotAssigned = record { code = 30; name = codes "NotAssigned"; fields = [] }
+row_of refusal.AlreadyGranted = record { code = 31; name = codes "AlreadyGranted"; fields = [] }
+row_of refusal.NotGranted = record { code = 32; name = codes "NotGranted"; fields = [] }
+row_of refusal.EdgeExists = record { code = 33; name = codes "EdgeExists"; fields = [] }
+row_of refusal.NoEdge = record { code = 34; name = codes "NoEdge"; fields = [] }
+row_of (refusal.DsdExists set) = record { code = 35; name = codes "DsdExists"; fields = (codes "set", Text set) ∷ [] }
+row_of (refusal.NoDsd set) = record { code = 36; name = codes "NoDsd"; fields = (codes "set", Text set) ∷ [] }
+row_of refusal.DsdShape = record { code = 37; name = codes "DsdShape"; fields = [] }
+row_of (refusal.RoleInDsd set) = record { code = 38; name = codes "RoleInDsd"; fields = (codes "set", Text set) ∷ [] }
+row_of (refusal.Full table) = record { code = 39; name = codes "Full"; fields = (codes "table", Text (table_text table)) ∷ [] }
+
 -- the number of a refusal
 abbrev pub code_of : Refusal → ℕ
-code_of refusal.NoSession = 4
-code_of refusal.SessionsExhausted = 6
-code_of (refusal.Permission operation object) = 10
-code_of (refusal.DsdViolated set session) = 20
-code_of (refusal.NotAuthorized role) = 21
-code_of (refusal.AlreadyActive role) = 22
-code_of (refusal.NotActive role) = 23
-code_of refusal.Cycle = 24
-code_of (refusal.UnknownUser user) = 25
-code_of (refusal.UnknownRole role) = 26
-code_of (refusal.UserExists user) = 27
-code_of (refusal.RoleExists role) = 28
-code_of refusal.AlreadyAssigned = 29
-code_of refusal.NotAssigned = 30
-code_of refusal.AlreadyGranted = 31
-code_of refusal.NotGranted = 32
-code_of refusal.EdgeExists = 33
-code_of refusal.NoEdge = 34
-code_of (refusal.DsdExists set) = 35
-code_of (refusal.NoDsd set) = 36
-code_of refusal.DsdShape = 37
-code_of (refusal.RoleInDsd set) = 38
-code_of (refusal.Full table) = 39
+code_of given = (row_of given).code
 
 -- the name of a refusal
 abbrev pub name_of : Refusal → List ℕ
-name_of refusal.NoSession = codes "NoSession"
-name_of refusal.SessionsExhausted = codes "SessionsExhausted"
-name_of (refusal.Permission operation object) = codes "Permission"
-name_of (refusal.DsdViolated set session) = codes "DsdViolated"
-name_of (refusal.NotAuthorized role) = codes "NotAuthorized"
-name_of (refusal.AlreadyActive role) = codes "AlreadyActive"
-name_of (refusal.NotActive role) = codes "NotActive"
-name_of refusal.Cycle = codes "Cycle"
-name_of (refusal.UnknownUser user) = codes "UnknownUser"
-name_of (refusal.UnknownRole role) = codes "UnknownRole"
-name_of (refusal.UserExists user) = codes "UserExists"
-name_of (refusal.RoleExists role) = codes "RoleExists"
-name_of refusal.AlreadyAssigned = codes "AlreadyAssigned"
-name_of refusal.NotAssigned = codes "NotAssigned"
-name_of refusal.AlreadyGranted = codes "AlreadyGranted"
-name_of refusal.NotGranted = codes "NotGranted"
-name_of refusal.EdgeExists = codes "EdgeExists"
-name_of refusal.NoEdge = codes "NoEdge"
-name_of (refusal.DsdExists set) = codes "DsdExists"
-name_of (refusal.NoDsd set) = codes "NoDsd"
-name_of refusal.DsdShape = codes "DsdShape"
-name_of (refusal.RoleInDsd set) = codes "RoleInDsd"
-name_of (refusal.Full table) = codes "Full"
+name_of given = (row_of given).name
+
+-- an object that the refusal names is one: its slot is there, and its signal's name is an identifier
+abbrev pub NamesObjects : Refusal → Type 0
+NamesObjects given = (operation : Operation) (object : Object) → given ≡ refusal.Permission operation object → IsObject object

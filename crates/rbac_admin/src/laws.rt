@@ -14,7 +14,9 @@ ghost use Rattle.rbac_admin.specs.declared.refusals.Refusal.{Refusal};
 ghost use Rattle.rbac_admin.specs.Conditions.{Administers};
 ghost use Rattle.rbac_admin.specs.PolicyStep.{PolicyStep, policy_rules, entry_of};
 ghost use Rattle.rbac_admin.specs.PolicyLists.{IsAccepted, IsPolicyList};
+ghost use Rattle.rbac_admin.specs.Refusals.{row_of, NamesObjects};
 ghost use Rattle.rbac_admin.specs.Room.{most_entries};
+ghost use Rattle.refusal_tables.specs.Rows.{TellsApart};
 
 /// The policy step gives one answer at most.
 pub fn one_answer()
@@ -85,4 +87,10 @@ pub fn accepted_leaves_room()
         → LeavesRoom most_entries entries
         → StandsFor policy (entries ++ entry ∷ []) → IsAccepted entries entry
         → LeavesRoom most_entries (entries ++ entry ∷ []) }
+{}
+
+/// Equal numbers and equal fields are of equal refusals, where each object that is named is one.
+pub fn refusals_are_told_apart()
+    ensures { (one other : Refusal) → NamesObjects one → NamesObjects other
+        → TellsApart row_of one other }
 {}

@@ -1,6 +1,6 @@
-//! Why a policy command is refused.
+//! Why a policy command is refused, with the number and the name of each refusal.
 ghost use Rattle.std.specs.Prelude.{◌≡◌};
-ghost use Rattle.rbac_admin.specs.Refusals.{code_of, name_of};
+ghost use Rattle.rbac_admin.specs.Refusals.{code_of, name_of, table_text};
 
 use rbac_policy::commands::{SessionId, Table};
 use rbac_policy::names::Name;
@@ -130,5 +130,18 @@ impl Refusal {
         ensures { result.now ≡ name_of self.now }
     {
         self.label().1
+    }
+}
+
+/// The word that a refusal uses for a table of the policy.
+pub fn table_text(table: &Table) -> &'static str
+    ensures { result.now ≡ table_text table.now }
+{
+    match table {
+        Table::Users => "users",
+        Table::Roles => "roles",
+        Table::Permissions => "permissions",
+        Table::Sessions => "sessions",
+        Table::Sets => "sets",
     }
 }

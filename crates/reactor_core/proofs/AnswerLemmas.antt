@@ -13,7 +13,7 @@ use Rattle.reactor_core.specs.declared.entry.Action.TheVariants.{Offer}
 use Rattle.reactor_core.specs.declared.entry.SlotEntry.{SlotEntry}
 use Rattle.reactor_core.specs.declared.loaded.Module.{Module}
 use Rattle.reactor_core.specs.declared.refusal.Refusal.{Refusal}
-use Rattle.reactor_core.specs.declared.refusal.Refusal.TheVariants.{UnknownSignal, NotInput, AlreadyOffered, Excluded, Implied, NoInstant, JournalFull, Lexical, Syntax, UnknownModule, UnknownName, DuplicateName, EmitInput, RecursiveRun, BadRename, Semantics, InstantLoop, TooLarge, Memory}
+use Rattle.reactor_core.specs.declared.refusal.Refusal.TheVariants.{Module as OfModule, JournalFull, Memory}
 use Rattle.reactor_core.specs.Answers.{HasRoom, IsFull, RefusesEntry, entry_rules, offer_rules, load_rules, OfferAnswer, LoadAnswer}
 use Rattle.reactor_core.specs.Converting.{all_converted}
 use Rattle.reactor_core.specs.Faults.{refusal_of_pending}
@@ -31,23 +31,7 @@ pub entry_refused : {Refused : Refusal → Type 0} {Accepted : Type 0} (journal 
     → RefusesEntry journal e → Refused e → Answers (entry_rules journal) Refused Accepted
 entry_refused journal JournalFull full told = refuse JournalFull (refl, full_has_no_room journal full) told
 entry_refused journal Memory room told = pass room (refuse Memory refl told)
-entry_refused journal UnknownSignal h told = absurd h
-entry_refused journal NotInput h told = absurd h
-entry_refused journal AlreadyOffered h told = absurd h
-entry_refused journal (Excluded relation signal) h told = absurd h
-entry_refused journal (Implied relation missing) h told = absurd h
-entry_refused journal NoInstant h told = absurd h
-entry_refused journal (Lexical place) h told = absurd h
-entry_refused journal (Syntax place) h told = absurd h
-entry_refused journal (UnknownModule name) h told = absurd h
-entry_refused journal (UnknownName name) h told = absurd h
-entry_refused journal (DuplicateName name) h told = absurd h
-entry_refused journal (EmitInput name) h told = absurd h
-entry_refused journal (RecursiveRun name) h told = absurd h
-entry_refused journal (BadRename name) h told = absurd h
-entry_refused journal (Semantics relation) h told = absurd h
-entry_refused journal InstantLoop h told = absurd h
-entry_refused journal (TooLarge limit) h told = absurd h
+entry_refused journal (OfModule refusal) h told = absurd h
 
 -- an entry that is added
 pub entry_passes : {Refused : Refusal → Type 0} {Accepted : Type 0} (journal : List SlotEntry) → HasRoom journal → Accepted

@@ -32,7 +32,9 @@ use Rattle.est_text.specs.declared.lex.LexFault.TheVariants as lex
 use Rattle.est_text.specs.declared.token.Located.{Located}
 use Rattle.std.specs.Prelude.{take}
 use Rattle.reactor_core.specs.declared.refusal.Refusal.{Refusal}
-use Rattle.reactor_core.specs.declared.refusal.Refusal.TheVariants.{Lexical, Syntax, Memory}
+use Rattle.reactor_core.specs.declared.refusal.Refusal.TheVariants.{Module, Memory}
+use Rattle.reactor_core.specs.declared.refusal.ModuleRefusal.TheVariants.{Lexical, Syntax}
+use Rattle.est_text.specs.declared.place.Place.{Place}
 use Rattle.reactor_core.specs.Faults.{refusal_of_lex, refusal_of_parse, refusal_of_link, refusal_of_reduce}
 use Rattle.reactor_core.specs.Loading.{IsCutOf, Spells, LinksTo, GivenModule, Gives, IsLoadFault, in_cutting, in_grammar, in_linking, in_reduction}
 use Rattle.reactor_core.proofs.OneLoad.{CutsAreOne, LinksAreOne, same_library, same_flat}
@@ -70,7 +72,7 @@ module _ (cuts : CutsAreOne) (faults : CutFaultsAreOne) (links : LinksAreOne) wh
 
   two_cuttings : (text : List ℕ) (a b : LexFault) → IsLexFault text a → IsLexFault text b → AreOne (refusal_of_lex a) (refusal_of_lex b)
   two_cuttings text (lex.Lexical p) (lex.Lexical q) h k =
-      inl (ap Lexical (h.2 ∙ ap (λ (n : ℕ). place_after (take n text)) (faults.same text h.0 k.0 h.1 k.1) ∙ sym k.2))
+      inl (ap (λ (p : Place). Module (Lexical p)) (h.2 ∙ ap (λ (n : ℕ). place_after (take n text)) (faults.same text h.0 k.0 h.1 k.1) ∙ sym k.2))
   two_cuttings text lex.Memory b h k = inr (inl refl)
   two_cuttings text (lex.Lexical p) lex.Memory h k = inr (inr refl)
 
@@ -95,7 +97,7 @@ module _ (cuts : CutsAreOne) (faults : CutFaultsAreOne) (links : LinksAreOne) wh
   two_readings : (tokens : TokenList) (a b : ParseFault) → IsParseFault MOST_OPEN_UNITS tokens a → IsParseFault MOST_OPEN_UNITS tokens b
       → AreOne (refusal_of_parse a) (refusal_of_parse b)
   two_readings tokens (parse.Syntax p) (parse.Syntax q) h k =
-      inl (ap Syntax (h.1 ∙ ap (place_of tokens) (one_syntax_fault MOST_OPEN_UNITS (tokens_of tokens.located) h.0 k.0 h.2 k.2) ∙ sym k.1))
+      inl (ap (λ (p : Place). Module (Syntax p)) (h.1 ∙ ap (place_of tokens) (one_syntax_fault MOST_OPEN_UNITS (tokens_of tokens.located) h.0 k.0 h.2 k.2) ∙ sym k.1))
   two_readings tokens (parse.Syntax p) (parse.TooLarge q) h k = absurd (one_kind MOST_OPEN_UNITS (tokens_of tokens.located) h.0 k.0 h.2 k.2)
   two_readings tokens (parse.TooLarge p) (parse.Syntax q) h k = absurd (one_kind MOST_OPEN_UNITS (tokens_of tokens.located) k.0 h.0 k.2 h.2)
   two_readings tokens (parse.TooLarge p) (parse.TooLarge q) h k = inl refl

@@ -22,7 +22,8 @@ use Rattle.reactor_core.specs.declared.entry.Action.{Action}
 use Rattle.reactor_core.specs.declared.entry.Action.TheVariants.{Load, Offer, Discard, Step, Unload}
 use Rattle.reactor_core.specs.declared.entry.SlotEntry.{SlotEntry}
 use Rattle.reactor_core.specs.declared.loaded.Module.{Module}
-use Rattle.reactor_core.specs.declared.refusal.Refusal.TheVariants.{NoInstant}
+use Rattle.reactor_core.specs.declared.refusal.Refusal.TheVariants.{Module as OfModule}
+use Rattle.reactor_core.specs.declared.refusal.ModuleRefusal.TheVariants.{NoInstant}
 use Rattle.reactor_core.specs.Meaning.{entry, instant, after_all, load_after, instants_after, offers_after, offers_of, with_signal, mask_of, ModuleOf, Running, Runs, Leaves, loaded, offered, discarded, stepped, is_loaded}
 use Rattle.reactor_core.specs.Standing.{IsRunning, IsNext, AreKept, JoinsAs, given_by, pending_inputs}
 use Rattle.reactor_core.specs.Instants.{IsOutcome, HasNoOutcome, AddsInstant}
@@ -179,7 +180,7 @@ module _ {journal : List SlotEntry} {m : Module} {state : State} {pending : ℕ}
   }
 
   pub no_instant : (i : IsRunning journal m state pending instants) (n mask : ℕ)
-      → (n ≡ 0) ⊎ (length instants < n) → ShownAnswer journal n mask (Err NoInstant)
+      → (n ≡ 0) ⊎ (length instants < n) → ShownAnswer journal n mask (Err (OfModule NoInstant))
   no_instant i n mask h = (refl, subst (λ (xs : List PastInstant). (n ≡ 0) ⊎ (length xs < n)) i.past h)
 
 -- after an unload's entry no module runs

@@ -8,7 +8,8 @@ use Rattle.reactor_core.specs.declared.entry.PastInstant.{PastInstant}
 use Rattle.reactor_core.specs.declared.entry.Action.TheVariants.{Load, Offer, Discard, Unload}
 use Rattle.reactor_core.specs.declared.entry.SlotEntry.{SlotEntry}
 use Rattle.reactor_core.specs.declared.refusal.Refusal.{Refusal}
-use Rattle.reactor_core.specs.declared.refusal.Refusal.TheVariants.{NoInstant, JournalFull, Memory}
+use Rattle.reactor_core.specs.declared.refusal.Refusal.TheVariants.{Module, JournalFull, Memory}
+use Rattle.reactor_core.specs.declared.refusal.ModuleRefusal.TheVariants.{NoInstant}
 use Rattle.reactor_core.specs.declared.journal.TheConstants.{JOURNAL_ENTRIES}
 use Rattle.reactor_core.specs.declared.reactor.Shown.{Shown}
 use Rattle.reactor_core.specs.Converting.{all_converted}
@@ -28,7 +29,7 @@ IsFull journal = JOURNAL_ENTRIES ≤ length journal
 abbrev pub RefusesEntry : List SlotEntry → Refusal → Type 0
 RefusesEntry journal JournalFull = IsFull journal
 RefusesEntry journal Memory = HasRoom journal
-RefusesEntry journal _ = ⊥
+RefusesEntry journal (Module refusal) = ⊥
 
 -- the rules for an entry, in the order in which they are asked: the journal has room, and memory may be refused
 abbrev pub entry_rules : List SlotEntry → Rules Refusal
@@ -112,4 +113,4 @@ abbrev pub ShownAnswer : (journal : List SlotEntry) → (n mask : ℕ) → Resul
 ShownAnswer journal n mask answer =
     MatchResult answer
     (ShowsInstant journal n mask)
-    (λ refusal. (refusal ≡ NoInstant) × HasNoInstant journal n)
+    (λ refusal. (refusal ≡ Module NoInstant) × HasNoInstant journal n)

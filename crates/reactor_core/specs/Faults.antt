@@ -1,5 +1,6 @@
 -- The refusals that the faults of a load's stages are: of cutting, of the grammar, of linking and of reduction; and those of pending
 -- inputs.
+use Rattle.std.specs.Prelude.{ℕ, List}
 use Rattle.est_kernel.specs.declared.limits.Limit.{Limit as KernelLimit}
 use Rattle.est_kernel.specs.declared.limits.Limit.TheVariants as kernel
 use Rattle.est_link.specs.declared.fault.Limit.{Limit as LinkLimit}
@@ -9,15 +10,16 @@ use Rattle.est_link.specs.declared.fault.LinkFault.TheVariants as link
 use Rattle.est_reduce.specs.declared.fault.ReduceFault.{ReduceFault}
 use Rattle.est_reduce.specs.declared.fault.ReduceFault.TheVariants as reduce
 use Rattle.est_relations.specs.declared.refusal.Refusal.{Refusal as PendingRefusal}
-use Rattle.est_relations.specs.declared.refusal.Refusal.TheVariants as pending
+use Rattle.est_relations.specs.declared.refusal.Refusal.TheVariants.{Implied}
 use Rattle.est_syntax.specs.declared.parse.ParseFault.{ParseFault}
 use Rattle.est_syntax.specs.declared.parse.ParseFault.TheVariants as parse
 use Rattle.est_text.specs.declared.lex.LexFault.{LexFault}
 use Rattle.est_text.specs.declared.lex.LexFault.TheVariants as lex
 use Rattle.reactor_core.specs.declared.refusal.Limit.{Limit}
 use Rattle.reactor_core.specs.declared.refusal.Limit.TheVariants.{Nesting, Signals, Relations, Statements, Loops, Traps, Locals}
+use Rattle.reactor_core.specs.declared.refusal.ModuleRefusal.TheVariants.{Pending, Lexical, Syntax, UnknownModule, RecursiveRun, UnknownName, DuplicateName, EmitInput, BadRename, InstantLoop, TooLarge, Semantics}
 use Rattle.reactor_core.specs.declared.refusal.Refusal.{Refusal}
-use Rattle.reactor_core.specs.declared.refusal.Refusal.TheVariants.{UnknownSignal, NotInput, AlreadyOffered, Excluded, Implied, Lexical, Syntax, UnknownModule, RecursiveRun, UnknownName, DuplicateName, EmitInput, BadRename, InstantLoop, TooLarge, Semantics, Memory}
+use Rattle.reactor_core.specs.declared.refusal.Refusal.TheVariants.{Module, Memory}
 
 -- the limit of the same name
 abbrev pub limit_of_kernel : KernelLimit → Limit
@@ -34,37 +36,37 @@ limit_of_link limit.Statements = Statements
 
 -- the refusal that a fault of cutting is
 abbrev pub refusal_of_lex : LexFault → Refusal
-refusal_of_lex (lex.Lexical place) = Lexical place
+refusal_of_lex (lex.Lexical place) = Module (Lexical place)
 refusal_of_lex lex.Memory = Memory
 
 -- the refusal that a fault of the grammar is: a unit that is too deep passes the limit of nesting
 abbrev pub refusal_of_parse : ParseFault → Refusal
-refusal_of_parse (parse.Syntax place) = Syntax place
-refusal_of_parse (parse.TooLarge place) = TooLarge Nesting
+refusal_of_parse (parse.Syntax place) = Module (Syntax place)
+refusal_of_parse (parse.TooLarge place) = Module (TooLarge Nesting)
 refusal_of_parse parse.Memory = Memory
 
 -- the refusal of the same name as a fault of linking
 abbrev pub refusal_of_link : LinkFault → Refusal
-refusal_of_link (link.DuplicateName name) = DuplicateName name
-refusal_of_link (link.UnknownModule name) = UnknownModule name
-refusal_of_link (link.RecursiveRun name) = RecursiveRun name
-refusal_of_link (link.BadRename name) = BadRename name
-refusal_of_link (link.UnknownName name) = UnknownName name
-refusal_of_link (link.EmitInput name) = EmitInput name
-refusal_of_link (link.Semantics relation) = Semantics relation
-refusal_of_link (link.TooLarge limit) = TooLarge (limit_of_link limit)
+refusal_of_link (link.DuplicateName name) = Module (DuplicateName name)
+refusal_of_link (link.UnknownModule name) = Module (UnknownModule name)
+refusal_of_link (link.RecursiveRun name) = Module (RecursiveRun name)
+refusal_of_link (link.BadRename name) = Module (BadRename name)
+refusal_of_link (link.UnknownName name) = Module (UnknownName name)
+refusal_of_link (link.EmitInput name) = Module (EmitInput name)
+refusal_of_link (link.Semantics relation) = Module (Semantics relation)
+refusal_of_link (link.TooLarge limit) = Module (TooLarge (limit_of_link limit))
 refusal_of_link link.Memory = Memory
 
 -- the refusal of the same name as a fault of reduction
 abbrev pub refusal_of_reduce : ReduceFault → Refusal
-refusal_of_reduce (reduce.TooLarge limit) = TooLarge (limit_of_kernel limit)
-refusal_of_reduce reduce.InstantLoop = InstantLoop
+refusal_of_reduce (reduce.TooLarge limit) = Module (TooLarge (limit_of_kernel limit))
+refusal_of_reduce reduce.InstantLoop = Module InstantLoop
 refusal_of_reduce reduce.Memory = Memory
 
--- the refusal of the same name as that of pending inputs
+-- the refusal that one of the pending inputs is
 abbrev pub refusal_of_pending : PendingRefusal → Refusal
-refusal_of_pending pending.UnknownSignal = UnknownSignal
-refusal_of_pending pending.NotInput = NotInput
-refusal_of_pending pending.AlreadyOffered = AlreadyOffered
-refusal_of_pending (pending.Excluded relation signal) = Excluded relation signal
-refusal_of_pending (pending.Implied relation missing) = Implied relation missing
+refusal_of_pending refusal = Module (Pending refusal)
+
+-- the refusal of an instant whose pending inputs lack one that a relation implies
+abbrev pub implied : (relation : ℕ) → (missing : List ℕ) → Refusal
+implied relation missing = Module (Pending (Implied relation missing))

@@ -11,7 +11,7 @@ use Rattle.reactor_core.specs.declared.entry.Stamp.{Stamp}
 use Rattle.reactor_core.specs.declared.entry.Action.TheVariants.{Step}
 use Rattle.reactor_core.specs.declared.entry.SlotEntry.{SlotEntry}
 use Rattle.reactor_core.specs.declared.refusal.Refusal.{Refusal}
-use Rattle.reactor_core.specs.declared.refusal.Refusal.TheVariants.{Implied}
+use Rattle.reactor_core.specs.Faults.{implied}
 use Rattle.reactor_core.specs.Reacting.{ReactsWith, IsStuck}
 use Rattle.reactor_core.specs.Meaning.{entry, instant, Running, Runs, Leaves, pending_of}
 use Rattle.reactor_core.specs.Answers.{HasRoom, entry_rules}
@@ -72,7 +72,7 @@ not_ready implied journal = record {
 -- instant
 abbrev pub OpenAnswer : (before : List SlotEntry) → Result (List SlotEntry) (Refusal × List SlotEntry) → Type 0
 OpenAnswer before answer =
-    Answers (not_ready Implied before ▸ accept) (λ refusal. answer ≡ Err (refusal, before)) (answer ≡ Ok before)
+    Answers (not_ready implied before ▸ accept) (λ refusal. answer ≡ Err (refusal, before)) (answer ≡ Ok before)
 
 -- the answer to settling: the outcome, exactly where there is one, or else the undecided outputs, and the reactor as it was
 abbrev pub SettleAnswer : (before : List SlotEntry) → Result SettledInstant (Stuck × List SlotEntry) → Type 0

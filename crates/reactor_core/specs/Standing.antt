@@ -12,8 +12,7 @@ use Rattle.reactor_core.specs.declared.entry.SlotEntry.{SlotEntry}
 use Rattle.reactor_core.specs.declared.loaded.Module.{Module}
 use Rattle.reactor_core.specs.declared.reactor.parts.Parts.{Parts}
 use Rattle.reactor_core.specs.declared.refusal.Refusal.{Refusal}
-use Rattle.reactor_core.specs.declared.refusal.Refusal.TheVariants.{Implied}
-use Rattle.reactor_core.specs.Faults.{refusal_of_pending}
+use Rattle.reactor_core.specs.Faults.{refusal_of_pending, implied}
 use Rattle.reactor_core.specs.Loading.{GivenModule}
 use Rattle.reactor_core.specs.Meaning.{last_load, instants_of, offers_of, mask_of, ModuleOf, Leaves}
 use Rattle.reactor_core.specs.Reacting.{ReactsWith}
@@ -70,5 +69,5 @@ pub record RefusesName (m : Module) (pending : ℕ) (name : List ℕ) (refusal :
 pub record RefusesInstant (m : Module) (pending : ℕ) (refusal : Refusal) : Type 0 where
   pub number : ℕ
   pub missing : List ℕ
-  pub told : refusal ≡ Implied number missing
+  pub told : refusal ≡ implied number missing
   pub first : IsFirstImplied (pending_inputs m pending) number missing

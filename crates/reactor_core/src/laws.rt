@@ -5,12 +5,15 @@ ghost use Rattle.est_kernel.specs.Term.{Term};
 ghost use Rattle.reactor_core.specs.declared.entry.Load.{Load as LoadEntry};
 ghost use Rattle.reactor_core.specs.declared.entry.SlotEntry.{SlotEntry};
 ghost use Rattle.reactor_core.specs.declared.entry.Stamp.{Stamp};
+ghost use Rattle.reactor_core.specs.declared.refusal.ModuleRefusal.{ModuleRefusal};
 ghost use Rattle.reactor_core.specs.declared.refusal.Refusal.{Refusal};
 ghost use Rattle.reactor_core.specs.declared.refusal.Refusal.TheVariants.{Memory};
 ghost use Rattle.reactor_core.specs.Loading.{GivenModule, Gives, IsLoadFault};
 ghost use Rattle.reactor_core.specs.Meaning.{ModuleOf, Running, Runs, Leaves};
 ghost use Rattle.reactor_core.specs.Instants.{IsOutcome, HasNoOutcome, AddsInstant, LacksImplied, KeepsRelations};
 ghost use Rattle.reactor_core.specs.Offers.{IsOfferedAt, TakesOffers};
+ghost use Rattle.reactor_core.specs.Refusals.{row_of};
+ghost use Rattle.refusal_tables.specs.Rows.{TellsApart};
 
 use est_link::laws::one_flat;
 use est_text::laws::{one_cut, one_fault};
@@ -88,4 +91,9 @@ pub fn inputs_are_offered()
     ensures taken { (before : List SlotEntry) (outputs : ℕ) (next : Term) (stamp : Stamp)
         (after : List SlotEntry)
         → AddsInstant before outputs next stamp after → TakesOffers before stamp outputs after }
+{}
+
+/// Equal numbers and equal fields are of equal refusals of a module.
+pub fn refusals_are_told_apart()
+    ensures { (one other : ModuleRefusal) → TellsApart row_of one other }
 {}

@@ -15,7 +15,7 @@ use crate::loaded::Module;
 use crate::reactor::instant::Instant;
 use crate::reactor::parts::{Parts, check_relations, join};
 use crate::reading::read_module;
-use crate::refusal::Refusal;
+use crate::refusal::{ModuleRefusal, Refusal};
 use crate::text::Text;
 use est_kernel::interface::Interface;
 use est_kernel::state::State;
@@ -178,14 +178,21 @@ impl Reactor {
     pub fn offer(&mut self, stamp: Stamp, name: &Identifier) -> Result<(), Refusal>
         ensures { OfferAnswer self.old stamp name.now result self.new }
     {
-        let pending = join(&self.parts.loaded, self.parts.pending, name)?;
+        let pending = match join(&self.parts.loaded, self.parts.pending, name) {
+            Ok(pending) => pending,
+            Err(refusal) => return Err(refusal),
+        };
         let entry = SlotEntry {
             stamp,
             action: Action::Offer(*name),
         };
-        self.parts.journal.append(entry)?;
-        self.parts.pending = pending;
-        Ok(())
+        match self.parts.journal.append(entry) {
+            Ok(()) => {
+                self.parts.pending = pending;
+                Ok(())
+            }
+            Err(refusal) => Err(refusal),
+        }
     }
 
     /// Takes the pending inputs away; the module runs on. A refusal, JournalFull or Memory, leaves the reactor as it was.
@@ -197,9 +204,13 @@ impl Reactor {
             stamp,
             action: Action::Discard,
         };
-        self.parts.journal.append(entry)?;
-        self.parts.pending = 0;
-        Ok(())
+        match self.parts.journal.append(entry) {
+            Ok(()) => {
+                self.parts.pending = 0;
+                Ok(())
+            }
+            Err(refusal) => Err(refusal),
+        }
     }
 
     /// Ends the module, with its pending inputs: the journal, after which none runs. A refusal, JournalFull or Memory, gives the
@@ -240,7 +251,7 @@ impl Reactor {
                 mask,
                 present: (instant.inputs | instant.outputs) & mask,
             }),
-            None => Err(Refusal::NoInstant),
+            None => Err(Refusal::Module(ModuleRefusal::NoInstant)),
         }
     }
 }

@@ -1,4 +1,7 @@
-//! What a reactor refuses.
+//! What a reactor refuses, with the number and the name of each refusal of a module.
+ghost use Rattle.std.specs.Prelude.{◌≡◌};
+ghost use Rattle.reactor_core.specs.Refusals.{code_of, name_of, limit_text};
+
 use est_kernel::limits::Limit as KernelLimit;
 use est_link::fault::{Limit as LinkLimit, LinkFault};
 use est_reduce::fault::ReduceFault;
@@ -59,23 +62,28 @@ impl From<LinkLimit> for Limit {
     }
 }
 
-/// Why a command on a module was refused. Relations are numbered from 1, in the order of the text.
+/// The word that a refusal uses for a limit.
+pub fn limit_text(limit: &Limit) -> &'static str
+    ensures { result.now ≡ limit_text limit.now }
+{
+    match limit {
+        Limit::Nesting => "nesting",
+        Limit::Signals => "signals",
+        Limit::Relations => "relations",
+        Limit::Statements => "statements",
+        Limit::Loops => "loops",
+        Limit::Traps => "traps",
+        Limit::Locals => "locals",
+    }
+}
+
+/// Why a module refuses a command. Relations are numbered from 1, in the order of the text.
 #[derive(Clone, Copy, PartialEq, Eq, Debug)]
-pub enum Refusal {
-    /// No signal of the interface has this name.
-    UnknownSignal,
-    /// The signal is an output.
-    NotInput,
-    /// The signal is pending already.
-    AlreadyOffered,
-    /// The first exclusion that would not hold, by its number, and its first member in written order that is pending.
-    Excluded { relation: u8, signal: Identifier },
-    /// The first relation that doesn't hold of the pending inputs, an implication, by its number, and the signal that is missing.
-    Implied { relation: u8, missing: Identifier },
+pub enum ModuleRefusal {
+    /// The pending inputs don't take the input, or the next instant doesn't take them.
+    Pending(PendingRefusal),
     /// There is no instant of this number.
     NoInstant,
-    /// The journal has as many entries as it may have.
-    JournalFull,
     /// Here begins no token.
     Lexical(Place),
     /// The first token with which the tokens so far begin no library.
@@ -98,6 +106,43 @@ pub enum Refusal {
     TooLarge(Limit),
     /// The main module's relation of this number has a member that is no input.
     Semantics(usize),
+}
+
+impl ModuleRefusal {
+    /// Its number and its name.
+    pub fn label(&self) -> (u8, &'static str)
+        ensures code { result.0 ≡ code_of self.now }
+        ensures name { result.1.now ≡ name_of self.now }
+    {
+        match self {
+            ModuleRefusal::Pending(PendingRefusal::Excluded { .. }) => (40, "Excluded"),
+            ModuleRefusal::Pending(PendingRefusal::Implied { .. }) => (41, "Implied"),
+            ModuleRefusal::Pending(PendingRefusal::UnknownSignal) => (63, "UnknownSignal"),
+            ModuleRefusal::Pending(PendingRefusal::NotInput) => (64, "NotInput"),
+            ModuleRefusal::Pending(PendingRefusal::AlreadyOffered) => (65, "AlreadyOffered"),
+            ModuleRefusal::NoInstant => (66, "NoInstant"),
+            ModuleRefusal::Lexical(_) => (70, "Lexical"),
+            ModuleRefusal::Syntax(_) => (71, "Syntax"),
+            ModuleRefusal::UnknownModule(_) => (72, "UnknownModule"),
+            ModuleRefusal::RecursiveRun(_) => (73, "RecursiveRun"),
+            ModuleRefusal::UnknownName(_) => (74, "UnknownName"),
+            ModuleRefusal::DuplicateName(_) => (75, "DuplicateName"),
+            ModuleRefusal::EmitInput(_) => (76, "EmitInput"),
+            ModuleRefusal::BadRename(_) => (77, "BadRename"),
+            ModuleRefusal::InstantLoop => (78, "InstantLoop"),
+            ModuleRefusal::TooLarge(_) => (79, "TooLarge"),
+            ModuleRefusal::Semantics(_) => (80, "Semantics"),
+        }
+    }
+}
+
+/// Why a command on a module was refused.
+#[derive(Clone, Copy, PartialEq, Eq, Debug)]
+pub enum Refusal {
+    /// The module refuses it.
+    Module(ModuleRefusal),
+    /// The journal has as many entries as it may have.
+    JournalFull,
     /// Memory was refused.
     Memory,
 }
@@ -121,7 +166,7 @@ impl From<LexFault> for Refusal {
 
     fn from(fault: LexFault) -> Refusal {
         match fault {
-            LexFault::Lexical(place) => Refusal::Lexical(place),
+            LexFault::Lexical(place) => Refusal::Module(ModuleRefusal::Lexical(place)),
             LexFault::Memory => Refusal::Memory,
         }
     }
@@ -135,8 +180,8 @@ impl From<ParseFault> for Refusal {
 
     fn from(fault: ParseFault) -> Refusal {
         match fault {
-            ParseFault::Syntax(place) => Refusal::Syntax(place),
-            ParseFault::TooLarge(_) => Refusal::TooLarge(Limit::Nesting),
+            ParseFault::Syntax(place) => Refusal::Module(ModuleRefusal::Syntax(place)),
+            ParseFault::TooLarge(_) => Refusal::Module(ModuleRefusal::TooLarge(Limit::Nesting)),
             ParseFault::Memory => Refusal::Memory,
         }
     }
@@ -150,14 +195,14 @@ impl From<LinkFault> for Refusal {
 
     fn from(fault: LinkFault) -> Refusal {
         match fault {
-            LinkFault::DuplicateName(name) => Refusal::DuplicateName(name),
-            LinkFault::UnknownModule(name) => Refusal::UnknownModule(name),
-            LinkFault::RecursiveRun(name) => Refusal::RecursiveRun(name),
-            LinkFault::BadRename(name) => Refusal::BadRename(name),
-            LinkFault::UnknownName(name) => Refusal::UnknownName(name),
-            LinkFault::EmitInput(name) => Refusal::EmitInput(name),
-            LinkFault::Semantics(relation) => Refusal::Semantics(relation),
-            LinkFault::TooLarge(limit) => Refusal::TooLarge(Limit::from(limit)),
+            LinkFault::DuplicateName(name) => Refusal::Module(ModuleRefusal::DuplicateName(name)),
+            LinkFault::UnknownModule(name) => Refusal::Module(ModuleRefusal::UnknownModule(name)),
+            LinkFault::RecursiveRun(name) => Refusal::Module(ModuleRefusal::RecursiveRun(name)),
+            LinkFault::BadRename(name) => Refusal::Module(ModuleRefusal::BadRename(name)),
+            LinkFault::UnknownName(name) => Refusal::Module(ModuleRefusal::UnknownName(name)),
+            LinkFault::EmitInput(name) => Refusal::Module(ModuleRefusal::EmitInput(name)),
+            LinkFault::Semantics(relation) => Refusal::Module(ModuleRefusal::Semantics(relation)),
+            LinkFault::TooLarge(limit) => Refusal::Module(ModuleRefusal::TooLarge(Limit::from(limit))),
             LinkFault::Memory => Refusal::Memory,
         }
     }
@@ -171,8 +216,8 @@ impl From<ReduceFault> for Refusal {
 
     fn from(fault: ReduceFault) -> Refusal {
         match fault {
-            ReduceFault::TooLarge(limit) => Refusal::TooLarge(Limit::from(limit)),
-            ReduceFault::InstantLoop => Refusal::InstantLoop,
+            ReduceFault::TooLarge(limit) => Refusal::Module(ModuleRefusal::TooLarge(Limit::from(limit))),
+            ReduceFault::InstantLoop => Refusal::Module(ModuleRefusal::InstantLoop),
             ReduceFault::Memory => Refusal::Memory,
         }
     }
@@ -185,12 +230,6 @@ impl From<PendingRefusal> for Refusal {
     ghost from_gives = { λ refusal r. r ≡ refusal_of_pending refusal };
 
     fn from(refusal: PendingRefusal) -> Refusal {
-        match refusal {
-            PendingRefusal::UnknownSignal => Refusal::UnknownSignal,
-            PendingRefusal::NotInput => Refusal::NotInput,
-            PendingRefusal::AlreadyOffered => Refusal::AlreadyOffered,
-            PendingRefusal::Excluded { relation, signal } => Refusal::Excluded { relation, signal },
-            PendingRefusal::Implied { relation, missing } => Refusal::Implied { relation, missing },
-        }
+        Refusal::Module(ModuleRefusal::Pending(refusal))
     }
 }

@@ -19,6 +19,7 @@ use reactor_core::journal::Journal;
 use seat_receipts::mismatch::Mismatch;
 use seat_receipts::receipts::{Receipts, SEATS};
 use std::alloc::Global;
+use std::array;
 use std::marker::Model;
 use std::sync::{Mutex, Wait};
 
@@ -88,24 +89,7 @@ impl<B: BoardName> Closing<B> {
 fn no_receipts(alloc: Global) -> [Receipts; SEATS]
     ensures { result ≡ replicate SEATS [] }
 {
-    [
-        Receipts::from_vec(Vec::new(alloc)),
-        Receipts::from_vec(Vec::new(alloc)),
-        Receipts::from_vec(Vec::new(alloc)),
-        Receipts::from_vec(Vec::new(alloc)),
-        Receipts::from_vec(Vec::new(alloc)),
-        Receipts::from_vec(Vec::new(alloc)),
-        Receipts::from_vec(Vec::new(alloc)),
-        Receipts::from_vec(Vec::new(alloc)),
-        Receipts::from_vec(Vec::new(alloc)),
-        Receipts::from_vec(Vec::new(alloc)),
-        Receipts::from_vec(Vec::new(alloc)),
-        Receipts::from_vec(Vec::new(alloc)),
-        Receipts::from_vec(Vec::new(alloc)),
-        Receipts::from_vec(Vec::new(alloc)),
-        Receipts::from_vec(Vec::new(alloc)),
-        Receipts::from_vec(Vec::new(alloc)),
-    ]
+    array::from_fn(|_| Receipts::from_vec(Vec::new(alloc)))
 }
 
 /// The receipts of the seats, in their order, and behind them empty lists.

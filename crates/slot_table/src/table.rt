@@ -50,6 +50,38 @@ pub struct SlotTable<B: BoardName> {
     slot15: Mutex<LockedSlot<B, 15>>,
 }
 
+// Hands the slots, each by its field and its number, to a macro below, behind what that is given.
+macro_rules! with_slots {
+    ($to:ident: $($given:tt)*) => {
+        $to!($($given)*;
+            slot0 0, slot1 1, slot2 2, slot3 3, slot4 4, slot5 5, slot6 6, slot7 7,
+            slot8 8, slot9 9, slot10 10, slot11 11, slot12 12, slot13 13, slot14 14, slot15 15)
+    };
+}
+
+macro_rules! open_slots {
+    ($alloc:ident, $readers:ident; $($slot:ident $number:literal),*) => {
+        SlotTable { $($slot: open_slot($alloc, &mut $readers)),* }
+    };
+}
+
+macro_rules! answer_at {
+    ($table:ident, $at:ident, $rt:ident, $board:ident, $seat:ident, $session:ident, $command:ident;
+        $($slot:ident $number:literal),*) => {
+        match $at {
+            $($number => answer($rt, $board, &$table.$slot, $seat, $session, $command),)*
+            _ => refuse_number($seat, $session, $at),
+        }
+    };
+}
+
+macro_rules! end_slots {
+    ($table:ident, $closing:ident; $($slot:ident $number:literal),*) => {{
+        let SlotTable { $($slot),* } = $table;
+        [$($closing.end($slot)),*]
+    }};
+}
+
 // An empty slot, with the last of the readers, under its lock.
 fn open_slot<B: BoardName, const NUMBER: u8>(
     alloc: Global,
@@ -100,24 +132,7 @@ impl<B: BoardName> SlotTable<B> {
         requires { vec_len readers ≡ SLOTS }
     {
         let mut readers = readers;
-        SlotTable {
-            slot0: open_slot(alloc, &mut readers),
-            slot1: open_slot(alloc, &mut readers),
-            slot2: open_slot(alloc, &mut readers),
-            slot3: open_slot(alloc, &mut readers),
-            slot4: open_slot(alloc, &mut readers),
-            slot5: open_slot(alloc, &mut readers),
-            slot6: open_slot(alloc, &mut readers),
-            slot7: open_slot(alloc, &mut readers),
-            slot8: open_slot(alloc, &mut readers),
-            slot9: open_slot(alloc, &mut readers),
-            slot10: open_slot(alloc, &mut readers),
-            slot11: open_slot(alloc, &mut readers),
-            slot12: open_slot(alloc, &mut readers),
-            slot13: open_slot(alloc, &mut readers),
-            slot14: open_slot(alloc, &mut readers),
-            slot15: open_slot(alloc, &mut readers),
-        }
+        with_slots!(open_slots: alloc, readers)
     }
 
     /// Answers a command of this session on the slot of this number, under the slot's lock, for which it waits. A
@@ -134,67 +149,14 @@ impl<B: BoardName> SlotTable<B> {
     ) -> Reply
         ensures { TableCommand slot session command seat.old result seat.new }
     {
-        match slot {
-            0 => answer(rt, board, &self.slot0, seat, session, command),
-            1 => answer(rt, board, &self.slot1, seat, session, command),
-            2 => answer(rt, board, &self.slot2, seat, session, command),
-            3 => answer(rt, board, &self.slot3, seat, session, command),
-            4 => answer(rt, board, &self.slot4, seat, session, command),
-            5 => answer(rt, board, &self.slot5, seat, session, command),
-            6 => answer(rt, board, &self.slot6, seat, session, command),
-            7 => answer(rt, board, &self.slot7, seat, session, command),
-            8 => answer(rt, board, &self.slot8, seat, session, command),
-            9 => answer(rt, board, &self.slot9, seat, session, command),
-            10 => answer(rt, board, &self.slot10, seat, session, command),
-            11 => answer(rt, board, &self.slot11, seat, session, command),
-            12 => answer(rt, board, &self.slot12, seat, session, command),
-            13 => answer(rt, board, &self.slot13, seat, session, command),
-            14 => answer(rt, board, &self.slot14, seat, session, command),
-            15 => answer(rt, board, &self.slot15, seat, session, command),
-            _ => refuse_number(seat, session, slot),
-        }
+        with_slots!(answer_at: self, slot, rt, board, seat, session, command)
     }
 
     // The journals, by number. Each lock is opened, and its reader handed back.
     fn end(self, closing: &mut Closing<B>) -> [Journal; SLOTS as usize]
         ensures { EndFrom 0 closing.old result closing.new }
     {
-        let SlotTable {
-            slot0,
-            slot1,
-            slot2,
-            slot3,
-            slot4,
-            slot5,
-            slot6,
-            slot7,
-            slot8,
-            slot9,
-            slot10,
-            slot11,
-            slot12,
-            slot13,
-            slot14,
-            slot15,
-        } = self;
-        [
-            closing.end(slot0),
-            closing.end(slot1),
-            closing.end(slot2),
-            closing.end(slot3),
-            closing.end(slot4),
-            closing.end(slot5),
-            closing.end(slot6),
-            closing.end(slot7),
-            closing.end(slot8),
-            closing.end(slot9),
-            closing.end(slot10),
-            closing.end(slot11),
-            closing.end(slot12),
-            closing.end(slot13),
-            closing.end(slot14),
-            closing.end(slot15),
-        ]
+        with_slots!(end_slots: self, closing)
     }
 
     /// Ends a server: its journals, where each of their entries was asked for by one call of one of these seats,

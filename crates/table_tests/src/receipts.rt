@@ -5,10 +5,12 @@ use crate::server::{Server, ask, begin, enter, give, offering, open, root};
 use access_core::command::SlotCommand;
 use access_core::refusal::Refusal;
 use access_core::reply::Reply;
+use est_relations::refusal::Refusal as PendingRefusal;
 use est_text::identifier::Identifier;
 use policy_board::history::{BoardName, Fresh};
 use policy_board::seat::Seat;
 use rbac_admin::refusals::Refusal as PolicyRefusal;
+use reactor_core::refusal::ModuleRefusal;
 use seat_receipts::receipt::{Asked, Kept, SlotReceipt};
 use std::alloc::Global;
 use std::marker::Brand;
@@ -61,7 +63,12 @@ fn keep<B: BoardName, R: Wait + Abort>(rt: &R, alloc: Global, fresh: Fresh) -> u
     assert!(rt; offered.place == 2 && offered.version == 8 && offered.number == 2);
     let again = SlotCommand::Offer { signal };
     let reply = ask(rt, &board, &table, &mut seat, 3, again);
-    assert!(rt; matches!(reply, Reply::Refused(Refusal::AlreadyOffered)));
+    assert!(rt;
+        matches!(
+            reply,
+            Reply::Refused(Refusal::Module(ModuleRefusal::Pending(PendingRefusal::AlreadyOffered)))
+        )
+    );
     assert_eq!(rt; seat.kept().len(), 6);
     let reply = ask(rt, &board, &table, &mut seat, 3, SlotCommand::Step);
     assert!(rt;

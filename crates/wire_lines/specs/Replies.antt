@@ -1,17 +1,16 @@
 -- What a reply line says, as JSON.
-use Rattle.std.specs.Prelude.{ℕ, List, [], ◌∷◌, ◌++◌, codes, map}
+use Rattle.std.specs.Prelude.{ℕ, Bool, List, [], ◌∷◌, ◌++◌, codes, map, if◌then◌else◌}
+use Rattle.std.specs.Cmp.Lexicographic.{slice_cmp}
+use Rattle.std.specs.Ordering.{nat_cmp, is_gt}
 use Rattle.serde_json.specs.Data.{Data, boolean, string, array, object, item, no_items, Members, member, no_members}
 use Rattle.serde_json.specs.View.{items_of}
 use Rattle.serde_json.specs.Written.{compact_text}
-use Rattle.rbac_policy.specs.Texts.{operation_text, object_text}
-use Rattle.rbac_admin.specs.declared.refusals.Refusal.{Refusal as PolicyRefusal}
-use Rattle.rbac_admin.specs.declared.refusals.Refusal.TheVariants as policy
+use Rattle.refusal_tables.specs.Rows.{Row, Field, Fields, Number, Text, Texts}
 use Rattle.access_core.specs.declared.refusal.Refusal.{Refusal}
-use Rattle.access_core.specs.declared.refusal.Refusal.TheVariants as refusal
 use Rattle.access_core.specs.declared.reply.Reply.{Reply}
 use Rattle.access_core.specs.declared.reply.Reply.TheVariants.{Refused, Login, Changed, Load, Offer, Discard, Step, Unload, Look, Audit, Check}
 use Rattle.access_core.specs.declared.reply.ShownSignal.{ShownSignal}
-use Rattle.access_core.specs.Refusals.{code_of, name_of, limit_text, table_text}
+use Rattle.access_core.specs.Refusals.{row_of}
 use Rattle.access_core.specs.Replies.{word_of}
 use Rattle.wire_lines.specs.Requests.{text_member, number_member, texts_member}
 
@@ -19,60 +18,35 @@ use Rattle.wire_lines.specs.Requests.{text_member, number_member, texts_member}
 abbrev pub refused_with : (code : ℕ) → (fault : List ℕ) → Members → Members
 refused_with code fault named = number_member (codes "code") code (text_member (codes "fault") fault named)
 
--- the members of a refusal whose keys come before `fault`, besides its number
-abbrev pub before_fault : Refusal → Members → Members
-before_fault (refusal.Lexical place) others = number_member (codes "column") place.column others
-before_fault (refusal.Syntax place) others = number_member (codes "column") place.column others
-before_fault _ others = others
+-- what is named under a key
+abbrev pub field_member : List ℕ → Field → Members → Members
+field_member key (Number n) others = number_member key n others
+field_member key (Text text) others = text_member key text others
+field_member key (Texts texts) others = texts_member key texts others
 
--- what a refusal of the policy names, under keys that come after `fault`
-abbrev pub named_by_policy : PolicyRefusal → Members
-named_by_policy policy.NoSession = no_members
-named_by_policy policy.SessionsExhausted = no_members
-named_by_policy (policy.Permission operation on) = text_member (codes "object") (object_text on) (text_member (codes "op") (operation_text operation) no_members)
-named_by_policy (policy.DsdViolated set session) = number_member (codes "session") session (text_member (codes "set") set no_members)
-named_by_policy (policy.NotAuthorized role) = text_member (codes "role") role no_members
-named_by_policy (policy.AlreadyActive role) = text_member (codes "role") role no_members
-named_by_policy (policy.NotActive role) = text_member (codes "role") role no_members
-named_by_policy policy.Cycle = no_members
-named_by_policy (policy.UnknownUser user) = text_member (codes "user") user no_members
-named_by_policy (policy.UnknownRole role) = text_member (codes "role") role no_members
-named_by_policy (policy.UserExists user) = text_member (codes "user") user no_members
-named_by_policy (policy.RoleExists role) = text_member (codes "role") role no_members
-named_by_policy policy.AlreadyAssigned = no_members
-named_by_policy policy.NotAssigned = no_members
-named_by_policy policy.AlreadyGranted = no_members
-named_by_policy policy.NotGranted = no_members
-named_by_policy policy.EdgeExists = no_members
-named_by_policy policy.NoEdge = no_members
-named_by_policy (policy.DsdExists set) = text_member (codes "set") set no_members
-named_by_policy (policy.NoDsd set) = text_member (codes "set") set no_members
-named_by_policy policy.DsdShape = no_members
-named_by_policy (policy.RoleInDsd set) = text_member (codes "set") set no_members
-named_by_policy (policy.Full table) = text_member (codes "table") (table_text table) no_members
+-- what is named, in the order of the keys
+abbrev pub fields_members : Fields → Members
+fields_members [] = no_members
+fields_members (field ∷ others) = field_member field.0 field.1 (fields_members others)
 
--- the members of a refusal whose keys come after `fault`
-abbrev pub after_fault : Refusal → Members
-after_fault (refusal.Policy given) = named_by_policy given
-after_fault (refusal.Excluded relation signal) = number_member (codes "relation") relation (text_member (codes "signal") signal no_members)
-after_fault (refusal.Implied relation missing) = text_member (codes "missing") missing (number_member (codes "relation") relation no_members)
-after_fault (refusal.Stuck undecided) = texts_member (codes "undecided") undecided no_members
-after_fault (refusal.Behind found seen) = number_member (codes "found") found (number_member (codes "seen") seen no_members)
-after_fault (refusal.Lexical place) = number_member (codes "line") place.line no_members
-after_fault (refusal.Syntax place) = number_member (codes "line") place.line no_members
-after_fault (refusal.UnknownModule name) = text_member (codes "name") name no_members
-after_fault (refusal.RecursiveRun name) = text_member (codes "name") name no_members
-after_fault (refusal.UnknownName name) = text_member (codes "name") name no_members
-after_fault (refusal.DuplicateName name) = text_member (codes "name") name no_members
-after_fault (refusal.EmitInput name) = text_member (codes "name") name no_members
-after_fault (refusal.BadRename name) = text_member (codes "name") name no_members
-after_fault (refusal.TooLarge limit) = text_member (codes "limit") (limit_text limit) no_members
-after_fault (refusal.Semantics relation) = number_member (codes "relation") relation no_members
-after_fault _ = no_members
+-- the key comes before `fault`
+abbrev pub is_before_fault : List ℕ → Bool
+is_before_fault key = is_gt (slice_cmp nat_cmp (codes "fault") key)
 
--- a refusal: its number, its name, and what it names (this project's own form)
+-- the name of a refusal at its place among what the refusal names
+abbrev pub with_fault : (fault : List ℕ) → Fields → Members
+with_fault fault [] = text_member (codes "fault") fault no_members
+with_fault fault (field ∷ others) =
+    if is_before_fault field.0 then field_member field.0 field.1 (with_fault fault others)
+    else text_member (codes "fault") fault (field_member field.0 field.1 (fields_members others))
+
+-- a refusal, by its row: its number, and in the order of the keys its name and what it names (this project's own form)
+abbrev pub row_members : Row → Members
+row_members row = number_member (codes "code") row.code (with_fault row.name row.fields)
+
+-- a refusal
 abbrev pub refusal_members : Refusal → Members
-refusal_members r = number_member (codes "code") (code_of r) (before_fault r (text_member (codes "fault") (name_of r) (after_fault r)))
+refusal_members given = row_members (row_of given)
 
 -- a signal's name, and whether it is present
 abbrev pub shown_json : ShownSignal → Data

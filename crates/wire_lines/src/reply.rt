@@ -7,27 +7,31 @@ ghost use Rattle.json.specs.Print.{quoted};
 ghost use Rattle.serde_json.specs.Data.{object, array, string, no_members};
 ghost use Rattle.serde_json.specs.View.{view, items_of};
 ghost use Rattle.rbac_policy.specs.Texts.{operation_text, object_text};
-ghost use Rattle.rbac_admin.specs.Refusals.{code_of as policy_code, name_of as policy_name};
+ghost use Rattle.rbac_admin.specs.Refusals.{row_of as policy_row};
+ghost use Rattle.reactor_core.specs.Refusals.{row_of as module_row};
 ghost use Rattle.wire_lines.specs.Requests.{text_member, number_member, texts_member};
-ghost use Rattle.wire_lines.specs.Replies.{refusal_members, refused_with, named_by_policy};
+ghost use Rattle.wire_lines.specs.Replies.{refusal_members, row_members, refused_with};
 ghost use Rattle.wire_lines.specs.Replies.{signals_json, shown_json, reply_json, line_of};
 ghost use Rattle.access_core.specs.declared.reply.Reply.TheVariants.{Refused, Login, Changed, Load, Discard, Step};
 ghost use Rattle.access_core.specs.declared.reply.Reply.TheVariants.{Unload, Audit, Check};
 ghost use Rattle.access_core.specs.declared.reply.Change.TheVariants as change;
 ghost use Rattle.access_core.specs.declared.refusal.Refusal.TheVariants as refusal;
 ghost use Rattle.rbac_admin.specs.declared.refusals.Refusal.TheVariants as policy;
+ghost use Rattle.reactor_core.specs.declared.refusal.ModuleRefusal.TheVariants as of_module;
 ghost use Rattle.est_text.specs.declared.place.Place.{Place};
 
 use crate::accepted::{discard_line, load_line, offer_line, step_line, unload_line};
 use crate::look_line::look_line;
-use access_core::refusal::{Refusal, limit_text, table_text};
+use access_core::refusal::Refusal;
 use access_core::reply::{Reply, ShownSignal};
+use est_relations::refusal::Refusal as PendingRefusal;
 use est_text::identifier::Identifier;
 use est_text::place::Place;
-use rbac_admin::refusals::Refusal as PolicyRefusal;
+use rbac_admin::refusals::{Refusal as PolicyRefusal, table_text};
 use rbac_policy::commands::SessionId;
 use rbac_policy::names::Name;
 use rbac_policy::objects::{Object, Operation};
+use reactor_core::refusal::{ModuleRefusal, limit_text};
 use serde_json::{Value, json};
 use std::alloc::{AllocError, Global};
 
@@ -181,8 +185,7 @@ fn behind(alloc: Global, code: u8, fault: &str, found: u64, seen: u64) -> Result
 
 /// What a refusal of the policy says.
 fn refused_by_policy(alloc: Global, refusal: &PolicyRefusal) -> Result<Value, AllocError>
-    ensures { IfOk result (λ v. view v ≡ object (refused_with (policy_code refusal.now)
-        (policy_name refusal.now) (named_by_policy refusal.now))) }
+    ensures { IfOk result (λ v. view v ≡ object (row_members (policy_row refusal.now))) }
 {
     let (code, fault) = refusal.label();
     match refusal {
@@ -221,6 +224,39 @@ fn refused_by_policy(alloc: Global, refusal: &PolicyRefusal) -> Result<Value, Al
     }
 }
 
+/// What a refusal of a module says.
+fn refused_by_module(alloc: Global, refusal: &ModuleRefusal) -> Result<Value, AllocError>
+    ensures { IfOk result (λ v. view v ≡ object (row_members (module_row refusal.now))) }
+{
+    let (code, fault) = refusal.label();
+    match refusal {
+        ModuleRefusal::Pending(PendingRefusal::Excluded { relation, signal }) => {
+            excluded(alloc, code, fault, *relation, signal)
+        }
+        ModuleRefusal::Pending(PendingRefusal::Implied { relation, missing }) => {
+            implied(alloc, code, fault, *relation, missing)
+        }
+        ModuleRefusal::Lexical(place) | ModuleRefusal::Syntax(place) => at_place(
+            alloc, code, fault, place,
+        ),
+        ModuleRefusal::UnknownModule(name)
+        | ModuleRefusal::RecursiveRun(name)
+        | ModuleRefusal::UnknownName(name)
+        | ModuleRefusal::DuplicateName(name)
+        | ModuleRefusal::EmitInput(name)
+        | ModuleRefusal::BadRename(name) => with_text(alloc, code, fault, "name", name.as_str()),
+        ModuleRefusal::TooLarge(limit) => {
+            with_text(alloc, code, fault, "limit", limit_text(limit))
+        }
+        ModuleRefusal::Semantics(relation) => semantics(alloc, code, fault, *relation as u64),
+        ModuleRefusal::Pending(PendingRefusal::UnknownSignal)
+        | ModuleRefusal::Pending(PendingRefusal::NotInput)
+        | ModuleRefusal::Pending(PendingRefusal::AlreadyOffered)
+        | ModuleRefusal::NoInstant
+        | ModuleRefusal::InstantLoop => plain(alloc, code, fault),
+    }
+}
+
 /// What a refusal says.
 fn refused(alloc: Global, refusal: &Refusal) -> Result<Value, AllocError>
     ensures { IfOk result (λ v. view v ≡ object (refusal_members refusal.now)) }
@@ -228,21 +264,9 @@ fn refused(alloc: Global, refusal: &Refusal) -> Result<Value, AllocError>
     let (code, fault) = refusal.label();
     match refusal {
         Refusal::Policy(refusal) => refused_by_policy(alloc, refusal),
-        Refusal::Excluded { relation, signal } => excluded(alloc, code, fault, *relation, signal),
-        Refusal::Implied { relation, missing } => implied(alloc, code, fault, *relation, missing),
+        Refusal::Module(refusal) => refused_by_module(alloc, refusal),
         Refusal::Stuck { undecided } => stuck(alloc, code, fault, undecided.as_slice()),
         Refusal::Behind { found, seen } => behind(alloc, code, fault, *found, *seen),
-        Refusal::Lexical { place } | Refusal::Syntax { place } => at_place(
-            alloc, code, fault, place,
-        ),
-        Refusal::UnknownModule { name }
-        | Refusal::RecursiveRun { name }
-        | Refusal::UnknownName { name }
-        | Refusal::DuplicateName { name }
-        | Refusal::EmitInput { name }
-        | Refusal::BadRename { name } => with_text(alloc, code, fault, "name", name.as_str()),
-        Refusal::TooLarge { limit } => with_text(alloc, code, fault, "limit", limit_text(limit)),
-        Refusal::Semantics { relation } => semantics(alloc, code, fault, *relation),
         Refusal::TooLong
         | Refusal::NotJson
         | Refusal::NotARequest
@@ -250,11 +274,6 @@ fn refused(alloc: Global, refusal: &Refusal) -> Result<Value, AllocError>
         | Refusal::NoSlot
         | Refusal::Occupied
         | Refusal::Empty
-        | Refusal::UnknownSignal
-        | Refusal::NotInput
-        | Refusal::AlreadyOffered
-        | Refusal::NoInstant
-        | Refusal::InstantLoop
         | Refusal::JournalFull
         | Refusal::Memory => plain(alloc, code, fault),
     }
@@ -393,7 +412,7 @@ pub fn reply_lines_are_these()
     ensures unknown_user { (user : List ℕ)
         → line_of (Refused (refusal.Policy (policy.UnknownUser user)))
         ≡ codes "{\"code\":25,\"fault\":\"UnknownUser\",\"user\":" ++ (quoted user ++ codes "}\n") }
-    ensures syntax { (place : Place) → line_of (Refused (refusal.Syntax place))
+    ensures syntax { (place : Place) → line_of (Refused (refusal.Module (of_module.Syntax place)))
         ≡ codes "{\"code\":71,\"column\":" ++ (decimal place.column ++
         (codes ",\"fault\":\"Syntax\",\"line\":" ++ (decimal place.line ++ codes "}\n"))) }
 {}

@@ -39,8 +39,19 @@ KeepsInstant entries Unload = Unit {0}
 
 -- the fault of an entry whose command is refused so
 abbrev pub fault_of : Refusal → Fault
+fault_of refusal.TooLong = Refused (code_of refusal.TooLong)
+fault_of refusal.NotJson = Refused (code_of refusal.NotJson)
+fault_of refusal.NotARequest = Refused (code_of refusal.NotARequest)
+fault_of refusal.AlreadyLoggedIn = Refused (code_of refusal.AlreadyLoggedIn)
+fault_of (refusal.Policy given) = Refused (code_of (refusal.Policy given))
+fault_of (refusal.Module given) = Refused (code_of (refusal.Module given))
+fault_of (refusal.Stuck undecided) = Refused (code_of (refusal.Stuck undecided))
+fault_of refusal.NoSlot = Refused (code_of refusal.NoSlot)
+fault_of refusal.Occupied = Refused (code_of refusal.Occupied)
+fault_of refusal.Empty = Refused (code_of refusal.Empty)
+fault_of refusal.JournalFull = Refused (code_of refusal.JournalFull)
+fault_of (refusal.Behind found seen) = Refused (code_of (refusal.Behind found seen))
 fault_of refusal.Memory = Memory
-fault_of given = Refused (code_of given)
 
 -- this is why the slot doesn't add the entry after those before it
 abbrev pub IsFaultOf : (judged : List Entry) → (slot : ℕ) → (before : List SlotEntry) → SlotEntry → Fault → Type 0

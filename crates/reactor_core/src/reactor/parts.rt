@@ -118,9 +118,13 @@ impl Parts {
             inputs: self.pending,
             outputs: outcome.outputs,
         };
-        append_step(&mut self.journal, &mut self.instants, stamp, instant)?;
-        self.state = outcome.next;
-        self.pending = 0;
-        Ok(())
+        match append_step(&mut self.journal, &mut self.instants, stamp, instant) {
+            Ok(()) => {
+                self.state = outcome.next;
+                self.pending = 0;
+                Ok(())
+            }
+            Err(refusal) => Err(refusal),
+        }
     }
 }

@@ -18,4 +18,4 @@ returns-in-Err-clause-loaded c =
 
 pub returns-in-Err-clause-step : goal.returns-in-Err-clause-step
 returns-in-Err-clause-step c =
-    rw c.of_reactor.ensures (commit_refused c.args.stamp c.args.settled (c.in-Err.refusal, c.in-Err.reactor) c.in-Err.ensures)
+    rw c.from.ensures (commit_refused c.args.stamp c.args.settled (c.in-Err.refusal, c.in-Err.reactor) c.in-Err.ensures)

@@ -17,7 +17,7 @@ returns-in-Err-clause-step c = record {
   answer = Err c.in-Err.refusal;
   given = c.in-Err.ensures;
   replied = record {
-    replied = ap Refused c.of_reactor.ensures;
+    replied = ap Refused c.from.ensures;
     stays = offer_stays c.args.reactor.now c.args.stamp c.args.signal.now c.in-Err.refusal c.offer.new.self c.in-Err.ensures;
   };
 }

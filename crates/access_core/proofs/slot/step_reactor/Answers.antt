@@ -12,5 +12,5 @@ returns-in-Err-clause-loaded c = lacking_loaded c.args.reactor (c.in-Err.refusal
 
 pub returns-in-Err-clause-step : goal.returns-in-Err-clause-step
 returns-in-Err-clause-step c = λ entries stands.
-    rw c.of_reactor.ensures
+    rw c.from.ensures
     (step_lacking entries c.args.slot c.args.session (stamp_of entries c.args.session) c.args.reactor (c.in-Err.refusal, c.in-Err.reactor) c.in-Err.ensures)

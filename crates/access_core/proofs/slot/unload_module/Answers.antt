@@ -17,4 +17,4 @@ returns-in-Err-clause-held c =
 pub returns-in-Err-clause-step : goal.returns-in-Err-clause-step
 returns-in-Err-clause-step c =
     unload_answered c.args.reactor c.args.stamp (Err (c.in-Err.refusal, c.in-Err.reactor)) _ _ c.in-Err.ensures.answer
-    (refl, ap Refused c.of_reactor.ensures)
+    (refl, ap Refused c.from.ensures)

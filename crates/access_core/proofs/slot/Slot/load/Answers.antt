@@ -28,7 +28,7 @@ returns-in-Err-clause-step c =
       answer = Err (c.in-Err.refusal, c.in-Err.journal);
       given = c.in-Err.ensures;
       replied = record {
-        replied = ap Refused c.of_reactor.ensures;
+        replied = ap Refused c.from.ensures;
         stays = load_stays c.in-Empty.journal c.args.stamp c.args.main.now c.args.text.now (c.in-Err.refusal, c.in-Err.journal) c.in-Err.ensures;
       };
     }))

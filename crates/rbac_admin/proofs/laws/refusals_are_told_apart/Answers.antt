@@ -1,0 +1,5 @@
+use Rattle.rbac_admin.proofs.Rows.{told_apart}
+use Rattle.rbac_admin.proofs.laws.refusals_are_told_apart.Goals as goal
+
+pub returns : goal.returns
+returns c = told_apart
