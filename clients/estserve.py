@@ -111,26 +111,24 @@ def add_program(parser: Any) -> None:
 
 
 def add_unproved(parser: Any) -> None:
-    help = "build the program without proof first, by `rt try`: a minute, and then it is kept"
+    help = "build the program without proof, by `rt try`: a minute, and then it is kept"
     parser.add_argument("--unproved", action="store_true", help=help)
 
 
 def add_server(parser: Parser, roles: Any) -> None:
     help = "the server's Unix socket; without it the program is started for you alone"
     parser.add_argument("--socket", metavar="PATH", help=help)
-    parser.add_argument("--user", default="root", help="the user to log in as (root)")
-    help = (
-        "a role to activate; may stand more than once (root for the user root, and none for others)"
-    )
+    parser.add_argument("--user", default="root", help="the user to log in as (default: root)")
+    help = "a role to activate; may be given more than once (default: root for root, else none)"
     parser.add_argument("--role", action="extend", nargs=roles, metavar="ROLE", help=help)
-    help = "connect again after this many reads of the server, which ends one after 1,000,000"
+    help = "connect again after this many reads (the server ends a connection after 1,000,000)"
     parser.add_argument("--reads", type=int, default=READS, metavar="N", help=help)
 
 
 def add_pictures(parser: Parser) -> None:
     pictures = parser.add_mutually_exclusive_group()
     pictures.add_argument(
-        "--table", action="store_true", help="draw a row an instant (so without any of the three)"
+        "--table", action="store_true", help="draw a table, a row for each instant (the default)"
     )
     pictures.add_argument("--wave", action="store_true", help="draw waves with characters")
     pictures.add_argument("--vcd", metavar="OUT", help="write a VCD file, for a viewer of waves")
@@ -147,12 +145,12 @@ def add_run(commands: Any) -> None:
         metavar="FILE",
         help="the module text; of several files all modules make one library",
     )
-    add("--main", metavar="MODULE", help="the module to run (the first one that no other runs)")
+    add("--main", metavar="MODULE", help="the module to run (default: the first that none runs)")
     add(
         "--inputs",
         default="-",
         metavar="FILE",
-        help="the list of inputs, one instant a line (standard input)",
+        help="the list of inputs, one instant a line (default: standard input)",
     )
     add("--signals", action="append", metavar="A,B", help="draw these signals, and no others")
     add_pictures(parser)
@@ -167,7 +165,7 @@ def add_run(commands: Any) -> None:
     add_program(programs)
     add_unproved(programs)
     add_server(parser, 1)
-    add("--slot", type=int, default=0, metavar="N", help="the slot of the server to run in (0)")
+    add("--slot", type=int, default=0, metavar="N", help="the server's slot to run in (default: 0)")
     add(
         "--loaded",
         action="store_true",
@@ -181,9 +179,9 @@ def add_test(commands: Any) -> None:
     parser = commands.add_parser("test", help=help)
     add = parser.add_argument
     add("folder", metavar="DIR", help="the folder")
-    help = "a module text for all of them (NAME.strl, or else all .strl files of the folder)"
+    help = "a module text for all of them (default: NAME.strl, or all .strl files of the folder)"
     add("--module", action="append", metavar="FILE", help=help)
-    add("--main", metavar="MODULE", help="the module to run (the first one that no other runs)")
+    add("--main", metavar="MODULE", help="the module to run (default: the first that none runs)")
     add("--update", action="store_true", help="write each NAME.expected anew")
     programs = parser.add_mutually_exclusive_group()
     add_program(programs)

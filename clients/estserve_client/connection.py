@@ -484,7 +484,7 @@ class Client:
         return self.ask("activate", role=role)
 
     def drop(self, role: str) -> Answer:
-        """The role is no more active in the session. Gives `version`.
+        """The role is no longer active in the session. Gives `version`.
 
         Refused as UnknownRole, NotActive, JournalFull."""
         return self.ask("drop", role=role)

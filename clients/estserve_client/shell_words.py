@@ -12,7 +12,7 @@ ROLES = ("role", "senior", "junior")
 COMMENT = re.compile(r"(^|\s)[%#].*")
 LEGEND = f"""  A B;: offers A and B in the slot of `use`, steps, and shows what came out
   ;: makes an instant without inputs
-  SLOT may be left away: then it is the slot of `use`, 0 at the start. % and # begin comments
+  SLOT may be left out: then it is the slot of `use`, 0 at the start. % and # begin comments
   USER, ROLE, SENIOR, JUNIOR, NAME: 1 to 24 letters, digits, _ and -
   OP: {' '.join(OPERATIONS)}
   OBJECT: policy, a slot as 0, or a signal of a slot as 0.A"""
@@ -48,7 +48,7 @@ PLAIN = {
     "deassign": Plain(
         "user role",
         "takes the role from the user, and ends the sessions that need it",
-        "{user} has no more the role {role}",
+        "{user} no longer has the role {role}",
     ),
     "grant": Plain(
         "role op object",
@@ -58,21 +58,21 @@ PLAIN = {
     "revoke": Plain(
         "role op object",
         "takes the permission from the role; it keeps what it has from roles below it",
-        "{role} has no more {op} on {object} itself",
+        "{role} itself no longer has {op} on {object}",
     ),
     "inherit": Plain(
         "senior junior",
-        "puts the senior above the junior: it has what the junior has",
+        "puts the senior above the junior: it may do what the junior may do",
         "{senior} stands above {junior}",
     ),
     "disinherit": Plain(
         "senior junior",
-        "takes the senior from right above the junior",
-        "{senior} stands no more right above {junior}",
+        "takes away that the senior stands right above the junior",
+        "{senior} no longer stands right above {junior}",
     ),
     "undsd": Plain("name", "deletes the separation set", "the separation set {name} is deleted"),
     "activate": Plain("role", "makes a role of yours active in this session", "{role} is active"),
-    "drop": Plain("role", "makes the role inactive in this session", "{role} is no more active"),
+    "drop": Plain("role", "makes the role inactive in this session", "{role} is no longer active"),
     "offer": Plain(
         "slot signal",
         "puts the input into what is pending for the next instant",
@@ -99,7 +99,7 @@ def number_of(word: str) -> int:
 
 
 def keys_of(names: str, line: str, slot: int = 0) -> Dict[str, Any]:
-    """The keys of a command, from its words; where the slot is left away, it is this one. Raises
+    """The keys of a command, from its words; where the slot is left out, it is this one. Raises
     Usage.
     """
     wanted, words = names.split(), line.split()

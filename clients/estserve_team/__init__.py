@@ -5,4 +5,4 @@ Nothing here is proved. It changes no state but by asking the proved program, an
 says what it promises.
 """
 
-HELP = "serve a team: who speaks is known, and nothing that was answered is lost"
+HELP = "serve a team: know each person by their Unix user, and keep a record of all that is done"

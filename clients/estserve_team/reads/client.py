@@ -131,7 +131,7 @@ def add_word(subparsers: Any, word: str, help: str) -> Any:
         "--role",
         action="append",
         metavar="ROLE",
-        help="a role to activate; may stand more than once",
+        help="a role to activate; may be given more than once",
     )
     parser.add_argument("--json", action="store_true", help="print the answer as it came")
     parser.set_defaults(act=ask_word, word=word, keys=())
