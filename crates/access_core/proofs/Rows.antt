@@ -1,5 +1,5 @@
 -- The table of refusals, read backwards.
-use Rattle.std.proofs.Common.{◌≡◌, ◌∙◌, ℕ, List, refl, ap}
+use Rattle.std.proofs.Common.{◌≡◌, ◌∙◌, ℕ, refl, ap}
 use Rattle.std.specs.Prelude.{◌==◌, Option, Some, None, option_map, if◌then◌else◌}
 use Rattle.refusal_tables.specs.Rows.{Fields, TellsApart}
 use Rattle.refusal_tables.proofs.TellingApart.{first, second, number_in, texts_in, read_back}
@@ -36,10 +36,12 @@ own_back code fields =
 
 -- the refusal of a module, or one that is neither the policy's nor a module's
 abbrev module_or_own : Option ModuleRefusal → ℕ → Fields → Option Refusal
-module_or_own found code fields = or_else (option_map (λ (given : ModuleRefusal). refusal.Module given) found) (own_back code fields)
+module_or_own found code fields =
+    or_else (option_map (λ (given : ModuleRefusal). refusal.Module given) found) (own_back code fields)
 
 abbrev any_of : Option PolicyRefusal → Option ModuleRefusal → ℕ → Fields → Option Refusal
-any_of policy found code fields = or_else (option_map (λ (given : PolicyRefusal). refusal.Policy given) policy) (module_or_own found code fields)
+any_of policy found code fields =
+    or_else (option_map (λ (given : PolicyRefusal). refusal.Policy given) policy) (module_or_own found code fields)
 
 -- the refusal of this number and these fields
 abbrev back : ℕ → Fields → Option Refusal
@@ -59,10 +61,12 @@ is_back : (given : Refusal) → NamesObjects given → back (row_of given).code 
 is_back (refusal.Policy given) names =
     let row = row_of (refusal.Policy given) in
     ap (λ (found : Option PolicyRefusal). any_of found (module_back row.code row.fields) row.code row.fields)
-    (policy_is given (λ operation object is. names operation object (ap (λ (r : PolicyRefusal). refusal.Policy r) is)))
+    (policy_is given
+    (λ operation object is. names operation object (ap (λ (r : PolicyRefusal). refusal.Policy r) is)))
 is_back (refusal.Module given) names =
     let row = module_row given in
-    ap (λ (found : Option PolicyRefusal). any_of found (module_back row.code row.fields) row.code row.fields) (not_policy given)
+    ap (λ (found : Option PolicyRefusal). any_of found (module_back row.code row.fields) row.code row.fields)
+    (not_policy given)
     ∙ ap (λ (found : Option ModuleRefusal). any_of None found row.code row.fields) (module_is given)
 is_back _ names = refl
 

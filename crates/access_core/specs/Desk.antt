@@ -1,5 +1,5 @@
 -- The desk: one policy list and sixteen slots, and what each command is answered there (this project's own form).
-use Rattle.std.specs.Prelude.{◌≡◌, ℕ, ◌+◌, ◌<◌, List, [], ◌∷◌, ◌++◌, Option, Some, None, Result, MatchResult, length, take, map, slice_get, slice_set}
+use Rattle.std.specs.Prelude.{◌≡◌, ℕ, ◌+◌, ◌<◌, List, [], ◌∷◌, ◌++◌, Option, Some, None, length, take, map, slice_get, slice_set}
 use Rattle.std.specs.List.{range_with_len}
 use Rattle.refusal_rules.specs.Rules.{Rule, Unless, accept, ◌▸◌}
 use Rattle.rbac_policy.specs.declared.commands.AdminCommand.{AdminCommand}

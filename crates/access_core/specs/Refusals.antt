@@ -1,6 +1,6 @@
--- The refusals of a line: what each tells (this project's own table). Those of the policy and of a module have tables of their own.
+-- The refusals of a line: what each tells (this project's own table). Those of the policy and of a module have their own tables.
 use Rattle.std.specs.Prelude.{◌≡◌, ℕ, List, [], ◌∷◌, codes}
-use Rattle.refusal_tables.specs.Rows.{Row, Number, Texts}
+use Rattle.refusal_tables.specs.Rows.{Row, tells, Number, Texts}
 use Rattle.rbac_policy.specs.Texts.{IsObject}
 use Rattle.rbac_policy.specs.declared.objects.Object.{Object}
 use Rattle.rbac_policy.specs.declared.objects.Operation.{Operation}
@@ -20,19 +20,20 @@ of_reactor reactor.Memory = refusal.Memory
 
 -- the number, the name and the fields of a refusal
 abbrev pub row_of : Refusal → Row
-row_of refusal.TooLong = record { code = 1; name = codes "TooLong"; fields = [] }
-row_of refusal.NotJson = record { code = 2; name = codes "NotJson"; fields = [] }
-row_of refusal.NotARequest = record { code = 3; name = codes "NotARequest"; fields = [] }
-row_of refusal.AlreadyLoggedIn = record { code = 5; name = codes "AlreadyLoggedIn"; fields = [] }
+row_of refusal.TooLong = tells 1 (codes "TooLong") []
+row_of refusal.NotJson = tells 2 (codes "NotJson") []
+row_of refusal.NotARequest = tells 3 (codes "NotARequest") []
+row_of refusal.AlreadyLoggedIn = tells 5 (codes "AlreadyLoggedIn") []
 row_of (refusal.Policy given) = policy_row given
 row_of (refusal.Module given) = module_row given
-row_of (refusal.Stuck undecided) = record { code = 50; name = codes "Stuck"; fields = (codes "undecided", Texts undecided) ∷ [] }
-row_of refusal.NoSlot = record { code = 60; name = codes "NoSlot"; fields = [] }
-row_of refusal.Occupied = record { code = 61; name = codes "Occupied"; fields = [] }
-row_of refusal.Empty = record { code = 62; name = codes "Empty"; fields = [] }
-row_of refusal.JournalFull = record { code = 67; name = codes "JournalFull"; fields = [] }
-row_of (refusal.Behind found seen) = record { code = 68; name = codes "Behind"; fields = (codes "found", Number found) ∷ (codes "seen", Number seen) ∷ [] }
-row_of refusal.Memory = record { code = 90; name = codes "Memory"; fields = [] }
+row_of (refusal.Stuck undecided) = tells 50 (codes "Stuck") ((codes "undecided", Texts undecided) ∷ [])
+row_of refusal.NoSlot = tells 60 (codes "NoSlot") []
+row_of refusal.Occupied = tells 61 (codes "Occupied") []
+row_of refusal.Empty = tells 62 (codes "Empty") []
+row_of refusal.JournalFull = tells 67 (codes "JournalFull") []
+row_of (refusal.Behind found seen) =
+    tells 68 (codes "Behind") ((codes "found", Number found) ∷ (codes "seen", Number seen) ∷ [])
+row_of refusal.Memory = tells 90 (codes "Memory") []
 
 -- the number of a refusal
 abbrev pub code_of : Refusal → ℕ
@@ -44,4 +45,6 @@ name_of given = (row_of given).name
 
 -- an object that the refusal names is one: its slot is there, and its signal's name is an identifier
 abbrev pub NamesObjects : Refusal → Type 0
-NamesObjects given = (operation : Operation) (object : Object) → given ≡ refusal.Policy (policy.Permission operation object) → IsObject object
+NamesObjects given =
+    (operation : Operation) (object : Object) → given ≡ refusal.Policy (policy.Permission operation object)
+    → IsObject object

@@ -32,12 +32,16 @@ table_is Sets = refl
 abbrev permission_back : Option Operation → Object → Option Refusal
 permission_back operation object = option_map (λ (o : Operation). refusal.Permission o object) operation
 
+-- the refusal of a permission whose operation and object have these texts
+abbrev permission_texts : (operation object : List ℕ) → Option Refusal
+permission_texts operation object = option_and_then (permission_back (operation_of operation)) (object_of object)
+
 -- the refusal of this number and these fields
 abbrev pub policy_back : ℕ → Fields → Option Refusal
 policy_back code fields =
     if code == 4 then Some refusal.NoSession
     else (if code == 6 then Some refusal.SessionsExhausted
-    else (if code == 10 then option_and_then (permission_back (operation_of (text_in (second fields)))) (object_of (text_in (first fields)))
+    else (if code == 10 then permission_texts (text_in (second fields)) (text_in (first fields))
     else (if code == 20 then Some (refusal.DsdViolated (text_in (second fields)) (number_in (first fields)))
     else (if code == 21 then Some (refusal.NotAuthorized (text_in (first fields)))
     else (if code == 22 then Some (refusal.AlreadyActive (text_in (first fields)))
@@ -61,13 +65,15 @@ policy_back code fields =
     else None))))))))))))))))))))))
 
 permission_is : (operation : Operation) (object : Object) → IsObject object
-    → option_and_then (permission_back (operation_of (operation_text operation))) (object_of (object_text object)) ≡ Some (refusal.Permission operation object)
+    → permission_texts (operation_text operation) (object_text object) ≡ Some (refusal.Permission operation object)
 permission_is operation object is =
-    ap (option_and_then (permission_back (operation_of (operation_text operation)))) ((object_of-exact (object_text object) object).1 (is, refl))
-    ∙ ap (λ (found : Option Operation). permission_back found object) ((operation_of-exact (operation_text operation) operation).1 refl)
+    let text = operation_text operation in
+    ap (option_and_then (permission_back (operation_of text))) ((object_of-exact (object_text object) object).1 (is, refl))
+    ∙ ap (λ (found : Option Operation). permission_back found object) ((operation_of-exact text operation).1 refl)
 
 -- each row reads back as its refusal
-pub policy_is : (given : Refusal) → NamesObjects given → policy_back (row_of given).code (row_of given).fields ≡ Some given
+pub policy_is : (given : Refusal) → NamesObjects given
+    → policy_back (row_of given).code (row_of given).fields ≡ Some given
 policy_is (refusal.Permission operation object) names = permission_is operation object (names operation object refl)
 policy_is (refusal.Full table) names = ap (λ (t : Table). Some (refusal.Full t)) (table_is table)
 policy_is _ names = refl

@@ -202,7 +202,9 @@ impl From<LinkFault> for Refusal {
             LinkFault::UnknownName(name) => Refusal::Module(ModuleRefusal::UnknownName(name)),
             LinkFault::EmitInput(name) => Refusal::Module(ModuleRefusal::EmitInput(name)),
             LinkFault::Semantics(relation) => Refusal::Module(ModuleRefusal::Semantics(relation)),
-            LinkFault::TooLarge(limit) => Refusal::Module(ModuleRefusal::TooLarge(Limit::from(limit))),
+            LinkFault::TooLarge(limit) => Refusal::Module(ModuleRefusal::TooLarge(Limit::from(
+                limit,
+            ))),
             LinkFault::Memory => Refusal::Memory,
         }
     }
@@ -216,7 +218,9 @@ impl From<ReduceFault> for Refusal {
 
     fn from(fault: ReduceFault) -> Refusal {
         match fault {
-            ReduceFault::TooLarge(limit) => Refusal::Module(ModuleRefusal::TooLarge(Limit::from(limit))),
+            ReduceFault::TooLarge(limit) => Refusal::Module(ModuleRefusal::TooLarge(Limit::from(
+                limit,
+            ))),
             ReduceFault::InstantLoop => Refusal::Module(ModuleRefusal::InstantLoop),
             ReduceFault::Memory => Refusal::Memory,
         }

@@ -36,7 +36,9 @@ same_refusal one other e = cc
 
 -- where both rows read back as their refusals, the table tells these apart
 pub read_back : {R : Type 0} (row : R → Row) (back : ℕ → Fields → Option R) (one other : R)
-    → back (row one).code (row one).fields ≡ Some one → back (row other).code (row other).fields ≡ Some other → TellsApart row one other
+    → back (row one).code (row one).fields ≡ Some one → back (row other).code (row other).fields ≡ Some other
+    → TellsApart row one other
 read_back row back one other here there code fields =
     same_refusal one other
-    (sym here ∙ (ap (λ (c : ℕ). back c (row one).fields) code ∙ (ap (λ (fs : Fields). back (row other).code fs) fields ∙ there)))
+    (sym here
+    ∙ (ap (λ (c : ℕ). back c (row one).fields) code ∙ (ap (λ (fs : Fields). back (row other).code fs) fields ∙ there)))

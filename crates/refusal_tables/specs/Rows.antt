@@ -17,6 +17,11 @@ pub record Row : Type 0 where
   pub name : List ℕ
   pub fields : Fields
 
+-- the row of a refusal that tells this
+abbrev pub tells : (code : ℕ) → (name : List ℕ) → Fields → Row
+tells code name fields = record { code = code; name = name; fields = fields }
+
 -- a table tells two refusals apart: equal numbers and equal fields are of equal refusals
 abbrev pub TellsApart : {R : Type 0} → (R → Row) → (one other : R) → Type 0
-TellsApart row one other = (row one).code ≡ (row other).code → (row one).fields ≡ (row other).fields → one ≡ other
+TellsApart row one other =
+    (row one).code ≡ (row other).code → (row one).fields ≡ (row other).fields → one ≡ other
