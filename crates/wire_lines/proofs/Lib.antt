@@ -1,6 +1,5 @@
 pub mod FloatLemmas
-pub mod KeyLemmas
-pub mod RequestLemmas
+pub mod MemberLemmas
+pub mod CommandLemmas
 pub mod ReplyTexts
-pub mod SlotTokens
 pub mod LookTokens

@@ -1,3 +1,4 @@
-pub mod Reading
-pub mod SlotTokens
+pub mod Members
+pub mod Commands
+pub mod Ordering
 pub mod LookTokens

@@ -1,12 +1,17 @@
 -- A request line, as the JSON that it is (this project's own form).
-use Rattle.std.specs.Prelude.{◌≡◌, ◌≤◌, ℕ, IsTrue, IsUtf8, List, length, map, codes, Some, Result, Ok, Err}
+use Rattle.std.specs.Prelude.{◌≡◌, ◌≤◌, ◌<◌, ◌^◌, ℕ, IsTrue, IsUtf8, List, length, map, codes, Some, Result, Ok, Err}
 use Rattle.std.specs.List.{AllByRecursion}
 use Rattle.serde_json.specs.Data.{Data, number, unsigned, string, array, object, Members, member, no_members}
 use Rattle.serde_json.specs.Read.{read}
 use Rattle.serde_json.specs.View.{items_of}
 use Rattle.est_text.specs.Identifiers.{is_identifier}
 use Rattle.rbac_policy.specs.declared.commands.AdminCommand.{AdminCommand}
-use Rattle.rbac_policy.specs.declared.commands.AdminCommand.TheVariants.{AddUser, DeleteUser, AddRole, DeleteRole, AssignUser, DeassignUser, GrantPermission, RevokePermission, AddInheritance, DeleteInheritance, CreateDsdSet, DeleteDsdSet, CreateSession, DeleteSession, AddActiveRole, DropActiveRole}
+use Rattle.rbac_policy.specs.declared.commands.AdminCommand.TheVariants.{AddUser, DeleteUser, AddRole, DeleteRole}
+use Rattle.rbac_policy.specs.declared.commands.AdminCommand.TheVariants.{AssignUser, DeassignUser, GrantPermission}
+use Rattle.rbac_policy.specs.declared.commands.AdminCommand.TheVariants.{RevokePermission, AddInheritance}
+use Rattle.rbac_policy.specs.declared.commands.AdminCommand.TheVariants.{DeleteInheritance, CreateDsdSet, DeleteDsdSet}
+use Rattle.rbac_policy.specs.declared.commands.AdminCommand.TheVariants.{CreateSession, DeleteSession, AddActiveRole}
+use Rattle.rbac_policy.specs.declared.commands.AdminCommand.TheVariants.{DropActiveRole}
 use Rattle.rbac_policy.specs.declared.names.TheConstants.{LISTED_ROLES}
 use Rattle.rbac_policy.specs.declared.objects.Object.{Object}
 use Rattle.rbac_policy.specs.declared.objects.Operation.{Operation}
@@ -39,118 +44,118 @@ command_member word others = text_member (codes "cmd") word others
 abbrev pub slot_member : ℕ → Members → Members
 slot_member slot others = number_member (codes "slot") slot others
 
--- the members of a command that has a name under this key alone
-abbrev pub with_name : (word key name : List ℕ) → Members
-with_name word key name = command_member word (text_member key name no_members)
-
--- the members of a command that has a name under each of two keys
-abbrev pub with_names : (word first one second other : List ℕ) → Members
-with_names word first one second other =
-    command_member word (text_member first one (text_member second other no_members))
-
--- the members of a command on a role's permission
-abbrev pub with_permission : (word : List ℕ) → Object → Operation → (role : List ℕ) → Members
-with_permission word on operation role =
-    command_member word (text_member (codes "object") (object_text on)
-    (text_member (codes "op") (operation_text operation)
-    (text_member (codes "role") role no_members)))
-
--- the members of a policy command, in the order of their keys: a login is the CreateSession of a
--- user, and a logout the DeleteSession of its session
-abbrev pub policy_members : AdminCommand → Members
-policy_members (AddUser user) = with_name (codes "adduser") (codes "user") user
-policy_members (DeleteUser user) = with_name (codes "deluser") (codes "user") user
-policy_members (AddRole role) = with_name (codes "addrole") (codes "role") role
-policy_members (DeleteRole role) = with_name (codes "delrole") (codes "role") role
-policy_members (AssignUser user role) =
-    with_names (codes "assign") (codes "role") role (codes "user") user
-policy_members (DeassignUser user role) =
-    with_names (codes "deassign") (codes "role") role (codes "user") user
-policy_members (GrantPermission role operation on) =
-    with_permission (codes "grant") on operation role
-policy_members (RevokePermission role operation on) =
-    with_permission (codes "revoke") on operation role
-policy_members (AddInheritance senior junior) =
-    with_names (codes "inherit") (codes "junior") junior (codes "senior") senior
-policy_members (DeleteInheritance senior junior) =
-    with_names (codes "disinherit") (codes "junior") junior (codes "senior") senior
-policy_members (CreateDsdSet set count roles) =
-    command_member (codes "dsd") (number_member (codes "count") count
-    (text_member (codes "name") set (texts_member (codes "roles") roles no_members)))
-policy_members (DeleteDsdSet set) = with_name (codes "undsd") (codes "name") set
-policy_members (CreateSession user roles) =
-    command_member (codes "login") (texts_member (codes "roles") roles
-    (text_member (codes "user") user no_members))
-policy_members DeleteSession = command_member (codes "logout") no_members
-policy_members (AddActiveRole role) = with_name (codes "activate") (codes "role") role
-policy_members (DropActiveRole role) = with_name (codes "drop") (codes "role") role
-
--- the members of a command on the slot of this number, in the order of their keys
-abbrev pub slot_members : (slot : ℕ) → SlotCommand → Members
-slot_members slot (Load main text) =
-    command_member (codes "load") (text_member (codes "main") main
-    (slot_member slot (text_member (codes "text") text no_members)))
-slot_members slot (Offer signal) =
-    command_member (codes "offer") (text_member (codes "signal") signal
-    (slot_member slot no_members))
-slot_members slot Discard = command_member (codes "discard") (slot_member slot no_members)
-slot_members slot Step = command_member (codes "step") (slot_member slot no_members)
-slot_members slot Unload = command_member (codes "unload") (slot_member slot no_members)
-slot_members slot (Look instant) =
-    command_member (codes "look") (number_member (codes "instant") instant
-    (slot_member slot no_members))
-slot_members slot Audit = command_member (codes "audit") (slot_member slot no_members)
-
--- the members of a request, in the order of their keys
-abbrev pub members_of : Request → Members
-members_of (Policy asked) = policy_members asked
-members_of (Slot slot asked) = slot_members slot asked
-members_of (Check operation on) =
-    command_member (codes "check") (text_member (codes "object") (object_text on)
-    (text_member (codes "op") (operation_text operation) no_members))
-
 -- the text is a name
 abbrev pub IsName : List ℕ → Type 0
 IsName text = IsTrue (is_name text)
+
+-- the number fits 64 bits
+abbrev pub IsNumber : ℕ → Type 0
+IsNumber n = n < 2 ^ 64
 
 -- no more roles are listed than a command may list, and they are names
 abbrev pub AreListed : List (List ℕ) → Type 0
 AreListed roles = (length roles ≤ LISTED_ROLES) × AllByRecursion (λ role. IsName role) roles
 
--- names are of their form, slots in objects are among the sixteen, and the roles can be listed
-abbrev pub PolicyFits : AdminCommand → Type 0
-PolicyFits (AddUser user) = IsName user
-PolicyFits (DeleteUser user) = IsName user
-PolicyFits (AddRole role) = IsName role
-PolicyFits (DeleteRole role) = IsName role
-PolicyFits (AssignUser user role) = IsName role × IsName user
-PolicyFits (DeassignUser user role) = IsName role × IsName user
-PolicyFits (GrantPermission role operation on) = IsObject on × IsName role
-PolicyFits (RevokePermission role operation on) = IsObject on × IsName role
-PolicyFits (AddInheritance senior junior) = IsName junior × IsName senior
-PolicyFits (DeleteInheritance senior junior) = IsName junior × IsName senior
-PolicyFits (CreateDsdSet set count roles) = AreListed roles × IsName set
-PolicyFits (DeleteDsdSet set) = IsName set
-PolicyFits (CreateSession user roles) = AreListed roles × IsName user
-PolicyFits DeleteSession = Unit {0}
-PolicyFits (AddActiveRole role) = IsName role
-PolicyFits (DropActiveRole role) = IsName role
+-- what a line says after its command's word: the shapes of the keys, with their values
+pub data Said : Type 0 where
+  nothing : Said
+  one_name : (key name : List ℕ) → Said
+  two_names : (first one second other : List ℕ) → Said
+  permission : Object → Operation → (role : List ℕ) → Said
+  roles_user : List (List ℕ) → (user : List ℕ) → Said
+  count_name_roles : (count : ℕ) → (set : List ℕ) → List (List ℕ) → Said
+  slot_alone : (slot : ℕ) → Said
+  main_slot_text : (main : List ℕ) → (slot : ℕ) → (text : List ℕ) → Said
+  signal_slot : (signal : List ℕ) → (slot : ℕ) → Said
+  instant_slot : (instant slot : ℕ) → Said
+  object_operation : Object → Operation → Said
 
--- modules and signals are named by identifiers
-abbrev pub SlotFits : SlotCommand → Type 0
-SlotFits (Load main text) = IsTrue (is_identifier main)
-SlotFits (Offer signal) = IsTrue (is_identifier signal)
-SlotFits Discard = Unit {0}
-SlotFits Step = Unit {0}
-SlotFits Unload = Unit {0}
-SlotFits (Look instant) = Unit {0}
-SlotFits Audit = Unit {0}
+-- the members that say it, in the order of their keys
+abbrev pub said_members : Said → Members
+said_members nothing = no_members
+said_members (one_name key name) = text_member key name no_members
+said_members (two_names first one second other) = text_member first one (text_member second other no_members)
+said_members (permission on operation role) =
+    text_member (codes "object") (object_text on)
+    (text_member (codes "op") (operation_text operation) (text_member (codes "role") role no_members))
+said_members (roles_user roles user) = texts_member (codes "roles") roles (text_member (codes "user") user no_members)
+said_members (count_name_roles count set roles) =
+    number_member (codes "count") count (text_member (codes "name") set (texts_member (codes "roles") roles no_members))
+said_members (slot_alone slot) = slot_member slot no_members
+said_members (main_slot_text main slot text) =
+    text_member (codes "main") main (slot_member slot (text_member (codes "text") text no_members))
+said_members (signal_slot signal slot) = text_member (codes "signal") signal (slot_member slot no_members)
+said_members (instant_slot instant slot) = number_member (codes "instant") instant (slot_member slot no_members)
+said_members (object_operation on operation) =
+    text_member (codes "object") (object_text on) (text_member (codes "op") (operation_text operation) no_members)
 
--- the texts of a request are of their form, and its lists and objects within their limits
+-- names and identifiers are of their form, slots in objects are among the sixteen, the roles can be listed, and
+-- numbers fit 64 bits
+abbrev pub SaidFits : Said → Type 0
+SaidFits nothing = Unit {0}
+SaidFits (one_name key name) = IsName name
+SaidFits (two_names first one second other) = IsName one × IsName other
+SaidFits (permission on operation role) = IsObject on × IsName role
+SaidFits (roles_user roles user) = AreListed roles × IsName user
+SaidFits (count_name_roles count set roles) = IsNumber count × IsName set × AreListed roles
+SaidFits (slot_alone slot) = IsNumber slot
+SaidFits (main_slot_text main slot text) = IsTrue (is_identifier main) × IsNumber slot
+SaidFits (signal_slot signal slot) = IsTrue (is_identifier signal) × IsNumber slot
+SaidFits (instant_slot instant slot) = IsNumber instant × IsNumber slot
+SaidFits (object_operation on operation) = IsObject on
+
+-- a command's word, and what its line says after it
+pub record Spelling : Type 0 where
+  pub word : List ℕ
+  pub said : Said
+
+abbrev pub spelt : List ℕ → Said → Spelling
+spelt word said = record { word = word; said = said }
+
+-- the table of policy commands: a login is the CreateSession of a user, and a logout the DeleteSession of its session
+abbrev pub policy_spelling : AdminCommand → Spelling
+policy_spelling (AddUser user) = spelt (codes "adduser") (one_name (codes "user") user)
+policy_spelling (DeleteUser user) = spelt (codes "deluser") (one_name (codes "user") user)
+policy_spelling (AddRole role) = spelt (codes "addrole") (one_name (codes "role") role)
+policy_spelling (DeleteRole role) = spelt (codes "delrole") (one_name (codes "role") role)
+policy_spelling (AssignUser user role) = spelt (codes "assign") (two_names (codes "role") role (codes "user") user)
+policy_spelling (DeassignUser user role) = spelt (codes "deassign") (two_names (codes "role") role (codes "user") user)
+policy_spelling (GrantPermission role operation on) = spelt (codes "grant") (permission on operation role)
+policy_spelling (RevokePermission role operation on) = spelt (codes "revoke") (permission on operation role)
+policy_spelling (AddInheritance senior junior) =
+    spelt (codes "inherit") (two_names (codes "junior") junior (codes "senior") senior)
+policy_spelling (DeleteInheritance senior junior) =
+    spelt (codes "disinherit") (two_names (codes "junior") junior (codes "senior") senior)
+policy_spelling (CreateDsdSet set count roles) = spelt (codes "dsd") (count_name_roles count set roles)
+policy_spelling (DeleteDsdSet set) = spelt (codes "undsd") (one_name (codes "name") set)
+policy_spelling (CreateSession user roles) = spelt (codes "login") (roles_user roles user)
+policy_spelling DeleteSession = spelt (codes "logout") nothing
+policy_spelling (AddActiveRole role) = spelt (codes "activate") (one_name (codes "role") role)
+policy_spelling (DropActiveRole role) = spelt (codes "drop") (one_name (codes "role") role)
+
+-- the table of commands on the slot of this number
+abbrev pub slot_spelling : (slot : ℕ) → SlotCommand → Spelling
+slot_spelling slot (Load main text) = spelt (codes "load") (main_slot_text main slot text)
+slot_spelling slot (Offer signal) = spelt (codes "offer") (signal_slot signal slot)
+slot_spelling slot Discard = spelt (codes "discard") (slot_alone slot)
+slot_spelling slot Step = spelt (codes "step") (slot_alone slot)
+slot_spelling slot Unload = spelt (codes "unload") (slot_alone slot)
+slot_spelling slot (Look instant) = spelt (codes "look") (instant_slot instant slot)
+slot_spelling slot Audit = spelt (codes "audit") (slot_alone slot)
+
+-- how a request is spelt
+abbrev pub spelling : Request → Spelling
+spelling (Policy asked) = policy_spelling asked
+spelling (Slot slot asked) = slot_spelling slot asked
+spelling (Check operation on) = spelt (codes "check") (object_operation on operation)
+
+-- the members of a request, in the order of their keys
+abbrev pub members_of : Request → Members
+members_of request = command_member (spelling request).word (said_members (spelling request).said)
+
+-- what a request says fits its limits
 abbrev pub Fits : Request → Type 0
-Fits (Policy asked) = PolicyFits asked
-Fits (Slot slot asked) = SlotFits asked
-Fits (Check operation on) = IsObject on
+Fits request = SaidFits (spelling request).said
 
 -- the line is text that reads as this JSON value
 pub record IsValue (line : List ℕ) (d : Data) : Type 0 where
@@ -162,11 +167,13 @@ pub record IsRequest (line : List ℕ) (request : Request) : Type 0 where
   pub value : IsValue line (object (members_of request))
   pub fits : Fits request
 
--- what a line is read as: the request that it asks for; NotJson where it reads as no value; NotARequest where it reads as a value
+-- what a line is read as: the request that it asks for; NotJson where it reads as no value; NotARequest where it reads
+-- as a value
 -- and asks for no request; Memory where memory was refused
 abbrev pub IsReadAs : List ℕ → Result Request Refusal → Type 0
 IsReadAs line (Ok request) = IsRequest line request
 IsReadAs line (Err refusal.NotJson) = (d : Data) → IsValue line d → ⊥
-IsReadAs line (Err refusal.NotARequest) = ((d : Data) × IsValue line d) × ((request : Request) → IsRequest line request → ⊥)
+IsReadAs line (Err refusal.NotARequest) =
+    ((d : Data) × IsValue line d) × ((request : Request) → IsRequest line request → ⊥)
 IsReadAs line (Err refusal.Memory) = Unit {0}
 IsReadAs line (Err _) = ⊥

@@ -1,6 +1,6 @@
 use Rattle.std.proofs.Common.{◌∙◌, sym}
 use Rattle.std.proofs.lemmas.Option.{same_Some}
-use Rattle.wire_lines.proofs.RequestLemmas.{same_members, same_object}
+use Rattle.wire_lines.proofs.CommandLemmas.{same_members, same_object}
 use Rattle.wire_lines.proofs.reading.requests_are_told_apart.Goals as goal
 
 pub returns-clause-line : goal.returns-clause-line

@@ -1,0 +1,309 @@
+//! The commands: to each word the shape of the members after it, and what is made of them.
+//!
+//! Commands with the same keys share a reader.
+ghost use Rattle.std.specs.Prelude.{◌≡◌, codes, option_map, IfOk};
+ghost use Rattle.json.specs.Lex.{tokens};
+ghost use Rattle.wire_lines.specs.Inner.Members.{name_of, parsed_after, number_after};
+ghost use Rattle.wire_lines.specs.Inner.Members.{two_values, permission_values, last};
+ghost use Rattle.wire_lines.specs.Inner.Commands.{request_of, request_in, request_at, rows};
+ghost use Rattle.wire_lines.specs.Inner.Commands.{policy_rows, plain_rows, user_or_role_rows};
+ghost use Rattle.wire_lines.specs.Inner.Commands.{relation_rows, slot_alone, main_slot_text};
+ghost use Rattle.wire_lines.specs.Inner.Commands.{signal_slot, instant_slot, object_operation};
+ghost use Rattle.wire_lines.specs.Inner.Commands.{roles_user, count_name_roles};
+ghost use Rattle.wire_lines.specs.declared.request.Request.TheVariants.{Policy};
+
+use crate::members::{
+    take_end, take_identifier, take_name, take_number, take_object, take_operation, take_roles,
+    take_text, take_word,
+};
+use crate::request::Request;
+use access_core::command::SlotCommand;
+use json::{Reader, Scratch};
+use rbac_policy::commands::AdminCommand;
+use rbac_policy::names::Name;
+use rbac_policy::objects::{Object, Operation};
+use reactor_core::text::Text;
+use std::alloc::{AllocError, Global};
+
+/// The name under this key, where it is the last member.
+fn last_name(reader: &mut Reader<'_>, key: &str) -> Option<Name>
+    ensures { result ≡ last (parsed_after name_of key.now reader.old) }
+{
+    let name = take_name(reader, key)?;
+    take_end(reader)?;
+    Some(name)
+}
+
+/// The slot, where it is the last member.
+fn last_slot(reader: &mut Reader<'_>) -> Option<u64>
+    ensures { result ≡ last (number_after (codes "slot") reader.old) }
+{
+    let slot = take_number(reader, "slot")?;
+    take_end(reader)?;
+    Some(slot)
+}
+
+/// The names under these two keys, the second of which is the last.
+#[tactic(auto, unfolding(crate::specs::Inner::Members::two_values))]
+fn two_names(reader: &mut Reader<'_>, first: &str, second: &str) -> Option<(Name, Name)>
+    ensures { result ≡ two_values first.now second.now reader.old }
+{
+    let one = take_name(reader, first)?;
+    let other = last_name(reader, second)?;
+    Some((one, other))
+}
+
+/// The permission of a role: the object, the operation and the role.
+#[tactic(auto, unfolding(crate::specs::Inner::Members::permission_values))]
+fn permission(reader: &mut Reader<'_>) -> Option<(Object, Operation, Name)>
+    ensures { result ≡ permission_values reader.old }
+{
+    let object = take_object(reader)?;
+    let operation = take_operation(reader)?;
+    let role = last_name(reader, "role")?;
+    Some((object, operation, role))
+}
+
+/// A login: the roles and the user.
+#[tactic(auto, unfolding(crate::specs::Inner::Commands::request_of))]
+fn login(alloc: Global, reader: &mut Reader<'_>) -> Result<Option<Request>, AllocError>
+    ensures { IfOk result (λ request. request ≡ request_of roles_user reader.old) }
+{
+    let Some(roles) = take_roles(alloc, reader)? else {
+        return Ok(None);
+    };
+    let Some(user) = last_name(reader, "user") else {
+        return Ok(None);
+    };
+    let command = AdminCommand::CreateSession { user, roles };
+    Ok(Some(Request::Policy(command)))
+}
+
+/// A separation set: how many of its roles no session may hold, its name and its roles.
+#[tactic(auto, unfolding(crate::specs::Inner::Commands::request_of))]
+fn separation(alloc: Global, reader: &mut Reader<'_>) -> Result<Option<Request>, AllocError>
+    ensures { IfOk result (λ request. request ≡ request_of count_name_roles reader.old) }
+{
+    let Some(count) = take_number(reader, "count") else {
+        return Ok(None);
+    };
+    let Some(set) = take_name(reader, "name") else {
+        return Ok(None);
+    };
+    let Some(roles) = take_roles(alloc, reader)? else {
+        return Ok(None);
+    };
+    if take_end(reader).is_none() {
+        return Ok(None);
+    }
+    let command = AdminCommand::CreateDsdSet { set, count, roles };
+    Ok(Some(Request::Policy(command)))
+}
+
+/// A load: the main module, the slot and the text.
+#[tactic(auto, unfolding(crate::specs::Inner::Commands::request_of))]
+fn load(alloc: Global, reader: &mut Reader<'_>) -> Result<Option<Request>, AllocError>
+    ensures { IfOk result (λ request. request ≡ request_of main_slot_text reader.old) }
+{
+    let Some(main) = take_identifier(reader, "main") else {
+        return Ok(None);
+    };
+    let Some(slot) = take_number(reader, "slot") else {
+        return Ok(None);
+    };
+    let Some(text) = take_text(reader, "text") else {
+        return Ok(None);
+    };
+    if take_end(reader).is_none() {
+        return Ok(None);
+    }
+    let text = Text::copied(alloc, text)?;
+    let command = SlotCommand::Load { main, text };
+    Ok(Some(Request::Slot { slot, command }))
+}
+
+/// This command, on the slot that is its one member.
+#[tactic(auto, unfolding(crate::specs::Inner::Commands::request_of))]
+fn on_slot(reader: &mut Reader<'_>, command: SlotCommand) -> Option<Request>
+    ensures { result ≡ request_of (slot_alone command) reader.old }
+{
+    let slot = last_slot(reader)?;
+    Some(Request::Slot { slot, command })
+}
+
+/// An offer: the signal and the slot.
+#[tactic(auto, unfolding(crate::specs::Inner::Commands::request_of))]
+fn offer(reader: &mut Reader<'_>) -> Option<Request>
+    ensures { result ≡ request_of signal_slot reader.old }
+{
+    let signal = take_identifier(reader, "signal")?;
+    let slot = last_slot(reader)?;
+    let command = SlotCommand::Offer { signal };
+    Some(Request::Slot { slot, command })
+}
+
+/// A look: the instant and the slot.
+#[tactic(auto, unfolding(crate::specs::Inner::Commands::request_of))]
+fn look(reader: &mut Reader<'_>) -> Option<Request>
+    ensures { result ≡ request_of instant_slot reader.old }
+{
+    let instant = take_number(reader, "instant")?;
+    let slot = last_slot(reader)?;
+    let command = SlotCommand::Look { instant };
+    Some(Request::Slot { slot, command })
+}
+
+/// A check: the object and the operation.
+#[tactic(auto, unfolding(crate::specs::Inner::Commands::request_of))]
+fn check(reader: &mut Reader<'_>) -> Option<Request>
+    ensures { result ≡ request_of object_operation reader.old }
+{
+    let object = take_object(reader)?;
+    let operation = take_operation(reader)?;
+    take_end(reader)?;
+    Some(Request::Check { operation, object })
+}
+
+/// The command of this word on who has which role, on permissions or on the order of roles.
+#[tactic(auto, unfolding(crate::specs::Inner::Commands::request_of, crate::specs::Inner::Commands::relation_rows))]
+fn relation(reader: &mut Reader<'_>, word: &str) -> Option<AdminCommand>
+    ensures { option_map Policy result ≡ request_in relation_rows word.now reader.old }
+{
+    match word {
+        "assign" => {
+            let (role, user) = two_names(reader, "role", "user")?;
+            Some(AdminCommand::AssignUser { user, role })
+        }
+        "deassign" => {
+            let (role, user) = two_names(reader, "role", "user")?;
+            Some(AdminCommand::DeassignUser { user, role })
+        }
+        "inherit" => {
+            let (junior, senior) = two_names(reader, "junior", "senior")?;
+            Some(AdminCommand::AddInheritance { senior, junior })
+        }
+        "disinherit" => {
+            let (junior, senior) = two_names(reader, "junior", "senior")?;
+            Some(AdminCommand::DeleteInheritance { senior, junior })
+        }
+        "grant" => {
+            let (object, operation, role) = permission(reader)?;
+            Some(AdminCommand::GrantPermission {
+                role,
+                operation,
+                object,
+            })
+        }
+        "revoke" => {
+            let (object, operation, role) = permission(reader)?;
+            Some(AdminCommand::RevokePermission {
+                role,
+                operation,
+                object,
+            })
+        }
+        _ => None,
+    }
+}
+
+/// The command of this word that adds or deletes a user or a role, or is on their relations.
+#[tactic(auto, unfolding(crate::specs::Inner::Commands::request_of, crate::specs::Inner::Commands::user_or_role_rows))]
+fn user_or_role(reader: &mut Reader<'_>, word: &str) -> Option<AdminCommand>
+    ensures { option_map Policy result ≡ request_in user_or_role_rows word.now reader.old }
+{
+    match word {
+        "adduser" => {
+            let user = last_name(reader, "user")?;
+            Some(AdminCommand::AddUser { user })
+        }
+        "deluser" => {
+            let user = last_name(reader, "user")?;
+            Some(AdminCommand::DeleteUser { user })
+        }
+        "addrole" => {
+            let role = last_name(reader, "role")?;
+            Some(AdminCommand::AddRole { role })
+        }
+        "delrole" => {
+            let role = last_name(reader, "role")?;
+            Some(AdminCommand::DeleteRole { role })
+        }
+        _ => relation(reader, word),
+    }
+}
+
+/// The policy command of this word, where it lists no roles.
+#[tactic(auto, unfolding(crate::specs::Inner::Commands::request_of, crate::specs::Inner::Commands::plain_rows))]
+fn plain(reader: &mut Reader<'_>, word: &str) -> Option<AdminCommand>
+    ensures { option_map Policy result ≡ request_in plain_rows word.now reader.old }
+{
+    match word {
+        "logout" => {
+            take_end(reader)?;
+            Some(AdminCommand::DeleteSession)
+        }
+        "activate" => {
+            let role = last_name(reader, "role")?;
+            Some(AdminCommand::AddActiveRole { role })
+        }
+        "drop" => {
+            let role = last_name(reader, "role")?;
+            Some(AdminCommand::DropActiveRole { role })
+        }
+        "undsd" => {
+            let set = last_name(reader, "name")?;
+            Some(AdminCommand::DeleteDsdSet { set })
+        }
+        _ => user_or_role(reader, word),
+    }
+}
+
+/// The request of this word, where it is a policy command.
+#[tactic(auto, unfolding(crate::specs::Inner::Commands::policy_rows))]
+fn policy(alloc: Global, reader: &mut Reader<'_>, word: &str) -> Result<Option<Request>, AllocError>
+    ensures { IfOk result (λ request. request ≡ request_in policy_rows word.now reader.old) }
+{
+    match word {
+        "login" => login(alloc, reader),
+        "dsd" => separation(alloc, reader),
+        _ => Ok(plain(reader, word).map(Request::Policy)),
+    }
+}
+
+/// The request of this word.
+#[tactic(auto, unfolding(crate::specs::Inner::Commands::rows))]
+fn request_of(
+    alloc: Global,
+    reader: &mut Reader<'_>,
+    word: &str,
+) -> Result<Option<Request>, AllocError>
+    ensures { IfOk result (λ request. request ≡ request_in rows word.now reader.old) }
+{
+    match word {
+        "step" => Ok(on_slot(reader, SlotCommand::Step)),
+        "look" => Ok(look(reader)),
+        "offer" => Ok(offer(reader)),
+        "check" => Ok(check(reader)),
+        "load" => load(alloc, reader),
+        "discard" => Ok(on_slot(reader, SlotCommand::Discard)),
+        "unload" => Ok(on_slot(reader, SlotCommand::Unload)),
+        "audit" => Ok(on_slot(reader, SlotCommand::Audit)),
+        _ => policy(alloc, reader, word),
+    }
+}
+
+/// The request of a text whose members stand in the order of their keys.
+#[tactic(auto, unfolding(crate::specs::Inner::Commands::request_at))]
+pub(crate) fn request_at(
+    alloc: Global,
+    scratch: &mut Scratch,
+    text: &str,
+) -> Result<Option<Request>, AllocError>
+    ensures { IfOk result (λ request. request ≡ request_at (tokens text.now)) }
+{
+    let mut reader = Reader::new(text, scratch)?;
+    match take_word(&mut reader) {
+        Some(word) => request_of(alloc, &mut reader, word),
+        None => Ok(None),
+    }
+}
