@@ -1,7 +1,7 @@
 //! Orders of a few modules, and of as many as one line holds.
 
-use module_order::fault::OrderFault;
-use module_order::order::{order_modules, part_for};
+use est_modules::order_fault::OrderFault;
+use est_modules::place_order::{order_modules, part_for};
 use std::alloc::{AllocError, Global};
 use std::process::Abort;
 use std::test::Fail;

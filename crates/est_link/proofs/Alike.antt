@@ -7,27 +7,28 @@ use Rattle.est_kernel.specs.declared.statement.InterfaceSignal.{InterfaceSignal}
 use Rattle.est_syntax.specs.Tree.{RelationTree, excludes, implies}
 use Rattle.est_link.specs.Alike.{AreAlike}
 use Rattle.est_link.specs.Bodies.{AllRuns, IsLinked}
-use Rattle.est_link.specs.Derived as derived
-use Rattle.est_link.specs.Derived.{Derived}
-use Rattle.est_link.specs.FirstFaults.{ByNames, ByRuns, IsFirstFault, IsFirstRecursion, IsFlatOf, recursive_run}
-use Rattle.est_link.specs.LinkFaults.{fault_before_order}
+use Rattle.est_modules.specs.Derived as derived
+use Rattle.est_modules.specs.Derived.{Derived}
+use Rattle.est_checks.specs.FirstFaults.{ByNames, ByRuns, IsFirstFault, IsFirstRecursion, recursive_run}
+use Rattle.est_link.specs.FlatModules.{IsFlatOf}
+use Rattle.est_checks.specs.LinkFaults.{fault_before_order}
 use Rattle.est_link.specs.Linking.{linked, bound, signal_at, interface_bound, interface_run, locals_round}
 use Rattle.est_link.specs.MainModule.{IsRelation, AreRelations, declarations_of}
-use Rattle.est_link.specs.Modules.{Program, program_named, first_in_bodies}
-use Rattle.est_link.specs.Occurrences.{Binder, signals, a_trap}
-use Rattle.est_link.specs.Orders.{run_rows}
-use Rattle.est_link.specs.Runs.{missing_at}
+use Rattle.est_modules.specs.Modules.{Program, program_named, first_in_bodies}
+use Rattle.est_modules.specs.Occurrences.{Binder, signals, a_trap}
+use Rattle.est_modules.specs.ModuleOrders.{run_rows}
+use Rattle.est_checks.specs.MissingModules.{missing_at}
 use Rattle.est_link.proofs.Checking.{else_none}
-use Rattle.est_link.proofs.Descending.{by_modules}
+use Rattle.est_modules.proofs.Descending.{by_modules}
 use Rattle.est_link.proofs.Needing.{runs_among}
-use Rattle.est_link.proofs.Taking.{none_missing}
-use Rattle.est_link.proofs.Testing.{some_same, map_none}
-use Rattle.est_link.proofs.Uniqueness.{all_there, runs_are_there}
+use Rattle.est_checks.proofs.RunsThere.{none_missing}
+use Rattle.est_modules.proofs.Testing.{some_same, map_none}
+use Rattle.est_checks.proofs.Uniqueness.{all_there, runs_are_there}
 use Rattle.est_reduce.specs.Bodies.{Body, suspend, abort, weak_abort, present, repeat, repeat_each, every, trap, signal, seq, par}
 use Rattle.est_reduce.specs.declared.flat.Flat.{Flat}
 use Rattle.est_relations.specs.declared.relations.Relation.{Relation}
 use Rattle.est_relations.specs.declared.relations.Relation.TheVariants.{Exclusion, Implication}
-use Rattle.module_order.specs.Orders.{NoneIsRecursive}
+use Rattle.est_modules.specs.PlaceOrders.{NoneIsRecursive}
 
 -- ---- bodies
 

@@ -1,12 +1,12 @@
 -- Linking has one answer.
 use Rattle.std.proofs.Common.{◌≡◌, ◌⊎◌, ℕ, inl, inr, List, Some, None}
 use Rattle.std.proofs.lemmas.Option.{none-some}
-use Rattle.est_link.specs.FirstFaults.{IsFirstFault}
-use Rattle.est_link.specs.Modules.{Program}
-use Rattle.est_link.specs.declared.fault.LinkFault.{LinkFault}
-use Rattle.est_link.specs.declared.fault.LinkFault.TheVariants.{Memory}
-use Rattle.est_link.proofs.Testing.{some_same}
-use Rattle.est_link.proofs.Uniqueness.{one_first_fault}
+use Rattle.est_checks.specs.FirstFaults.{IsFirstFault}
+use Rattle.est_modules.specs.Modules.{Program}
+use Rattle.est_checks.specs.declared.fault.LinkFault.{LinkFault}
+use Rattle.est_checks.specs.declared.fault.LinkFault.TheVariants.{Memory}
+use Rattle.est_modules.proofs.Testing.{some_same}
+use Rattle.est_checks.proofs.Uniqueness.{one_first_fault}
 
 -- two faults that are answered are one, unless memory was refused
 pub one_fault : (ps : List Program) (main : List ℕ) (a b : LinkFault) → (a ≡ Memory) ⊎ IsFirstFault ps main (Some a) → (b ≡ Memory) ⊎ IsFirstFault ps main (Some b) → (a ≡ b) ⊎ (a ≡ Memory) ⊎ (b ≡ Memory)

@@ -2,22 +2,23 @@
 use Rattle.std.proofs.Common.{◌≡◌, ℕ, ◌+◌, List, [], ◌∷◌, ◌++◌, length, Bool, true, false, not, ◌||◌, ◌&&◌, if◌then◌else◌, Option, Some, None, refl, ap, sym, ◌∙◌, subst, ⊎_elim, arith}
 use Rattle.std.proofs.lemmas.Bool.{false≢true}
 use Rattle.std.specs.List.{list_any, AllByRecursion}
-use Rattle.est_link.specs.Derived as derived
-use Rattle.est_link.specs.Derived.{Derived}
+use Rattle.est_modules.specs.Derived as derived
+use Rattle.est_modules.specs.Derived.{Derived}
 use Rattle.est_link.specs.Bodies.{MayEmit, IsBody, IsSent, AllRuns, HasSoundNames}
-use Rattle.est_link.specs.Emissions.{refused_at, is_refused, emits_by}
+use Rattle.est_checks.specs.Emissions.{refused_at, is_refused, emits_by}
 use Rattle.est_link.specs.Inner.Tables.{AreMade, none, next, IsMade, has_body, bodies_of, body_linked}
 use Rattle.est_link.specs.Linking.{linked, bound, interface_bound, interface_run, locals_round, signal_at, emitted}
-use Rattle.est_link.specs.Modules.{Program, program_named}
-use Rattle.est_link.specs.Occurrences.{Binder, signals, a_trap, emits, runs, Occurrence, occurrences, first_of}
-use Rattle.est_link.specs.Visible.{unknown_at, is_local, is_trap, is_visible, unless}
+use Rattle.est_modules.specs.Modules.{Program, program_named}
+use Rattle.est_modules.specs.Occurrences.{Binder, signals, a_trap, emits, runs, Occurrence, occurrences, first_of}
+use Rattle.est_checks.specs.UnknownNames.{unknown_at, unless}
+use Rattle.est_modules.specs.Visible.{is_local, is_trap, is_visible}
 use Rattle.est_link.specs.declared.flatten.Linked.{Linked}
 use Rattle.std.specs.Str.{bytes_eq}
 use Rattle.est_syntax.specs.Tree.{RenamingTree}
 use Rattle.est_link.proofs.Binding.{bound_body}
 use Rattle.est_link.proofs.Made.{kept, new_last, last_body, old_or_last}
 use Rattle.est_link.proofs.Naming.{IsFine, asked_at, traps_round, trap_within, sent_at, run_bindings}
-use Rattle.est_link.proofs.Testing.{or_left, or_right, and_both, not_true, same_bytes, equal_bytes, or_none_parts, all_parts}
+use Rattle.est_modules.proofs.Testing.{or_left, or_right, and_both, not_true, same_bytes, equal_bytes, or_none_parts, all_parts}
 use Rattle.est_link.proofs.RunModules.{more_runs}
 use Rattle.est_reduce.specs.Bodies.{Body, nothing, pause, halt, emit, sustain, exit, await, present, suspend, abort, weak_abort, repeat, repeat_each, every, trap, signal, seq, par}
 

@@ -7,26 +7,27 @@ use Rattle.std.specs.Option.{option_or}
 use Rattle.std.specs.Str.{bytes_eq}
 use Rattle.est_kernel.specs.declared.interface.TheConstants.{MOST_SIGNALS}
 use Rattle.est_link.specs.Bodies.{HasSoundNames}
-use Rattle.est_link.specs.Duplicates.{redeclared, redeclared_in, redeclared_at, duplicate_of, duplicate_after, first_duplicate, stands_in}
-use Rattle.est_link.specs.Emissions.{AreEmissions, first_refused, refused_at}
-use Rattle.est_link.specs.FirstFaults.{Else, ByLimits, ByNames, ByRuns, IsFirstFault, recursive_run, limit_passed, limit_passed_by}
-use Rattle.est_link.specs.declared.count.TheConstants.{MOST_STATEMENTS}
+use Rattle.est_checks.specs.Duplicates.{redeclared, redeclared_in, redeclared_at, duplicate_of, duplicate_after, first_duplicate}
+use Rattle.est_modules.specs.Visible.{stands_in}
+use Rattle.est_checks.specs.Emissions.{AreEmissions, first_refused, refused_at}
+use Rattle.est_checks.specs.FirstFaults.{Else, ByLimits, ByNames, ByRuns, IsFirstFault, recursive_run, limit_passed, limit_passed_by}
+use Rattle.est_checks.specs.declared.statement_count.TheConstants.{MOST_STATEMENTS}
 use Rattle.est_link.specs.Inner.Checked.{IsChecked, IsSoundMain}
-use Rattle.est_link.specs.LinkFaults.{fault_before_order, fault_behind_order, lawless_number}
-use Rattle.est_link.specs.Modules.{Program, program_named, first_in_bodies}
-use Rattle.est_link.specs.Occurrences.{Occurrence, occurrences, first_of}
-use Rattle.est_link.specs.Renamings.{bad_renaming_at}
-use Rattle.est_link.specs.Runs.{first_missing}
-use Rattle.est_link.specs.Visible.{unknown_at}
-use Rattle.est_link.specs.declared.fault.Limit.{Limit}
-use Rattle.est_link.specs.declared.fault.Limit.TheVariants.{Signals, Relations, Statements}
-use Rattle.est_link.specs.declared.fault.LinkFault.{LinkFault}
-use Rattle.est_link.specs.declared.fault.LinkFault.TheVariants.{DuplicateName, UnknownModule, BadRename, UnknownName, EmitInput, Semantics, TooLarge}
-use Rattle.est_link.specs.declared.head.Declared.{Declared}
+use Rattle.est_checks.specs.LinkFaults.{fault_before_order, fault_behind_order, lawless_number}
+use Rattle.est_modules.specs.Modules.{Program, program_named, first_in_bodies}
+use Rattle.est_modules.specs.Occurrences.{Occurrence, occurrences, first_of}
+use Rattle.est_checks.specs.BadRenamings.{bad_renaming_at}
+use Rattle.est_checks.specs.MissingModules.{first_missing}
+use Rattle.est_checks.specs.UnknownNames.{unknown_at}
+use Rattle.est_checks.specs.declared.fault.Limit.{Limit}
+use Rattle.est_checks.specs.declared.fault.Limit.TheVariants.{Signals, Relations, Statements}
+use Rattle.est_checks.specs.declared.fault.LinkFault.{LinkFault}
+use Rattle.est_checks.specs.declared.fault.LinkFault.TheVariants.{DuplicateName, UnknownModule, BadRename, UnknownName, EmitInput, Semantics, TooLarge}
+use Rattle.est_modules.specs.declared.head.Declared.{Declared}
 use Rattle.est_link.proofs.Distinct.{kept_name}
-use Rattle.est_link.proofs.Needing.{first_none, found_place}
+use Rattle.est_modules.proofs.Standing.{first_none, found_place}
 use Rattle.est_link.proofs.Taking.{no_main}
-use Rattle.est_link.proofs.Testing.{some_same, map_none, or_none_parts}
+use Rattle.est_modules.proofs.Testing.{some_same, map_none, or_none_parts}
 use Rattle.est_relations.specs.declared.relations.TheConstants.{MOST_RELATIONS}
 
 -- where nothing is found, this check has no fault, and the next finds nothing

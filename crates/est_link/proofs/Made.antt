@@ -6,7 +6,7 @@ use Rattle.std.proofs.lemmas.List.Folds.{list_any-append}
 use Rattle.std.proofs.lemmas.List.{map-append, take_more}
 use Rattle.std.specs.List.{find}
 use Rattle.std.specs.Str.{bytes_eq}
-use Rattle.est_link.specs.Modules.{Program, program_named}
+use Rattle.est_modules.specs.Modules.{Program, program_named}
 use Rattle.est_link.specs.Bodies.{AllRuns, is_listed, AreBottomUp, IsLinked}
 use Rattle.est_link.specs.Inner.Tables.{has_body, bodies_of, body_found, IsMade, AreMade, none, next, body_linked}
 use Rattle.est_link.specs.declared.flatten.Linked.{Linked}

@@ -10,12 +10,12 @@ use Rattle.est_kernel.specs.Term.{Name, outer, inner, Query, tick, of}
 use Rattle.est_kernel.specs.declared.interface.Kind.TheVariants as kernel
 use Rattle.est_link.specs.Bodies.{MayEmit, MayAsk, IsBody, IsSent}
 use Rattle.est_link.specs.MainModule.{declaration_of, declarations_of, kernel_kind}
-use Rattle.est_link.specs.Modules.{Program, is_input_kind}
-use Rattle.est_link.specs.declared.head.Declared.{Declared}
-use Rattle.est_link.specs.declared.head.Kind.{Kind}
-use Rattle.est_link.specs.declared.head.Kind.TheVariants.{Input, Output}
+use Rattle.est_modules.specs.Modules.{Program, is_input_kind}
+use Rattle.est_modules.specs.declared.head.Declared.{Declared}
+use Rattle.est_modules.specs.declared.head.Kind.{Kind}
+use Rattle.est_modules.specs.declared.head.Kind.TheVariants.{Input, Output}
 use Rattle.est_link.proofs.Naming.{nobody}
-use Rattle.est_link.proofs.Testing.{some_same}
+use Rattle.est_modules.proofs.Testing.{some_same}
 use Rattle.est_reduce.specs.Bodies.{Body, nothing, pause, halt, emit, sustain, exit, await, present, suspend, abort, weak_abort, repeat, repeat_each, every, trap, signal, seq, par}
 use Rattle.est_reduce.specs.Bound.{IsBound}
 

@@ -7,17 +7,19 @@ use Rattle.std.specs.Str.{bytes_eq}
 use Rattle.est_kernel.specs.Interfaces.{inputs_of, is_named, same_kind}
 use Rattle.est_kernel.specs.declared.interface.Declaration.{Declaration}
 use Rattle.est_kernel.specs.declared.interface.Kind.TheVariants as kernel
-use Rattle.est_link.specs.Duplicates.{redeclared, stands_in}
+use Rattle.est_checks.specs.Duplicates.{redeclared}
+use Rattle.est_modules.specs.Visible.{stands_in}
 use Rattle.est_link.specs.MainModule.{AreRelations, IsRelation, declaration_of, declarations_of, kernel_kind, place_of}
-use Rattle.est_link.specs.MainRelations.{is_input, is_past_inputs, is_lawless, first_lawless}
-use Rattle.est_link.specs.Modules.{Program, is_input_kind}
-use Rattle.est_link.specs.Visible.{is_tick}
-use Rattle.est_link.specs.declared.head.Declared.{Declared}
-use Rattle.est_link.specs.declared.head.Kind.{Kind}
-use Rattle.est_link.specs.declared.head.Kind.TheVariants.{Input, Output}
+use Rattle.est_modules.specs.Modules.{is_input}
+use Rattle.est_checks.specs.LawlessRelations.{is_past_inputs, is_lawless, first_lawless}
+use Rattle.est_modules.specs.Modules.{Program, is_input_kind}
+use Rattle.est_modules.specs.Visible.{is_tick}
+use Rattle.est_modules.specs.declared.head.Declared.{Declared}
+use Rattle.est_modules.specs.declared.head.Kind.{Kind}
+use Rattle.est_modules.specs.declared.head.Kind.TheVariants.{Input, Output}
 use Rattle.est_link.proofs.Distinct.{kept_name}
-use Rattle.est_link.proofs.Places.{position_cons}
-use Rattle.est_link.proofs.Testing.{or_parts, or_left, or_right, not_false, same_bytes, map_none, no_place, and_both}
+use Rattle.est_modules.proofs.Positions.{position_cons}
+use Rattle.est_modules.proofs.Testing.{or_parts, or_left, or_right, not_false, same_bytes, map_none, no_place, and_both}
 use Rattle.est_relations.specs.Keeping.{is_within, AreOverInputs}
 use Rattle.est_relations.specs.declared.relations.Relation.{Relation}
 use Rattle.est_relations.specs.declared.relations.Relation.TheVariants.{Exclusion, Implication}

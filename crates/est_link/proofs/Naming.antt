@@ -9,17 +9,18 @@ use Rattle.std.specs.Str.{bytes_eq}
 use Rattle.est_syntax.specs.Tree.{RenamingTree}
 use Rattle.est_kernel.specs.Term.{Query, tick}
 use Rattle.est_link.specs.Bodies.{MayEmit, MayAsk, AreBindings, IsSent}
-use Rattle.est_link.specs.Emissions.{is_refused, is_refused_in_run, refused_in_run, refused_act, emits_by, emits_in_run}
-use Rattle.est_link.specs.Renamings.{renamed, callers_name, is_renamed}
-use Rattle.est_link.specs.MainRelations.{is_input}
+use Rattle.est_checks.specs.Emissions.{is_refused, is_refused_in_run, refused_in_run, refused_act, emits_by, emits_in_run}
+use Rattle.est_modules.specs.Renamings.{renamed, callers_name, is_renamed}
+use Rattle.est_modules.specs.Modules.{is_input}
 use Rattle.est_link.specs.Linking.{signal_at, locals_round, trap_at, of_interface, of_list, emitted, interface_bound}
-use Rattle.est_link.specs.Modules.{Program, program_named, is_declared, is_input_kind}
-use Rattle.est_link.specs.Occurrences.{Binder, signals, a_trap, runs, Occurrence}
-use Rattle.est_link.specs.Visible.{is_local, is_trap, is_visible, is_among, is_unbound, unknown_renaming, unknown_in_run, unknown_act}
-use Rattle.est_link.specs.declared.head.Declared.{Declared}
-use Rattle.est_link.specs.declared.head.Kind.TheVariants.{Input}
+use Rattle.est_modules.specs.Modules.{Program, program_named, is_declared, is_input_kind}
+use Rattle.est_modules.specs.Occurrences.{Binder, signals, a_trap, runs, Occurrence}
+use Rattle.est_modules.specs.Visible.{is_local, is_trap, is_visible, is_among}
+use Rattle.est_checks.specs.UnknownNames.{is_unbound, unknown_renaming, unknown_in_run, unknown_act}
+use Rattle.est_modules.specs.declared.head.Declared.{Declared}
+use Rattle.est_modules.specs.declared.head.Kind.TheVariants.{Input}
 use Rattle.est_link.proofs.Binding.{more_asked, more_sent}
-use Rattle.est_link.proofs.Testing.{or_parts, or_other, or_first, and_other, and_both, not_false, not_true, same_bytes, equal_bytes, none_at, any_at, found_passes, other_fails, none_found, no_place, none_has_place, place_passes, or_none_parts, map_none}
+use Rattle.est_modules.proofs.Testing.{or_parts, or_other, or_first, and_other, and_both, not_false, not_true, same_bytes, equal_bytes, none_at, any_at, found_passes, other_fails, none_found, no_place, none_has_place, place_passes, or_none_parts, map_none}
 
 -- some declaration, for the place past the end
 abbrev pub nobody : Declared

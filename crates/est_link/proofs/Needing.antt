@@ -1,27 +1,29 @@
 -- The modules that main runs, in an order.
-use Rattle.std.proofs.Common.{◌≡◌, ℕ, zero, suc, ◌+◌, ◌<◌, inl, inr, List, [], ◌∷◌, ◌++◌, length, take, get_or, slice_index, slice_index_or, Bool, true, false, cond, if◌then◌else◌, Option, Some, None, option_map, Contains, refl, ap, sym, ◌∙◌, subst, arith}
+use Rattle.std.proofs.Common.{◌≡◌, ℕ, ◌+◌, ◌<◌, inl, inr, List, [], ◌∷◌, ◌++◌, length, take, get_or, slice_index, slice_index_or, true, false, if◌then◌else◌, Some, None, Contains, refl, ap, sym, ◌∙◌, subst, arith}
 use Rattle.std.proofs.lemmas.Bool.{cases_lt}
-use Rattle.std.proofs.lemmas.Option.{none-some, slice_get_within, slice_get-get_or, get_or_from_slice_get}
-use Rattle.std.proofs.lemmas.List.{get_or-map, length-append, length-map, get_or_append_left, take-append-le}
+use Rattle.std.proofs.lemmas.Option.{slice_get_within, slice_get-get_or, get_or_from_slice_get}
+use Rattle.std.proofs.lemmas.List.{get_or-map, length-append, get_or_append_left, take-append-le}
 use Rattle.std.proofs.Math.ListN.{get_or-eq_default}
 use Rattle.std.proofs.Math.Seq.{get_or-append_seam, take-append_seam}
 use Rattle.std.proofs.lemmas.List.Elements.{Contains-append_left, Contains-append_right, Contains-append_cases, Contains-push}
 use Rattle.std.proofs.lemmas.List.Folds.{list_any-append}
-use Rattle.std.specs.List.{find, position, slice_get}
+use Rattle.std.specs.List.{slice_get}
 use Rattle.std.specs.Str.{bytes_eq}
 use Rattle.est_link.specs.Bodies.{AllRuns, AreBottomUp, is_listed}
-use Rattle.est_link.specs.Derived.{Derived, missing, nothing, pause, halt, emit, sustain, exit, await, present, suspend, abort, weak_abort, repeat, repeat_each, every, trap, signal, run, seq, par}
-use Rattle.est_link.specs.Duplicates.{stands_in, duplicate_of, duplicate_after, first_duplicate, redeclared_in}
+use Rattle.est_modules.specs.Derived.{Derived, missing, nothing, pause, halt, emit, sustain, exit, await, present, suspend, abort, weak_abort, repeat, repeat_each, every, trap, signal, run, seq, par}
+use Rattle.est_checks.specs.Duplicates.{first_duplicate}
 use Rattle.est_link.specs.Inner.Needs.{IsClosed, IsClosedFrom, HasFront}
-use Rattle.est_link.specs.Modules.{Program, program_named, first_in_bodies}
-use Rattle.est_link.specs.Occurrences.{Binder, signals, a_trap, Act, emits, tests, exits, binds, runs, Occurrence, occurrences, first_of}
-use Rattle.est_link.specs.Orders.{IsOrderOf, run_rows, places_run}
-use Rattle.est_link.specs.Runs.{missing_at, missing_act, unless_there}
-use Rattle.est_link.proofs.Ordering.{IsRunOf, run_is_run}
-use Rattle.est_link.proofs.Places.{position_cons}
-use Rattle.est_link.proofs.Testing.{or_parts, or_none_parts, or_left, or_right, some_same, equal_bytes, same_bytes, found_passes}
-use Rattle.module_order.specs.Runs.{IsRun}
-use Rattle.module_order.proofs.SolutionLemmas.{each_stands, places_are_there}
+use Rattle.est_modules.specs.Modules.{Program, program_named, first_in_bodies}
+use Rattle.est_modules.specs.Occurrences.{Binder, signals, a_trap, runs, Occurrence, occurrences, first_of}
+use Rattle.est_modules.specs.ModuleOrders.{IsOrderOf, run_rows, places_run}
+use Rattle.est_checks.specs.MissingModules.{missing_at}
+use Rattle.est_modules.proofs.Ordering.{IsRunOf, run_is_run}
+use Rattle.est_modules.proofs.Testing.{or_left, or_right, some_same, equal_bytes, same_bytes, found_passes}
+use Rattle.est_modules.specs.RunRows.{IsRun}
+use Rattle.est_modules.proofs.SolutionLemmas.{each_stands, places_are_there}
+use Rattle.est_modules.proofs.Standing.{first_none, found_place}
+use Rattle.est_checks.proofs.OneName.{first_of_name}
+use Rattle.est_checks.proofs.RunsThere.{run_is_there}
 
 -- ---- what a statement runs stands among its occurrences
 
@@ -55,35 +57,6 @@ runs_among P bs (par p q) h = (
   runs_among P bs p (λ o x. h o (Contains-append_left (occurrences bs p) (occurrences bs q) o x)),
   runs_among P bs q (λ o x. h o (Contains-append_right (occurrences bs p) (occurrences bs q) o x)),
 )
-
--- ---- modules of one name each
-
-unseen : (b : Bool) (n : List ℕ) (o : Option (List ℕ)) → (if b then Some n else o) ≡ None → b ≡ false
-unseen true n o h = absurd (none-some n (sym h))
-unseen false n o h = refl
-
-pub not_seen : (seen : List (List ℕ)) (ps : List Program) → duplicate_after seen ps ≡ None → (i : ℕ) (p : Program) → slice_get ps i ≡ Some p → stands_in seen p.name ≡ false
-not_seen seen [] h i p at = absurd (none-some p at)
-not_seen seen (q ∷ qs) h zero p at =
-    ap (λ (r : Program). stands_in seen r.name) (sym (some_same q p at)) ∙ unseen (stands_in seen q.name) q.name (redeclared_in q) (or_none_parts (duplicate_of seen q) (duplicate_after (seen ++ q.name ∷ []) qs) h).0
-not_seen seen (q ∷ qs) h (suc i) p at =
-    let later = not_seen (seen ++ q.name ∷ []) qs (or_none_parts (duplicate_of seen q) (duplicate_after (seen ++ q.name ∷ []) qs) h).1 i p at in
-    (or_parts (stands_in seen p.name) _ (sym (list_any-append (λ n. bytes_eq n p.name) seen (q.name ∷ [])) ∙ later)).0
-
-named_here : (b : Bool) (q : Program) (o : Option Program) → b ≡ true → cond b (Some q) o ≡ Some q
-named_here b q o h = ap (λ b. cond b (Some q) o) h
-
--- each module is the first of its name
-pub first_of_name : (seen : List (List ℕ)) (ps : List Program) → duplicate_after seen ps ≡ None → (i : ℕ) (p : Program) → slice_get ps i ≡ Some p → program_named ps p.name ≡ Some p
-first_of_name seen [] h i p at = absurd (none-some p at)
-first_of_name seen (q ∷ qs) h zero p at =
-    let same = some_same q p at in
-    ap (λ (r : Program). program_named (q ∷ qs) r.name) (sym same) ∙ named_here (bytes_eq q.name q.name) q (program_named qs q.name) (equal_bytes q.name) ∙ ap Some same
-first_of_name seen (q ∷ qs) h (suc i) p at =
-    let rest = (or_none_parts (duplicate_of seen q) (duplicate_after (seen ++ q.name ∷ []) qs) h).1 in
-    let later = not_seen (seen ++ q.name ∷ []) qs rest i p at in
-    let other = (or_parts (bytes_eq q.name p.name) false ((or_parts (stands_in seen p.name) _ (sym (list_any-append (λ n. bytes_eq n p.name) seen (q.name ∷ [])) ∙ later)).1)).0 in
-    ap (λ b. cond b (Some q) (program_named qs p.name)) other ∙ first_of_name (seen ++ q.name ∷ []) qs rest i p at
 
 -- ---- the set of what main runs
 
@@ -127,33 +100,6 @@ closed_whole ps order set up closed runner to has is = elim (cases_lt runner (le
 ]
 
 -- ---- names in the order
-
-pub first_none : {X A : Type 0} (f : X → Option A) (xs : List X) (i : ℕ) (x : X) → first_of f xs ≡ None → slice_get xs i ≡ Some x → f x ≡ None
-first_none f [] i x h at = absurd (none-some x at)
-first_none f (y ∷ ys) zero x h at = ap f (sym (some_same y x at)) ∙ (or_none_parts (f y) (first_of f ys) h).0
-first_none f (y ∷ ys) (suc i) x h at = first_none f ys i x (or_none_parts (f y) (first_of f ys) h).1 at
-
-there_is : (m : List ℕ) (o : Option Program) → unless_there m o ≡ None → (q : Program) × (o ≡ Some q)
-there_is m None h = absurd (none-some m (sym h))
-there_is m (Some q) h = (q, refl)
-
-pub run_is_there : (ps : List Program) (act : Act) (m : List ℕ) → IsRunOf act m → missing_act ps act ≡ None → (q : Program) × (program_named ps m ≡ Some q)
-run_is_there ps (emits s) m r h = absurd r
-run_is_there ps (tests s) m r h = absurd r
-run_is_there ps (exits t) m r h = absurd r
-run_is_there ps (binds ns) m r h = absurd r
-run_is_there ps (runs n rs) m r h = there_is m (program_named ps m) (ap (λ k. unless_there k (program_named ps k)) (sym r) ∙ h)
-
-place_here : {X : Type 0} (p : X → Bool) (y : X) (ys : List X) (x : X) (b : Bool) → p y ≡ b → cond b (Some y) (find p ys) ≡ Some x → (find p ys ≡ Some x → (j : ℕ) × (position p ys ≡ Some j) × (slice_get ys j ≡ Some x)) → (j : ℕ) × (position p (y ∷ ys) ≡ Some j) × (slice_get (y ∷ ys) j ≡ Some x)
-place_here p y ys x true t e rest = (0, position_cons p y ys ∙ ap (λ b. cond b (Some 0) (option_map (λ i. i + 1) (position p ys))) t, e)
-place_here p y ys x false t e rest =
-    let later = rest e in
-    (suc later.0, position_cons p y ys ∙ ap (λ b. cond b (Some 0) (option_map (λ i. i + 1) (position p ys))) t ∙ ap (option_map (λ i. i + 1)) later.1 ∙ ap Some (omega arith), later.2)
-
--- the place of what is found
-pub found_place : {X : Type 0} (p : X → Bool) (xs : List X) (x : X) → find p xs ≡ Some x → (j : ℕ) × (position p xs ≡ Some j) × (slice_get xs j ≡ Some x)
-found_place p [] x e = absurd (none-some x e)
-found_place p (y ∷ ys) x e = place_here p y ys x (p y) refl e (found_place p ys x)
 
 -- the names of the modules that the next one runs are there
 run_listed : (ps : List Program) (order set : List ℕ) (names : List (List ℕ)) (k : ℕ) (p : Program) → IsOrderOf ps order → IsClosed ps set → first_in_bodies (missing_at ps) ps ≡ None → HasFront ps set order k names → k < length order → Contains set (slice_index order k) → slice_get ps (slice_index order k) ≡ Some p → (o : Occurrence) → Contains (occurrences [] p.body) o → (m : List ℕ) → IsRunOf o.act m → is_listed names m ≡ true
@@ -206,15 +152,3 @@ front_past ps order set names k front absent i lt has q here = elim (cases_lt i 
       let last : i ≡ k = omega (arith, behind, lt) in
       absurd (absent (subst (λ j. Contains set (slice_index order j)) last has))
 ]
-
--- ---- places in an order
-
--- what stands in an order is there
-pub order_within : (ps : List Program) (order : List ℕ) (k : ℕ) → IsOrderOf ps order → k < length order → slice_index order k < length ps
-order_within ps order k up lt = omega (arith, places_are_there (run_rows ps) order up k lt, length-map ps (places_run ps))
-
--- the module there
-pub program_at : (ps : List Program) (i : ℕ) → i < length ps → (p : Program) × (slice_get ps i ≡ Some p)
-program_at [] i lt = absurd (omega (arith, lt))
-program_at (p ∷ ps) zero lt = (p, refl)
-program_at (p ∷ ps) (suc i) lt = program_at ps i (omega (arith, lt))

@@ -1,7 +1,6 @@
 -- Places of elements, and statements along lists.
-use Rattle.std.proofs.Common.{◌≡◌, ℕ, suc, ◌+◌, ◌<◌, List, [], ◌∷◌, length, map, drop, get_or, Bool, true, false, not, cond, nat_lt, Option, Some, None, option_map, refl, ap, sym, ◌∙◌, arith, rules}
-use Rattle.std.specs.List.{find, position, position_or_len}
-use Rattle.std.proofs.lemmas.Bool.Decides.{nat_tests}
+use Rattle.std.proofs.Common.{◌≡◌, ℕ, ◌+◌, ◌<◌, List, [], ◌∷◌, length, map, drop, get_or, Some, option_map, refl, ap, sym, ◌∙◌, rules}
+use Rattle.std.specs.List.{find}
 use Rattle.std.proofs.lemmas.List.{at_drop_more}
 use Rattle.std.specs.Str.{bytes_eq}
 use Rattle.est_syntax.specs.Views.{unit_view, sequence_view, statement_view, units_of, sequences_of}
@@ -11,32 +10,15 @@ use Rattle.est_syntax.specs.declared.tree.Sequence.{Sequence}
 use Rattle.est_syntax.specs.declared.tree.Statement.{Statement}
 use Rattle.est_syntax.specs.declared.tree.Branches.TheViews.{out-Sequence, out-Statement}
 use Rattle.est_syntax.specs.declared.tree.Branches.TheFolds.{the_lemmas}
-use Rattle.est_link.specs.Derived.{Derived, unit_derived, sequence_derived, statement_derived, then_units, beside_sequences}
-use Rattle.est_link.specs.Occurrences.{Binder}
-use Rattle.est_link.specs.Modules.{Program, program_of, program_named}
-use Rattle.est_link.specs.declared.head.Head.{Head}
-use Rattle.est_link.proofs.Lists.{program_found}
+use Rattle.est_modules.specs.Derived.{Derived, unit_derived, sequence_derived, statement_derived, then_units, beside_sequences}
+use Rattle.est_modules.specs.Occurrences.{Binder}
+use Rattle.est_modules.specs.Modules.{Program, program_of, program_named}
+use Rattle.est_modules.specs.declared.head.Head.{Head}
+use Rattle.est_modules.proofs.Lists.{program_found}
 use Rattle.est_reduce.specs.Bodies.{Body, seq, par}
 use Rattle.est_link.specs.Inner.Tables.{body_linked}
 use Rattle.est_link.specs.Inner.Joins.{joined_by, chained}
 use Rattle.est_link.specs.Linking.{interface_run, linked}
-
-moved : (n m : ℕ) (a b : Bool) → nat_lt n m ≡ a → nat_lt (1 + n) (suc m) ≡ b → cond {A = Option ℕ} b (Some (1 + n)) None ≡ option_map (λ i. i + 1) (cond a (Some n) None)
-moved n m true true d e = ap Some (omega arith)
-moved n m false false d e = refl
-moved n m true false d e = absurd (grind (arith, nat_tests))
-moved n m false true d e = absurd (grind (arith, nat_tests))
-
-first_place : (m : ℕ) (b : Bool) → nat_lt 0 (suc m) ≡ b → cond {A = Option ℕ} b (Some 0) None ≡ Some 0
-first_place m true e = refl
-first_place m false e = absurd (grind (arith, nat_tests))
-
-here_or_later : (b : Bool) (n m : ℕ) → cond (nat_lt (cond {A = ℕ} (not b) (1 + n) 0) (suc m)) (Some (cond {A = ℕ} (not b) (1 + n) 0)) None ≡ cond {A = Option ℕ} b (Some 0) (option_map (λ i. i + 1) (cond (nat_lt n m) (Some n) None))
-here_or_later true n m = first_place m (nat_lt 0 (suc m)) refl
-here_or_later false n m = moved n m (nat_lt n m) (nat_lt (1 + n) (suc m)) refl refl
-
-pub position_cons : {X : Type 0} (p : X → Bool) (x : X) (xs : List X) → position p (x ∷ xs) ≡ cond (p x) (Some 0) (option_map (λ i. i + 1) (position p xs))
-position_cons p x xs = here_or_later (p x) (position_or_len p xs) (length xs)
 
 -- ---- statements one after another, and side by side
 
@@ -78,8 +60,3 @@ interface_found hs m = ap interface_run (program_found hs m)
 
 pub body_found : (hs : List Head) (bodies : List ℕ → Body) (m : List ℕ) → body_linked (map program_of hs) bodies (program_named (map program_of hs) m) ≡ body_linked (map program_of hs) bodies (option_map program_of (find (λ (h : Head). bytes_eq h.name m) hs))
 body_found hs bodies m = ap (body_linked (map program_of hs) bodies) (program_found hs m)
-
-pub position_map : {X Y : Type 0} (p : Y → Bool) (f : X → Y) (xs : List X) → position p (map f xs) ≡ position (λ x. p (f x)) xs
-position_map p f [] = refl
-position_map p f (x ∷ xs) =
-    position_cons p (f x) (map f xs) ∙ ap (λ (o : Option ℕ). cond (p (f x)) (Some 0) (option_map (λ i. i + 1) o)) (position_map p f xs) ∙ sym (position_cons (λ x. p (f x)) x xs)

@@ -1,8 +1,8 @@
 -- The modules that a statement runs.
 use Rattle.std.proofs.Common.{◌≡◌, ℕ, List, ◌∷◌, length, refl, ap, ◌∙◌}
-use Rattle.est_link.specs.Derived.{Derived, missing, nothing, pause, halt, emit, sustain, exit, await, present, suspend, abort, weak_abort, repeat, repeat_each, every, trap, signal, run, seq, par}
-use Rattle.est_link.specs.Occurrences.{Binder, signals, a_trap}
-use Rattle.est_link.specs.Modules.{Program, program_named}
+use Rattle.est_modules.specs.Derived.{Derived, missing, nothing, pause, halt, emit, sustain, exit, await, present, suspend, abort, weak_abort, repeat, repeat_each, every, trap, signal, run, seq, par}
+use Rattle.est_modules.specs.Occurrences.{Binder, signals, a_trap}
+use Rattle.est_modules.specs.Modules.{Program, program_named}
 use Rattle.est_link.specs.Linking.{linked, signal_at, interface_bound, interface_run, bound, locals_round}
 use Rattle.est_link.specs.Bodies.{AllRuns}
 use Rattle.est_reduce.specs.Bodies as flat

@@ -8,17 +8,17 @@ use Rattle.std.specs.Str.{bytes_eq}
 use Rattle.est_link.specs.Bodies.{is_listed}
 use Rattle.est_link.specs.Inner.Needs.{HasFront}
 use Rattle.est_link.specs.Inner.Tables.{bodies_of, body_found, has_body}
-use Rattle.est_link.specs.Modules.{Program, program_named, first_in_bodies}
-use Rattle.est_link.specs.Orders.{IsOrderOf, run_rows, places_run, place_named}
-use Rattle.est_link.specs.Runs.{first_missing, missing_from, missing_at}
+use Rattle.est_modules.specs.Modules.{Program, program_named}
+use Rattle.est_modules.specs.ModuleOrders.{IsOrderOf, run_rows, places_run, place_named}
+use Rattle.est_checks.specs.MissingModules.{first_missing, missing_from}
 use Rattle.est_link.specs.declared.flatten.Linked.{Linked}
 use Rattle.est_link.proofs.Made.{has_named}
-use Rattle.est_link.proofs.Needing.{program_at}
-use Rattle.est_link.proofs.Places.{position_cons}
-use Rattle.est_link.proofs.Testing.{some_same, no_place, place_passes, same_bytes, or_parts}
+use Rattle.est_modules.proofs.Standing.{program_at}
+use Rattle.est_modules.proofs.Positions.{position_cons}
+use Rattle.est_modules.proofs.Testing.{some_same, no_place, place_passes, same_bytes, or_parts}
 use Rattle.est_reduce.specs.Bodies.{nothing}
 use Rattle.est_reduce.specs.Views.{body_of}
-use Rattle.module_order.proofs.SolutionLemmas.{each_stands}
+use Rattle.est_modules.proofs.SolutionLemmas.{each_stands}
 
 find_place_here : {X : Type 0} (p : X → Bool) (y : X) (ys : List X) (i : ℕ) (x : X) (b : Bool) → p y ≡ b → cond b (Some 0) (option_map (λ i. i + 1) (position p ys)) ≡ Some i → slice_get (y ∷ ys) i ≡ Some x → ((j : ℕ) → position p ys ≡ Some j → slice_get ys j ≡ Some x → find p ys ≡ Some x) → cond b (Some y) (find p ys) ≡ Some x
 find_place_here p y ys i x true t e at rest = ap (slice_get (y ∷ ys)) (some_same 0 i e) ∙ at
@@ -56,14 +56,6 @@ main_has ps order set es main place p up front has at here =
     let stood = each_stands (run_rows ps) order up place there in
     let name : p.name ≡ main = same_bytes p.name main (place_passes (λ (p : Program). bytes_eq p.name main) ps place p (sym at) here) in
     has_named es main ∙ ap (is_listed (map (λ (e : Linked). e.name) es)) (sym name) ∙ front stood.0 stood.1 (subst (Contains set) (sym stood.2) has) p (ap (slice_get ps) stood.2 ∙ here)
-
--- where none is missing, each run's module is there
-no_missing : (ps : List Program) (main : List ℕ) (o : Option Program) → missing_from ps main o ≡ None → first_in_bodies (missing_at ps) ps ≡ None
-no_missing ps main None h = absurd (none-some main (sym h))
-no_missing ps main (Some q) h = h
-
-pub none_missing : (ps : List Program) (main : List ℕ) → first_missing ps main ≡ None → first_in_bodies (missing_at ps) ps ≡ None
-none_missing ps main h = no_missing ps main (program_named ps main) h
 
 pub no_main : (ps : List Program) (main : List ℕ) (o : Option Program) → missing_from ps main o ≡ None → o ≡ None → ⊥
 no_main ps main None h e = none-some main (sym h)

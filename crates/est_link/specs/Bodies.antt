@@ -4,14 +4,14 @@ use Rattle.std.specs.Prelude.{◌≡◌, ℕ, ◌+◌, ◌<◌, Bool, true, List
 use Rattle.std.specs.List.{list_any, slice_get}
 use Rattle.std.specs.Str.{bytes_eq}
 use Rattle.est_kernel.specs.Term.{Name, outer, inner, Query, tick, of}
-use Rattle.est_link.specs.Derived as derived
-use Rattle.est_link.specs.Derived.{Derived}
-use Rattle.est_link.specs.Modules.{Program, program_named, is_input_kind}
-use Rattle.est_link.specs.Emissions.{AreEmissions, refused_at}
+use Rattle.est_modules.specs.Derived as derived
+use Rattle.est_modules.specs.Derived.{Derived}
+use Rattle.est_modules.specs.Modules.{Program, program_named, is_input_kind}
+use Rattle.est_checks.specs.Emissions.{AreEmissions, refused_at}
 use Rattle.est_link.specs.Linking.{IsLinking, emitted}
-use Rattle.est_link.specs.Occurrences.{occurrences, first_of}
-use Rattle.est_link.specs.Visible.{unknown_at}
-use Rattle.est_link.specs.declared.head.Declared.{Declared}
+use Rattle.est_modules.specs.Occurrences.{occurrences, first_of}
+use Rattle.est_checks.specs.UnknownNames.{unknown_at}
+use Rattle.est_modules.specs.declared.head.Declared.{Declared}
 use Rattle.est_reduce.specs.Bodies.{Body, nothing, pause, halt, emit, sustain, exit, await, present, suspend, abort, weak_abort, repeat, repeat_each, every, trap, signal, seq, par}
 
 -- ---- the module that a library is, from its main module

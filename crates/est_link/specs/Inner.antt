@@ -1,10 +1,5 @@
-pub mod Joins
-pub mod Tables
-pub mod Numbers
 pub mod Binds
-pub mod Needs
-pub mod Noted
-pub mod Emitted
-pub mod Sent
-pub mod Recursion
 pub mod Checked
+pub mod Joins
+pub mod Needs
+pub mod Tables

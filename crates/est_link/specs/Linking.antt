@@ -6,12 +6,12 @@ use Rattle.std.specs.List.{position}
 use Rattle.std.specs.Str.{bytes_eq}
 use Rattle.est_syntax.specs.Tree.{RenamingTree}
 use Rattle.est_kernel.specs.Term.{Name, outer, inner, Query, tick, of}
-use Rattle.est_link.specs.Derived as derived
-use Rattle.est_link.specs.Derived.{Derived}
-use Rattle.est_link.specs.Occurrences.{Binder, signals, a_trap}
-use Rattle.est_link.specs.Modules.{Program, program_named}
-use Rattle.est_link.specs.Renamings.{renamed}
-use Rattle.est_link.specs.declared.head.Declared.{Declared}
+use Rattle.est_modules.specs.Derived as derived
+use Rattle.est_modules.specs.Derived.{Derived}
+use Rattle.est_modules.specs.Occurrences.{Binder, signals, a_trap}
+use Rattle.est_modules.specs.Modules.{Program, program_named}
+use Rattle.est_modules.specs.Renamings.{renamed}
+use Rattle.est_modules.specs.declared.head.Declared.{Declared}
 use Rattle.est_reduce.specs.Bodies.{Body, nothing, pause, halt, emit, sustain, exit, await, present, suspend, abort, weak_abort, repeat, repeat_each, every, trap, signal, seq, par}
 
 -- ---- what names mean at a place

@@ -7,10 +7,10 @@ use Rattle.est_kernel.specs.Interfaces.{is_named}
 use Rattle.est_kernel.specs.declared.interface.Declaration.{Declaration}
 use Rattle.est_kernel.specs.declared.interface.Kind as kernel
 use Rattle.est_kernel.specs.declared.interface.Kind.TheVariants as variants
-use Rattle.est_link.specs.Modules.{Program}
-use Rattle.est_link.specs.declared.head.Declared.{Declared}
-use Rattle.est_link.specs.declared.head.Kind.{Kind}
-use Rattle.est_link.specs.declared.head.Kind.TheVariants.{Input, Output}
+use Rattle.est_modules.specs.Modules.{Program}
+use Rattle.est_modules.specs.declared.head.Declared.{Declared}
+use Rattle.est_modules.specs.declared.head.Kind.{Kind}
+use Rattle.est_modules.specs.declared.head.Kind.TheVariants.{Input, Output}
 use Rattle.est_relations.specs.declared.relations.Relation.{Relation}
 use Rattle.est_relations.specs.declared.relations.Relation.TheVariants.{Exclusion, Implication}
 

@@ -3,15 +3,15 @@ ghost use Rattle.std.specs.Prelude.{◌≡◌, ◌+◌, ◌∷◌, IfOk, length,
 ghost use Rattle.std.specs.List.{position};
 ghost use Rattle.std.specs.Str.{bytes_eq};
 ghost use Rattle.est_kernel.specs.Term.{tick};
-ghost use Rattle.est_link.specs.Scopes.{binders_of};
-ghost use Rattle.est_link.specs.Modules.{program_of};
+ghost use Rattle.est_modules.specs.Scopes.{binders_of};
+ghost use Rattle.est_modules.specs.Modules.{program_of};
 ghost use Rattle.est_reduce.specs.Views.{bound_query as query_view};
 ghost use Rattle.est_link.specs.Linking.{locals_round, signal_at, trap_at, of_interface};
 ghost use Rattle.est_link.specs.Inner.Binds.{binding_of};
 
-use crate::head::{Declared, Head};
-use crate::renamings::callers_name;
-use crate::scope::Scope;
+use est_modules::head::{Declared, Head};
+use est_modules::renamings::callers_name;
+use est_modules::scope::Scope;
 use est_reduce::body::{BoundSignal, BoundTest};
 use est_syntax::tree::{Names, Renaming};
 use est_text::identifier::Identifier;
@@ -69,7 +69,7 @@ fn place_among(names: &[Identifier], name: &Identifier) -> Option<usize>
 }
 
 /// The place of a name among those of a `signal`.
-#[tactic(auto, using(crate::proofs::Places::position_cons))]
+#[tactic(auto, using(est_modules::proofs::Positions::position_cons))]
 fn place_of(names: &Names, name: &Identifier) -> Result<Option<u32>, AllocError>
     ensures { IfOk result (λ p. p ≡ position (λ n. bytes_eq n name.now) (names.now.first ∷
         names.now.later.items)) }

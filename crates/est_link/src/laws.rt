@@ -1,14 +1,15 @@
 //! Laws of linking, over every library.
-ghost use Rattle.std.specs.Prelude.{◌≡◌, ◌⊎◌, ℕ, List, Bool, Option, Some, None, Ok, Err, true};
+ghost use Rattle.std.specs.Prelude.{◌≡◌, ◌⊎◌, ℕ, List, Bool, Some, None, Ok, Err, true};
 ghost use Rattle.est_link.specs.Alike.{AreAlike};
 ghost use Rattle.est_link.specs.Bodies.{IsLinked, HasSoundNames};
 ghost use Rattle.est_link.specs.MainModule.{declarations_of};
 ghost use Rattle.est_link.specs.Inner.Tables.{AreMade, has_body, bodies_of};
-ghost use Rattle.est_link.specs.Modules.{Program, program_named};
+ghost use Rattle.est_modules.specs.Modules.{Program, program_named};
 ghost use Rattle.est_link.specs.declared.flatten.Linked.{Linked};
-ghost use Rattle.est_link.specs.FirstFaults.{IsFirstFault, IsFlatOf, IsLinkOf};
-ghost use Rattle.est_link.specs.declared.fault.LinkFault.{LinkFault};
-ghost use Rattle.est_link.specs.declared.fault.LinkFault.TheVariants.{Memory};
+ghost use Rattle.est_checks.specs.FirstFaults.{IsFirstFault};
+ghost use Rattle.est_link.specs.FlatModules.{IsFlatOf, IsLinkOf};
+ghost use Rattle.est_checks.specs.declared.fault.LinkFault.{LinkFault};
+ghost use Rattle.est_checks.specs.declared.fault.LinkFault.TheVariants.{Memory};
 ghost use Rattle.est_reduce.specs.Bound.{IsBound};
 ghost use Rattle.est_reduce.specs.declared.flat.Flat.{Flat};
 ghost use Rattle.est_syntax.specs.Tree.{LibraryTree};
@@ -22,12 +23,6 @@ fn tables_are_linked()
         → AreMade ps es → HasSoundNames ps emitted → (main : List ℕ) (p : Program)
         → has_body es main ≡ true → program_named ps main ≡ Some p
         → IsBound (declarations_of p) 0 0 (bodies_of es main) }
-{}
-
-/// A library has one first fault, or none.
-pub fn first_faults_are_one()
-    ensures { (ps : List Program) (main : List ℕ) (a b : Option LinkFault) → IsFirstFault ps main a
-        → IsFirstFault ps main b → a ≡ b }
 {}
 
 /// A library of which no check has a fault has one flat main module.

@@ -1,21 +1,22 @@
 //! Linking: a library of modules and the name of its main module give one flat module, or their first fault.
 ghost use Rattle.std.specs.Prelude.{◌≡◌, None, IsTrue, IfOk, map};
-ghost use Rattle.est_link.specs.FirstFaults.{Finds, IsFirstFault, IsFlatOf, IsLinkOf};
-ghost use Rattle.est_link.specs.Modules.{program_of};
-ghost use Rattle.est_link.specs.Orders.{IsOrderOf};
+ghost use Rattle.est_checks.specs.FirstFaults.{Finds, IsFirstFault};
+ghost use Rattle.est_link.specs.FlatModules.{IsFlatOf, IsLinkOf};
+ghost use Rattle.est_modules.specs.Modules.{program_of};
+ghost use Rattle.est_modules.specs.ModuleOrders.{IsOrderOf};
 ghost use Rattle.est_syntax.specs.Views.{library_view};
 ghost use Rattle.est_text.specs.Identifiers.{is_identifier};
 
-use crate::fault::LinkFault;
-use crate::head::{Head, head_named};
-use crate::heads::heads_of;
-use crate::library::check_library;
 use crate::linked_module::linked_body;
 use crate::main_module::main_module;
+use est_checks::fault::LinkFault;
+use est_checks::library_check::check_library;
+use est_modules::head::{Head, head_named};
+use est_modules::library_heads::heads_of;
+use est_modules::place_order::Order;
 use est_reduce::flat::Flat;
 use est_syntax::tree::Library;
 use est_text::identifier::Identifier;
-use module_order::order::Order;
 use std::alloc::{AllocError, Global};
 
 /// The flat main module of modules of which no check has a fault, by an order of them.

@@ -3,23 +3,23 @@ ghost use Rattle.std.specs.Prelude.{◌≡◌, ℕ, Bool, List, None, Some, IfOk
 ghost use Rattle.std.specs.List.{find, position};
 ghost use Rattle.std.specs.Str.{bytes_eq};
 ghost use Rattle.est_link.specs.Bodies.{IsLinked, HasSoundNames};
-ghost use Rattle.est_link.specs.Duplicates.{first_duplicate};
+ghost use Rattle.est_checks.specs.Duplicates.{first_duplicate};
 ghost use Rattle.est_link.specs.Inner.Tables.{bodies_of};
 ghost use Rattle.est_link.specs.MainModule.{declarations_of};
-ghost use Rattle.est_link.specs.Modules.{Program, program_of, program_named};
-ghost use Rattle.est_link.specs.Orders.{IsOrderOf};
-ghost use Rattle.est_link.specs.Runs.{first_missing};
+ghost use Rattle.est_modules.specs.Modules.{Program, program_of, program_named};
+ghost use Rattle.est_modules.specs.ModuleOrders.{IsOrderOf};
+ghost use Rattle.est_checks.specs.MissingModules.{first_missing};
 ghost use Rattle.est_reduce.specs.Bound.{IsBound};
 ghost use Rattle.est_reduce.specs.Views.{body_of};
 
+use crate::body_table::bodies_along;
 use crate::flatten::Linked;
-use crate::head::Head;
 use crate::needed::{names_along, needed_places};
-use crate::orders::place_named;
-use crate::table::bodies_along;
+use est_modules::head::Head;
+use est_modules::module_order::place_named;
+use est_modules::place_order::Order;
 use est_reduce::body::Body;
 use est_text::identifier::Identifier;
-use module_order::order::Order;
 use std::alloc::{AllocError, Global};
 
 /// The place of the entry of a name.

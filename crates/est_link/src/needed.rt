@@ -3,14 +3,14 @@ ghost use Rattle.std.specs.Prelude.{◌≡◌, ◌<◌, Some, None, IfOk, length
 ghost use Rattle.std.specs.Bool.{Decides};
 ghost use Rattle.std.specs.List.{slice_get};
 ghost use Rattle.est_link.specs.Bodies.{AreBottomUp};
-ghost use Rattle.est_link.specs.Duplicates.{first_duplicate};
+ghost use Rattle.est_checks.specs.Duplicates.{first_duplicate};
 ghost use Rattle.est_link.specs.Inner.Needs.{IsClosed, HasFront};
-ghost use Rattle.est_link.specs.Modules.{Program, program_of, first_in_bodies};
-ghost use Rattle.est_link.specs.Orders.{IsOrderOf, places_run};
-ghost use Rattle.est_link.specs.Runs.{missing_at};
+ghost use Rattle.est_modules.specs.Modules.{Program, program_of, first_in_bodies};
+ghost use Rattle.est_modules.specs.ModuleOrders.{IsOrderOf, places_run};
+ghost use Rattle.est_checks.specs.MissingModules.{missing_at};
 
-use crate::head::Head;
-use crate::orders::places_run;
+use est_modules::head::Head;
+use est_modules::module_order::{name_at, places_run};
 use est_text::identifier::Identifier;
 use std::alloc::{AllocError, Global};
 
@@ -33,15 +33,6 @@ fn places_at<'a>(
         → places.items ≡ places_run (map program_of heads.now) p) }
 {
     places_run(alloc, &*heads, &heads[place])
-}
-
-/// The name of the module at a place.
-pub(crate) fn name_at(heads: &[Head<'_>], place: usize) -> Identifier
-    requires { place < length heads.now }
-    ensures { (p : Program) → slice_get (map program_of heads.now) place ≡ Some p
-        → result ≡ p.name }
-{
-    heads[place].name
 }
 
 /// The set of the places of the module at `main` and of those that it runs, and so on.

@@ -1,8 +1,8 @@
 //! Modules that run each other: their order, and the number of statements of the linked module.
 use crate::told::expect_told;
-use est_link::count::count_statements;
-use est_link::head::Head;
-use est_link::orders::order_heads;
+use est_checks::statement_count::count_statements;
+use est_modules::head::Head;
+use est_modules::module_order::order_heads;
 use est_syntax::parse::parse;
 use est_syntax::tree::{Library, Module};
 use est_text::lex::lex;

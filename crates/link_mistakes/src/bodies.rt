@@ -1,25 +1,25 @@
 //! Linked modules and their flat bodies.
 ghost use Rattle.std.specs.Prelude.{◌≡◌, ℕ, Bool, List, None, Some, IsTrue, IfOk, map};
 ghost use Rattle.est_link.specs.Bodies.{IsLinked, HasSoundNames};
-ghost use Rattle.est_link.specs.Duplicates.{first_duplicate};
-ghost use Rattle.est_link.specs.FirstFaults.{IsLinkOf};
+ghost use Rattle.est_checks.specs.Duplicates.{first_duplicate};
+ghost use Rattle.est_link.specs.FlatModules.{IsLinkOf};
 ghost use Rattle.est_link.specs.MainModule.{declarations_of};
-ghost use Rattle.est_link.specs.Modules.{Program, program_of, program_named};
-ghost use Rattle.est_link.specs.Orders.{IsOrderOf};
-ghost use Rattle.est_link.specs.Runs.{first_missing};
+ghost use Rattle.est_modules.specs.Modules.{Program, program_of, program_named};
+ghost use Rattle.est_modules.specs.ModuleOrders.{IsOrderOf};
+ghost use Rattle.est_checks.specs.MissingModules.{first_missing};
 ghost use Rattle.est_reduce.specs.Bound.{IsBound};
 ghost use Rattle.est_reduce.specs.Views.{body_of};
 ghost use Rattle.est_syntax.specs.Views.{library_view};
 ghost use Rattle.est_text.specs.Identifiers.{is_identifier};
 
-use est_link::fault::LinkFault;
-use est_link::head::Head;
+use est_checks::fault::LinkFault;
 use est_link::{link, linked_module};
+use est_modules::head::Head;
+use est_modules::place_order::Order;
 use est_reduce::body::Body;
 use est_reduce::flat::Flat;
 use est_syntax::tree::Library;
 use est_text::identifier::Identifier;
-use module_order::order::Order;
 use std::alloc::{AllocError, Global};
 
 /// The flat body of main, from those of the modules that it runs.

@@ -1,16 +1,17 @@
 //! What modules emit, and by which names.
 ghost use Rattle.std.specs.Prelude.{◌≡◌, ℕ, List, [], map, IfOk};
 ghost use Rattle.std.specs.List.{list_any};
-ghost use Rattle.est_link.specs.Duplicates.{stands_in};
-ghost use Rattle.est_link.specs.Emissions.{emitted_of, emits_here};
-ghost use Rattle.est_link.specs.Modules.{program_of};
-ghost use Rattle.est_link.specs.Occurrences.{occurrences};
-ghost use Rattle.est_link.specs.Renamings.{renamed};
+ghost use Rattle.est_modules.specs.Visible.{stands_in};
+ghost use Rattle.est_checks.specs.Emissions.{emitted_of, emits_here};
+ghost use Rattle.est_modules.specs.Modules.{program_of};
+ghost use Rattle.est_modules.specs.Occurrences.{occurrences};
+ghost use Rattle.est_modules.specs.Renamings.{renamed};
 ghost use Rattle.est_syntax.specs.Views.{renaming_view};
 
-use est_link::emission::Emission;
-use est_link::head::Head;
-use est_link::{emissions, renamings};
+use est_checks::emission::Emission;
+use est_checks::module_emissions;
+use est_modules::head::Head;
+use est_modules::renamings;
 use est_syntax::tree::Renaming;
 use est_text::identifier::Identifier;
 use std::alloc::{AllocError, Global};
@@ -30,7 +31,7 @@ pub fn emissions_of<'a>(
         → stands_in v.items s ≡ list_any (emits_here (map program_of heads.now)
         (emitted_of table.now) s) (occurrences [] (program_of home.now).body)) }
 {
-    emissions::emissions_of(alloc, heads, table, home)
+    module_emissions::emissions_of(alloc, heads, table, home)
 }
 
 /// The caller's name for a signal of the module that is run.

@@ -1,25 +1,25 @@
 //! The first faults of libraries.
 ghost use Rattle.std.specs.Prelude.{◌≡◌, [], map, option_map, IfOk};
-ghost use Rattle.est_link.specs.Duplicates.{first_duplicate};
-ghost use Rattle.est_link.specs.Emissions.{emitted_of, refused_at};
-ghost use Rattle.est_link.specs.LinkFaults.{lawless_number, fault_before_order, fault_behind_order};
-ghost use Rattle.est_link.specs.Modules.{program_of, first_in_bodies};
-ghost use Rattle.est_link.specs.Occurrences.{first_of, occurrences};
-ghost use Rattle.est_link.specs.Renamings.{bad_renaming_at};
-ghost use Rattle.est_link.specs.Visible.{unknown_at};
+ghost use Rattle.est_checks.specs.Duplicates.{first_duplicate};
+ghost use Rattle.est_checks.specs.Emissions.{emitted_of, refused_at};
+ghost use Rattle.est_checks.specs.LinkFaults.{lawless_number, fault_before_order, fault_behind_order};
+ghost use Rattle.est_modules.specs.Modules.{program_of, first_in_bodies};
+ghost use Rattle.est_modules.specs.Occurrences.{first_of, occurrences};
+ghost use Rattle.est_checks.specs.BadRenamings.{bad_renaming_at};
+ghost use Rattle.est_checks.specs.UnknownNames.{unknown_at};
 
-use est_link::check::{Check, first_in_bodies, first_in_body};
-use est_link::emission::Emission;
-use est_link::fault::LinkFault;
-use est_link::head::{Head, head_named};
-use est_link::open_names::OpenNames;
-use est_link::relations::first_lawless;
-use est_link::renamings::BadRename;
-use est_link::runs::first_missing;
-use est_link::scope::{Act, Scope};
-use est_link::unknown::UnknownName;
-use est_link::unseen::unseen_of;
-use est_link::{duplicates, emission};
+use est_checks::bad_renamings::BadRename;
+use est_checks::emission::Emission;
+use est_checks::fault::LinkFault;
+use est_checks::lawless_relations::first_lawless;
+use est_checks::missing_modules::first_missing;
+use est_checks::place_check::{Check, first_in_bodies, first_in_body};
+use est_checks::unknown_names::UnknownName;
+use est_checks::unseen_names::unseen_of;
+use est_checks::{duplicates, input_emissions};
+use est_modules::head::{Head, head_named};
+use est_modules::open_names::OpenNames;
+use est_modules::scope::{Act, Scope};
 use est_text::identifier::Identifier;
 use std::alloc::{AllocError, Global};
 
@@ -64,9 +64,9 @@ pub struct Unknown<'a> {
 
 impl Check for Unknown<'_> {
     ghost use Rattle.std.specs.Prelude.{map};
-    ghost use Rattle.est_link.specs.Modules.{program_of, is_declared};
-    ghost use Rattle.est_link.specs.Unseen.{unseen_by};
-    ghost use Rattle.est_link.specs.Visible.{unknown_at};
+    ghost use Rattle.est_modules.specs.Modules.{program_of, is_declared};
+    ghost use Rattle.est_checks.specs.Unseen.{unseen_by};
+    ghost use Rattle.est_checks.specs.UnknownNames.{unknown_at};
 
     ghost base = { λ c. unseen_by (map program_of c.heads.now)
         (is_declared (program_of c.home.now).interface) };
@@ -135,7 +135,7 @@ pub fn first_refused<'a>(
     ensures { IfOk result (λ name. name ≡ first_in_bodies (refused_at (map program_of heads.now)
         (emitted_of table.now)) (map program_of heads.now)) }
 {
-    emission::first_refused(alloc, heads, table)
+    input_emissions::first_refused(alloc, heads, table)
 }
 
 /// The number of the first lawless relation of the main module.

@@ -1,9 +1,9 @@
 //! Libraries and the flat body of their main module.
-use est_link::duplicates::first_duplicate;
-use est_link::head::Head;
-use est_link::heads::heads_of;
-use est_link::orders::order_heads;
-use est_link::runs::first_missing;
+use est_checks::duplicates::first_duplicate;
+use est_checks::missing_modules::first_missing;
+use est_modules::head::Head;
+use est_modules::library_heads::heads_of;
+use est_modules::module_order::order_heads;
 use est_reduce::body::{Body, BoundSignal};
 use est_syntax::parse::parse;
 use est_text::identifier::Identifier;

@@ -1,8 +1,8 @@
 //! Libraries and the first fault of their checks.
-use est_link::emission::Emission;
-use est_link::fault::LinkFault;
-use est_link::head::Head;
-use est_link::heads::heads_of;
+use est_checks::emission::Emission;
+use est_checks::fault::LinkFault;
+use est_modules::head::Head;
+use est_modules::library_heads::heads_of;
 use est_syntax::parse::parse;
 use est_syntax::tree::Renaming;
 use est_text::identifier::Identifier;

@@ -1,5 +1,5 @@
 //! Libraries that are linked, and the first fault of all their checks.
-use est_link::fault::{Limit, LinkFault};
+use est_checks::fault::{Limit, LinkFault};
 use est_reduce::flat::Flat;
 use est_syntax::parse::parse;
 use est_text::identifier::Identifier;

@@ -1,7 +1,7 @@
 //! Texts that a stranger may send in one line of 64 KiB, made so that a load would cost much, and the answer of each. How long each takes is
 //! said by `bench/loads.py`.
 use crate::links::{Kind, is_told, link_text, with_runs};
-use est_link::fault::{Limit, LinkFault};
+use est_checks::fault::{Limit, LinkFault};
 use est_reduce::reduce::reduce;
 use std::alloc::Global;
 use std::test::Fail;

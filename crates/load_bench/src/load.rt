@@ -1,5 +1,5 @@
 //! A load, as often as it is told.
-use est_link::fault::LinkFault;
+use est_checks::fault::LinkFault;
 use est_link::link::link;
 use est_reduce::fault::ReduceFault;
 use est_reduce::reduce::reduce;

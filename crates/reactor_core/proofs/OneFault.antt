@@ -4,10 +4,10 @@ use Rattle.std.specs.Prelude.{Some, None, Option}
 use Rattle.est_kernel.specs.Limits.{limit_passed}
 use Rattle.est_kernel.specs.StartCodes.{IsLoopSafe}
 use Rattle.est_kernel.specs.declared.limits.Limit.{Limit}
-use Rattle.est_link.specs.FirstFaults.{IsFirstFault}
-use Rattle.est_link.specs.Modules.{programs_of}
-use Rattle.est_link.specs.declared.fault.LinkFault.{LinkFault}
-use Rattle.est_link.proofs.Uniqueness.{one_first_fault}
+use Rattle.est_checks.specs.FirstFaults.{IsFirstFault}
+use Rattle.est_modules.specs.Modules.{programs_of}
+use Rattle.est_checks.specs.declared.fault.LinkFault.{LinkFault}
+use Rattle.est_checks.proofs.Uniqueness.{one_first_fault}
 use Rattle.est_reduce.specs.Bodies.{Body}
 use Rattle.est_reduce.specs.Reducing.{IsFaultOf}
 use Rattle.est_reduce.specs.Views.{body_of}

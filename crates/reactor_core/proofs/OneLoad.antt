@@ -4,8 +4,9 @@ use Rattle.std.specs.Prelude.{None}
 use Rattle.est_kernel.specs.Term.{Term}
 use Rattle.est_kernel.specs.declared.interface.Declaration.{Declaration}
 use Rattle.est_link.specs.Alike.{AreAlike}
-use Rattle.est_link.specs.FirstFaults.{IsFirstFault, IsFlatOf}
-use Rattle.est_link.specs.Modules.{Program, programs_of}
+use Rattle.est_checks.specs.FirstFaults.{IsFirstFault}
+use Rattle.est_link.specs.FlatModules.{IsFlatOf}
+use Rattle.est_modules.specs.Modules.{Program, programs_of}
 use Rattle.est_reduce.specs.Reductions.{kernel_term}
 use Rattle.est_reduce.specs.declared.flat.Flat.{Flat}
 use Rattle.est_relations.specs.declared.relations.Relation.{Relation}

@@ -3,10 +3,10 @@
 use Rattle.std.specs.Prelude.{ℕ, List}
 use Rattle.est_kernel.specs.declared.limits.Limit.{Limit as KernelLimit}
 use Rattle.est_kernel.specs.declared.limits.Limit.TheVariants as kernel
-use Rattle.est_link.specs.declared.fault.Limit.{Limit as LinkLimit}
-use Rattle.est_link.specs.declared.fault.Limit.TheVariants as limit
-use Rattle.est_link.specs.declared.fault.LinkFault.{LinkFault}
-use Rattle.est_link.specs.declared.fault.LinkFault.TheVariants as link
+use Rattle.est_checks.specs.declared.fault.Limit.{Limit as LinkLimit}
+use Rattle.est_checks.specs.declared.fault.Limit.TheVariants as limit
+use Rattle.est_checks.specs.declared.fault.LinkFault.{LinkFault}
+use Rattle.est_checks.specs.declared.fault.LinkFault.TheVariants as link
 use Rattle.est_reduce.specs.declared.fault.ReduceFault.{ReduceFault}
 use Rattle.est_reduce.specs.declared.fault.ReduceFault.TheVariants as reduce
 use Rattle.est_relations.specs.declared.refusal.Refusal.{Refusal as PendingRefusal}

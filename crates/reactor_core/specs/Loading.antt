@@ -5,9 +5,10 @@ use Rattle.est_kernel.specs.Limits.{limit_passed}
 use Rattle.est_kernel.specs.StartCodes.{IsLoopSafe}
 use Rattle.est_kernel.specs.Term.{Term}
 use Rattle.est_kernel.specs.declared.interface.Declaration.{Declaration}
-use Rattle.est_link.specs.FirstFaults.{IsFirstFault, IsFlatOf}
-use Rattle.est_link.specs.Modules.{programs_of}
-use Rattle.est_link.specs.declared.fault.LinkFault.{LinkFault}
+use Rattle.est_checks.specs.FirstFaults.{IsFirstFault}
+use Rattle.est_link.specs.FlatModules.{IsFlatOf}
+use Rattle.est_modules.specs.Modules.{programs_of}
+use Rattle.est_checks.specs.declared.fault.LinkFault.{LinkFault}
 use Rattle.est_reduce.specs.Reducing.{IsFaultOf}
 use Rattle.est_reduce.specs.Reductions.{kernel_term}
 use Rattle.est_reduce.specs.Views.{body_of}

@@ -2,8 +2,8 @@
 ghost use Rattle.std.specs.Prelude.{◌≡◌};
 ghost use Rattle.reactor_core.specs.Refusals.{code_of, name_of, limit_text};
 
+use est_checks::fault::{Limit as LinkLimit, LinkFault};
 use est_kernel::limits::Limit as KernelLimit;
-use est_link::fault::{Limit as LinkLimit, LinkFault};
 use est_reduce::fault::ReduceFault;
 use est_relations::refusal::Refusal as PendingRefusal;
 use est_syntax::parse::ParseFault;

@@ -2,11 +2,11 @@
 use Rattle.std.specs.Prelude.{◌≡◌, ℕ, ◌≤◌, Bool, List, [], length, map, Some, None}
 use Rattle.est_kernel.specs.declared.interface.TheConstants.{MOST_SIGNALS}
 use Rattle.est_link.specs.Bodies.{HasSoundNames}
-use Rattle.est_link.specs.Duplicates.{first_duplicate, redeclared}
-use Rattle.est_link.specs.MainRelations.{first_lawless}
-use Rattle.est_link.specs.Modules.{Program, program_named}
-use Rattle.est_link.specs.Runs.{first_missing}
-use Rattle.est_link.specs.declared.head.Declared.{Declared}
+use Rattle.est_checks.specs.Duplicates.{first_duplicate, redeclared}
+use Rattle.est_checks.specs.LawlessRelations.{first_lawless}
+use Rattle.est_modules.specs.Modules.{Program, program_named}
+use Rattle.est_checks.specs.MissingModules.{first_missing}
+use Rattle.est_modules.specs.declared.head.Declared.{Declared}
 use Rattle.est_relations.specs.declared.relations.TheConstants.{MOST_RELATIONS}
 
 -- a main module without a fault, within the limits of its signals and relations

@@ -2,9 +2,9 @@
 use Rattle.std.specs.Prelude.{◌≡◌, ℕ, ◌<◌, ◌≤◌, true, List, length, slice_index, Some, Contains}
 use Rattle.std.specs.List.{slice_get}
 use Rattle.est_link.specs.Bodies.{is_listed}
-use Rattle.est_link.specs.Modules.{Program}
-use Rattle.est_link.specs.Orders.{run_rows}
-use Rattle.module_order.specs.Runs.{IsRun}
+use Rattle.est_modules.specs.Modules.{Program}
+use Rattle.est_modules.specs.ModuleOrders.{run_rows}
+use Rattle.est_modules.specs.RunRows.{IsRun}
 
 -- the set has, with each module, those that it runs
 abbrev pub IsClosed : List Program → List ℕ → Type 0

@@ -6,7 +6,7 @@ use Rattle.est_reduce.specs.Bodies.{Body, nothing}
 use Rattle.est_reduce.specs.Views.{body_of}
 use Rattle.est_link.specs.Bodies.{AllRuns}
 use Rattle.est_link.specs.Linking.{linked}
-use Rattle.est_link.specs.Modules.{Program, program_named}
+use Rattle.est_modules.specs.Modules.{Program, program_named}
 use Rattle.est_link.specs.declared.flatten.Linked.{Linked}
 
 -- the body of an entry that was looked for

@@ -1,6 +1,6 @@
 use Rattle.est_link.proofs.Alike.{one_flat}
 use Rattle.est_link.proofs.Answering.{one_fault, never_both}
-use Rattle.est_link.specs.Modules.{programs_of}
+use Rattle.est_modules.specs.Modules.{programs_of}
 use Rattle.est_link.proofs.laws.one_link.Goals as goal
 
 pub returns-clause-flat : goal.returns-clause-flat

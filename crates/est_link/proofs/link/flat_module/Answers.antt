@@ -1,5 +1,5 @@
 use Rattle.std.proofs.Common.{sym, map}
-use Rattle.est_link.specs.Modules.{program_of}
+use Rattle.est_modules.specs.Modules.{program_of}
 use Rattle.est_link.proofs.Checking.{is_checked}
 use Rattle.est_link.proofs.link.flat_module.Goals as goal
 

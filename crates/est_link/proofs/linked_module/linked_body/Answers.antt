@@ -3,12 +3,12 @@ use Rattle.est_link.specs.Bodies.{IsLinked}
 use Rattle.est_link.specs.Inner.Needs.{IsClosed, HasFront}
 use Rattle.est_link.specs.Inner.Tables.{has_body, bodies_of}
 use Rattle.est_link.specs.MainModule.{declarations_of}
-use Rattle.est_link.specs.Modules.{program_of}
-use Rattle.est_link.specs.Orders.{IsOrderOf}
+use Rattle.est_modules.specs.Modules.{program_of}
+use Rattle.est_modules.specs.ModuleOrders.{IsOrderOf}
 use Rattle.est_link.proofs.Bounding.{IsSound, made_sound}
 use Rattle.est_link.proofs.MainBody.{main_bound}
 use Rattle.est_link.proofs.Made.{made_linked}
-use Rattle.est_link.proofs.Ordering.{place_found}
+use Rattle.est_modules.proofs.Ordering.{place_found}
 use Rattle.est_link.proofs.Taking.{main_has, main_there, placed}
 use Rattle.est_reduce.specs.Bound.{IsBound}
 use Rattle.est_link.proofs.linked_module.linked_body.Goals as goal

@@ -2,7 +2,7 @@ use Rattle.std.proofs.Common.{◌∙◌, Bor, sym, ap, subst, map}
 use Rattle.est_syntax.specs.Views.{relation_view}
 use Rattle.est_syntax.specs.declared.tree.Relation.{Relation}
 use Rattle.est_link.specs.MainModule.{AreRelations, declaration_of}
-use Rattle.est_link.specs.Modules.{program_of}
+use Rattle.est_modules.specs.Modules.{program_of}
 use Rattle.est_link.proofs.MainRelating.{over_inputs}
 use Rattle.est_link.proofs.main_module.main_module.Goals as goal
 use Rattle.est_reduce.specs.Bound.{IsBound}

@@ -3,8 +3,9 @@ use Rattle.std.proofs.lemmas.Bool.{false≢true}
 use Rattle.std.proofs.lemmas.List.{length-map}
 use Rattle.est_link.specs.Bodies.{AreBottomUp}
 use Rattle.est_link.specs.Inner.Needs.{HasFront}
-use Rattle.est_link.specs.Modules.{program_of}
-use Rattle.est_link.proofs.Needing.{next_name, next_front, front_past, order_within, program_at}
+use Rattle.est_modules.specs.Modules.{program_of}
+use Rattle.est_link.proofs.Needing.{next_name, next_front, front_past}
+use Rattle.est_modules.proofs.Standing.{order_within, program_at}
 use Rattle.est_link.proofs.needed.names_along.Goals.{then-is_in+in_ok-push, else-is_in}
 use Rattle.est_link.proofs.needed.names_along.Goals as goal
 

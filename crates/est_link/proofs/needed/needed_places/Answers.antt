@@ -3,8 +3,9 @@ use Rattle.std.proofs.lemmas.Bool.{false≢true}
 use Rattle.std.proofs.lemmas.List.{length-map}
 use Rattle.std.proofs.lemmas.List.Elements.{Contains-append_left}
 use Rattle.est_link.specs.Inner.Needs.{IsClosedFrom}
-use Rattle.est_link.specs.Modules.{program_of}
-use Rattle.est_link.proofs.Needing.{closed_more, closed_past, closed_whole, order_within, program_at}
+use Rattle.est_modules.specs.Modules.{program_of}
+use Rattle.est_link.proofs.Needing.{closed_more, closed_past, closed_whole}
+use Rattle.est_modules.proofs.Standing.{order_within, program_at}
 use Rattle.est_link.proofs.needed.needed_places.Goals as goal
 
 pub places_at-requires : goal.places_at-requires

@@ -1,5 +1,5 @@
 use Rattle.std.proofs.Common.{◌≤◌, length, map, Contains}
-use Rattle.est_link.specs.Modules.{program_of}
+use Rattle.est_modules.specs.Modules.{program_of}
 use Rattle.est_link.specs.Inner.Needs.{IsClosedFrom}
 use Rattle.est_link.proofs.needed.needed_places.Given as goal
 

@@ -1,6 +1,6 @@
 use Rattle.std.proofs.Common.{◌≡◌, drop, map}
-use Rattle.est_link.specs.Modules.{program_of, first_in_bodies}
-use Rattle.est_link.specs.Visible.{unknown_at}
+use Rattle.est_modules.specs.Modules.{program_of, first_in_bodies}
+use Rattle.est_checks.specs.UnknownNames.{unknown_at}
 use Rattle.link_mistakes.proofs.faults.first_unknown.Given as goal
 
 abbrev pub invariant-loop-home : goal.invariant-loop-home

@@ -6,10 +6,10 @@ use Rattle.est_relations.specs.Keeping.{AreOverInputs}
 use Rattle.est_kernel.specs.Limits.{limit_passed}
 use Rattle.est_kernel.specs.StartCodes.{IsLoopSafe}
 use Rattle.est_kernel.specs.Term.{Term}
-use Rattle.est_link.specs.FirstFaults.{IsFirstFault}
-use Rattle.est_link.specs.Modules.{programs_of}
-use Rattle.est_link.specs.declared.fault.LinkFault.{LinkFault}
-use Rattle.est_link.specs.declared.fault.LinkFault.TheVariants as link
+use Rattle.est_checks.specs.FirstFaults.{IsFirstFault}
+use Rattle.est_modules.specs.Modules.{programs_of}
+use Rattle.est_checks.specs.declared.fault.LinkFault.{LinkFault}
+use Rattle.est_checks.specs.declared.fault.LinkFault.TheVariants as link
 use Rattle.est_syntax.specs.Tree.{LibraryTree}
 use Rattle.est_syntax.specs.Views.{library_view}
 use Rattle.est_text.specs.declared.lex.LexFault.TheVariants as lex

@@ -1,0 +1,57 @@
+-- What a run without renamings emits, among the names that no `signal` round it declares.
+use Rattle.std.proofs.Common.{◌≡◌, ◌||◌, ◌&&◌, not, ℕ, List, [], ◌∷◌, Some, None, Option, Bool, true, false, cond, map, filter, refl, ap, sym, ◌∙◌}
+use Rattle.std.specs.List.{list_any}
+use Rattle.std.specs.Str.{bytes_eq}
+use Rattle.est_modules.specs.Visible.{stands_in}
+use Rattle.est_checks.specs.Emissions.{emits_in_run}
+use Rattle.est_checks.specs.Inner.Emitted.{sent_in}
+use Rattle.est_modules.specs.Modules.{Program, program_named}
+use Rattle.est_modules.specs.Occurrences.{Binder}
+use Rattle.est_modules.specs.OpenNames.{open_at}
+use Rattle.est_modules.specs.Visible.{is_local}
+use Rattle.est_modules.specs.declared.head.Declared.{Declared}
+use Rattle.est_modules.proofs.Testing.{same_bytes, found_passes}
+
+and_false : (b : Bool) → (b && false) ≡ false
+and_false true = refl
+and_false false = refl
+
+distributed : (a b c : Bool) → ((a && b) || (a && c)) ≡ (a && (b || c))
+distributed true b c = refl
+distributed false b c = refl
+
+one_left : (p : List ℕ → Bool) (n s : List ℕ) (r : Bool) (e : Bool) → bytes_eq n s ≡ e → ((p n && e) || (p s && r)) ≡ (p s && (e || r))
+one_left p n s r true same = ap (λ m. (p m && true) || (p s && r)) (same_bytes n s same) ∙ distributed (p s) true r
+one_left p n s r false other = ap (λ b. b || (p s && r)) (and_false (p n))
+
+-- a name that is kept stands in the list, or in its rest
+kept_name : (p : List ℕ → Bool) (n : List ℕ) (ns : List (List ℕ)) (s : List ℕ) (b : Bool) → stands_in (cond b (n ∷ ns) ns) s ≡ ((b && bytes_eq n s) || stands_in ns s)
+kept_name p n ns s true = refl
+kept_name p n ns s false = refl
+
+-- what stands in a list from which names were taken is the name of one that was left
+stands_left : (p : List ℕ → Bool) (ns : List (List ℕ)) (s : List ℕ) → stands_in (filter p ns) s ≡ (p s && stands_in ns s)
+stands_left p [] s = sym (and_false (p s))
+stands_left p (n ∷ ns) s =
+    kept_name p n (filter p ns) s (p n)
+    ∙ ap (λ b. (p n && bytes_eq n s) || b) (stands_left p ns s)
+    ∙ one_left p n s (stands_in ns s) (bytes_eq n s) refl
+
+-- the name of an interface signal that passes
+named_so : (p : List ℕ → Bool) (ds : List Declared) (s : List ℕ) → list_any (λ (d : Declared). p d.name && bytes_eq d.name s) ds ≡ (p s && stands_in (map (λ (d : Declared). d.name) ds) s)
+named_so p [] s = sym (and_false (p s))
+named_so p (d ∷ ds) s =
+    ap (λ b. (p d.name && bytes_eq d.name s) || b) (named_so p ds s)
+    ∙ one_left p d.name s (stands_in (map (λ (d : Declared). d.name) ds) s) (bytes_eq d.name s) refl
+
+-- the names that are left are those that the run emits
+left_sent : (em : List ℕ → List ℕ → Bool) (bs : List Binder) (m : List ℕ) (q : Program) (s : List ℕ) → q.name ≡ m → stands_in (open_at bs (sent_in (em m) (Some q))) s ≡ (not (is_local bs s) && emits_in_run em s [] (Some q))
+left_sent em bs m q s named =
+    stands_left (λ n. not (is_local bs n)) (filter (em m) (map (λ (d : Declared). d.name) q.interface)) s
+    ∙ ap (λ b. not (is_local bs s) && b) (stands_left (em m) (map (λ (d : Declared). d.name) q.interface) s ∙ sym (named_so (em m) q.interface s) ∙ ap (λ k. list_any (λ (d : Declared). em k d.name && bytes_eq d.name s) q.interface) (sym named))
+
+-- the same of a module that was asked for
+pub sent_left : (ps : List Program) (em : List ℕ → List ℕ → Bool) (bs : List Binder) (m : List ℕ) (q : Program) (s : List ℕ) → program_named ps m ≡ Some q → stands_in (open_at bs (sent_in (em m) (program_named ps m))) s ≡ (not (is_local bs s) && emits_in_run em s [] (Some q))
+sent_left ps em bs m q s found =
+    ap (λ o. stands_in (open_at bs (sent_in (em m) o)) s) found
+    ∙ left_sent em bs m q s (same_bytes q.name m (found_passes (λ (p : Program). bytes_eq p.name m) ps q found))

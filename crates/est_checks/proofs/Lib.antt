@@ -1,0 +1,16 @@
+pub mod Deciding
+pub mod Declaring
+pub mod Emitting
+pub mod Filling
+pub mod Finding
+pub mod First
+pub mod Leaving
+pub mod Listing
+pub mod Noting
+pub mod OneName
+pub mod Quieting
+pub mod RunsThere
+pub mod Sending
+pub mod Sums
+pub mod Unbinding
+pub mod Uniqueness

@@ -1,0 +1,10 @@
+use Rattle.std.proofs.Common.{◌≡◌, [], map, take, drop}
+use Rattle.est_modules.specs.Modules.{program_of}
+use Rattle.est_checks.specs.Duplicates.{duplicate_after}
+use Rattle.est_modules.specs.declared.head.Head.{Head}
+use Rattle.est_checks.proofs.duplicates.first_duplicate.Given as goal
+
+abbrev pub invariant-loop-index : goal.invariant-loop-index
+invariant-loop-index l =
+    let name = λ (h : Head). h.name in
+    duplicate_after [] (map program_of l.heads) ≡ duplicate_after (map name (take l.index l.heads)) (map program_of (drop l.index l.heads))

@@ -1,0 +1,5 @@
+pub mod Emitted
+pub mod Noted
+pub mod Numbers
+pub mod Recursion
+pub mod Sent

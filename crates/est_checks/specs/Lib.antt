@@ -1,0 +1,12 @@
+pub mod BadRenamings
+pub mod Counting
+pub mod Duplicates
+pub mod Emissions
+pub mod FirstFaults
+pub mod Harmless
+pub mod Inner
+pub mod LawlessRelations
+pub mod LinkFaults
+pub mod MissingModules
+pub mod UnknownNames
+pub mod Unseen

@@ -1,0 +1,141 @@
+//! Names that are declared a second time, and `tick`.
+ghost use Rattle.std.specs.Prelude.{◌≡◌, ◌∷◌, [], map, IfOk};
+ghost use Rattle.std.specs.List.{list_any};
+ghost use Rattle.std.specs.Str.{bytes_eq};
+ghost use Rattle.est_syntax.specs.Views.{names_view};
+ghost use Rattle.est_modules.specs.Modules.{program_of};
+ghost use Rattle.est_checks.specs.Duplicates.{redeclared, redeclared_in, duplicate_of, first_duplicate};
+
+use crate::place_check::{Check, first_in_body};
+use est_modules::head::{Declared, Head};
+use est_modules::name_set::NameSet;
+use est_modules::open_names::OpenNames;
+use est_modules::scope::{Act, Scope};
+use est_modules::visibility::is_tick;
+use est_syntax::tree::Names;
+use est_text::identifier::Identifier;
+use std::alloc::{AllocError, Global};
+
+/// The first of some names that is `tick` or stands before it in the list.
+fn redeclared(alloc: Global, names: &[Identifier]) -> Result<Option<Identifier>, AllocError>
+    ensures { IfOk result (λ name. name ≡ redeclared [] names.now) }
+{
+    let mut seen = NameSet::new(alloc);
+    for name in names {
+        if is_tick(name) || !seen.insert(name)? {
+            return Ok(Some(*name));
+        }
+    }
+    Ok(None)
+}
+
+/// The first name of a `signal` list that is `tick` or stands before it in the list.
+fn redeclared_name(alloc: Global, names: &Names) -> Result<Option<Identifier>, AllocError>
+    ensures { IfOk result (λ name. name ≡ redeclared [] (names.now.first ∷ names.now.later.items)) }
+{
+    let mut listed = Vec::new(alloc);
+    listed.push(names.first)?;
+    listed.extend_from_slice(&names.later)?;
+    redeclared(alloc, &listed)
+}
+
+/// The names of an interface, in their order.
+fn listed(alloc: Global, interface: &[Declared]) -> Result<Vec<Identifier>, AllocError>
+    ensures { IfOk result (λ names. names.items ≡ map (λ d. d.name) interface.now) }
+{
+    let mut names = Vec::new(alloc);
+    for declared in interface {
+        names.push(declared.name)?;
+    }
+    Ok(names)
+}
+
+/// The first name of an interface that is `tick` or stands before it there.
+fn redeclared_signal(
+    alloc: Global,
+    interface: &[Declared],
+) -> Result<Option<Identifier>, AllocError>
+    ensures { IfOk result (λ name. name ≡ redeclared [] (map (λ d. d.name) interface.now)) }
+{
+    redeclared(alloc, &listed(alloc, interface)?)
+}
+
+/// The check for `signal` lists that have a name twice, or `tick`.
+#[derive(Clone, Copy)]
+struct DuplicateLocal {
+    alloc: Global,
+}
+
+impl Check for DuplicateLocal {
+    ghost use Rattle.std.specs.Prelude.{[]};
+    ghost use Rattle.est_checks.specs.Duplicates.{redeclared_at};
+
+    ghost base = { λ c m. [] };
+
+    ghost fault = { λ c. redeclared_at };
+
+    fn fault(
+        &self,
+        _home: &Head<'_>,
+        _kept: &OpenNames,
+        act: &Act<'_>,
+        _scope: &Scope<'_>,
+    ) -> Result<Option<Identifier>, AllocError> {
+        match act {
+            Act::Emits(_) | Act::Tests(_) | Act::Exits(_) | Act::Runs(_, _) => Ok(None),
+            Act::Binds(names) => redeclared_name(self.alloc, names),
+        }
+    }
+}
+
+/// The first signal of a module that is declared a second time, or is `tick`.
+fn redeclared_in<'a>(alloc: Global, home: &'a Head<'a>) -> Result<Option<Identifier>, AllocError>
+    ensures { IfOk result (λ name. name ≡ redeclared_in (program_of home.now)) }
+{
+    if let Some(name) = redeclared_signal(alloc, &home.interface)? {
+        return Ok(Some(name));
+    }
+    first_in_body(&DuplicateLocal { alloc }, &OpenNames::new(alloc), &*home)
+}
+
+fn is_named(heads: &[Head<'_>], name: &Identifier) -> bool
+    ensures { result ≡ list_any (λ h. bytes_eq h.name name.now) heads.now }
+{
+    heads.iter().any(|head| head.name.is(name))
+}
+
+/// The name of a module that stands behind one of its name; else the first signal of it that is declared a second time.
+#[tactic(auto, using(est_modules::proofs::Lists::any_map))]
+fn duplicate_of<'a>(
+    alloc: Global,
+    before: &'a [Head<'a>],
+    home: &'a Head<'a>,
+) -> Result<Option<Identifier>, AllocError>
+    ensures { IfOk result (λ name. name ≡ duplicate_of (map (λ h. h.name) before.now) (program_of
+        home.now)) }
+{
+    if is_named(before, &home.name) {
+        return Ok(Some(home.name));
+    }
+    redeclared_in(alloc, home)
+}
+
+/// The first name of a library that is declared a second time, or is `tick`: of a module, of an interface, or in one
+/// `signal` list.
+///
+/// # Errors
+///
+/// `AllocError` where memory is refused for the names that were met.
+pub fn first_duplicate<'a>(
+    alloc: Global,
+    heads: &'a [Head<'a>],
+) -> Result<Option<Identifier>, AllocError>
+    ensures { IfOk result (λ name. name ≡ first_duplicate (map program_of heads.now)) }
+{
+    for index in 0..heads.len() {
+        if let Some(name) = duplicate_of(alloc, &heads[..index], &heads[index])? {
+            return Ok(Some(name));
+        }
+    }
+    Ok(None)
+}

@@ -1,0 +1,25 @@
+//! The checks of a library of modules that is to be linked: its first fault, or that it has none.
+//!
+//! A check is asked of each place of a body in the order of the text, and answers the first that has its fault
+//! (`place_check`). `check_library` asks all of them in their order, before any run is replaced, so that a library costs
+//! no more than its text. `specs/FirstFaults` says which fault is the first; `laws`, that there is only one.
+#![tactic(auto)]
+
+pub mod bad_renamings;
+pub mod duplicates;
+pub mod emission;
+pub mod fault;
+pub mod harmless_runs;
+pub mod input_emissions;
+pub mod lawless_relations;
+pub mod laws;
+pub mod library_check;
+mod limits;
+pub mod missing_modules;
+pub mod module_emissions;
+pub mod place_check;
+pub mod round_order;
+pub mod run_emissions;
+pub mod statement_count;
+pub mod unknown_names;
+pub mod unseen_names;

@@ -1,0 +1,85 @@
+//! All checks of a library, in their order.
+ghost use Rattle.std.specs.Prelude.{◌≡◌, None, IfOk, IfErr, OnOk, map};
+ghost use Rattle.est_checks.specs.Duplicates.{first_duplicate};
+ghost use Rattle.est_checks.specs.FirstFaults.{ByNames, ByRuns, Finds, IsFirstFault};
+ghost use Rattle.est_checks.specs.Inner.Recursion.{IsOrderFault};
+ghost use Rattle.est_modules.specs.Modules.{program_of};
+ghost use Rattle.est_modules.specs.ModuleOrders.{IsOrderOf, run_rows};
+ghost use Rattle.est_modules.specs.PlaceOrders.{NoneIsRecursive};
+
+use crate::fault::LinkFault;
+use crate::limits::check_limits;
+use crate::module_emissions::emissions_along;
+use crate::round_order::{fault_before_order, fault_behind_order};
+use est_modules::head::Head;
+use est_modules::module_order::{name_at, order_heads};
+use est_modules::order_fault::OrderFault;
+use est_modules::place_order::Order;
+use est_text::identifier::Identifier;
+use std::alloc::Global;
+
+/// The order of the modules. A module that is recursive is at fault.
+fn order_of<'a>(alloc: Global, heads: &'a [Head<'a>]) -> Result<Order, LinkFault>
+    ensures order { IfOk result (λ order. IsOrderOf (map program_of heads.now) order) }
+    ensures ok { OnOk result (NoneIsRecursive (run_rows (map program_of heads.now))) }
+    ensures err { IfErr result (IsOrderFault (map program_of heads.now)) }
+{
+    match order_heads(alloc, &*heads) {
+        Ok(order) => Ok(order),
+        Err(OrderFault::Recursive(place)) => Err(LinkFault::RecursiveRun(name_at(heads, place))),
+        Err(OrderFault::Memory) => Err(LinkFault::Memory),
+    }
+}
+
+/// The checks from that of renamings on.
+fn check_names<'a>(
+    alloc: Global,
+    heads: &'a [Head<'a>],
+    order: &Order,
+    main: &Identifier,
+) -> Result<(), LinkFault>
+    requires order { IsOrderOf (map program_of heads.now) order.now }
+    requires distinct { first_duplicate (map program_of heads.now) ≡ None }
+    ensures { Finds (ByNames (map program_of heads.now) main.now) result }
+{
+    let table = emissions_along(alloc, &*heads, order.places())?;
+    match fault_behind_order(alloc, &*heads, main, &table)? {
+        Some(fault) => Err(fault),
+        None => check_limits(alloc, heads, order, main),
+    }
+}
+
+/// The checks from that of recursive runs on.
+fn check_runs<'a>(
+    alloc: Global,
+    heads: &'a [Head<'a>],
+    main: &Identifier,
+) -> Result<Order, LinkFault>
+    requires { first_duplicate (map program_of heads.now) ≡ None }
+    ensures order { IfOk result (λ order. IsOrderOf (map program_of heads.now) order) }
+    ensures found { Finds (ByRuns (map program_of heads.now) main.now) result }
+{
+    let order = order_of(alloc, &*heads)?;
+    check_names(alloc, &*heads, &order, main)?;
+    Ok(order)
+}
+
+/// All checks of a library in their order: the order of its modules, each after those that it runs, exactly where no
+/// check has a fault.
+///
+/// # Errors
+///
+/// The first fault, or `Memory`.
+pub fn check_library<'a>(
+    alloc: Global,
+    heads: &'a [Head<'a>],
+    main: &Identifier,
+) -> Result<Order, LinkFault>
+    ensures order { IfOk result (λ order. IsOrderOf (map program_of heads.now) order) }
+    ensures found { Finds (IsFirstFault (map program_of heads.now) main.now) result }
+{
+    match fault_before_order(alloc, &*heads, main)? {
+        Some(fault) => Err(fault),
+        None => check_runs(alloc, &*heads, main),
+    }
+}

@@ -1,0 +1,65 @@
+//! Modules that are asked for and aren't there.
+ghost use Rattle.std.specs.Prelude.{◌≡◌, map, IfOk};
+ghost use Rattle.est_modules.specs.Modules.{program_of};
+ghost use Rattle.est_checks.specs.MissingModules.{first_missing};
+
+use crate::place_check::{Check, first_in_bodies};
+use est_modules::head::{Head, head_named};
+use est_modules::open_names::OpenNames;
+use est_modules::scope::{Act, Scope};
+use est_text::identifier::Identifier;
+use std::alloc::{AllocError, Global};
+
+/// The check for runs of modules that aren't there.
+#[derive(Clone, Copy)]
+pub struct UnknownModule<'a> {
+    /// The modules of the library.
+    pub heads: &'a [Head<'a>],
+}
+
+impl Check for UnknownModule<'_> {
+    ghost use Rattle.std.specs.Prelude.{[], map};
+    ghost use Rattle.est_modules.specs.Modules.{program_of};
+    ghost use Rattle.est_checks.specs.MissingModules.{missing_at};
+
+    ghost base = { λ c m. [] };
+
+    ghost fault = { λ c. missing_at (map program_of c.heads.now) };
+
+    fn fault(
+        &self,
+        _home: &Head<'_>,
+        _kept: &OpenNames,
+        act: &Act<'_>,
+        _scope: &Scope<'_>,
+    ) -> Result<Option<Identifier>, AllocError> {
+        match act {
+            Act::Emits(_) | Act::Tests(_) | Act::Exits(_) | Act::Binds(_) => Ok(None),
+            Act::Runs(name, _) => match head_named(self.heads, name) {
+                Some(_) => Ok(None),
+                None => Ok(Some(*name)),
+            },
+        }
+    }
+}
+
+/// The main module where it isn't there; else the first module that is run and isn't there.
+///
+/// # Errors
+///
+/// `AllocError`, as a check answers it.
+pub fn first_missing<'a>(
+    alloc: Global,
+    heads: &'a [Head<'a>],
+    main: &Identifier,
+) -> Result<Option<Identifier>, AllocError>
+    ensures { IfOk result (λ name. name ≡ first_missing (map program_of heads.now) main.now) }
+{
+    match head_named(heads, main) {
+        Some(_) => {
+            let kept = OpenNames::new(alloc);
+            first_in_bodies(&kept, &UnknownModule { heads: &*heads }, &*heads)
+        }
+        None => Ok(Some(*main)),
+    }
+}

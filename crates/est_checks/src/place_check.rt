@@ -1,0 +1,125 @@
+//! Checks, and the first fault that a check finds.
+ghost use Rattle.std.specs.Prelude.{◌≡◌, [], map, IfOk};
+ghost use Rattle.est_modules.specs.Modules.{program_of, first_in_bodies};
+ghost use Rattle.est_modules.specs.Occurrences.{first_of, occurrences};
+ghost use Rattle.est_modules.specs.OpenNames.{AreOpen, opens_of};
+
+use est_modules::head::Head;
+use est_modules::open_names::OpenNames;
+use est_modules::scope::{Act, Scope};
+use est_modules::visit::Visitor;
+use est_modules::walk::walk_body;
+use est_text::identifier::Identifier;
+use std::alloc::AllocError;
+
+/// A check of the places in the bodies of modules.
+pub trait Check {
+    ghost use Rattle.std.specs.Prelude.{ℕ, List, Option, IfOk};
+    ghost use Rattle.est_modules.specs.Modules.{Program, program_of};
+    ghost use Rattle.est_modules.specs.Occurrences.{Occurrence};
+    ghost use Rattle.est_modules.specs.OpenNames.{AreOpen, opens_of};
+    ghost use Rattle.est_modules.specs.Scopes.{act_of, binders_of};
+
+    /// The name of the fault at an occurrence in a module, if it is one.
+    ghost fault: { Self → Program → Occurrence → Option (List ℕ) };
+
+    /// The names of a module that is run which the walk keeps, as far as no `signal` round a place declares them.
+    ghost base: { Self → List ℕ → List (List ℕ) };
+
+    /// The name of the fault at a place in the module `home`, if it is one.
+    ///
+    /// # Errors
+    ///
+    /// `AllocError` where memory is refused for what is looked up.
+    fn fault(
+        &self,
+        home: &Head<'_>,
+        kept: &OpenNames,
+        act: &Act<'_>,
+        scope: &Scope<'_>,
+    ) -> Result<Option<Identifier>, AllocError>
+        requires { AreOpen (base self.now) (binders_of scope.now) (opens_of kept.now) }
+        ensures { IfOk result (λ name. name ≡ fault self.now (program_of home.now) (record
+            { act = act_of act.now; round = binders_of scope.now })) };
+}
+
+/// Keeps the first fault that a check finds in a module.
+#[derive(Clone, Copy)]
+struct First<'a, C> {
+    check: &'a C,
+    home: &'a Head<'a>,
+}
+
+impl<C: Check> Visitor for First<'_, C> {
+    ghost use Rattle.std.specs.Prelude.{ℕ, List, Option};
+    ghost use Rattle.std.specs.Option.{option_or};
+    ghost use Rattle.est_modules.specs.Modules.{program_of};
+
+    type Seen = Option<Identifier>;
+
+    ghost State = { Option (List ℕ) };
+
+    ghost state = { λ seen. seen };
+
+    ghost base = { λ v. C.base v.check.now };
+
+    ghost after = { λ v found o. option_or found (C.fault v.check.now (program_of v.home.now) o) };
+
+    fn visit(
+        &self,
+        seen: &mut Option<Identifier>,
+        kept: &OpenNames,
+        act: &Act<'_>,
+        scope: &Scope<'_>,
+    ) -> Result<(), AllocError> {
+        if seen.is_none() {
+            *seen = self.check.fault(self.home, kept, act, scope)?;
+        }
+        Ok(())
+    }
+}
+
+/// The first fault in the body of a module, in the order of the text.
+///
+/// # Errors
+///
+/// `AllocError` where memory is refused for what is looked up.
+pub fn first_in_body<'a, C: Check>(
+    check: &'a C,
+    kept: &OpenNames,
+    home: &'a Head<'a>,
+) -> Result<Option<Identifier>, AllocError>
+    requires { AreOpen (C.base check.now) [] (opens_of kept.now) }
+    ensures { IfOk result (λ name. name ≡ first_of (C.fault check.now (program_of home.now))
+        (occurrences [] (program_of home.now).body)) }
+{
+    let mut found = None;
+    let first = First {
+        check: &*check,
+        home: &*home,
+    };
+    walk_body(&first, &mut found, kept, home.body)?;
+    Ok(found)
+}
+
+/// The first fault in the bodies of modules, in the order of the text.
+///
+/// # Errors
+///
+/// `AllocError` where memory is refused for what is looked up.
+pub fn first_in_bodies<'a, C: Check>(
+    kept: &OpenNames,
+    check: &'a C,
+    heads: &'a [Head<'a>],
+) -> Result<Option<Identifier>, AllocError>
+    requires { AreOpen (C.base check.now) [] (opens_of kept.now) }
+    ensures { IfOk result (λ name. name ≡ first_in_bodies (C.fault check.now) (map program_of
+        heads.now)) }
+{
+    for home in heads {
+        if let Some(name) = first_in_body(&*check, kept, &*home)? {
+            return Ok(Some(name));
+        }
+    }
+    Ok(None)
+}

@@ -1,0 +1,84 @@
+//! The checks of a library in their order.
+ghost use Rattle.std.specs.Prelude.{◌≡◌, map, option_map, IfOk};
+ghost use Rattle.est_modules.specs.Modules.{program_of};
+ghost use Rattle.est_checks.specs.Emissions.{emitted_of};
+ghost use Rattle.est_checks.specs.LinkFaults.{lawless_number, fault_before_order, fault_behind_order};
+
+use crate::bad_renamings::BadRename;
+use crate::duplicates::first_duplicate;
+use crate::emission::Emission;
+use crate::fault::LinkFault;
+use crate::input_emissions::first_refused;
+use crate::lawless_relations::first_lawless;
+use crate::missing_modules::first_missing;
+use crate::place_check::first_in_bodies;
+use crate::unknown_names::first_unknown;
+use est_modules::head::{Head, head_named};
+use est_modules::open_names::OpenNames;
+use est_text::identifier::Identifier;
+use std::alloc::{AllocError, Global};
+
+/// The first fault of the checks that come before the order of the modules: names that are declared twice, modules
+/// that aren't there.
+///
+/// # Errors
+///
+/// `AllocError` where memory is refused for the names that were met.
+pub fn fault_before_order<'a>(
+    alloc: Global,
+    heads: &'a [Head<'a>],
+    main: &Identifier,
+) -> Result<Option<LinkFault>, AllocError>
+    ensures { IfOk result (λ fault. fault ≡ fault_before_order (map program_of heads.now)
+        main.now) }
+{
+    if let Some(name) = first_duplicate(alloc, &*heads)? {
+        return Ok(Some(LinkFault::DuplicateName(name)));
+    }
+    match first_missing(alloc, &*heads, main)? {
+        Some(name) => Ok(Some(LinkFault::UnknownModule(name))),
+        None => Ok(None),
+    }
+}
+
+/// The number of the first lawless relation of the main module.
+fn lawless_number(alloc: Global, main: Option<&Head<'_>>) -> Result<Option<usize>, AllocError>
+    ensures { IfOk result (λ number. number ≡ lawless_number (option_map (λ h. program_of h.now)
+        main.entry)) }
+{
+    match main {
+        Some(home) => first_lawless(alloc, home),
+        None => Ok(None),
+    }
+}
+
+/// The first fault of the checks that come behind the order of the modules: renamings, names that aren't visible,
+/// emissions of inputs, relations of the main module. The table says what each module emits.
+///
+/// # Errors
+///
+/// `AllocError` where memory is refused for the list of the relations.
+pub fn fault_behind_order<'a>(
+    alloc: Global,
+    heads: &'a [Head<'a>],
+    main: &Identifier,
+    table: &'a [Emission],
+) -> Result<Option<LinkFault>, AllocError>
+    ensures { IfOk result (λ fault. fault ≡ fault_behind_order (map program_of heads.now) main.now
+        (emitted_of table.now)) }
+{
+    let kept = OpenNames::new(alloc);
+    if let Some(name) = first_in_bodies(&kept, &BadRename { heads: &*heads }, &*heads)? {
+        return Ok(Some(LinkFault::BadRename(name)));
+    }
+    if let Some(name) = first_unknown(alloc, &*heads)? {
+        return Ok(Some(LinkFault::UnknownName(name)));
+    }
+    if let Some(name) = first_refused(alloc, &*heads, &*table)? {
+        return Ok(Some(LinkFault::EmitInput(name)));
+    }
+    match lawless_number(alloc, head_named(heads, main))? {
+        Some(number) => Ok(Some(LinkFault::Semantics(number))),
+        None => Ok(None),
+    }
+}

@@ -1,0 +1,177 @@
+//! How many statements a linked module has before reduction, worked out before any `run` is replaced: chains of runs
+//! that double the number at each step cost no more than their texts, and the numbers end at one more than may be.
+//!
+//! The functions call each other once for each unit that is open, of which the reader lets at most 128 be so at once. A run is no call: its
+//! module was counted before.
+ghost use Rattle.std.specs.Prelude.{◌≡◌, ℕ, ◌+◌, ◌<◌, ◌≤◌, List, Some, length, map, min, slice_get, IfOk};
+ghost use Rattle.est_syntax.specs.Views.{unit_view, branches_view, sequence_view, statement_view};
+ghost use Rattle.est_modules.specs.Derived.{unit_derived, branches_derived, sequence_derived, statement_derived};
+ghost use Rattle.est_modules.specs.Modules.{Program, program_of};
+ghost use Rattle.est_checks.specs.Counting.{counted, IsCountOf};
+ghost use Rattle.est_modules.specs.ModuleOrders.{IsOrderOf};
+ghost use Rattle.est_checks.specs.Inner.Numbers.{number_of, numbers_of, IsFilled};
+
+use est_modules::head::Head;
+use est_modules::module_order::place_named;
+use est_modules::place_order::Order;
+use est_syntax::tree::{Branches, Sequence, Statement, Unit};
+use est_text::identifier::Identifier;
+use std::alloc::{AllocError, Global};
+
+/// The most statements that a linked module may have before reduction.
+pub const MOST_STATEMENTS: u16 = 2048;
+
+/// One more: where a number would be larger, it is this one.
+const TOO_MANY: u16 = MOST_STATEMENTS + 1;
+
+/// The modules, and the numbers of statements of those that were counted, each at its module's place.
+#[derive(Clone, Copy)]
+struct Numbers<'a> {
+    heads: &'a [Head<'a>],
+    numbers: &'a [u16],
+}
+
+/// The number of statements that the linked module `main` has before reduction, or none if it has more than
+/// `MOST_STATEMENTS`. A module that isn't there has none.
+///
+/// # Errors
+/// Memory was refused.
+pub fn count_statements(
+    alloc: Global,
+    heads: &[Head<'_>],
+    order: &Order,
+    main: &Identifier,
+) -> Result<Option<u16>, AllocError>
+    requires { IsOrderOf (map program_of heads.now) order.now }
+    ensures { IfOk result (λ answer. IsCountOf (map program_of heads.now) main.now answer) }
+{
+    let numbers = count_modules(alloc, heads, order.places())?;
+    let number = number_of_module(
+        &Numbers {
+            heads,
+            numbers: &numbers,
+        },
+        main,
+    );
+    if number <= MOST_STATEMENTS {
+        Ok(Some(number))
+    } else {
+        Ok(None)
+    }
+}
+
+/// The numbers of all modules, each worked out after those of the modules that it runs.
+fn count_modules(alloc: Global, heads: &[Head<'_>], order: &[usize]) -> Result<Vec<u16>, AllocError>
+    requires { IsOrderOf (map program_of heads.now) order.now }
+    ensures { IfOk result (λ numbers. IsFilled (map program_of heads.now) order.now numbers.items) }
+{
+    let mut numbers = vec![in alloc; 0; heads.len()]?;
+    for place in order {
+        let number = count_body(heads, &numbers, *place);
+        numbers[*place] = number;
+    }
+    Ok(numbers)
+}
+
+/// The number of the module at a place.
+fn count_body(heads: &[Head<'_>], numbers: &[u16], place: usize) -> u16
+    requires { place < length heads.now }
+    ensures { (p : Program) → slice_get (map program_of heads.now) place ≡ Some p
+        → result ≡ min TOO_MANY (counted (number_of (map program_of heads.now) numbers.now)
+        p.body) }
+{
+    let head = &heads[place];
+    count_statement(&Numbers { heads, numbers }, head.body)
+}
+
+fn sum(first: u16, second: u16) -> u16
+    requires first { first ≤ TOO_MANY }
+    requires second { second ≤ TOO_MANY }
+    ensures { result ≡ min TOO_MANY (first + second) }
+{
+    (first + second).min(TOO_MANY)
+}
+
+/// The number of a module that was counted before.
+#[tactic(auto, using(est_modules::proofs::Ordering::place_found))]
+fn number_of_module(numbers: &Numbers<'_>, name: &Identifier) -> u16
+    ensures { result ≡ min TOO_MANY (numbers_of numbers.now name.now) }
+{
+    match place_named(numbers.heads, name) {
+        Some(place) => match numbers.numbers.get(place) {
+            Some(number) => (*number).min(TOO_MANY),
+            None => 0,
+        },
+        None => 0,
+    }
+}
+
+/// The statements of a unit.
+#[cycle(count)]
+#[tactic(auto, using(crate::proofs::Sums::capped))]
+fn count_unit(numbers: &Numbers<'_>, unit: &Unit) -> u16
+    ensures { result ≡ min TOO_MANY (counted (numbers_of numbers.now)
+        (unit_derived (unit_view unit.now))) }
+{
+    match unit {
+        Unit::Present(_, branches) => count_test(numbers, branches),
+        Unit::Suspend(body, _, _)
+        | Unit::Abort(body, _, _)
+        | Unit::WeakAbort(body, _, _)
+        | Unit::Loop(body, _)
+        | Unit::LoopEach(body, _)
+        | Unit::Every(_, body, _)
+        | Unit::Trap(_, body, _)
+        | Unit::Signal(_, body, _) => sum(count_statement(numbers, body), 1),
+        Unit::Run(name, _) => number_of_module(numbers, name),
+        Unit::Group(body) => count_statement(numbers, body),
+        _ => 1,
+    }
+}
+
+/// The statements of a test, with its branches.
+#[cycle(count)]
+#[tactic(auto, using(crate::proofs::Sums::capped))]
+fn count_test(numbers: &Numbers<'_>, branches: &Branches) -> u16
+    ensures { (s : List ℕ) → result ≡ min TOO_MANY (counted (numbers_of numbers.now)
+        (branches_derived s (branches_view branches.now))) }
+{
+    match branches {
+        Branches::Then(body, _) | Branches::Else(body, _) => sum(count_statement(numbers, body), 1),
+        Branches::Both(body, other, _) => {
+            let both = sum(
+                count_statement(numbers, body),
+                count_statement(numbers, other),
+            );
+            sum(both, 1)
+        }
+    }
+}
+
+/// The statements of a sequence, each `;` one.
+#[cycle(count)]
+#[tactic(auto, using(crate::proofs::Sums::capped))]
+fn count_sequence(numbers: &Numbers<'_>, sequence: &Sequence) -> u16
+    ensures { result ≡ min TOO_MANY (counted (numbers_of numbers.now)
+        (sequence_derived (sequence_view sequence.now))) }
+{
+    let mut count = count_unit(numbers, &sequence.first);
+    for unit in &sequence.later {
+        count = sum(sum(count, count_unit(numbers, unit)), 1);
+    }
+    count
+}
+
+/// The statements of sequences side by side, each `||` one.
+#[cycle(count)]
+#[tactic(auto, using(crate::proofs::Sums::capped))]
+fn count_statement(numbers: &Numbers<'_>, statement: &Statement) -> u16
+    ensures { result ≡ min TOO_MANY (counted (numbers_of numbers.now)
+        (statement_derived (statement_view statement.now))) }
+{
+    let mut count = count_sequence(numbers, &statement.first);
+    for sequence in &statement.later {
+        count = sum(sum(count, count_sequence(numbers, sequence)), 1);
+    }
+    count
+}

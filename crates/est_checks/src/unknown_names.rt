@@ -1,0 +1,214 @@
+//! Names that aren't visible where they are used.
+ghost use Rattle.std.specs.Prelude.{◌≡◌, [], Some, IfOk, map, option_map, not};
+ghost use Rattle.std.specs.List.{find};
+ghost use Rattle.est_syntax.specs.Views.{renaming_view};
+ghost use Rattle.est_modules.specs.Scopes.{binders_of};
+ghost use Rattle.est_modules.specs.Modules.{program_of, program_named, first_in_bodies, is_declared};
+ghost use Rattle.est_modules.specs.Occurrences.{first_of, occurrences};
+ghost use Rattle.est_modules.specs.OpenNames.{AreOpen, opens_of};
+ghost use Rattle.est_modules.specs.Renamings.{is_renamed};
+ghost use Rattle.est_checks.specs.Unseen.{unseen_by};
+ghost use Rattle.est_modules.specs.Visible.{is_visible};
+ghost use Rattle.est_checks.specs.UnknownNames.{is_unbound, unknown_in_run, unknown_at};
+
+use crate::place_check::{Check, first_in_body};
+use crate::unseen_names::unseen_of;
+use est_modules::head::{Declared, Head, head_named};
+use est_modules::open_names::OpenNames;
+use est_modules::renamings::is_renamed;
+use est_modules::scope::{Act, Scope};
+use est_modules::visibility::{is_trap, is_visible};
+use est_syntax::tree::Renaming;
+use est_text::identifier::Identifier;
+use std::alloc::{AllocError, Global};
+
+fn unknown_renaming(
+    home: &Head<'_>,
+    scope: &Scope<'_>,
+    renamings: &[Renaming],
+) -> Option<Identifier>
+    ensures { result ≡ option_map (λ r. r.outer)
+        (find (λ r. not (is_visible (program_of home.now) (binders_of scope.now) r.outer))
+        renamings.now) }
+{
+    match renamings
+        .iter()
+        .find(|renaming| !is_visible(home, scope, &renaming.outer))
+    {
+        Some(renaming) => Some(renaming.outer),
+        None => None,
+    }
+}
+
+#[tactic(auto, unfolding(crate::specs::UnknownNames::is_unbound))]
+fn is_unbound(home: &Head<'_>, scope: &Scope<'_>, renamings: &[Renaming], name: &Identifier) -> bool
+    ensures { result ≡ is_unbound (program_of home.now) (binders_of scope.now)
+        (map renaming_view renamings.now) name.now }
+{
+    !(is_renamed(renamings, name) || is_visible(home, scope, name))
+}
+
+fn unbound_name(
+    home: &Head<'_>,
+    scope: &Scope<'_>,
+    renamings: &[Renaming],
+    interface: &[Declared],
+) -> Option<Identifier>
+    ensures { result ≡ option_map (λ d. d.name)
+        (find (λ d. is_unbound (program_of home.now) (binders_of scope.now)
+        (map renaming_view renamings.now) d.name) interface.now) }
+{
+    match interface.iter().find(|declared| is_unbound(home, scope, renamings, &declared.name)) {
+        Some(declared) => Some(declared.name),
+        None => None,
+    }
+}
+
+fn find_unrenamed<'a>(renamings: &[Renaming], names: &'a [Identifier]) -> Option<&'a Identifier>
+    ensures { option_map (λ n. n.now) result ≡ find
+        (λ n. not (is_renamed (map renaming_view renamings.now) n)) names.now }
+{
+    names.iter().find(|name| !is_renamed(renamings, name))
+}
+
+/// The first name of a list that is not renamed.
+fn first_unrenamed(renamings: &[Renaming], names: &[Identifier]) -> Option<Identifier>
+    ensures { result ≡ find (λ n. not (is_renamed (map renaming_view renamings.now) n)) names.now }
+{
+    match find_unrenamed(renamings, names) {
+        Some(name) => Some(*name),
+        None => None,
+    }
+}
+
+/// The first interface name of a module that is run which is neither renamed nor visible. Only names that neither the
+/// module that runs it nor a `signal` round the run declares are looked at, if they were kept.
+fn unbound_in(
+    heads: &[Head<'_>],
+    home: &Head<'_>,
+    kept: &OpenNames,
+    scope: &Scope<'_>,
+    renamings: &[Renaming],
+    name: &Identifier,
+    run: &Head<'_>,
+) -> Option<Identifier>
+    requires named { program_named (map program_of heads.now) name.now
+        ≡ Some (program_of run.now) }
+    requires outside { AreOpen (unseen_by (map program_of heads.now) (is_declared
+        (program_of home.now).interface)) (binders_of scope.now) (opens_of kept.now) }
+    ensures { result ≡ option_map (λ d. d.name)
+        (find (λ d. is_unbound (program_of home.now) (binders_of scope.now)
+        (map renaming_view renamings.now) d.name) (program_of run.now).interface) }
+{
+    match kept.named(name) {
+        Some(left) => first_unrenamed(renamings, &left.names),
+        None => unbound_name(home, scope, renamings, &run.interface),
+    }
+}
+
+fn unknown_in_run(
+    heads: &[Head<'_>],
+    home: &Head<'_>,
+    kept: &OpenNames,
+    scope: &Scope<'_>,
+    renamings: &[Renaming],
+    name: &Identifier,
+) -> Option<Identifier>
+    requires { AreOpen (unseen_by (map program_of heads.now) (is_declared
+        (program_of home.now).interface)) (binders_of scope.now) (opens_of kept.now) }
+    ensures { result ≡ unknown_in_run (program_of home.now) (binders_of scope.now)
+        (map renaming_view renamings.now) (program_named (map program_of heads.now)
+        name.now) }
+{
+    if let Some(unknown) = unknown_renaming(home, scope, renamings) {
+        return Some(unknown);
+    }
+    match head_named(heads, name) {
+        Some(run) => unbound_in(heads, home, kept, scope, renamings, name, run),
+        None => None,
+    }
+}
+
+/// The check for names that aren't visible where they are used: a signal that is emitted, tested, or on the left of a
+/// renaming; a trap that is exited; an interface signal of a module that is run without renaming it. It is asked of the
+/// places in one module.
+#[derive(Clone, Copy)]
+pub struct UnknownName<'a> {
+    /// The modules of the library.
+    pub heads: &'a [Head<'a>],
+    /// The module.
+    pub home: &'a Head<'a>,
+}
+
+impl Check for UnknownName<'_> {
+    ghost use Rattle.std.specs.Prelude.{map};
+    ghost use Rattle.est_modules.specs.Modules.{program_of, is_declared};
+    ghost use Rattle.est_checks.specs.Unseen.{unseen_by};
+    ghost use Rattle.est_checks.specs.UnknownNames.{unknown_at};
+
+    ghost base = { λ c. unseen_by (map program_of c.heads.now)
+        (is_declared (program_of c.home.now).interface) };
+
+    ghost fault = { λ c p. unknown_at (map program_of c.heads.now)
+        (program_of c.home.now) };
+
+    fn fault(
+        &self,
+        _home: &Head<'_>,
+        kept: &OpenNames,
+        act: &Act<'_>,
+        scope: &Scope<'_>,
+    ) -> Result<Option<Identifier>, AllocError> {
+        match act {
+            Act::Emits(signal) | Act::Tests(signal) => {
+                if is_visible(self.home, scope, signal) {
+                    Ok(None)
+                } else {
+                    Ok(Some(*signal))
+                }
+            }
+            Act::Exits(trap) => if is_trap(scope, trap) {
+                Ok(None)
+            } else {
+                Ok(Some(*trap))
+            },
+            Act::Binds(_) => Ok(None),
+            Act::Runs(name, renamings) => Ok(unknown_in_run(
+                self.heads, self.home, kept, scope, renamings, name,
+            )),
+        }
+    }
+}
+
+/// The first name of a module that isn't visible where it is used.
+fn unknown_in<'a>(
+    alloc: Global,
+    heads: &'a [Head<'a>],
+    home: &'a Head<'a>,
+) -> Result<Option<Identifier>, AllocError>
+    ensures { IfOk result (λ name. name ≡ first_of (unknown_at (map program_of heads.now)
+        (program_of home.now)) (occurrences [] (program_of home.now).body)) }
+{
+    let kept = unseen_of(alloc, &*heads, &*home)?;
+    first_in_body(&UnknownName { heads, home }, &kept, &*home)
+}
+
+/// The first name of a library that isn't visible where it is used.
+///
+/// # Errors
+///
+/// `AllocError` where memory is refused for names.
+pub fn first_unknown<'a>(
+    alloc: Global,
+    heads: &'a [Head<'a>],
+) -> Result<Option<Identifier>, AllocError>
+    ensures { IfOk result (λ name. name ≡ first_in_bodies (unknown_at (map program_of heads.now))
+        (map program_of heads.now)) }
+{
+    for home in heads {
+        if let Some(name) = unknown_in(alloc, &*heads, &*home)? {
+            return Ok(Some(name));
+        }
+    }
+    Ok(None)
+}

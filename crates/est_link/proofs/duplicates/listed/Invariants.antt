@@ -1,6 +1,0 @@
-use Rattle.std.proofs.Common.{◌≡◌, map, take}
-use Rattle.est_link.specs.declared.head.Declared.{Declared}
-use Rattle.est_link.proofs.duplicates.listed.Given as goal
-
-abbrev pub invariant-loop-declared : goal.invariant-loop-declared
-invariant-loop-declared l = l.names.items ≡ map (λ (d : Declared). d.name) (take l.declared-index l.interface)

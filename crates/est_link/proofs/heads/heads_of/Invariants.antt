@@ -1,7 +1,0 @@
-use Rattle.std.proofs.Common.{◌≡◌, ◌∷◌, take, map}
-use Rattle.est_syntax.specs.Views.{module_view}
-use Rattle.est_link.specs.Modules.{program_of, module_program}
-use Rattle.est_link.proofs.heads.heads_of.Given as goal
-
-abbrev pub invariant-loop-later : goal.invariant-loop-later
-invariant-loop-later l = map program_of l.heads.items ≡ module_program (module_view l.library.first) ∷ map (λ m. module_program (module_view m)) (take l.later-index l.later-items)

@@ -1,9 +1,0 @@
-use Rattle.std.proofs.Common.{◌≡◌, drop, map}
-use Rattle.est_link.specs.Modules.{program_of, first_in_bodies}
-use Rattle.est_link.specs.Visible.{unknown_at}
-use Rattle.est_link.proofs.unknown.first_unknown.Given as goal
-
-abbrev pub invariant-loop-home : goal.invariant-loop-home
-invariant-loop-home l =
-    let first = first_in_bodies (unknown_at (map program_of l.heads)) in
-    first (map program_of l.heads) ≡ first (map program_of (drop l.home-index l.heads))

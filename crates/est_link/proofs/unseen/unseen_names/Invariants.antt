@@ -1,8 +1,0 @@
-use Rattle.std.proofs.Common.{◌≡◌, ◌||◌, not, map, take, filter}
-use Rattle.est_link.specs.NameSets.{has}
-use Rattle.est_link.specs.Visible.{is_tick}
-use Rattle.est_link.specs.declared.head.Declared.{Declared}
-use Rattle.est_link.proofs.unseen.unseen_names.Given as goal
-
-abbrev pub invariant-loop-declared : goal.invariant-loop-declared
-invariant-loop-declared l = l.left.items ≡ filter (λ n. not (has l.names n || is_tick n)) (map (λ (d : Declared). d.name) (take l.declared-index l.interface))

@@ -1,0 +1,14 @@
+pub mod Derived
+pub mod Inner
+pub mod ModuleOrders
+pub mod Modules
+pub mod NameSets
+pub mod Occurrences
+pub mod OpenNames
+pub mod PlaceOrders
+pub mod Renamings
+pub mod RunRows
+pub mod Scopes
+pub mod Solutions
+pub mod Visible
+pub mod Walks

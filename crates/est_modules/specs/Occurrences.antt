@@ -1,0 +1,52 @@
+-- Where names stand in the body of a module, in the order of the text, and what the statements round them bind
+-- (this project's own form).
+use Rattle.std.specs.Prelude.{ℕ, List, [], ◌∷◌, ◌++◌, Option, None}
+use Rattle.std.specs.Option.{option_or}
+use Rattle.est_syntax.specs.Tree.{NamesTree, RenamingTree}
+use Rattle.est_modules.specs.Derived.{Derived, missing, nothing, pause, halt, emit, sustain, exit, await, present, suspend, abort, weak_abort, repeat, repeat_each, every, trap, signal, run, seq, par}
+
+-- what a statement binds inside it
+pub data Binder : Type 0 where
+  signals : NamesTree → Binder
+  a_trap : List ℕ → Binder
+
+-- what is done with a name
+pub data Act : Type 0 where
+  emits : List ℕ → Act
+  tests : List ℕ → Act
+  exits : List ℕ → Act
+  binds : NamesTree → Act
+  runs : List ℕ → List RenamingTree → Act
+
+-- a place in a body: an act, and the binders round its place, innermost first
+pub record Occurrence : Type 0 where
+  pub act : Act
+  pub round : List Binder
+
+-- the places of a statement where names stand, in the order of the text
+abbrev pub occurrences : List Binder → Derived → List Occurrence
+occurrences bs missing = []
+occurrences bs nothing = []
+occurrences bs pause = []
+occurrences bs halt = []
+occurrences bs (emit s) = record { act = emits s; round = bs } ∷ []
+occurrences bs (sustain s) = record { act = emits s; round = bs } ∷ []
+occurrences bs (exit t) = record { act = exits t; round = bs } ∷ []
+occurrences bs (await d) = record { act = tests d.signal; round = bs } ∷ []
+occurrences bs (present s p q) = record { act = tests s; round = bs } ∷ (occurrences bs p ++ occurrences bs q)
+occurrences bs (suspend p d) = occurrences bs p ++ record { act = tests d.signal; round = bs } ∷ []
+occurrences bs (abort p d) = occurrences bs p ++ record { act = tests d.signal; round = bs } ∷ []
+occurrences bs (weak_abort p d) = occurrences bs p ++ record { act = tests d.signal; round = bs } ∷ []
+occurrences bs (repeat p) = occurrences bs p
+occurrences bs (repeat_each p s) = occurrences bs p ++ record { act = tests s; round = bs } ∷ []
+occurrences bs (every d p) = record { act = tests d.signal; round = bs } ∷ occurrences bs p
+occurrences bs (trap t p) = occurrences (a_trap t ∷ bs) p
+occurrences bs (signal ns p) = record { act = binds ns; round = bs } ∷ occurrences (signals ns ∷ bs) p
+occurrences bs (run m rs) = record { act = runs m rs; round = bs } ∷ []
+occurrences bs (seq p q) = occurrences bs p ++ occurrences bs q
+occurrences bs (par p q) = occurrences bs p ++ occurrences bs q
+
+-- the first answer that a test gives along a list
+abbrev pub first_of : {X A : Type 0} → (X → Option A) → List X → Option A
+first_of f [] = None
+first_of f (x ∷ xs) = option_or (f x) (first_of f xs)

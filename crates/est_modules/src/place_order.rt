@@ -1,0 +1,140 @@
+//! The order of modules.
+ghost use Rattle.std.specs.Prelude.{◌≡◌, ℕ, ◌<◌, IfOk, IfErr, OnOk, length, map, filter, IsPermutation};
+ghost use Rattle.std.specs.List.Sorted.{IsNonDecreasingBy};
+ghost use Rattle.est_modules.specs.RunRows.{rows_of};
+ghost use Rattle.est_modules.specs.PlaceOrders.{IsBottomUp, NoneIsRecursive, IsFaultOf, IsPartFor};
+ghost use Rattle.est_modules.specs.Inner.Reached.{AreRanked, is_needed};
+
+use crate::order_fault::OrderFault;
+use crate::reach::{count, reach};
+use std::alloc::{AllocError, Global};
+use std::marker::Model;
+
+/// Places of modules, in an order. A contract sees the list.
+#[derive(Drop)]
+pub struct Order {
+    places: Vec<usize>,
+}
+
+impl Model for Order {
+    ghost use Rattle.std.specs.Prelude.{List, ℕ};
+
+    ghost Value = { List ℕ };
+
+    ghost view = { λ o. o.places.items };
+}
+
+impl Order {
+    /// The places, the first of them first.
+    pub fn places(&self) -> &[usize]
+        ensures { result.now ≡ self.now }
+    {
+        self.places.as_slice()
+    }
+}
+
+// A module's place, and to how many places it leads.
+#[derive(Clone, Copy)]
+struct Ranked {
+    place: usize,
+    rank: usize,
+}
+
+/// The modules in an order in which each stands after all that it runs. `runs` has, for each module, the places of
+/// those that it runs; a number that is no place is passed over.
+///
+/// # Errors `Recursive` with the place of the first module from which a chain of one or more runs leads back to it,
+/// where there is one; or memory was refused.
+pub fn order_modules(alloc: Global, runs: &[Vec<usize>]) -> Result<Order, OrderFault>
+    ensures bottom_up { IfOk result (λ order. IsBottomUp (rows_of runs.now) order) }
+    ensures ok { OnOk result (NoneIsRecursive (rows_of runs.now)) }
+    ensures err { IfErr result (λ fault. IsFaultOf (rows_of runs.now) fault) }
+{
+    let mut ranked = rank_modules(alloc, runs)?;
+    sort_by_rank(&mut ranked)?;
+    let places = places_of(alloc, &ranked)?;
+    Ok(Order { places })
+}
+
+// Each module with its rank, in the order of their places.
+fn rank_modules(alloc: Global, runs: &[Vec<usize>]) -> Result<Vec<Ranked>, OrderFault>
+    ensures ranked { IfOk result
+        (λ ranked. AreRanked (rows_of runs.now) (length runs.now) ranked.items) }
+    ensures ok { OnOk result (NoneIsRecursive (rows_of runs.now)) }
+    ensures err { IfErr result (λ fault. IsFaultOf (rows_of runs.now) fault) }
+{
+    let mut ranked = Vec::new(alloc);
+    for place in 0..runs.len() {
+        let reached = reach(alloc, runs, place)?;
+        if reached[place] {
+            return Err(OrderFault::Recursive(place));
+        }
+        let rank = count(&reached);
+        ranked.push(Ranked { place, rank })?;
+    }
+    Ok(ranked)
+}
+
+// Modules that lead to fewer places come first.
+fn sort_by_rank(ranked: &mut Vec<Ranked>) -> Result<(), AllocError>
+    ensures same { IsPermutation ranked.old.items ranked.new.items }
+    ensures sorted { OnOk result (IsNonDecreasingBy (λ m. m.rank) ranked.new.items) }
+{
+    ranked.sort_by_key(|module| module.rank)?;
+    Ok(())
+}
+
+// The places alone.
+fn places_of(alloc: Global, ranked: &[Ranked]) -> Result<Vec<usize>, AllocError>
+    ensures { IfOk result (λ places. places.items ≡ map (λ m. m.place) ranked.now) }
+{
+    let mut places = Vec::new(alloc);
+    for module in ranked {
+        places.push(module.place)?;
+    }
+    Ok(places)
+}
+
+/// The module at a place and all that it leads to, in an order of all modules: what has to be worked out for that
+/// module, and no more.
+///
+/// # Errors
+/// Memory was refused.
+pub fn part_for(
+    alloc: Global,
+    runs: &[Vec<usize>],
+    order: &Order,
+    place: usize,
+) -> Result<Vec<usize>, AllocError>
+    requires there { place < length runs.now }
+    requires order { IsBottomUp (rows_of runs.now) order.now }
+    ensures { IfOk result (λ part. IsPartFor (rows_of runs.now) place part.items) }
+{
+    let set = reach(alloc, runs, place)?;
+    let part = keep_needed(alloc, order.places(), &set, place)?;
+    Ok(part)
+}
+
+fn is_needed(set: &[bool], place: usize, other: usize) -> bool
+    ensures { result ≡ is_needed set.now place other }
+{
+    other == place || (other < set.len() && set[other])
+}
+
+// Those of the places that are needed.
+fn keep_needed(
+    alloc: Global,
+    places: &[usize],
+    set: &[bool],
+    place: usize,
+) -> Result<Vec<usize>, AllocError>
+    ensures { IfOk result (λ part. part.items ≡ filter (is_needed set.now place) places.now) }
+{
+    let mut part = Vec::new(alloc);
+    for other in places {
+        if is_needed(set, place, *other) {
+            part.push(*other)?;
+        }
+    }
+    Ok(part)
+}

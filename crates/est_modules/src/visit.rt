@@ -1,0 +1,45 @@
+//! What is done at one place after another.
+ghost use Rattle.std.specs.Prelude.{◌≡◌, OnOk};
+
+use crate::open_names::OpenNames;
+use crate::scope::{Act, Scope};
+use std::alloc::AllocError;
+
+/// What is to be learned from the places in the body of a module.
+pub trait Visitor {
+    ghost use Rattle.std.specs.Prelude.{ℕ, List};
+    ghost use Rattle.est_modules.specs.Occurrences.{Occurrence};
+    ghost use Rattle.est_modules.specs.OpenNames.{AreOpen, opens_of};
+    ghost use Rattle.est_modules.specs.Scopes.{act_of, binders_of};
+
+    /// What has been learned so far.
+    type Seen;
+
+    /// What contracts know of it.
+    ghost State: { Type 0 };
+
+    /// What is known of what has been learned.
+    ghost state: { Self.Seen → State };
+
+    /// What is known behind an occurrence, from what was known before it.
+    ghost after: { Self → State → Occurrence → State };
+
+    /// The names of a module that is run which the walk keeps, as far as no `signal` round a place declares them.
+    ghost base: { Self → List ℕ → List (List ℕ) };
+
+    /// Learns from an occurrence.
+    ///
+    /// # Errors
+    ///
+    /// `AllocError` where memory is refused for what is learned.
+    fn visit(
+        &self,
+        seen: &mut Self::Seen,
+        kept: &OpenNames,
+        act: &Act<'_>,
+        scope: &Scope<'_>,
+    ) -> Result<(), AllocError>
+        requires { AreOpen (base self.now) (binders_of scope.now) (opens_of kept.now) }
+        ensures { OnOk result (state seen.new ≡ after self.now (state seen.old) (record
+            { act = act_of act.now; round = binders_of scope.now })) };
+}

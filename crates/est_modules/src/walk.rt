@@ -1,0 +1,194 @@
+//! The walk over the body of a module, in the order of the text.
+//!
+//! The functions call each other once for each unit that is open round a place, and the reader lets at most 128 be
+//! open at once (`est_syntax`, `MOST_OPEN_UNITS`), so that they are at most four times as deep. A run is no call.
+ghost use Rattle.std.specs.Prelude.{◌≡◌, [], OnOk};
+ghost use Rattle.std.specs.List.{fold};
+ghost use Rattle.est_syntax.specs.Views.{unit_view, branches_view, sequence_view, statement_view};
+ghost use Rattle.est_modules.specs.Derived.{unit_derived, branches_derived, sequence_derived, statement_derived};
+ghost use Rattle.est_modules.specs.Occurrences.{occurrences, tests};
+ghost use Rattle.est_modules.specs.OpenNames.{AreOpen, opens_of};
+ghost use Rattle.est_modules.specs.Scopes.{binders_of};
+ghost use Rattle.est_modules.specs.Walks.{passed, passed_branches, past};
+
+use crate::open_names::OpenNames;
+use crate::scope::{Act, Scope};
+use crate::visit::Visitor;
+use est_syntax::tree::{Branches, Sequence, Statement, Unit};
+use est_text::identifier::Identifier;
+use std::alloc::AllocError;
+
+/// Visits the places of a unit.
+#[cycle(walk)]
+fn walk_unit<V: Visitor>(
+    visitor: &V,
+    seen: &mut V::Seen,
+    kept: &OpenNames,
+    scope: &Scope<'_>,
+    unit: &Unit,
+) -> Result<(), AllocError>
+    requires { AreOpen (V.base visitor.now) (binders_of scope.now) (opens_of kept.now) }
+    ensures { OnOk result (V.state seen.new ≡ passed (V.after visitor.now) (binders_of scope.now)
+        (unit_derived (unit_view unit.now)) (V.state seen.old)) }
+{
+    match unit {
+        Unit::Nothing | Unit::Pause | Unit::Halt => Ok(()),
+        Unit::Emit(signal) | Unit::Sustain(signal) => {
+            visitor.visit(seen, kept, &Act::Emits(*signal), scope)
+        }
+        Unit::Exit(trap) => visitor.visit(seen, kept, &Act::Exits(*trap), scope),
+        Unit::Await(delay) => visitor.visit(seen, kept, &Act::Tests(delay.signal), scope),
+        Unit::Present(signal, branches) => {
+            visitor.visit(seen, kept, &Act::Tests(*signal), scope)?;
+            walk_branches(visitor, seen, kept, scope, branches)
+        }
+        Unit::Suspend(body, delay, _)
+        | Unit::Abort(body, delay, _)
+        | Unit::WeakAbort(body, delay, _) => {
+            walk_watched(visitor, seen, kept, scope, body, delay.signal)
+        }
+        Unit::Loop(body, _) | Unit::Group(body) => walk_statement(visitor, seen, kept, scope, body),
+        Unit::LoopEach(body, signal) => walk_watched(visitor, seen, kept, scope, body, *signal),
+        Unit::Every(delay, body, _) => walk_behind(visitor, seen, kept, scope, delay.signal, body),
+        Unit::Trap(trap, body, _) => {
+            let inside = Scope::Trap(*trap, &*scope);
+            walk_statement(visitor, seen, kept, &inside, body)
+        }
+        Unit::Signal(names, body, _) => {
+            visitor.visit(seen, kept, &Act::Binds(&*names), scope)?;
+            let inside = kept.inside(&*names)?;
+            walk_statement(
+                visitor,
+                seen,
+                &inside,
+                &Scope::Signals(&*names, &*scope),
+                body,
+            )
+        }
+        Unit::Run(module, renamings) => {
+            visitor.visit(seen, kept, &Act::Runs(*module, &**renamings), scope)
+        }
+    }
+}
+
+/// Visits the places of a body, and then the test that it is watched by.
+#[cycle(walk)]
+fn walk_watched<V: Visitor>(
+    visitor: &V,
+    seen: &mut V::Seen,
+    kept: &OpenNames,
+    scope: &Scope<'_>,
+    body: &Statement,
+    signal: Identifier,
+) -> Result<(), AllocError>
+    requires { AreOpen (V.base visitor.now) (binders_of scope.now) (opens_of kept.now) }
+    ensures { OnOk result (V.state seen.new ≡ past (V.after visitor.now) (binders_of scope.now)
+        (tests signal) (passed (V.after visitor.now) (binders_of scope.now)
+        (statement_derived (statement_view body.now)) (V.state seen.old))) }
+{
+    walk_statement(visitor, seen, kept, scope, body)?;
+    visitor.visit(seen, kept, &Act::Tests(signal), scope)
+}
+
+/// Visits the test behind which a body begins, and then the places of the body.
+#[cycle(walk)]
+fn walk_behind<V: Visitor>(
+    visitor: &V,
+    seen: &mut V::Seen,
+    kept: &OpenNames,
+    scope: &Scope<'_>,
+    signal: Identifier,
+    body: &Statement,
+) -> Result<(), AllocError>
+    requires { AreOpen (V.base visitor.now) (binders_of scope.now) (opens_of kept.now) }
+    ensures { OnOk result (V.state seen.new ≡ passed (V.after visitor.now) (binders_of scope.now)
+        (statement_derived (statement_view body.now)) (past (V.after visitor.now)
+        (binders_of scope.now) (tests signal) (V.state seen.old))) }
+{
+    visitor.visit(seen, kept, &Act::Tests(signal), scope)?;
+    walk_statement(visitor, seen, kept, scope, body)
+}
+
+/// Visits the places of the branches of a test.
+#[cycle(walk)]
+fn walk_branches<V: Visitor>(
+    visitor: &V,
+    seen: &mut V::Seen,
+    kept: &OpenNames,
+    scope: &Scope<'_>,
+    branches: &Branches,
+) -> Result<(), AllocError>
+    requires { AreOpen (V.base visitor.now) (binders_of scope.now) (opens_of kept.now) }
+    ensures { OnOk result (V.state seen.new ≡ passed_branches (V.after visitor.now) (binders_of
+        scope.now) (branches_view branches.now) (V.state seen.old)) }
+{
+    match branches {
+        Branches::Then(body, _) | Branches::Else(body, _) => walk_statement(
+            visitor, seen, kept, scope, body,
+        ),
+        Branches::Both(first, second, _) => {
+            walk_statement(visitor, seen, kept, scope, first)?;
+            walk_statement(visitor, seen, kept, scope, second)
+        }
+    }
+}
+
+/// Visits the places of a sequence.
+#[cycle(walk)]
+fn walk_sequence<V: Visitor>(
+    visitor: &V,
+    seen: &mut V::Seen,
+    kept: &OpenNames,
+    scope: &Scope<'_>,
+    sequence: &Sequence,
+) -> Result<(), AllocError>
+    requires { AreOpen (V.base visitor.now) (binders_of scope.now) (opens_of kept.now) }
+    ensures { OnOk result (V.state seen.new ≡ passed (V.after visitor.now) (binders_of scope.now)
+        (sequence_derived (sequence_view sequence.now)) (V.state seen.old)) }
+{
+    walk_unit(visitor, seen, kept, scope, &sequence.first)?;
+    for unit in &sequence.later {
+        walk_unit(visitor, seen, kept, scope, unit)?;
+    }
+    Ok(())
+}
+
+/// Visits the places of a statement.
+#[cycle(walk)]
+fn walk_statement<V: Visitor>(
+    visitor: &V,
+    seen: &mut V::Seen,
+    kept: &OpenNames,
+    scope: &Scope<'_>,
+    statement: &Statement,
+) -> Result<(), AllocError>
+    requires { AreOpen (V.base visitor.now) (binders_of scope.now) (opens_of kept.now) }
+    ensures { OnOk result (V.state seen.new ≡ passed (V.after visitor.now) (binders_of scope.now)
+        (statement_derived (statement_view statement.now)) (V.state seen.old)) }
+{
+    walk_sequence(visitor, seen, kept, scope, &statement.first)?;
+    for sequence in &statement.later {
+        walk_sequence(visitor, seen, kept, scope, sequence)?;
+    }
+    Ok(())
+}
+
+/// Visits the places of the body of a module, in the order of the text. The names that the visitor keeps of modules are
+/// told as they are outermost, and followed into each `signal`.
+///
+/// # Errors
+///
+/// What a visit answers, or `AllocError` where memory is refused for the names that are kept.
+#[tactic(auto, using(crate::proofs::Passing::passed_fold))]
+pub fn walk_body<V: Visitor>(
+    visitor: &V,
+    seen: &mut V::Seen,
+    kept: &OpenNames,
+    body: &Statement,
+) -> Result<(), AllocError>
+    requires { AreOpen (V.base visitor.now) [] (opens_of kept.now) }
+    ensures { OnOk result (V.state seen.new ≡ fold (V.after visitor.now) (V.state seen.old)
+        (occurrences [] (statement_derived (statement_view body.now)))) }
+{
+    walk_statement(visitor, seen, kept, &Scope::Module, body)
+}

@@ -1,4 +1,0 @@
-pub mod PartLemmas
-pub mod OrderLemmas
-pub mod SearchLemmas
-pub mod SolutionLemmas

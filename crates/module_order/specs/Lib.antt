@@ -1,4 +1,0 @@
-pub mod Runs
-pub mod Orders
-pub mod Solutions
-pub mod Inner
