@@ -23,14 +23,14 @@ help:
 	@echo 'make client    the tests of the client and of the tutorial, on the program built WITHOUT proof'
 	@echo 'make socket    the tests of the server over its socket, on the program built WITHOUT proof'
 	@echo 'make gateway   the tests of the team'"'"'s gateway and its page, on the program built WITHOUT proof'
+	@echo 'make faults    each growth of memory refused in turn, of each command and of whole runs, on the program built WITHOUT proof'
 	@echo 'make hostile   lines that are cut or wrong, full journals and clients that go away, on the program built WITHOUT proof'
-	@echo 'make soak      the same, with all journals filled and a soak of ten minutes; make build, and then'
+	@echo 'make soak      hostile, with all journals filled and a soak of ten minutes; make build, and then'
 	@echo '               make soak ESTSERVE=$$PWD/$(PROGRAM) takes the proved program; no part of make test'
 	@echo 'make abro      the waves of ABRO, by the client, on the program built WITHOUT proof: a minute or two, and at once from then on'
 	@echo 'make install   put the proved program, the client, its page of the manual and completions under PREFIX (/usr/local)'
 	@echo 'make documents write the lists of docs/generated anew from the sources'
 	@echo 'make bench     prove and build, and then time commands, instants, texts, policies and the socket, and see how loads take memory'
-	@echo 'make faults    refuse each allocation of two tests in turn; no part of make test'
 	@echo 'make times     the proofs, wrong bodies and tests of make test, and a table of the time that each crate takes'
 
 try:
@@ -76,7 +76,7 @@ documents:
 test:
 	python3 tests/documents.py
 	$(MAKE) --no-print-directory examples
-	python3 scripts/trial.py sh -c 'clients/tests/run && tests/socket/run && tests/journals/walk && tests/gateway/run && tests/hostile/run'
+	python3 scripts/trial.py sh -c 'clients/tests/run && tests/socket/run && tests/journals/walk && tests/gateway/run && tests/hostile/run && tests/faults/run'
 	python3 tests/journals/run
 	python3 tests/must-not-compile/run
 	RT_JOBS=$(CORES) rt ci
@@ -104,7 +104,7 @@ bench: build
 	python3 bench/client.py $(PROGRAM)
 
 faults:
-	python3 tests/faults/run
+	tests/faults/run
 
 times:
 	RT_JOBS=$(CORES) python3 scripts/times.py

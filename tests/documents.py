@@ -4,7 +4,8 @@
 The lists of docs/generated are those that scripts/reading_list.py and scripts/wrong_bodies.py write, and each wrong
 body says why it is wrong; README.md has at most 100 lines; each crate stands in docs/ARCHITECTURE.md; each function of
 the walk there stands in its file; each script of examples/scripts has its answers and its row in examples/README.md, and
-the opening one is the stored run; each link to a file leads to one, and each quoted block stands in its file.
+the opening one is the stored run; each test that docs/EXAMPLES.md names is written; each link to a file leads to one,
+and each quoted block stands in its file.
 Ends with status 1 after naming what differs.
 """
 
@@ -78,6 +79,26 @@ def faulty_examples():
     return faults
 
 
+def code_of_tests():
+    """What may define a test: the crates' code, and all of tests and clients."""
+    files = [*ROOT.glob("crates/*/src/**/*.rt"), *ROOT.glob("tests/**/*"), *ROOT.glob("clients/**/*.py")]
+    return "\n".join(file.read_text() for file in files if file.suffix in {".rt", ".py", ""} and file.is_file())
+
+
+def missing_tests():
+    """A line for each test, table or file that docs/EXAMPLES.md names in a row, and that isn't there."""
+    table = (ROOT / "docs/EXAMPLES.md").read_text().partition("\n## ")[0]
+    rows = re.findall(r"^\| .* \| ([^|]+) \|$", table, re.MULTILINE)
+    named = {name for row in rows for name in re.findall(r"`(\w+)`", row)}
+    code = code_of_tests()
+    defined = set(re.findall(r"\b(?:fn|const|def|class) (\w+)", code))
+    known = {file.name for folder in ["crates", "examples/scripts"] for file in (ROOT / folder).iterdir()}
+    known |= {"stdout", *(file.stem for file in ROOT.glob("tests/*/*.py"))}
+    files = {name for row in rows for name in re.findall(r"\bsrc/\S+?\.rt|\btest_\w+\.py", row)}
+    faults = [name for name in files if not any(ROOT.glob(f"*/*/{name}"))]
+    return [f"docs/EXAMPLES.md: no {name}" for name in sorted([*(named - defined - known), *faults])]
+
+
 def stale_quotes(document):
     """A line for each block that the document quotes from a file in which it doesn't stand."""
     faults = []
@@ -100,7 +121,7 @@ def broken_links(document):
 
 def main():
     faults = differing_tables() + missing_sentences() + missing_functions() + faulty_examples()
-    faults += long_readme() + missing_crates("docs/ARCHITECTURE.md")
+    faults += long_readme() + missing_crates("docs/ARCHITECTURE.md") + missing_tests()
     for document in [*ROOT.glob("*.md"), *ROOT.glob("docs/**/*.md"), *ROOT.glob("examples/*.md")]:
         faults += broken_links(document) + stale_quotes(document)
     print("\n".join(faults) if faults else "documents: in step with the repository")

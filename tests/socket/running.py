@@ -5,6 +5,7 @@ The program is built WITHOUT proof by `rt try`, once; the variable ESTSERVE name
 import os
 import pathlib
 import re
+import shlex
 import shutil
 import signal
 import socket
@@ -100,11 +101,18 @@ _folder = tempfile.TemporaryDirectory(prefix="estserve-")
 _program = []
 
 
+def words_of(named):
+    """How to call the program that is named: as the caller does which scripts/trial.py has written, or by its name."""
+    with open(named, "rb") as file:
+        called = re.match(rb'#!/bin/sh\nexec (.*) "\$@"\n\Z', file.read(10_000))
+    return shlex.split(called[1].decode()) if called else [named]
+
+
 def program():
-    """How to call the program: the first words of its command line."""
+    """How to call the program: the first words of its command line, of which the last is its file."""
     if not _program:
         named = os.environ.get("ESTSERVE")
-        _program.extend([named] if named else built_program(pathlib.Path(_folder.name)))
+        _program.extend(words_of(named) if named else built_program(pathlib.Path(_folder.name)))
     return _program
 
 
@@ -117,15 +125,17 @@ def report(entries, *slots):
 class Server:
     """The program, which serves at a socket of its own. Used with `with`, it is stopped at the end if it runs still."""
 
-    def __init__(self, *words, path=None):
+    def __init__(self, *words, path=None, environment=None, output=subprocess.PIPE):
         self._held = tempfile.TemporaryDirectory(prefix="estserve-")
         self.path = path or pathlib.Path(self._held.name) / "socket"
         self._words = words
+        self._environment = environment
+        self._output = output
 
     def __enter__(self):
         command = [*program(), "serve", "--socket", str(self.path), *self._words]
-        pipe = subprocess.PIPE
-        self.process = subprocess.Popen(command, stdin=subprocess.DEVNULL, stdout=pipe, stderr=pipe)
+        streams = {"stdin": subprocess.DEVNULL, "stdout": self._output, "stderr": subprocess.PIPE}
+        self.process = subprocess.Popen(command, **streams, env=self._environment)
         try:
             wait_for(self.answers)
         except BaseException:

@@ -1,4 +1,6 @@
 """The life of connections at a socket, and what becomes of the server's file."""
+import contextlib
+import os
 import pathlib
 import socket
 import sys
@@ -135,6 +137,37 @@ class CountedConnections(unittest.TestCase):
                 for client in held:
                     client.close()
             self.assertEqual(server.end(), (0, report(16), b""))
+
+
+def full_pipe():
+    """The two ends of a pipe that takes no more bytes, and how many it holds."""
+    reading, writing = os.pipe()
+    os.set_blocking(writing, False)
+    held = 0
+    with contextlib.suppress(BlockingIOError):
+        while True:
+            held += os.write(writing, bytes(4_096))
+    os.set_blocking(writing, True)
+    return reading, writing, held
+
+
+class EndOfAServer(unittest.TestCase):
+    def test_the_socket_goes_before_the_report(self):
+        """The report waits, since nobody reads what stands before it."""
+        reading, writing, held = full_pipe()
+        with Server("--workers", "1", "--connections", "1", output=writing) as server:
+            os.close(writing)
+            root = server.root()
+            with raw(server.path) as late:
+                root.close()
+                with contextlib.suppress(ConnectionResetError):
+                    self.assertEqual(late.recv(1), b"")
+            wait_for(lambda: not server.path.exists())
+            self.assertRaises(OSError, raw, server.path)
+            self.assertIsNone(server.process.poll())
+            with open(reading, "rb") as told:
+                self.assertEqual(told.read()[held:], report(6))
+            self.assertEqual(server.end(), (0, None, b""))
 
 
 class PathsAndWords(unittest.TestCase):

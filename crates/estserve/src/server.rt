@@ -7,7 +7,7 @@ ghost use Rattle.estserve.specs.Serving.{ClosesSo, ServesSocket};
 
 use crate::fault::Fault;
 use crate::reports::write_report;
-use crate::socket::{Socket, SocketSource};
+use crate::socket::{Quota, Socket, SocketSource};
 use client_loop::gate::OpenGate;
 use client_loop::workers::run_workers;
 use command_line::order::{Service, WorkerCount};
@@ -46,13 +46,14 @@ fn close<B: BoardName, R: Wait, O: Write>(
     }
 }
 
-/// Serves the connections of a source over a board of this name as it opens, at a seat for each worker, and closes the server.
-fn serve_source<B: BoardName + Send + Sync, R: Threads + Wait + Sync, O: Write>(
+/// Serves the connections of a source over a board of this name as it opens, at a seat for each worker. When all workers have
+/// ended, the source's socket is closed, and then the server, so that no client comes to one that will not answer.
+fn serve_source<B: BoardName + Send + Sync, R: Threads + Wait + Net + Files + Sync, O: Write>(
     rt: &R,
     alloc: Global,
     fresh: Fresh,
     workers: WorkerCount,
-    source: &SocketSource<'_, '_>,
+    source: SocketSource<'_>,
     output: &mut MeteredWriter<O>,
 ) -> Result<(), Fault>
     requires { fresh.seen.book ≡ B.book }
@@ -69,13 +70,15 @@ fn serve_source<B: BoardName + Send + Sync, R: Threads + Wait + Sync, O: Write>(
         },
     ) = Board::<B>::open(rt, alloc, fresh, workers.count())
     else {
+        source.close(rt);
         return Err(Fault::Memory);
     };
     let table = SlotTable::open(alloc, readers);
-    let fault = match run_workers(rt, alloc, &table, &board, seats, source, &OpenGate) {
-        Ok(seats) if !source.has_failed() => {
-            return close(rt, alloc, board, table, seats, output);
-        }
+    let served = run_workers(rt, alloc, &table, &board, seats, &source, &OpenGate);
+    let has_failed = source.has_failed();
+    source.close(rt);
+    let fault = match served {
+        Ok(seats) if !has_failed => return close(rt, alloc, board, table, seats, output),
         Ok(_) => Fault::Socket,
         Err(_) => Fault::Memory,
     };
@@ -83,31 +86,9 @@ fn serve_source<B: BoardName + Send + Sync, R: Threads + Wait + Sync, O: Write>(
     Err(fault)
 }
 
-/// Serves the connections that come to a socket, which is open.
-fn serve_socket<R: Threads + Wait + Sync, O: Write>(
-    rt: &R,
-    alloc: Global,
-    socket: &Socket<'_>,
-    service: &Service<'_>,
-    output: &mut MeteredWriter<O>,
-) -> Result<(), Fault>
-    ensures serves { ServesSocket service.now.workers result (O.contents output.old.device)
-        (O.contents output.new.device) }
-    ensures failed { result ≡ Err fault.Write →
-        has_failed output.old.faults output.new.faults ≡ true }
-{
-    let workers = service.workers;
-    match SocketSource::new(alloc, socket, workers.count(), service.connections) {
-        Ok(source) => {
-            serve_source::<Brand, R, O>(rt, alloc, Fresh::new(), workers, &source, output)
-        }
-        Err(_) => Err(Fault::Memory),
-    }
-}
-
 /// Serves the connections that come to a socket, of which each worker serves one after another. It ends when all workers have
-/// ended: each after so many connections, if there is a number of them, or when it can accept no more. If no accept failed, the
-/// report on its journals is written. Its file is then taken away.
+/// ended: each after so many connections, if there is a number of them, or when it can accept no more. The socket is closed
+/// then, and its file taken away. If no accept failed, the report on the journals is written.
 ///
 /// # Errors
 ///
@@ -126,8 +107,10 @@ pub fn serve<R: Threads + Wait + Net + Files + Sync, O: Write>(
     ensures failed { result ≡ Err fault.Write →
         has_failed output.old.faults output.new.faults ≡ true }
 {
-    let socket = Socket::bind(rt, service.path)?;
-    let answer = serve_socket(rt, alloc, &socket, service, output);
-    socket.close(rt);
-    answer
+    let workers = service.workers;
+    let Ok(quota) = Quota::new(alloc, workers.count(), service.connections) else {
+        return Err(Fault::Memory);
+    };
+    let source = SocketSource::new(Socket::bind(rt, service.path)?, quota);
+    serve_source::<Brand, R, O>(rt, alloc, Fresh::new(), workers, source, output)
 }

@@ -74,7 +74,7 @@ impl<'a> Socket<'a> {
 
 /// How many connections each worker accepts.
 #[derive(Drop)]
-enum Quota {
+pub enum Quota {
     /// As many as come.
     Unlimited,
     /// So many more, by the worker.
@@ -83,7 +83,15 @@ enum Quota {
 
 impl Quota {
     /// So many connections for each of these workers, or as many as come.
-    fn new(alloc: Global, workers: usize, connections: Option<u64>) -> Result<Quota, AllocError> {
+    ///
+    /// # Errors
+    ///
+    /// Where memory was refused.
+    pub fn new(
+        alloc: Global,
+        workers: usize,
+        connections: Option<u64>,
+    ) -> Result<Quota, AllocError> {
         let Some(connections) = connections else {
             return Ok(Quota::Unlimited);
         };
@@ -116,29 +124,25 @@ fn takes_one_of(left: &AtomicU64) -> bool {
 
 /// The connections that come to a socket. All workers accept at the one socket.
 #[derive(Drop)]
-pub struct SocketSource<'s, 'a> {
-    socket: &'s Socket<'a>,
+pub struct SocketSource<'a> {
+    socket: Socket<'a>,
     quota: Quota,
     failed: AtomicBool,
 }
 
-impl<'s, 'a> SocketSource<'s, 'a> {
-    /// The connections that come to this socket: so many for each of these workers, or as many as come.
-    ///
-    /// # Errors
-    ///
-    /// Where memory was refused.
-    pub fn new(
-        alloc: Global,
-        socket: &'s Socket<'a>,
-        workers: usize,
-        connections: Option<u64>,
-    ) -> Result<SocketSource<'s, 'a>, AllocError> {
-        Ok(SocketSource {
+impl<'a> SocketSource<'a> {
+    /// The connections that come to this socket, as many for each worker as the quota says.
+    pub fn new(socket: Socket<'a>, quota: Quota) -> SocketSource<'a> {
+        SocketSource {
             socket,
-            quota: Quota::new(alloc, workers, connections)?,
+            quota,
             failed: AtomicBool::new(false),
-        })
+        }
+    }
+
+    /// Closes the socket: a client that comes then, or waits, is refused. Its file is taken away.
+    pub fn close<R: Files>(self, rt: &R) {
+        self.socket.close(rt);
     }
 
     /// Whether a connection could not be accepted.
@@ -147,7 +151,7 @@ impl<'s, 'a> SocketSource<'s, 'a> {
     }
 }
 
-impl<'s, 'a> Source for SocketSource<'s, 'a> {
+impl<'a> Source for SocketSource<'a> {
     type Reader = UnixStream;
 
     type Writer = UnixStream;

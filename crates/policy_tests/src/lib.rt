@@ -1,9 +1,11 @@
-//! The worked examples of the policy: what a policy list says, decisions on policy commands, and what their entries leave, through public
-//! calls alone.
+//! The worked examples of the policy, through public calls alone: edges between roles, what a policy list says, decisions on
+//! policy commands, what their entries leave, and one policy that threads ask while others change it (`board`).
 //!
 //! This crate has no function but tests, and stands above the crates that it calls, so that each of those is proved once.
 #![tactic(auto)]
 
+#[cfg(test)]
+mod board;
 #[cfg(test)]
 mod commands;
 #[cfg(test)]
@@ -18,3 +20,5 @@ mod limits;
 mod object_texts;
 #[cfg(test)]
 mod policies;
+#[cfg(test)]
+mod role_order;

@@ -1,5 +1,0 @@
-use Rattle.board_tests.proofs.receipts.accepted_commands_leave_receipts.Given as goal
-
--- the list that was just begun
-abbrev pub ghosts-command : goal.ghosts-command
-ghosts-command g a = record { book = a.fresh.seen.book }

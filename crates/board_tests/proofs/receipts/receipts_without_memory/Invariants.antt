@@ -1,5 +1,0 @@
-use Rattle.board_tests.proofs.receipts.receipts_without_memory.Given as goal
-
--- the list that was just begun
-abbrev pub ghosts-give_all : goal.ghosts-give_all
-ghosts-give_all g a = record { book = a.fresh.seen.book }

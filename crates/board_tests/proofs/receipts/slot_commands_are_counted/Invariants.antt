@@ -1,5 +1,0 @@
-use Rattle.board_tests.proofs.receipts.slot_commands_are_counted.Given as goal
-
--- the list that was just begun
-abbrev pub ghosts-count_three : goal.ghosts-count_three
-ghosts-count_three g a = record { book = a.fresh.seen.book }

@@ -1,5 +1,0 @@
-use Rattle.board_tests.proofs.sharing.refusals_leave_the_list.Given as goal
-
--- the list that was just begun
-abbrev pub ghosts-refuse : goal.ghosts-refuse
-ghosts-refuse g a = record { book = a.fresh.seen.book }

@@ -1,0 +1,5 @@
+mod bodies;
+mod faults;
+mod links;
+mod orders;
+mod strangers;

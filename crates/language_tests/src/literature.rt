@@ -1,0 +1,4 @@
+mod derived;
+mod loads;
+mod programs;
+mod reactions;

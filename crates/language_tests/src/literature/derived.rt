@@ -1,0 +1,184 @@
+//! Each derived statement beside its kernel form, as two modules that are stepped over all sequences of four instants with two inputs.
+
+ghost use Rattle.est_meaning.specs.States.{IsState};
+
+use crate::literature::loads::{load, step};
+use est_kernel::kernel::Kernel;
+use est_kernel::state::State;
+use std::alloc::{AllocError, Global};
+use std::test::Fail;
+
+/// What stands before each body.
+const HEAD: &str = "module M: input A, B; output O, P; ";
+
+/// What stands behind each body: modules that it may run.
+const REST: &str = " end module module N: input S; output T; await S; emit T end module \
+    module R: output T; signal S in run N || pause; emit S end end module";
+
+/// Bodies that mean the same: a derived statement, and the kernel statement that it stands for.
+const PAIRS: [(&str, &str); 27] = [
+    ("emit O; halt; emit P", "emit O; loop pause end; emit P"),
+    (
+        "suspend sustain O when A",
+        "suspend loop emit O; pause end when A",
+    ),
+    (
+        "await A; emit O",
+        "trap T in loop pause; present A then exit T end end end; emit O",
+    ),
+    (
+        "await immediate A; emit O",
+        "trap T in loop present A then exit T end; pause end end; emit O",
+    ),
+    (
+        "await tick; emit O; await immediate tick; emit P",
+        "pause; emit O; emit P",
+    ),
+    (
+        "abort loop emit O; pause; emit P; pause end when A; emit P; pause; emit O",
+        "trap T in [suspend loop emit O; pause; emit P; pause end when A; exit T \
+         || loop pause; present A then exit T end end] end; emit P; pause; emit O",
+    ),
+    (
+        "abort emit O; pause; emit P when A; emit O",
+        "trap T in [suspend emit O; pause; emit P when A; exit T \
+         || loop pause; present A then exit T end end] end; emit O",
+    ),
+    (
+        "abort sustain O when immediate A; emit P",
+        "present A else trap T in [suspend loop emit O; pause end when A; exit T \
+         || loop pause; present A then exit T end end] end end; emit P",
+    ),
+    (
+        "weak abort loop emit O; pause; emit P; pause end when A; emit P; pause; emit O",
+        "trap T in [loop emit O; pause; emit P; pause end; exit T \
+         || loop pause; present A then exit T end end] end; emit P; pause; emit O",
+    ),
+    (
+        "weak abort emit O; pause; emit P when B; emit O",
+        "trap T in [emit O; pause; emit P; exit T || loop pause; present B then exit T end end] end; emit O",
+    ),
+    (
+        "weak abort sustain O when immediate A; emit P",
+        "trap T in [loop emit O; pause end; exit T || loop present A then exit T end; pause end] end; emit P",
+    ),
+    (
+        "loop emit O; pause; emit P each A",
+        "loop trap T in [suspend emit O; pause; emit P; loop pause end when A; exit T \
+         || loop pause; present A then exit T end end] end end",
+    ),
+    (
+        "every A do emit O; pause; emit P end",
+        "trap T in loop pause; present A then exit T end end end; \
+         loop trap T in [suspend emit O; pause; emit P; loop pause end when A; exit T \
+         || loop pause; present A then exit T end end] end end",
+    ),
+    (
+        "every immediate A do emit O; pause; emit P end",
+        "trap T in loop present A then exit T end; pause end end; \
+         loop trap T in [suspend emit O; pause; emit P; loop pause end when A; exit T \
+         || loop pause; present A then exit T end end] end end",
+    ),
+    (
+        "every immediate tick do emit O end",
+        "loop emit O; pause end",
+    ),
+    (
+        "suspend loop emit O; pause; emit P; pause end when immediate A; emit O",
+        "suspend [present A then pause end; loop emit O; pause; emit P; pause end] when A; emit O",
+    ),
+    (
+        "suspend emit O; pause; emit P when immediate A; emit O",
+        "suspend present A then pause end; emit O; pause; emit P when A; emit O",
+    ),
+    (
+        "loop present A then emit O end; present B else emit P end; pause end",
+        "loop present A then emit O else nothing end; present B then nothing else emit P end; pause end",
+    ),
+    (
+        "signal S, T in loop present A then emit S end; pause end || loop present S then emit T end; pause end \
+         || loop present T then emit O else emit P end; pause end end",
+        "signal S in signal T in loop present A then emit S end; pause end || loop present S then emit T end; pause end \
+         || loop present T then emit O else emit P end; pause end end end",
+    ),
+    // exits that leave an abort, a weak abort and a loop, past the traps that these stand for
+    (
+        "trap T in abort pause; exit T when A; emit O end; emit P",
+        "trap T in trap U in [suspend pause; exit T when A; exit U || loop pause; present A then exit U end end] end; \
+         emit O end; emit P",
+    ),
+    (
+        "trap T in weak abort trap V in pause; present B then exit T else exit V end end when A; emit O end; emit P",
+        "trap T in trap U in [trap V in pause; present B then exit T else exit V end end; exit U \
+         || loop pause; present A then exit U end end] end; emit O end; emit P",
+    ),
+    (
+        "trap T in loop emit O; pause; present B then exit T end each A end; emit P",
+        "trap T in loop trap U in [suspend emit O; pause; present B then exit T end; loop pause end when A; exit U \
+         || loop pause; present A then exit U end end] end end end; emit P",
+    ),
+    // modules that are run
+    ("run N [signal A/S, O/T]; emit P", "await A; emit O; emit P"),
+    (
+        "loop run N [signal B/S, P/T] || run N [signal A/S, O/T] each B",
+        "loop await B; emit P || await A; emit O each B",
+    ),
+    (
+        "signal T in run R || await T; emit O end; run N [signal B/S, P/T]",
+        "pause; emit O; await B; emit P",
+    ),
+    // instants that are undecided
+    (
+        "await A; present O else emit O end",
+        "trap T in loop pause; present A then exit T end end end; present O else emit O end",
+    ),
+    (
+        "abort present P then emit O end; pause; present O then emit P end when B; emit P",
+        "trap T in [suspend present P then emit O end; pause; present O then emit P end when B; exit T \
+         || loop pause; present B then exit T end end] end; emit P",
+    ),
+];
+
+/// The text of a body.
+fn text_of(alloc: Global, body: &str) -> Result<String, AllocError> {
+    format!(in alloc; "{HEAD}{body}{REST}")
+}
+
+/// Whether two kernels show the same in four instants. The inputs of each are two bits of the code, those of the first the lowest.
+fn agree(first: &Kernel, second: &Kernel, code: u64) -> bool {
+    let mut left = State::Fresh;
+    let mut right = State::Fresh;
+    for instant in 0..4u32 {
+        let present = (code >> (2 * instant)) & 3;
+        if step(first, &mut left, present) != step(second, &mut right, present) {
+            return false;
+        }
+    }
+    true
+}
+
+/// The code of the first four instants in which two kernels differ.
+fn difference(first: &Kernel, second: &Kernel) -> Option<u64> {
+    (0..256).find(|code| !agree(first, second, *code))
+}
+
+/// The code of the first four instants in which two bodies differ.
+fn body_difference(alloc: Global, derived: &str, kernel: &str) -> Result<Option<u64>, Fail> {
+    let derived = text_of(alloc, derived)?;
+    let kernel = text_of(alloc, kernel)?;
+    let first = load(alloc, &derived)?;
+    let second = load(alloc, &kernel)?;
+    Ok(difference(&first, &second))
+}
+
+#[test]
+fn derived_statements_are_their_kernel_forms(rt: HostRuntime) -> Result<(), Fail> {
+    let alloc = rt.alloc();
+    for (derived, kernel) in PAIRS {
+        let code = body_difference(alloc, derived, kernel)?;
+        if code.is_some() {
+            return Err(Fail::from(format!(in alloc; "{derived}: in the instants {code:?}")?));
+        }
+    }
+    Ok(())
+}

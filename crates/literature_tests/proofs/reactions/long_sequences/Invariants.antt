@@ -1,5 +1,0 @@
-use Rattle.est_meaning.specs.States.{IsState}
-use Rattle.literature_tests.proofs.reactions.long_sequences.Given as goal
-
-abbrev pub invariant-loop : goal.invariant-loop
-invariant-loop g l = IsState l.kernel.root l.state

@@ -1,0 +1,11 @@
+use denote.Param.{param}
+use denote.Param.Send.{IsSend}
+use Rattle.policy_board.specs.contracts.reader.SlotReader as reader
+use Rattle.client_loop.proofs.Sharing.{table_shares}
+use Rattle.server_tests.proofs.threads.many.serve.Goals as goal
+
+pub run_over-requires-sync-T : goal.run_over-requires-sync-T
+run_over-requires-sync-T g c =
+    let reads : IsSend (reader.the_row (param 0 g.row.B) g.B.BoardName) = record { owned = c.may_cross.ensures.owned; leaving = λ k d w. tt } in
+    let shares = table_shares (param 0 g.row.B) g.B.BoardName reads in
+    search shares

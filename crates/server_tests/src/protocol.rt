@@ -1,0 +1,6 @@
+mod connections;
+mod devices;
+mod lines;
+mod logins;
+mod replies;
+mod requests;

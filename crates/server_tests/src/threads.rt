@@ -1,0 +1,11 @@
+mod asking;
+mod clients;
+mod lending;
+mod many;
+mod meeting;
+mod revocation;
+mod server;
+mod shared;
+mod slots;
+mod turns;
+mod workers;

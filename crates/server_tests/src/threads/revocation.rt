@@ -1,0 +1,236 @@
+//! A revocation that is answered in one thread, and obeyed in another that was told of it.
+ghost use Rattle.std.specs.Prelude.{◌≡◌};
+
+use crate::threads::asking::{begin, enter, grant, name, order, revoke, root};
+use crate::threads::lending::{Lends, may_cross};
+use crate::threads::server::{Server, open};
+use access_core::command::SlotCommand;
+use access_core::refusal::Refusal;
+use access_core::reply::Reply;
+use audit_report::audit::check;
+use policy_board::board::Board;
+use policy_board::history::{BoardName, Fresh};
+use policy_board::reader::SlotReader;
+use policy_board::seat::{Receipt, Seat};
+use rbac_admin::refusals::Refusal as PolicyRefusal;
+use rbac_policy::commands::{AdminCommand, SessionId};
+use rbac_policy::names::Name;
+use rbac_policy::objects::{Operation, SlotNumber};
+use slot_table::closing::Histories;
+use slot_table::table::SlotTable;
+use std::alloc::Global;
+use std::marker::Brand;
+use std::process::Abort;
+use std::sync::Wait;
+use std::test::Fail;
+use std::thread::{Threads, join};
+
+/// How many steps are given while the policy is changed.
+const STEPS: u32 = 3;
+
+/// What a policy opens with, and what is given before the rounds: root's login and two grants, a user, a role, its
+/// assignment, and a login.
+const BEFORE: usize = 4 + 3 + 3 + 1;
+
+/// Who is served: root, who changes the policy; ann, whose permission is given and taken; and one more client of root's session.
+struct Seats<B: BoardName> {
+    giver: Seat<B>,
+    asker: Seat<B>,
+    third: Seat<B>,
+}
+
+/// The session that ann logs in with, the second of all.
+fn ann() -> SessionId {
+    SessionId::new(2)
+}
+
+/// A module runs in slot 0, and ann is logged in as a driver, who may do nothing yet.
+fn prepare<B: BoardName, R: Wait + Abort>(
+    rt: &R,
+    alloc: Global,
+    board: &Board<B>,
+    table: &SlotTable<B>,
+    seats: &mut Seats<B>,
+) {
+    let (user, role, first) = (name(rt, "ann"), name(rt, "driver"), Name::root());
+    let giver = &mut seats.giver;
+    enter(rt, alloc, board, giver, first, first);
+    begin(rt, alloc, board, table, giver, 0);
+    order(rt, board, giver, AdminCommand::AddUser { user });
+    order(rt, board, giver, AdminCommand::AddRole { role });
+    order(rt, board, giver, AdminCommand::AssignUser { user, role });
+    let session = enter(rt, alloc, board, &mut seats.asker, user, role);
+    assert_eq!(rt; session, ann());
+}
+
+/// What the session is answered to a step of slot 0.
+fn step<B: BoardName, R: Wait>(
+    rt: &R,
+    board: &Board<B>,
+    table: &SlotTable<B>,
+    seat: &mut Seat<B>,
+    session: SessionId,
+) -> Reply {
+    table.command(rt, board, seat, session, 0, SlotCommand::Step)
+}
+
+/// The session steps slot 0, as far as it may. What its seat has seen never falls.
+fn step_on<B: BoardName, R: Wait + Abort>(
+    rt: &R,
+    board: &Board<B>,
+    table: &SlotTable<B>,
+    mut seat: Seat<B>,
+    session: SessionId,
+) -> Seat<B> {
+    for _ in 0..STEPS {
+        let before = seat.seen();
+        step(rt, board, table, &mut seat, session);
+        assert!(rt; before <= seat.seen());
+    }
+    seat
+}
+
+/// Root gives the command, and hands its receipt over.
+fn change<B: BoardName, R: Wait + Abort>(
+    rt: &R,
+    board: &Board<B>,
+    mut seat: Seat<B>,
+    command: AdminCommand,
+) -> (Seat<B>, Receipt<B>) {
+    let receipt = order(rt, board, &mut seat, command);
+    (seat, receipt)
+}
+
+/// Root gives the command in a thread of its own, while two more threads step. Where they join, ann is told. Answers the version,
+/// too.
+fn change_at_once<
+    B: BoardName + Send + Sync,
+    T: Lends<SlotTable<B>> + Sync,
+    R: Threads + Wait + Abort + Sync,
+>(rt: &R, board: &Board<B>, table: &T, seats: Seats<B>, command: AdminCommand) -> (Seats<B>, u64) {
+    let Seats {
+        giver,
+        asker,
+        third,
+    } = seats;
+    let ((giver, receipt), (mut asker, third)) = join(
+        rt,
+        || change(rt, board, giver, command),
+        || {
+            join(
+                rt,
+                || step_on(rt, board, table.lent(), asker, ann()),
+                || step_on(rt, board, table.lent(), third, root()),
+            )
+        },
+    );
+    let version = receipt.version();
+    asker.learn(receipt);
+    let seats = Seats {
+        giver,
+        asker,
+        third,
+    };
+    (seats, version)
+}
+
+/// A grant that ann is told of, and then a revocation: her next step is accepted, and refused.
+fn play_round<
+    B: BoardName + Send + Sync,
+    T: Lends<SlotTable<B>> + Sync,
+    R: Threads + Wait + Abort + Sync,
+>(rt: &R, board: &Board<B>, table: &T, seats: Seats<B>) -> Seats<B> {
+    let role = name(rt, "driver");
+    let slot = SlotNumber::new(0).expect(rt, "a slot");
+    let granted = grant(role, Operation::Step, slot);
+    let (mut seats, told) = change_at_once(rt, board, table, seats, granted);
+    let reply = step(rt, board, table.lent(), &mut seats.asker, ann());
+    assert!(rt; matches!(reply, Reply::Step { version, .. } if version == told));
+    let revoked = revoke(role, Operation::Step, slot);
+    let (mut seats, told) = change_at_once(rt, board, table, seats, revoked);
+    let reply = step(rt, board, table.lent(), &mut seats.asker, ann());
+    assert!(rt;
+        matches!(
+            reply,
+            Reply::Refused(Refusal::Policy(PolicyRefusal::Permission { .. }))
+        )
+    );
+    assert_eq!(rt; seats.asker.seen(), told);
+    seats
+}
+
+/// So many rounds; then root removes ann, and she has no session any more.
+fn play<
+    B: BoardName + Send + Sync,
+    T: Lends<SlotTable<B>> + Sync,
+    R: Threads + Wait + Abort + Sync,
+>(rt: &R, board: &Board<B>, table: &T, seats: Seats<B>, rounds: u32) -> Seats<B> {
+    let mut seats = seats;
+    for _ in 0..rounds {
+        seats = play_round(rt, board, table, seats);
+    }
+    let removed = AdminCommand::DeleteUser {
+        user: name(rt, "ann"),
+    };
+    let (mut seats, told) = change_at_once(rt, board, table, seats, removed);
+    let reply = step(rt, board, table.lent(), &mut seats.asker, ann());
+    assert!(rt;
+        matches!(
+            reply,
+            Reply::Refused(Refusal::Policy(PolicyRefusal::NoSession))
+        )
+    );
+    assert_eq!(rt; seats.asker.seen(), told);
+    seats
+}
+
+/// After so many rounds the server is closed, and nothing is found in its histories.
+fn serve<B: BoardName + Send + Sync, R: Threads + Wait + Abort + Sync>(
+    rt: &R,
+    alloc: Global,
+    fresh: Fresh,
+    rounds: u32,
+) -> Histories
+    requires { fresh.seen.book ≡ B.book }
+{
+    let Server {
+        board,
+        mut seats,
+        table,
+    } = open::<B, R>(rt, alloc, fresh, 3);
+    let mut seats = Seats {
+        giver: seats.pop().expect(rt, "a seat"),
+        asker: seats.pop().expect(rt, "a seat"),
+        third: seats.pop().expect(rt, "a seat"),
+    };
+    prepare(rt, alloc, &board, &table, &mut seats);
+    may_cross::<SlotReader<B>>();
+    let Seats {
+        giver,
+        asker,
+        third,
+    } = play(rt, &board, &table, seats, rounds);
+    let seats = vec![in alloc; giver, asker, third].ok().expect(rt, "room");
+    let histories = table
+        .close(rt, alloc, board, seats)
+        .ok()
+        .expect(rt, "histories");
+    assert!(rt; check(alloc, &histories.policy, &histories.slots).is_ok());
+    histories
+}
+
+/// A step that is refused, since its permission was taken, or its session ended, in another thread.
+#[test]
+fn revoked_is_denied(rt: HostRuntime) -> Result<(), Fail> {
+    let histories = serve::<Brand, _>(&rt, rt.alloc(), Fresh::new(), 1);
+    assert_eq!(rt; histories.policy.len(), BEFORE + 3);
+    Ok(())
+}
+
+/// The same a thousand times.
+#[test]
+fn revoked_is_denied_a_thousand_times(rt: HostRuntime) -> Result<(), Fail> {
+    let histories = serve::<Brand, _>(&rt, rt.alloc(), Fresh::new(), 1000);
+    assert_eq!(rt; histories.policy.len(), BEFORE + 2001);
+    Ok(())
+}

@@ -1,0 +1,8 @@
+mod desks;
+mod instants;
+mod loads;
+mod memory;
+mod reactors;
+mod revocations;
+mod slots;
+mod stories;

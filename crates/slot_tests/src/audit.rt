@@ -1,0 +1,4 @@
+mod changes;
+mod deepest;
+mod findings;
+mod journals;

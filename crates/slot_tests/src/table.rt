@@ -1,0 +1,4 @@
+mod closing;
+mod commands;
+mod receipts;
+mod server;

@@ -1,5 +1,0 @@
-use Rattle.table_tests.proofs.commands.refusals_on_the_table.Given as goal
-
--- the list that was just begun
-abbrev pub ghosts-refuse : goal.ghosts-refuse
-ghosts-refuse g a = record { book = a.fresh.seen.book }

@@ -1,5 +1,0 @@
-use Rattle.table_tests.proofs.receipts.receipts_of_slot_commands.Given as goal
-
--- the list that was just begun
-abbrev pub ghosts-keep : goal.ghosts-keep
-ghosts-keep g a = record { book = a.fresh.seen.book }

@@ -1,5 +1,0 @@
-use Rattle.worker_tests.proofs.revocation.revoked_is_denied_a_thousand_times.Given as goal
-
--- the list that was just begun
-abbrev pub ghosts-serve : goal.ghosts-serve
-ghosts-serve g a = record { book = a.fresh.seen.book }

@@ -1,0 +1,96 @@
+"""Dialogues, of one client or two, with the answer to each line."""
+from peers import ROOT, STORED, accepted, command, refused
+
+SCRIPTS = ROOT / "examples" / "scripts"
+
+
+def stored(lines, answers):
+    """The story of one client, of stored lines with their answers."""
+    pairs = zip(lines.read_bytes().splitlines(keepends=True), answers.read_bytes().splitlines(keepends=True))
+    return [("root", line, answer) for line, answer in pairs]
+
+
+def script(name):
+    return stored(SCRIPTS / name, SCRIPTS / f"{name}.stdout")
+
+
+def turn(who, cmd, answer=None, **keys):
+    """A command with its answer: the code and keys of a refusal, or the further keys of an answer that accepts it."""
+    return who, command(cmd, **keys), refused(**answer) if "code" in answer else accepted(cmd, **answer)
+
+
+def changes(first, *commands):
+    """Commands of root that change the policy, at versions from this one on."""
+    return [turn("root", keys.pop("cmd"), {"version": first + at}, **keys) for at, keys in enumerate(map(dict, commands))]
+
+
+def grants(role, *pairs):
+    return [{"cmd": "grant", "object": name, "op": op, "role": role} for op, name in pairs]
+
+
+def revocation():
+    """Root takes a permission away, while what was offered by it is pending; what was offered is in the next instant, or discarded."""
+    text = "module M: input A; output B; loop present A then emit B end; pause end end module"
+    offered = {"signal": "A", "slot": 0}
+    denied = {"code": 10, "object": "0.A", "op": "offer"}
+    shared = grants("root", ("load", "0"), ("step", "0"), ("observe", "0.A"), ("audit", "policy"), ("observe", "0.B"))
+    return [
+        turn("root", "login", {"session": 1, "version": 5}, roles=["root"], user="root"),
+        *changes(6, *shared, {"cmd": "addrole", "role": "drv"}, {"cmd": "adduser", "user": "eng"}),
+        *changes(13, {"cmd": "assign", "role": "drv", "user": "eng"}, *grants("drv", ("offer", "0.A"))),
+        turn("eng", "login", {"session": 2, "version": 15}, roles=["drv"], user="eng"),
+        turn("root", "load", {"place": 1, "version": 15}, main="M", slot=0, text=text),
+        turn("eng", "check", {"allowed": True}, object="0.A", op="offer"),
+        turn("eng", "offer", {"place": 2, "version": 15}, **offered),
+        turn("root", "revoke", {"version": 16}, object="0.A", op="offer", role="drv"),
+        turn("eng", "offer", denied, **offered),
+        turn("eng", "check", {"allowed": False}, object="0.A", op="offer"),
+        turn("root", "step", {"instant": 1, "place": 3, "version": 16}, slot=0),
+        turn("root", "look", {"instant": 1, "signals": [["A", True], ["B", True]], "version": 16}, instant=1, slot=0),
+        *changes(17, *grants("drv", ("offer", "0.A"))),
+        turn("eng", "offer", {"place": 4, "version": 17}, **offered),
+        turn("root", "revoke", {"version": 18}, object="0.A", op="offer", role="drv"),
+        turn("root", "discard", {"place": 5, "version": 18}, slot=0),
+        turn("root", "step", {"instant": 2, "place": 6, "version": 18}, slot=0),
+        turn("root", "look", {"instant": 2, "signals": [["A", False], ["B", False]], "version": 18}, instant=2, slot=0),
+        turn("root", "audit", {"entries": 6, "instants": 2, "version": 18}, slot=0),
+        turn("eng", "logout", {"version": 19}),
+        turn("root", "logout", {"version": 20}),
+    ]
+
+
+def growing():
+    """Each command that adds an entry, so often that it meets a list which has to grow."""
+    text = "module M: input A; halt end module"
+    shared = grants("root", ("load", "0"), ("step", "0"), ("offer", "0.A"), ("audit", "policy"))
+    first = [
+        turn("root", "login", {"session": 1, "version": 5}, roles=["root"], user="root"),
+        *changes(6, *shared, {"cmd": "addrole", "role": "x"}, {"cmd": "assign", "role": "x", "user": "root"}),
+    ]
+    version, place, instant, body = 11, 0, 0, []
+
+    def slot(cmd, **keys):
+        nonlocal place, instant
+        place, instant = place + 1, instant + 1 if cmd == "step" else 0 if cmd == "load" else instant
+        told = {"instant": instant} if cmd == "step" else {}
+        return turn("root", cmd, {**told, "place": place, "version": version}, slot=0, **keys)
+
+    for _ in range(7):  # five entries of the slot, so that each of them comes where the list is full at some time
+        body.append(slot("load", main="M", text=text))
+        body += [slot("offer", signal="A"), slot("discard"), slot("step"), slot("unload")]
+    for session in range(2, 12):  # three entries of the policy; its list and the receipts grow at versions 17, 21, 33 and 37
+        body.append(turn("root", "activate", {"version": version + 1}, role="x"))
+        body.append(turn("root", "logout", {"version": version + 2}))
+        version += 3
+        body.append(turn("root", "login", {"session": session, "version": version}, roles=["root"], user="root"))
+    return first + body
+
+
+STORIES = {
+    "opening script": lambda: stored(STORED / "stdin", STORED / "stdout"),
+    "one duty at a time": lambda: script("one_duty_at_a_time"),
+    "revocation": revocation,
+    "relations between inputs": lambda: script("relations_between_inputs"),
+    "a slot is emptied": lambda: script("a_slot_is_emptied"),
+    "growing lists": growing,
+}
