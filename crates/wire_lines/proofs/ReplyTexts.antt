@@ -1,9 +1,12 @@
 -- The lines that are written as they stand, piece by piece.
-use Rattle.std.proofs.Common.{◌≡◌, ◌∙◌, ℕ, List, ◌++◌, codes, append_assoc}
+use Rattle.std.proofs.Common.{◌≡◌, ◌∙◌, ℕ, List, ◌++◌, codes, append_assoc, ap, refl, Bool, true, false}
 use Rattle.std.specs.Prelude.{decimal, Result, Ok, Err, IfOk}
 use Rattle.std.specs.Fmt.{digits}
 use Rattle.serde_json.proofs.OnLiterals.{serde_json_on_literals}
-use Rattle.access_core.specs.declared.reply.Reply.TheVariants.{Load, Offer, Discard, Unload, Step}
+use Rattle.access_core.specs.declared.reply.Change.{Change}
+use Rattle.access_core.specs.declared.reply.Change.TheVariants as change
+use Rattle.access_core.specs.declared.reply.Reply.TheVariants.{Load, Offer, Discard, Unload, Step, Changed, Check}
+use Rattle.access_core.specs.Replies.{word_of}
 use Rattle.wire_lines.specs.Replies.{line_of}
 
 -- what stands behind a place
@@ -20,7 +23,8 @@ pub offer_text : (place version : ℕ) → codes "{\"ok\":\"offer\",\"place\":" 
 unfolding serde_json_on_literals digits
 offer_text place version = simp append_assoc
 
-pub discard_text : (place version : ℕ) → codes "{\"ok\":\"discard\",\"place\":" ++ (decimal place ++ version_end version)
+pub discard_text : (place version : ℕ) → codes "{\"ok\":\"discard\",\"place\":" ++
+    (decimal place ++ version_end version)
     ≡ line_of (Discard place version)
 unfolding serde_json_on_literals digits
 discard_text place version = simp append_assoc
@@ -30,10 +34,47 @@ pub unload_text : (place version : ℕ) → codes "{\"ok\":\"unload\",\"place\":
 unfolding serde_json_on_literals digits
 unload_text place version = simp append_assoc
 
-pub step_text : (instant place version : ℕ) → (codes "{\"instant\":" ++ decimal instant) ++ (codes ",\"ok\":\"step\",\"place\":" ++ (decimal place ++ version_end version))
+pub step_text : (instant place version : ℕ) → (codes "{\"instant\":" ++ decimal instant) ++
+    (codes ",\"ok\":\"step\",\"place\":" ++ (decimal place ++ version_end version))
     ≡ line_of (Step instant place version)
 unfolding serde_json_on_literals digits
 step_text instant place version = simp append_assoc
+
+changed_text : (c : Change) (version : ℕ) → codes "{\"ok\":\"" ++ (word_of c ++ (codes "\"" ++ version_end version))
+    ≡ line_of (Changed c version)
+unfolding serde_json_on_literals digits
+changed_text change.AddUser version = simp append_assoc
+changed_text change.DeleteUser version = simp append_assoc
+changed_text change.AddRole version = simp append_assoc
+changed_text change.DeleteRole version = simp append_assoc
+changed_text change.AssignUser version = simp append_assoc
+changed_text change.DeassignUser version = simp append_assoc
+changed_text change.GrantPermission version = simp append_assoc
+changed_text change.RevokePermission version = simp append_assoc
+changed_text change.AddInheritance version = simp append_assoc
+changed_text change.DeleteInheritance version = simp append_assoc
+changed_text change.CreateDsdSet version = simp append_assoc
+changed_text change.DeleteDsdSet version = simp append_assoc
+changed_text change.DeleteSession version = simp append_assoc
+changed_text change.AddActiveRole version = simp append_assoc
+changed_text change.DropActiveRole version = simp append_assoc
+
+pub word_text : (c : Change) (word : List ℕ) (version : ℕ) → word ≡ word_of c
+    → codes "{\"ok\":\"" ++ (word ++ (codes "\"" ++ version_end version)) ≡ line_of (Changed c version)
+word_text c word version same =
+    ap (λ (w : List ℕ). codes "{\"ok\":\"" ++ (w ++ (codes "\"" ++ version_end version))) same ∙ changed_text c version
+
+pub allowed_text : (allowed : Bool) → allowed ≡ true
+    → codes "{\"allowed\":true,\"ok\":\"check\"}\n" ≡ line_of (Check allowed)
+unfolding serde_json_on_literals digits
+allowed_text true e = refl
+allowed_text false e = cc
+
+pub denied_text : (allowed : Bool) → allowed ≡ false
+    → codes "{\"allowed\":false,\"ok\":\"check\"}\n" ≡ line_of (Check allowed)
+unfolding serde_json_on_literals digits
+denied_text false e = refl
+denied_text true e = cc
 
 -- a line of the same bytes in other words
 pub by_text : {T E : Type 0} (items : T → List ℕ) {text whole : List ℕ} → text ≡ whole → (o : Result T E)

@@ -1,13 +1,21 @@
-//! The lines that come most often, of numbers alone, written as they stand: no tree of values is made for them.
+//! The lines that come most often, written as they stand: no tree of values is made for them.
 ghost use Rattle.std.specs.Prelude.{◌≡◌, ◌++◌, codes, decimal, IfOk, OnOk};
-ghost use Rattle.access_core.specs.declared.reply.Reply.TheVariants.{Load, Offer, Discard, Unload, Step};
+ghost use Rattle.access_core.specs.declared.reply.Reply.TheVariants.{Load, Offer, Discard};
+ghost use Rattle.access_core.specs.declared.reply.Reply.TheVariants.{Unload, Step, Changed, Check};
 ghost use Rattle.wire_lines.specs.Replies.{line_of};
 
+use access_core::reply::Change;
 use itoa::Buffer;
 use std::alloc::{AllocError, Global};
 
 /// How many bytes a line finds room for at once: these lines are shorter.
 const USUAL_BYTES: usize = 128;
+
+/// The line of a check that may.
+const ALLOWED: &str = "{\"allowed\":true,\"ok\":\"check\"}\n";
+
+/// The line of a check that may not.
+const DENIED: &str = "{\"allowed\":false,\"ok\":\"check\"}\n";
 
 /// Adds a text, and a number behind it.
 fn add_number(line: &mut Vec<u8>, text: &[u8], number: u64) -> Result<(), AllocError>
@@ -111,4 +119,38 @@ pub(crate) fn step_line(
         place,
         version,
     )
+}
+
+/// A line that tells the word of an accepted command, and a version.
+fn word_line(alloc: Global, word: &str, version: u64) -> Result<Vec<u8>, AllocError>
+    ensures { IfOk result (λ line. line.items ≡ codes "{\"ok\":\"" ++ (word.now ++ (codes "\""
+        ++ (codes ",\"version\":" ++ (decimal version ++ codes "}\n"))))) }
+{
+    let mut line = Vec::with_capacity(alloc, USUAL_BYTES)?;
+    line.extend_from_slice(b"{\"ok\":\"")?;
+    line.extend_from_slice(word.as_bytes())?;
+    line.push(b'"')?;
+    add_version(&mut line, version)?;
+    Ok(line)
+}
+
+/// The line of a change of the policy.
+pub(crate) fn changed_line(
+    alloc: Global,
+    change: &Change,
+    version: u64,
+) -> Result<Vec<u8>, AllocError>
+    ensures { IfOk result (λ line. line.items ≡ line_of (Changed change.now version)) }
+{
+    word_line(alloc, change.word(), version)
+}
+
+/// The line of a check.
+pub(crate) fn check_line(alloc: Global, allowed: bool) -> Result<Vec<u8>, AllocError>
+    ensures { IfOk result (λ line. line.items ≡ line_of (Check allowed)) }
+{
+    if allowed {
+        return Vec::from_slice(alloc, ALLOWED.as_bytes());
+    }
+    Vec::from_slice(alloc, DENIED.as_bytes())
 }

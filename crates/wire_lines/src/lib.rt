@@ -1,10 +1,10 @@
 //! Lines: the request that a line asks for, and the line that a reply is.
 //!
 //! `reading` gives the request that a line asks for, exactly where it asks for one, and tells a
-//! line that is no JSON from one that is no request. `commands` has the table of the commands, and a
-//! reader for each shape of their keys; `members` takes one member of a line after the other, token
-//! by token. `reply` writes a reply as its one text; `accepted` and `look_line` write those of
-//! accepted commands with no tree of values.
+//! line that is no JSON from one that is no request. `commands` has the table of the commands, and
+//! a reader for each shape of their keys; `members` takes one member of a line after the other,
+//! token by token. `reply` writes a reply as its one text; `accepted` and `look_line` write those
+//! that come most often with no tree of values.
 #![tactic(auto)]
 
 mod accepted;

@@ -8,8 +8,9 @@ ghost use Rattle.rbac_policy.specs.declared.names.TheConstants.{LISTED_ROLES};
 ghost use Rattle.rbac_policy.specs.Texts.{operation_of, object_of};
 ghost use Rattle.wire_lines.specs.Inner.Members.{whole_of, after_key, front_text, front_number};
 ghost use Rattle.wire_lines.specs.Inner.Members.{begins_object, begins_array, text_after};
-ghost use Rattle.wire_lines.specs.Inner.Members.{number_after, name_of, identifier_of, parsed_after};
-ghost use Rattle.wire_lines.specs.Inner.Members.{names_in, listed, roles_after, ends, word_at};
+ghost use Rattle.wire_lines.specs.Inner.Members.{number_after, name_of, identifier_of};
+ghost use Rattle.wire_lines.specs.Inner.Members.{parsed_after, names_in, listed, roles_after};
+ghost use Rattle.wire_lines.specs.Inner.Members.{ends, word_at};
 
 use est_text::identifier::Identifier;
 use fast_float::Numeral;

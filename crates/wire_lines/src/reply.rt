@@ -20,7 +20,9 @@ ghost use Rattle.rbac_admin.specs.declared.refusals.Refusal.TheVariants as polic
 ghost use Rattle.reactor_core.specs.declared.refusal.ModuleRefusal.TheVariants as of_module;
 ghost use Rattle.est_text.specs.declared.place.Place.{Place};
 
-use crate::accepted::{discard_line, load_line, offer_line, step_line, unload_line};
+use crate::accepted::{
+    changed_line, check_line, discard_line, load_line, offer_line, step_line, unload_line,
+};
 use crate::look_line::look_line;
 use access_core::refusal::Refusal;
 use access_core::reply::{Reply, ShownSignal};
@@ -375,6 +377,8 @@ pub fn reply_line(alloc: Global, reply: &Reply) -> Result<Vec<u8>, AllocError>
             signals,
             version,
         } => look_line(alloc, *instant, signals.as_slice(), *version),
+        Reply::Changed { change, version } => changed_line(alloc, change, *version),
+        Reply::Check { allowed } => check_line(alloc, *allowed),
         _ => value_line(alloc, reply),
     }
 }
