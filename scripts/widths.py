@@ -4,8 +4,11 @@
 usage: widths.py FILE..
 
 Comments are flowed again, paragraph by paragraph. A line of code is broken at a blank outside texts, where the fewest brackets are open;
-a text is continued with a backslash. Nothing but blanks, line ends and those backslashes changes: a file of which more would change is
-left as it is, and named. `rt fmt` keeps the breaks, and the prover's modules stay the same.
+a text is continued with a backslash. Imports of a module that are too wide are split into several of it. Nothing but blanks, line ends,
+those backslashes and the heads of imports changes: a file of which more would change is left as it is, and named.
+
+Run `rt fmt` after it, and then both once more: `rt fmt` moves some of the breaks, and puts one field of a record on each line once the
+record has several lines.
 """
 import re
 import sys
@@ -14,6 +17,7 @@ import textwrap
 WIDTHS = {".rt": 100, ".antt": 120}
 MARKS = {".rt": ("//!", "///", "//"), ".antt": ("--",)}
 OPEN, CLOSE = "([{⟨", ")]}⟩"
+IMPORT = re.compile(r"^( *(?:ghost )?use [^{}]*\.\{)([^{}]*)(\};?)$")
 
 # words that may begin a line, and ends of a line after which it may not be broken
 LEADING = ("→", "∙", "×", "⊎", "++", "▸", "↔", "&&", "||", "+", "≡", "∷")
@@ -60,14 +64,16 @@ def cost_of(line, i, depth):
     if not word or word.startswith("--") or word in ("in", "of", "then", "else"):
         return None
     if word == "→":
-        return depth * 2
-    if before.endswith((";", ",", " =", "↦", " in")):
-        return depth * 2 + 1
+        return depth * 5
+    if before.endswith((";", ",", "↦", " in")):
+        return depth * 5 + 1
+    if before.endswith(" ="):
+        return depth * 5 + (3 if depth else 1)
     if word in LEADING:
-        return depth * 2 + 2
+        return depth * 5 + 2
     if HANGING.search(before) or word[0] in "≡≢≤<=:.;,)" or re.search(r"λ[^.()]*$", before):
         return None
-    return depth * 2 + (3 if word.startswith("(") else 4)
+    return depth * 5 + (3 if word.startswith("(") else 4)
 
 
 def code_break(line, indent, width, inside):
@@ -76,7 +82,7 @@ def code_break(line, indent, width, inside):
     spots = [i for i in range(indent + 8, width + 1) if line[i] == " " and not info[i][1]]
     costs = {i: cost_of(line, i, info[i][0]) for i in spots}
     if all(it is None for it in costs.values()):
-        costs = {i: info[i][0] * 2 for i in spots if not line[:i].rstrip().endswith(("λ", "|"))}
+        costs = {i: info[i][0] * 5 for i in spots if not line[:i].rstrip().endswith(("λ", "|"))}
     # (a break far to the left wastes a line)
     least = indent + (width - indent) * 0.45
     ranked = [(it + (0 if i > least else 3), -i) for i, it in costs.items() if it is not None]
@@ -90,6 +96,28 @@ def text_break(line, indent, width, inside):
     spots = [i for i in within if line[i] == " " and line[i - 1] != "\\"] or [i for i in within if line[i - 1:i + 1] == "\\n"]
     good = [i for i in spots if i > width * 0.6 and (line[i - 1] in ";," or line[i + 1:].startswith(("|| ", "module ")))]
     return (good or spots or [None])[-1]
+
+
+def with_imports(lines, width):
+    """The lines, with the imports of one module that stand side by side filled anew where one of them is too wide."""
+    out, i = [], 0
+    while i < len(lines):
+        first, run = IMPORT.match(lines[i]), []
+        while first and i < len(lines) and (it := IMPORT.match(lines[i])) and (it[1], it[3]) == (first[1], first[3]):
+            run.append(it)
+            i += 1
+        if all(len(it[0]) <= width for it in run):
+            out += [it[0] for it in run] or [lines[i]]
+            i += not run
+            continue
+        names = []
+        for name in (name.strip() for it in run for name in it[2].split(", ")):
+            if names and len(f"{first[1]}{', '.join(names + [name])}{first[3]}") > width:
+                out.append(f"{first[1]}{', '.join(names)}{first[3]}")
+                names = []
+            names.append(name)
+        out.append(f"{first[1]}{', '.join(names)}{first[3]}")
+    return out
 
 
 def broken(line, width, inside):
@@ -159,9 +187,12 @@ def with_comments(lines, mark, width):
 
 
 def bare(text):
-    """The text without blanks, line ends, and what begins a comment's line."""
+    """The names that are imported, and the other text without blanks, line ends, and what begins a comment's line."""
     without = re.sub(r"(?m)^ *(//!|///|//|--) ?", "", text.replace("\\\n", "\n"))
-    return re.sub(r"\s+", "", without)
+    lines, imports = without.split("\n"), []
+    for it in filter(None, map(IMPORT.match, lines)):
+        imports += [(it[1], name.strip()) for name in it[2].split(", ")]
+    return imports, re.sub(r"\s+", "", "".join(it for it in lines if not IMPORT.match(it)))
 
 
 def change(path):
@@ -172,8 +203,14 @@ def change(path):
     lines, width = text.split("\n"), WIDTHS[kind]
     for mark in MARKS[kind]:
         lines = with_comments(lines, mark, width)
-    out, inside = [], False
+    lines = with_imports(lines, width)
+    out, inside, raw = [], False, False
     for line in lines:
+        # (a raw text keeps its blanks and line ends, so its lines are left as they are)
+        if kind == ".rt" and (raw or 'r#"' in line):
+            raw = line.rfind('"#') < line.rfind('r#"') + 3 if 'r#"' in line else '"#' not in line
+            out.append(line)
+            continue
         is_comment = not inside and re.match(r" *(//|--)", line)
         out += [line] if is_comment or len(line) <= width else broken(line, width, inside)
         if kind == ".rt" and not is_comment:

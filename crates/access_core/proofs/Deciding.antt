@@ -18,7 +18,8 @@ pub refusing : {S : Type 0} {refusal : Refusal} {state : S} → IsRefused refusa
 refusing = record { replied = refl; stays = refl }
 
 -- a reply that is accepted is no refusal
-pub not_refused : {S : Type 0} {before : S} {reply : Reply} {after : S} → IsAccepted reply → (refusal : Refusal) → IsRefused refusal before reply after → ⊥
+pub not_refused : {S : Type 0} {before : S} {reply : Reply} {after : S} → IsAccepted reply → (refusal : Refusal)
+    → IsRefused refusal before reply after → ⊥
 not_refused is refusal h = subst IsAccepted h.replied is
 
 module _ (entries : List Entry) (slot session : ℕ) (command : SlotCommand) where
@@ -26,31 +27,39 @@ module _ (entries : List Entry) (slot session : ℕ) (command : SlotCommand) whe
   who = access_rules entries session (permission_of slot command)
 
   -- a session that may give the command is answered by what the command asks of the slot
-  pub allowed_step : (before : List SlotEntry) (reply : Reply) (after : List SlotEntry) → AllPass (access_rules entries session (permission_of slot command))
-      → ByRules (journal_rules entries slot session command before) (Does entries slot session command) before reply after
+  pub allowed_step : (before : List SlotEntry) (reply : Reply) (after : List SlotEntry)
+      → AllPass (access_rules entries session (permission_of slot command))
+      → ByRules (journal_rules entries slot session command before)
+      (Does entries slot session command) before reply after
       → SlotStep entries slot session command before reply after
   allowed_step before reply after may h =
       append who (journal_rules entries slot session command before) (λ refusal. IsRefused refusal before reply after)
       (Does entries slot session command before reply after)
       (accepted who (λ refusal. IsRefused refusal before reply after)
-      (ByRules (journal_rules entries slot session command before) (Does entries slot session command) before reply after) may h)
+      (ByRules (journal_rules entries slot session command before)
+      (Does entries slot session command) before reply after) may h)
 
   -- one that may not is refused by the first of the two rules that doesn't let pass
-  pub denied_step : (before : List SlotEntry) (refusal : Refusal) → FirstRefuses (access_rules entries session (permission_of slot command)) refusal
+  pub denied_step : (before : List SlotEntry) (refusal : Refusal)
+      → FirstRefuses (access_rules entries session (permission_of slot command)) refusal
       → SlotStep entries slot session command before (Refused refusal) before
   denied_step before refusal first =
-      append who (journal_rules entries slot session command before) (λ given. IsRefused given before (Refused refusal) before)
+      append who (journal_rules entries slot session command before)
+      (λ given. IsRefused given before (Refused refusal) before)
       (Does entries slot session command before (Refused refusal) before)
       (refused who (λ given. IsRefused given before (Refused refusal) before)
-      (ByRules (journal_rules entries slot session command before) (Does entries slot session command) before (Refused refusal) before)
+      (ByRules (journal_rules entries slot session command before) (Does entries slot session command) before
+      (Refused refusal) before)
       refusal first refusing)
 
   -- where the command is accepted, the rules of who may give it let pass
   pub accepted_access : (before : List SlotEntry) (reply : Reply) (after : List SlotEntry) → IsAccepted reply
-      → SlotStep entries slot session command before reply after → AllPass (access_rules entries session (permission_of slot command))
+      → SlotStep entries slot session command before reply after
+      → AllPass (access_rules entries session (permission_of slot command))
   accepted_access before reply after is h =
       (all_passed who (λ refusal. IsRefused refusal before reply after)
-      (ByRules (journal_rules entries slot session command before) (Does entries slot session command) before reply after) (not_refused is)
+      (ByRules (journal_rules entries slot session command before)
+      (Does entries slot session command) before reply after) (not_refused is)
       (split who (journal_rules entries slot session command before) (λ refusal. IsRefused refusal before reply after)
       (Does entries slot session command before reply after) h)).0
 

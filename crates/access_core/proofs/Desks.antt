@@ -1,5 +1,6 @@
 -- The sixteen slots of a desk.
-use Rattle.std.proofs.Common.{◌≡◌, ◌∙◌, ℕ, ◌<◌, List, length, map, get_or, set, refl, sym, ap, subst, arith, ⊎_elim, get_or-set_same, get_or-set_other}
+use Rattle.std.proofs.Common.{◌≡◌, ◌∙◌, ℕ, ◌<◌, List, length, map, get_or, set, refl, sym, ap, subst, arith, ⊎_elim}
+use Rattle.std.proofs.Common.{get_or-set_same, get_or-set_other}
 use Rattle.std.specs.List.{range_with_len}
 use Rattle.std.proofs.Math.ListN.{length-set}
 use Rattle.std.proofs.lemmas.Bool.{cases_eq}
@@ -27,13 +28,15 @@ opening_slots = record {
 }
 
 -- the slot that is read at a number has this number
-pub number_at : (slots : List SlotState) (number : ℕ) (d : SlotState) → AreSlots slots → number < 16 → (get_or slots number d).number ≡ number
+pub number_at : (slots : List SlotState) (number : ℕ) (d : SlotState) → AreSlots slots → number < 16
+    → (get_or slots number d).number ≡ number
 number_at slots number d are below =
     let sixteen : length slots ≡ 16 = are.sixteen in
     are.numbered number (get_or slots number d) (slice_get-get_or slots number d (omega arith))
 
 -- another slot of this number in its place
-pub slots_with : (slots : List SlotState) (number : ℕ) (new : SlotState) → AreSlots slots → number < 16 → new.number ≡ number
+pub slots_with : (slots : List SlotState) (number : ℕ) (new : SlotState) → AreSlots slots → number < 16
+    → new.number ≡ number
     → AreSlots (set slots number new)
 slots_with slots number new are below same = record {
   sixteen = length-set slots number new ∙ are.sixteen;
@@ -41,20 +44,23 @@ slots_with slots number new are below same = record {
       let sixteen : length slots ≡ 16 = are.sixteen in
       let long : length (set slots number new) ≡ 16 = length-set slots number new ∙ sixteen in
       let within : place < length (set slots number new) = slice_get_within (set slots number new) place slot there in
-      let read : get_or (set slots number new) place slot ≡ slot = get_or_from_slice_get (set slots number new) place slot slot there in
+      let read : get_or (set slots number new) place slot ≡ slot =
+      get_or_from_slice_get (set slots number new) place slot slot there in
       ⊎_elim
       (λ (e : place ≡ number).
       let at : get_or (set slots number new) number slot ≡ new = get_or-set_same slots number new slot (omega arith) in
       let is : slot ≡ new = sym read ∙ (ap (λ p. get_or (set slots number new) p slot) e ∙ at) in
       ap (λ (s : SlotState). s.number) is ∙ (same ∙ sym e))
       (λ (apart : place ≡ number → ⊥).
-      let other : get_or (set slots number new) place slot ≡ get_or slots place slot = get_or-set_other slots number place new slot apart in
+      let other : get_or (set slots number new) place slot ≡ get_or slots place slot =
+      get_or-set_other slots number place new slot apart in
       ap (λ (s : SlotState). s.number) (sym read ∙ other) ∙ number_at slots place slot are (omega arith))
       (cases_eq place number);
 }
 
 -- the step of a desk whose slot of this number answers
-pub desk_step : (entries : List Entry) (slots : List SlotState) (number session : ℕ) (command : SlotCommand) (d new : SlotState) (reply : Reply)
+pub desk_step : (entries : List Entry) (slots : List SlotState) (number session : ℕ) (command : SlotCommand)
+    (d new : SlotState) (reply : Reply)
     → AreSlots slots → number < 16 → IsLive entries session → new.number ≡ (get_or slots number d).number
     → SlotStep entries (get_or slots number d).number session command (get_or slots number d).journal reply new.journal
     → let before : DeskState = record { entries = entries; slots = slots } in

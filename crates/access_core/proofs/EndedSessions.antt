@@ -33,7 +33,8 @@ take_longer list few many le =
 pub adds_nothing : ((entries more : List Entry) (session : ℕ) → session ≤ logins entries → ¬ (IsLive entries session)
     → ¬ (IsLive (entries ++ more) session))
     → (list : List Entry) (slot session version early late : ℕ) (journal : List SlotEntry) (x y : SlotEntry)
-    → IsLegal list slot journal → HasEnded list session version → early ≤ late → slice_get journal early ≡ Some x → slice_get journal late ≡ Some y
+    → IsLegal list slot journal → HasEnded list session version → early ≤ late → slice_get journal early ≡ Some x
+    → slice_get journal late ≡ Some y
     → version ≤ x.stamp.version → ¬ (y.stamp.session ≡ session)
 adds_nothing stays list slot session version early late journal x y legal has le there then reached same =
     let later : version ≤ y.stamp.version =

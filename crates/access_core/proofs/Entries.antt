@@ -27,16 +27,19 @@ module _ {Given : ReactorRefusal → Type 0} {Told : Refusal → Type 0} {Added 
   by_memory refused added (inr passes) = pass (record {}) (added passes.next)
 
   -- the rules of the entry of a slot are those of the reactor's
-  pub by_entry : (journal : List SlotEntry) → ((refusal : ReactorRefusal) → Given refusal → Told (of_reactor refusal)) → (Added → Accepted)
+  pub by_entry : (journal : List SlotEntry) → ((refusal : ReactorRefusal) → Given refusal → Told (of_reactor refusal))
+      → (Added → Accepted)
       → Answers (reactor_rules journal) Given Added → Answers (entry_rules journal) Told Accepted
   by_entry journal refused added (inl full) =
       refuse JournalFull (refl, full.given.1) (refused reactor.JournalFull (subst Given full.given.0 full.answered))
   by_entry journal refused added (inr room) = pass room.passed (by_memory refused added room.next)
 
 -- a discard, from the reactor's answer
-pub discard_answered : (before : List SlotEntry) (stamp : Stamp) (answer : Result (Unit {0}) ReactorRefusal) (reply : Reply) (after : List SlotEntry)
+pub discard_answered : (before : List SlotEntry) (stamp : Stamp) (answer : Result (Unit {0}) ReactorRefusal)
+    (reply : Reply) (after : List SlotEntry)
     → DiscardAnswer before stamp answer after
-    → MatchResult answer (λ _. reply ≡ Discarded (length after) stamp.version) (λ refusal. reply ≡ Refused (of_reactor refusal))
+    → MatchResult answer (λ _. reply ≡ Discarded (length after) stamp.version)
+    (λ refusal. reply ≡ Refused (of_reactor refusal))
     → ByRules (entry_rules before) (AddsEntry action.Discard Discarded stamp) before reply after
 discard_answered before stamp (Ok done) reply after h told =
     by_entry before (λ refusal no. let e = no.0 in absurd cc) (λ added. record { added = added.1; replied = told }) h
@@ -49,7 +52,8 @@ discard_answered before stamp (Err refusal) reply after h told =
     (λ added. let e = added.0 in absurd cc) h
 
 -- an unload, from the reactor's answer
-pub unload_answered : (before : List SlotEntry) (stamp : Stamp) (answer : Result (List SlotEntry) (ReactorRefusal × List SlotEntry)) (reply : Reply)
+pub unload_answered : (before : List SlotEntry) (stamp : Stamp)
+    (answer : Result (List SlotEntry) (ReactorRefusal × List SlotEntry)) (reply : Reply)
     (after : List SlotEntry) → UnloadAnswer before stamp answer
     → MatchResult answer
     (λ journal. (after ≡ journal) × (reply ≡ Unloaded (length after) stamp.version))
@@ -75,5 +79,6 @@ pub unload_stays : (before : List SlotEntry) (stamp : Stamp) (refused : ReactorR
     → UnloadAnswer before stamp (Err refused) → refused.1 ≡ before
 unload_stays before stamp refused h =
     answered (reactor_rules before) _ _ (refused.1 ≡ before)
-    (λ refusal told. let same : refused ≡ (refusal, before) = cc in ap (λ (r : ReactorRefusal × List SlotEntry). r.1) same)
+    (λ refusal told. let same : refused ≡ (refusal, before) = cc in
+    ap (λ (r : ReactorRefusal × List SlotEntry). r.1) same)
     (λ added. absurd cc) h

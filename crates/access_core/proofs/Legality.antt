@@ -1,5 +1,6 @@
 -- A slot's journal goes on being legal.
-use Rattle.std.proofs.Common.{◌≡◌, ◌⊎◌, ◌∙◌, ℕ, zero, suc, ◌+◌, ◌<◌, ◌≤◌, List, [], ◌∷◌, ◌++◌, length, take, get_or, refl, sym, ap, subst, inl, inr, arith, le_trans, le_refl, below_more}
+use Rattle.std.proofs.Common.{◌≡◌, ◌⊎◌, ◌∙◌, ℕ, zero, suc, ◌+◌, ◌<◌, ◌≤◌, List, [], ◌∷◌, ◌++◌, length, take, get_or}
+use Rattle.std.proofs.Common.{refl, sym, ap, subst, inl, inr, arith, le_trans, le_refl, below_more}
 use Rattle.std.specs.Prelude.{Some, Result, Ok, Err, MatchResult, slice_get, fold}
 use Rattle.std.proofs.lemmas.Bool.{cases_eq}
 use Rattle.std.proofs.lemmas.List.{take_more, take-append-le, length-append}
@@ -30,7 +31,8 @@ use Rattle.access_core.proofs.Deciding.{accepted_access, has_needed}
 -- ---- what a slot step adds
 
 -- the command is accepted, and an entry that it asks for is added, which bears this stamp
-pub record IsTaken (stamp : Stamp) (command : SlotCommand) (before : List SlotEntry) (reply : Reply) (after : List SlotEntry) : Type 0 where
+pub record IsTaken (stamp : Stamp) (command : SlotCommand) (before : List SlotEntry) (reply : Reply)
+    (after : List SlotEntry) : Type 0 where
   pub accepted : IsAccepted reply
   pub done : Action
   pub asked : command_of done ≡ command
@@ -41,14 +43,16 @@ abbrev pub AddsOne : Stamp → SlotCommand → (before : List SlotEntry) → Rep
 AddsOne stamp command before reply after = (after ≡ before) ⊎ IsTaken stamp command before reply after
 
 module _ (stamp : Stamp) (before : List SlotEntry) (reply : Reply) (after : List SlotEntry) where
-  loaded : (main text : List ℕ) (answer : Result (List SlotEntry) (ReactorRefusal × List SlotEntry)) → LoadAnswer before stamp main text answer
+  loaded : (main text : List ℕ) (answer : Result (List SlotEntry) (ReactorRefusal × List SlotEntry))
+      → LoadAnswer before stamp main text answer
       → MatchResult answer
       (λ journal. (after ≡ journal) × (reply ≡ Loaded (length after) stamp.version))
       (λ refused. IsRefused (of_reactor refused.0) before reply after)
       → AddsOne stamp (Load main text) before reply after
   loaded main text (Ok journal) given replied =
       let passed = all_passed (load_rules before main text) (λ refusal. Ok journal ≡ Err (refusal, before))
-      ((longer : List SlotEntry) × (Ok journal ≡ Ok longer) × AddsLoad before stamp main text longer) (λ refusal e. cc) given in
+      ((longer : List SlotEntry) × (Ok journal ≡ Ok longer) × AddsLoad before stamp main text longer)
+      (λ refusal e. cc) given in
       let e = passed.1.1 in
       let same : journal ≡ passed.1.0 = cc in
       inr (record {
@@ -65,18 +69,43 @@ module _ (stamp : Stamp) (before : List SlotEntry) (reply : Reply) (after : List
       (λ refusal. IsRefused (of_reactor refusal) before reply after)
       → AddsOne stamp (Offer signal) before reply after
   offered signal (Ok done) given replied =
-      let passed = all_passed (offer_rules before given.running signal) _ _ (λ refusal e. let no = e.0 in cc) given.given in
-      inr (record { accepted = subst IsAccepted (sym replied) tt; done = action.Offer signal; asked = refl; added = passed.1.1 })
+      let passed = all_passed (offer_rules before given.running signal) _ _
+      (λ refusal e. let no = e.0 in cc) given.given in
+      inr (record {
+        accepted = subst IsAccepted (sym replied) tt;
+        done = action.Offer signal;
+        asked = refl;
+        added = passed.1.1;
+      })
   offered signal (Err refusal) given replied = inl replied.stays
 
-module _ (entries : List Entry) (slot session : ℕ) (before : List SlotEntry) (reply : Reply) (after : List SlotEntry) where
+module _ (entries : List Entry) (slot session : ℕ) (before : List SlotEntry) (reply : Reply)
+    (after : List SlotEntry) where
   does : (command : SlotCommand) → Does entries slot session command before reply after
       → AddsOne (stamp_of entries session) command before reply after
   does (Load main text) h = loaded (stamp_of entries session) before reply after main text h.answer h.given h.replied
   does (Offer signal) h = offered (stamp_of entries session) before reply after signal h.answer h.given h.replied
-  does Discard h = inr (record { accepted = subst IsAccepted (sym h.replied) tt; done = action.Discard; asked = refl; added = h.added })
-  does Step h = inr (record { accepted = subst IsAccepted (sym h.replied) tt; done = action.Step _; asked = refl; added = h.adds.appended })
-  does Unload h = inr (record { accepted = subst IsAccepted (sym h.replied) tt; done = action.Unload; asked = refl; added = h.added })
+  does Discard h =
+      inr (record {
+        accepted = subst IsAccepted (sym h.replied) tt;
+        done = action.Discard;
+        asked = refl;
+        added = h.added;
+      })
+  does Step h =
+      inr (record {
+        accepted = subst IsAccepted (sym h.replied) tt;
+        done = action.Step _;
+        asked = refl;
+        added = h.adds.appended;
+      })
+  does Unload h =
+      inr (record {
+        accepted = subst IsAccepted (sym h.replied) tt;
+        done = action.Unload;
+        asked = refl;
+        added = h.added;
+      })
   does (Look n) h = inl h.stays
   does Audit h = inl h.stays
 
@@ -85,7 +114,8 @@ module _ (entries : List Entry) (slot session : ℕ) (before : List SlotEntry) (
       → AddsOne (stamp_of entries session) command before reply after
   adds_one command h =
       answered (slot_rules entries slot session command before) (λ refusal. IsRefused refusal before reply after)
-      (Does entries slot session command before reply after) (AddsOne (stamp_of entries session) command before reply after)
+      (Does entries slot session command before reply after)
+      (AddsOne (stamp_of entries session) command before reply after)
       (λ refusal refused. inl refused.stays) (does command) h
 
 -- ---- versions
@@ -101,7 +131,8 @@ take_next journal at e there =
 pub next_version : (journal : List SlotEntry) (at : ℕ) (e : SlotEntry) → slice_get journal at ≡ Some e
     → last_version (take (at + 1) journal) ≡ e.stamp.version
 next_version journal at e there =
-    ap last_version (take_next journal at e there) ∙ fold_push (λ (version : ℕ) (x : SlotEntry). x.stamp.version) 0 (take at journal) e
+    ap last_version (take_next journal at e there) ∙ fold_push (λ (version : ℕ) (x : SlotEntry). x.stamp.version) 0
+    (take at journal) e
 
 -- the last version is within what all of them are within
 last_within : (most start : ℕ) (journal : List SlotEntry) → start ≤ most
@@ -118,7 +149,8 @@ pub none_legal : (list : List Entry) (slot : ℕ) → IsLegal list slot []
 none_legal list slot = λ at e low there. absurd (omega (arith, low))
 
 -- one entry more is legal
-pub legal_more : (list : List Entry) (slot : ℕ) (journal : List SlotEntry) (at : ℕ) (e : SlotEntry) → AreLegal list slot journal at
+pub legal_more : (list : List Entry) (slot : ℕ) (journal : List SlotEntry) (at : ℕ) (e : SlotEntry)
+    → AreLegal list slot journal at
     → slice_get journal at ≡ Some e → IsLegalEntry list slot (take at journal) e → AreLegal list slot journal (at + 1)
 legal_more list slot journal at e legal there here = λ k x low is.
     below_more (λ k. (x : SlotEntry) → slice_get journal k ≡ Some x → IsLegalEntry list slot (take k journal) x) at
@@ -135,7 +167,8 @@ begins_within : (list longer : List Entry) → Begins list longer → length lis
 begins_within list longer b = let n = ap length b.is in omega (arith, n, length-append list b.rest)
 
 -- a legal journal is legal over a longer list
-pub still_legal : (list longer : List Entry) (slot : ℕ) (journal : List SlotEntry) → Begins list longer → IsLegal list slot journal
+pub still_legal : (list longer : List Entry) (slot : ℕ) (journal : List SlotEntry) → Begins list longer
+    → IsLegal list slot journal
     → IsLegal longer slot journal
 still_legal list longer slot journal b legal = λ at e low there.
     let old = legal at e low there in
@@ -151,20 +184,24 @@ take_all [] = refl
 take_all (x ∷ list) = ap (λ m. x ∷ m) (take_all list)
 
 module _ (list : List Entry) (slot : ℕ) (journal : List SlotEntry) (legal : IsLegal list slot journal) where
-  -- with one entry more that is legal behind the others
+  -- with one entry more that is legal after the others
   push_legal : (e : SlotEntry) → IsLegalEntry list slot journal e → IsLegal list slot (journal ++ e ∷ [])
   push_legal e one = λ at x low there. elim (get_push journal e x at there) [
     | inl old ↦
-        subst (λ (before : List SlotEntry). IsLegalEntry list slot before x) (sym (take_front journal e at (omega (arith, old.0))))
+        subst (λ (before : List SlotEntry). IsLegalEntry list slot before x)
+        (sym (take_front journal e at (omega (arith, old.0))))
         (legal at x old.0 old.1)
     | inr new ↦
-        let before : take at (journal ++ e ∷ []) ≡ journal = ap (λ k. take k (journal ++ e ∷ [])) new.0 ∙ take_whole journal e in
-        subst (λ (xs : List SlotEntry). IsLegalEntry list slot xs x) (sym before) (subst (IsLegalEntry list slot journal) new.1 one)
+        let before : take at (journal ++ e ∷ []) ≡ journal =
+        ap (λ k. take k (journal ++ e ∷ [])) new.0 ∙ take_whole journal e in
+        subst (λ (xs : List SlotEntry). IsLegalEntry list slot xs x) (sym before)
+        (subst (IsLegalEntry list slot journal) new.1 one)
   ]
 
   -- what the slot step on the list adds is legal
   taken_legal : (session : ℕ) (command : SlotCommand) (reply : Reply) (after : List SlotEntry)
-      → SlotStep list slot session command journal reply after → IsTaken (stamp_of list session) command journal reply after
+      → SlotStep list slot session command journal reply after
+      → IsTaken (stamp_of list session) command journal reply after
       → IsLegal list slot after
   taken_legal session command reply after step taken =
       let e : SlotEntry = entry (stamp_of list session) taken.done in
@@ -173,7 +210,8 @@ module _ (list : List Entry) (slot : ℕ) (journal : List SlotEntry) (legal : Is
       (subst (λ (j : List SlotEntry). SlotStep list slot session command journal reply j) taken.added step) in
       let whole : Adds list slot journal e e = record { reply = reply; accepted = taken.accepted; step = own } in
       let low : last_version journal ≤ length list =
-      last_within (length list) 0 journal (omega arith) (λ at x there. (legal at x (slice_get_within journal at x there) there).version.known) in
+      last_within (length list) 0 journal (omega arith)
+      (λ at x there. (legal at x (slice_get_within journal at x there) there).version.known) in
       subst (IsLegal list slot) (sym taken.added)
       (push_legal e (record {
         version = record { rises = low; known = le_refl (length list) };
@@ -188,7 +226,7 @@ module _ (list : List Entry) (slot : ℕ) (journal : List SlotEntry) (legal : Is
     | inr taken ↦ taken_legal session command reply after step taken
   ]
 
-  -- the versions of the first entries, so many of them, are within the last of them
+  -- the versions of the first `n` entries are no higher than that of the last of them
   within_last : (n : ℕ) → n ≤ length journal → (at : ℕ) (x : SlotEntry) → at < n → slice_get journal at ≡ Some x
       → x.stamp.version ≤ last_version (take n journal)
   within_last zero low at x below there = absurd (omega (arith, below))
@@ -196,7 +234,8 @@ module _ (list : List Entry) (slot : ℕ) (journal : List SlotEntry) (legal : Is
       let y : SlotEntry = get_or journal n x in
       let here : slice_get journal n ≡ Some y = slice_get-get_or journal n x (omega (arith, low)) in
       let more : suc n ≡ n + 1 = omega arith in
-      let last : last_version (take (suc n) journal) ≡ y.stamp.version = ap (λ k. last_version (take k journal)) more ∙ next_version journal n y here in
+      let last : last_version (take (suc n) journal) ≡ y.stamp.version =
+      ap (λ k. last_version (take k journal)) more ∙ next_version journal n y here in
       let own = (legal n y (omega (arith, low)) here).version.rises in
       elim (cases_eq at n) [
         | inl same ↦
@@ -209,7 +248,8 @@ module _ (list : List Entry) (slot : ℕ) (journal : List SlotEntry) (legal : Is
       ]
 
   -- along the places of a legal journal versions never fall
-  pub versions_rise : (early late : ℕ) (x y : SlotEntry) → early ≤ late → slice_get journal early ≡ Some x → slice_get journal late ≡ Some y
+  pub versions_rise : (early late : ℕ) (x y : SlotEntry) → early ≤ late → slice_get journal early ≡ Some x
+      → slice_get journal late ≡ Some y
       → x.stamp.version ≤ y.stamp.version
   versions_rise early late x y before first second =
       let within : late < length journal = slice_get_within journal late y second in
@@ -230,5 +270,6 @@ module _ (list : List Entry) (slot : ℕ) (journal : List SlotEntry) (legal : Is
   entry_allowed at x there =
       let added = (legal at x (slice_get_within journal at x there) there).added in
       has_needed (take x.stamp.version list) slot x.stamp.session (command_of x.action)
-      (accepted_access (take x.stamp.version list) slot x.stamp.session (command_of x.action) (take at journal) added.reply
+      (accepted_access (take x.stamp.version list) slot x.stamp.session (command_of x.action)
+      (take at journal) added.reply
       (take at journal ++ x ∷ []) added.accepted added.step)

@@ -1,5 +1,6 @@
 -- What a refusal names, and what a look shows, is one.
-use Rattle.std.proofs.Common.{◌≡◌, ◌∙◌, ℕ, zero, suc, ◌+◌, ◌<◌, Bool, true, false, nat_eq, IsTrue, List, [], ◌∷◌, ◌++◌, length, map, filter, inl, inr, refl, sym, ap, subst, arith}
+use Rattle.std.proofs.Common.{◌≡◌, ◌∙◌, ℕ, zero, suc, ◌+◌, ◌<◌, Bool, true, false, nat_eq, IsTrue, List, [], ◌∷◌, ◌++◌}
+use Rattle.std.proofs.Common.{length, map, filter, inl, inr, refl, sym, ap, subst, arith}
 use Rattle.std.specs.Prelude.{slice_get}
 use Rattle.std.specs.Int.{bit_at}
 use Rattle.std.specs.List.{find, range_with_len}
@@ -32,7 +33,8 @@ same_digit (suc zero) (suc (suc y)) p q e = absurd (omega arith)
 -- masks with the same bits are the same
 pub same_mask : (a b : ℕ) → ((n : ℕ) → bits a n ≡ bits b n) → a ≡ b
 unfolding bits
-same_mask a b agree = same_from_bits a b (λ n. same_digit (bit_at a n) (bit_at b n) (bit_at-lt a n) (bit_at-lt b n) (agree n))
+same_mask a b agree =
+    same_from_bits a b (λ n. same_digit (bit_at a n) (bit_at b n) (bit_at-lt a n) (bit_at-lt b n) (agree n))
 
 -- one declaration stands at a place
 same_name : (interface : List Declaration) (place other : ℕ) (name text : List ℕ) → place ≡ other
@@ -47,22 +49,28 @@ abbrev pub SamePair : (number other : ℕ) (name text : List ℕ) → Type 0
 SamePair number other name text = (number ≡ other) × (name ≡ text)
 
 -- the first implication that lacks a signal is one
-pub one_implied : (p : PendingInputs) (number other : ℕ) (name text : List ℕ) → IsFirstImplied p number name → IsFirstImplied p other text
+pub one_implied : (p : PendingInputs) (number other : ℕ) (name text : List ℕ) → IsFirstImplied p number name
+    → IsFirstImplied p other text
     → SamePair number other name text
 one_implied p number other name text x y =
-    let index : x.lacking.index ≡ y.lacking.index = same_Some x.lacking.index y.lacking.index (sym x.lacking.first ∙ y.lacking.first) in
-    let at : slice_get p.relations x.lacking.index ≡ slice_get p.relations y.lacking.index = ap (slice_get p.relations) index in
-    let relation : Implication x.lacking.condition x.lacking.missing ≡ Implication y.lacking.condition y.lacking.missing =
+    let index : x.lacking.index ≡ y.lacking.index = same_Some x.lacking.index y.lacking.index
+    (sym x.lacking.first ∙ y.lacking.first) in
+    let at : slice_get p.relations x.lacking.index ≡ slice_get p.relations y.lacking.index =
+    ap (slice_get p.relations) index in
+    let relation : Implication x.lacking.condition x.lacking.missing
+    ≡ Implication y.lacking.condition y.lacking.missing =
     same_Some (Implication x.lacking.condition x.lacking.missing) (Implication y.lacking.condition y.lacking.missing)
     (sym x.lacking.is ∙ at ∙ y.lacking.is) in
     let missing : x.lacking.missing ≡ y.lacking.missing = cc in
-    let place : x.implied ≡ y.implied = x.lacking.place ∙ ap (λ (s : InterfaceSignal). s.index) missing ∙ sym y.lacking.place in (
+    let place : x.implied ≡ y.implied = x.lacking.place ∙ ap (λ (s : InterfaceSignal). s.index) missing
+    ∙ sym y.lacking.place in (
       x.lacking.numbered ∙ ap (λ n. n + 1) index ∙ sym y.lacking.numbered,
       same_name p.interface x.implied y.implied name text place x.named y.named,
     )
 
 -- the first exclusion that an offer would break is one
-pub one_excluded : (p : PendingInputs) (offered : List ℕ) (number other : ℕ) (name text : List ℕ) → IsFirstExcluded p offered number name
+pub one_excluded : (p : PendingInputs) (offered : List ℕ) (number other : ℕ) (name text : List ℕ)
+    → IsFirstExcluded p offered number name
     → IsFirstExcluded p offered other text → SamePair number other name text
 one_excluded p offered number other name text x y =
     let place : x.place ≡ y.place = same_Some x.place y.place (sym x.there ∙ y.there) in
@@ -73,8 +81,10 @@ one_excluded p offered number other name text x y =
     same_Some (Exclusion x.broken.members) (Exclusion b.members) (sym x.broken.is ∙ at ∙ b.is) in
     let members : x.broken.members ≡ b.members = cc in
     let member : x.member ≡ y.member =
-    same_Some x.member y.member (sym x.broken.pending ∙ ap (find (bits p.mask)) members ∙ b.pending) in
-    (x.broken.numbered ∙ ap (λ n. n + 1) index ∙ sym b.numbered, same_name p.interface x.member y.member name text member x.named y.named)
+    same_Some x.member y.member (sym x.broken.pending ∙ ap (find (bits p.mask)) members ∙ b.pending) in (
+      x.broken.numbered ∙ ap (λ n. n + 1) index ∙ sym b.numbered,
+      same_name p.interface x.member y.member name text member x.named y.named,
+    )
 
 -- what a session sees of an interface is one
 same_test : (a b : Bool) → (IsTrue a → IsTrue b) → (IsTrue b → IsTrue a) → a ≡ b
@@ -107,12 +117,14 @@ same_kept {X = X} f p q (suc n) agree =
 
       by_test : map f (filter p (range_with_len 0 n)) ≡ map f (filter q (range_with_len 0 n)) → (b : Bool) → q n ≡ b
           → map f (filter p (range_with_len 0 (n + 1))) ≡ map f (filter q (range_with_len 0 (n + 1)))
-      by_test before true on = kept_place f p n (here ∙ on) ∙ ap (λ (xs : List X). xs ++ f n ∷ []) before ∙ sym (kept_place f q n on)
+      by_test before true on = kept_place f p n (here ∙ on) ∙ ap (λ (xs : List X). xs ++ f n ∷ []) before
+          ∙ sym (kept_place f q n on)
       by_test before false off = passed_place f p n (here ∙ off) ∙ before ∙ sym (passed_place f q n off)
 
 module _ (modules : OneModule) (journal : List SlotEntry) where
   -- the first implication that the pending inputs lack is one
-  pub one_lacking : (number other : ℕ) (name text : List ℕ) → LacksImplied journal number name → LacksImplied journal other text
+  pub one_lacking : (number other : ℕ) (name text : List ℕ) → LacksImplied journal number name
+      → LacksImplied journal other text
       → SamePair number other name text
   one_lacking number other name text x y =
       let same : x.running ≡ y.running = same_running modules journal x.running y.running x.runs y.runs in

@@ -1,5 +1,6 @@
 -- A command on a slot has one answer, want of memory aside.
-use Rattle.std.proofs.Common.{◌≡◌, ◌⊎◌, ◌∙◌, ℕ, Bool, ◌&&◌, List, [], ◌∷◌, ◌++◌, length, inl, inr, sym, ap, subst, ⊎_elim}
+use Rattle.std.proofs.Common.{◌≡◌, ◌⊎◌, ◌∙◌, ℕ, Bool, ◌&&◌, List, [], ◌∷◌, ◌++◌, length, inl, inr, sym, ap, subst}
+use Rattle.std.proofs.Common.{⊎_elim}
 use Rattle.std.specs.Prelude.{Result, Ok, Err, MatchResult}
 use Rattle.std.proofs.lemmas.Option.{same_Some}
 use Rattle.refusal_rules.specs.Rules.{Rules, accept, ◌▸◌, Answers}
@@ -23,20 +24,26 @@ use Rattle.access_core.specs.declared.command.SlotCommand.TheVariants.{Load, Off
 use Rattle.access_core.specs.declared.refusal.Refusal.{Refusal}
 use Rattle.access_core.specs.declared.refusal.Refusal.TheVariants.{Stuck, Memory}
 use Rattle.access_core.specs.declared.reply.Reply.{Reply}
-use Rattle.access_core.specs.declared.reply.Reply.TheVariants.{Refused, Load as Loaded, Offer as Offered, Discard as Discarded, Step as Stepped, Unload as Unloaded, Look as Shown}
+use Rattle.access_core.specs.declared.reply.Reply.TheVariants.{Refused, Load as Loaded, Offer as Offered}
+use Rattle.access_core.specs.declared.reply.Reply.TheVariants.{Discard as Discarded, Step as Stepped}
+use Rattle.access_core.specs.declared.reply.Reply.TheVariants.{Unload as Unloaded, Look as Shown}
 use Rattle.access_core.specs.Answering.{IsRefused}
 use Rattle.access_core.specs.Refusals.{of_reactor}
 use Rattle.access_core.specs.Shown.{Sees, name_at, status_at, names_of, shown_of}
-use Rattle.access_core.specs.SlotStep.{SlotStep, slot_rules, Does, Loads, Offers, Steps, Looks, NamesUndecided, stamp_of, no_reaction, implied}
+use Rattle.access_core.specs.SlotStep.{SlotStep, slot_rules, Does, Loads, Offers, Steps, Looks, NamesUndecided}
+use Rattle.access_core.specs.SlotStep.{stamp_of, no_reaction, implied}
 use Rattle.reactor_core.specs.Instants.{not_ready}
 use Rattle.access_core.proofs.OneNaming.{one_excluded, one_lacking, one_undecided, same_mask, same_sight, same_kept}
-use Rattle.access_core.proofs.Settling.{IsSettled, AllSettled, settled_unless, settled_says, settled_apart, settled_converted, both_answers}
+use Rattle.access_core.proofs.Settling.{IsSettled, AllSettled, settled_unless, settled_says, settled_apart}
+use Rattle.access_core.proofs.Settling.{settled_converted, both_answers}
 
--- a text and a name have one first fault at most, and none where they give a module, want of memory aside (the law one_load)
+-- a text and a name have one first fault at most, and none where they give a module, want of memory aside (the law
+-- one_load)
 pub record OneLoad : Type 0 where
   pub fault : (main text : List ℕ) (a b : ReactorRefusal) → IsLoadFault main text a → IsLoadFault main text b
       → (a ≡ b) ⊎ (a ≡ reactor.Memory) ⊎ (b ≡ reactor.Memory)
-  pub never_both : (main text : List ℕ) (m : GivenModule) (a : ReactorRefusal) → Gives main text m → IsLoadFault main text a → a ≡ reactor.Memory
+  pub never_both : (main text : List ℕ) (m : GivenModule) (a : ReactorRefusal) → Gives main text m
+      → IsLoadFault main text a → a ≡ reactor.Memory
 
 -- memory was refused
 abbrev pub IsWant : Refusal → Type 0
@@ -51,7 +58,8 @@ Same r s a b = (r ≡ s) × (a ≡ b)
 
 -- other words for the refusals and for what follows
 mapped : {R : Type 0} (rules : Rules R) (Before Other : R → Type 0) (Next Then : Type 0)
-    → ((refusal : R) → Before refusal → Other refusal) → (Next → Then) → Answers rules Before Next → Answers rules Other Then
+    → ((refusal : R) → Before refusal → Other refusal) → (Next → Then) → Answers rules Before Next
+    → Answers rules Other Then
 mapped accept Before Other Next Then refuses goes_on h = goes_on h
 mapped (rule ▸ later) Before Other Next Then refuses goes_on (inl r) =
     inl (record { refusal = r.refusal; given = r.given; answered = refuses r.refusal r.answered })
@@ -70,14 +78,16 @@ no_err x y e = absurd cc
 -- what a load is answered, by its rules
 abbrev LoadDone : Stamp → (main text : List ℕ) → (before : List SlotEntry) → Reply → (after : List SlotEntry) → Type 0
 LoadDone stamp main text before reply after =
-    (after ≡ before ++ entry stamp (action.Load (load_of main text)) ∷ []) × (reply ≡ Loaded (length after) stamp.version)
+    (after ≡ before ++ entry stamp (action.Load (load_of main text)) ∷ [])
+    × (reply ≡ Loaded (length after) stamp.version)
 
 load_by_rules : (stamp : Stamp) (main text : List ℕ) (before : List SlotEntry) (reply : Reply) (after : List SlotEntry)
     → Loads stamp main text before reply after
     → Answers (load_rules before main text) (λ refusal. IsRefused (of_reactor refusal) before reply after)
     (LoadDone stamp main text before reply after)
 load_by_rules stamp main text before reply after h = by_answer h.answer h.given h.replied where
-  by_answer : (answer : Result (List SlotEntry) (ReactorRefusal × List SlotEntry)) → LoadAnswer before stamp main text answer
+  by_answer : (answer : Result (List SlotEntry) (ReactorRefusal × List SlotEntry))
+      → LoadAnswer before stamp main text answer
       → MatchResult answer
       (λ journal. (after ≡ journal) × (reply ≡ Loaded (length after) stamp.version))
       (λ refused. IsRefused (of_reactor refused.0) before reply after)
@@ -89,7 +99,8 @@ load_by_rules stamp main text before reply after h = by_answer h.answer h.given 
   by_answer (Err refused) given replied =
       mapped (load_rules before main text) _ _ _ _
       (λ refusal e.
-      let same : refused.0 ≡ refusal = ap (λ (p : ReactorRefusal × List SlotEntry). p.0) (same_err refused (refusal, before) e) in
+      let same : refused.0 ≡ refusal = ap (λ (p : ReactorRefusal × List SlotEntry). p.0)
+      (same_err refused (refusal, before) e) in
       subst (λ (x : ReactorRefusal). IsRefused (of_reactor x) before reply after) same replied)
       (λ done. no_ok refused done.0 done.1) given
 
@@ -106,24 +117,29 @@ offer_by_rules stamp signal before reply after h = by_answer h.answer h.given.ru
   by_answer : (answer : Result (Unit {0}) ReactorRefusal) (r : Running)
       → Answers (offer_rules before r signal) (λ refusal. (answer ≡ Err refusal) × (after ≡ before))
       ((answer ≡ Ok (record {})) × (after ≡ before ++ entry stamp (action.Offer signal) ∷ []))
-      → MatchResult answer (λ _. reply ≡ Offered (length after) stamp.version) (λ refusal. IsRefused (of_reactor refusal) before reply after)
+      → MatchResult answer (λ _. reply ≡ Offered (length after) stamp.version)
+      (λ refusal. IsRefused (of_reactor refusal) before reply after)
       → Answers (offer_rules before r signal) (λ refusal. IsRefused (of_reactor refusal) before reply after)
       (OfferDone stamp signal before reply after)
   by_answer (Ok done) r given replied =
-      mapped (offer_rules before r signal) _ _ _ _ (λ refusal e. no_err done refusal e.0) (λ did. (did.1, replied)) given
+      mapped (offer_rules before r signal) _ _ _ _ (λ refusal e. no_err done refusal e.0)
+      (λ did. (did.1, replied)) given
   by_answer (Err refused) r given replied =
       mapped (offer_rules before r signal) _ _ _ _
-      (λ refusal e. subst (λ (x : ReactorRefusal). IsRefused (of_reactor x) before reply after) (same_err refused refusal e.0) replied)
+      (λ refusal e. subst (λ (x : ReactorRefusal). IsRefused (of_reactor x) before reply after)
+      (same_err refused refusal e.0) replied)
       (λ did. no_ok refused (record {}) did.0) given
 
-module _ (modules : OneModule) (one_load : OneLoad) (entries : List Entry) (slot session : ℕ) (before : List SlotEntry) where
+module _ (modules : OneModule) (one_load : OneLoad) (entries : List Entry) (slot session : ℕ)
+    (before : List SlotEntry) where
   -- the rules of a load, of an offer, and of a step are settled
   load_settled : (main text : List ℕ) → AllSettled IsReactorWant (load_rules before main text)
   load_settled main text = (
     record {
       exclusive = λ refusal here fault given. here (one_load.never_both main text given.0 refusal given.1 fault);
       one = λ a b here there x y.
-          ⊎_elim (λ same. same) (λ want. ⊎_elim (λ w. absurd (here w)) (λ w. absurd (there w)) want) (one_load.fault main text a b x y);
+          ⊎_elim (λ same. same) (λ want. ⊎_elim (λ w. absurd (here w)) (λ w. absurd (there w)) want)
+          (one_load.fault main text a b x y);
     },
     (settled_unless, (settled_apart, record {})),
   )
@@ -142,7 +158,8 @@ module _ (modules : OneModule) (one_load : OneLoad) (entries : List Entry) (slot
       ),
     ),
   ) where
-    excluded : (one other : ℕ × List ℕ) → IsFirstExcluded (pending_of r) signal one.0 one.1 → IsFirstExcluded (pending_of r) signal other.0 other.1
+    excluded : (one other : ℕ × List ℕ) → IsFirstExcluded (pending_of r) signal one.0 one.1
+        → IsFirstExcluded (pending_of r) signal other.0 other.1
         → one ≡ other
     excluded one other x y =
         let same = one_excluded (pending_of r) signal one.0 other.0 one.1 other.1 x y in
@@ -157,13 +174,18 @@ module _ (modules : OneModule) (one_load : OneLoad) (entries : List Entry) (slot
   }
 
   -- the names of the undecided outputs that the session sees
-  same_names : (interface : List Declaration) (sees others : ℕ → Bool) (undecided : ℕ) → Sees entries session slot interface sees
-      → Sees entries session slot interface others → names_of interface sees undecided ≡ names_of interface others undecided
+  same_names : (interface : List Declaration) (sees others : ℕ → Bool) (undecided : ℕ)
+      → Sees entries session slot interface sees
+      → Sees entries session slot interface others → names_of interface sees undecided
+      ≡ names_of interface others undecided
   same_names interface sees others undecided x y =
-      same_kept (name_at interface) (λ place. sees place && bits undecided place) (λ place. others place && bits undecided place) (length interface)
-      (λ place below. ap (λ b. b && bits undecided place) (same_sight entries session slot interface sees others x y place below))
+      same_kept (name_at interface) (λ place. sees place && bits undecided place)
+      (λ place. others place && bits undecided place) (length interface)
+      (λ place below. ap (λ b. b && bits undecided place)
+      (same_sight entries session slot interface sees others x y place below))
 
-  same_undecided : (a b : Refusal) → NamesUndecided entries slot session before a → NamesUndecided entries slot session before b → a ≡ b
+  same_undecided : (a b : Refusal) → NamesUndecided entries slot session before a
+      → NamesUndecided entries slot session before b → a ≡ b
   same_undecided a b x y =
       let runs : x.running ≡ y.running = same_running modules before x.running y.running x.runs y.runs in
       let mask : x.undecided ≡ y.undecided = one_undecided modules before x.undecided y.undecided x.none y.none in
@@ -185,14 +207,22 @@ module _ (modules : OneModule) (one_load : OneLoad) (entries : List Entry) (slot
   slot_settled : (command : SlotCommand) → AllSettled IsWant (slot_rules entries slot session command before)
   slot_settled (Load main text) = (settled_unless, (settled_unless, (settled_says, record {})))
   slot_settled (Offer signal) = (settled_unless, (settled_unless, (settled_unless, record {})))
-  slot_settled Discard = (settled_unless, (settled_unless, (settled_unless, (settled_unless, (settled_apart, record {})))))
-  slot_settled Step =
-      (settled_unless, (settled_unless, (settled_unless, (lacking_settled, (settled_apart, (reaction_settled, (settled_unless, record {})))))))
-  slot_settled Unload = (settled_unless, (settled_unless, (settled_unless, (settled_unless, (settled_apart, record {})))))
+  slot_settled Discard =
+      (settled_unless, (settled_unless, (settled_unless, (settled_unless, (settled_apart, record {})))))
+  slot_settled Step = (
+    settled_unless,
+    (
+      settled_unless,
+      (settled_unless, (lacking_settled, (settled_apart, (reaction_settled, (settled_unless, record {}))))),
+    ),
+  )
+  slot_settled Unload =
+      (settled_unless, (settled_unless, (settled_unless, (settled_unless, (settled_apart, record {})))))
   slot_settled (Look n) = (settled_unless, (settled_unless, (settled_says, (settled_apart, record {}))))
   slot_settled Audit = (settled_unless, (settled_unless, record {}))
 
-  module _ (r s : Reply) (ample : r ≡ Refused Memory → ⊥) (ample_too : s ≡ Refused Memory → ⊥) (a b : List SlotEntry) where
+  module _ (r s : Reply) (ample : r ≡ Refused Memory → ⊥) (ample_too : s ≡ Refused Memory → ⊥)
+      (a b : List SlotEntry) where
     -- a refusal by a reactor that is told isn't one of memory
     here : (refusal : ReactorRefusal) → IsRefused (of_reactor refusal) before r a → ¬ (IsReactorWant refusal)
     here refusal h want = ample (h.replied ∙ ap (λ x. Refused (of_reactor x)) want)
@@ -200,27 +230,32 @@ module _ (modules : OneModule) (one_load : OneLoad) (entries : List Entry) (slot
     there : (refusal : ReactorRefusal) → IsRefused (of_reactor refusal) before s b → ¬ (IsReactorWant refusal)
     there refusal h want = ample_too (h.replied ∙ ap (λ x. Refused (of_reactor x)) want)
 
-    both_refused : (refusal : ReactorRefusal) → IsRefused (of_reactor refusal) before r a → IsRefused (of_reactor refusal) before s b → Same r s a b
+    both_refused : (refusal : ReactorRefusal) → IsRefused (of_reactor refusal) before r a
+        → IsRefused (of_reactor refusal) before s b → Same r s a b
     both_refused refusal x y = (x.replied ∙ sym y.replied, x.stays ∙ sym y.stays)
 
     -- two replies that are told of the same journal afterwards
     told : (tell : List SlotEntry → Reply) → a ≡ b → r ≡ tell a → s ≡ tell b → Same r s a b
     told tell same x y = (x ∙ ap tell same ∙ sym y, same)
 
-    loads : (stamp : Stamp) (main text : List ℕ) → Loads stamp main text before r a → Loads stamp main text before s b → Same r s a b
+    loads : (stamp : Stamp) (main text : List ℕ) → Loads stamp main text before r a → Loads stamp main text before s b
+        → Same r s a b
     loads stamp main text x y =
         both_answers (load_rules before main text) (load_settled main text) _ _ _ _ here there both_refused
         (λ did done. told (λ journal. Loaded (length journal) stamp.version) (did.0 ∙ sym done.0) did.1 done.1)
         (load_by_rules stamp main text before r a x) (load_by_rules stamp main text before s b y)
 
-    offers : (stamp : Stamp) (signal : List ℕ) → Offers stamp signal before r a → Offers stamp signal before s b → Same r s a b
+    offers : (stamp : Stamp) (signal : List ℕ) → Offers stamp signal before r a → Offers stamp signal before s b
+        → Same r s a b
     offers stamp signal x y =
         let run : x.given.running ≡ y.given.running =
         same_running modules before x.given.running y.given.running x.given.runs y.given.runs in
-        both_answers (offer_rules before x.given.running signal) (offer_settled x.given.running signal) _ _ _ _ here there both_refused
+        both_answers (offer_rules before x.given.running signal)
+        (offer_settled x.given.running signal) _ _ _ _ here there both_refused
         (λ did done. told (λ journal. Offered (length journal) stamp.version) (did.0 ∙ sym done.0) did.1 done.1)
         (offer_by_rules stamp signal before r a x)
-        (subst (λ (q : Running). Answers (offer_rules before q signal) (λ refusal. IsRefused (of_reactor refusal) before s b)
+        (subst (λ (q : Running). Answers (offer_rules before q signal)
+        (λ refusal. IsRefused (of_reactor refusal) before s b)
         (OfferDone stamp signal before s b))
         (sym run) (offer_by_rules stamp signal before s b y))
 
@@ -232,9 +267,11 @@ module _ (modules : OneModule) (one_load : OneLoad) (entries : List Entry) (slot
         let outputs : x.outputs ≡ y.outputs =
         same_mask x.outputs y.outputs (same_outcome modules before x.outputs y.outputs x.next y.next o p).0 in
         let inputs : o.running.pending ≡ p.running.pending = ap (λ (q : Running). q.pending) run in
-        let added : (inputs outputs : ℕ) → List SlotEntry = λ inputs outputs. before ++ entry stamp (action.Step (instant inputs outputs)) ∷ [] in
+        let added : (inputs outputs : ℕ) → List SlotEntry =
+        λ inputs outputs. before ++ entry stamp (action.Step (instant inputs outputs)) ∷ [] in
         told (λ journal. Stepped (length (instants_of journal)) (length journal) stamp.version)
-        (x.adds.appended ∙ ap (λ i. added i x.outputs) inputs ∙ ap (added p.running.pending) outputs ∙ sym y.adds.appended) x.replied y.replied
+        (x.adds.appended ∙ ap (λ i. added i x.outputs) inputs ∙ ap (added p.running.pending) outputs
+        ∙ sym y.adds.appended) x.replied y.replied
 
     looks : (n : ℕ) → Looks entries slot session n before r a → Looks entries slot session n before s b → Same r s a b
     looks n x y =
@@ -254,21 +291,26 @@ module _ (modules : OneModule) (one_load : OneLoad) (entries : List Entry) (slot
         )
 
     -- what a command does that no rule refuses
-    does : (command : SlotCommand) → Does entries slot session command before r a → Does entries slot session command before s b → Same r s a b
+    does : (command : SlotCommand) → Does entries slot session command before r a
+        → Does entries slot session command before s b → Same r s a b
     does (Load main text) x y = loads (stamp_of entries session) main text x y
     does (Offer signal) x y = offers (stamp_of entries session) signal x y
-    does Discard x y = told (λ journal. Discarded (length journal) (length entries)) (x.added ∙ sym y.added) x.replied y.replied
+    does Discard x y = told (λ journal. Discarded (length journal) (length entries))
+        (x.added ∙ sym y.added) x.replied y.replied
     does Step x y = steps (stamp_of entries session) x y
-    does Unload x y = told (λ journal. Unloaded (length journal) (length entries)) (x.added ∙ sym y.added) x.replied y.replied
+    does Unload x y = told (λ journal. Unloaded (length journal) (length entries))
+        (x.added ∙ sym y.added) x.replied y.replied
     does (Look n) x y = looks n x y
     does Audit x y = (x.replied ∙ sym y.replied, x.stays ∙ sym y.stays)
 
     -- a command on a slot has one reply, and leaves one journal
-    pub one_slot_step : (command : SlotCommand) → SlotStep entries slot session command before r a → SlotStep entries slot session command before s b
+    pub one_slot_step : (command : SlotCommand) → SlotStep entries slot session command before r a
+        → SlotStep entries slot session command before s b
         → Same r s a b
     one_slot_step command =
         both_answers (slot_rules entries slot session command before) (slot_settled command)
         (λ refusal. IsRefused refusal before r a) (λ refusal. IsRefused refusal before s b)
         (Does entries slot session command before r a) (Does entries slot session command before s b)
-        (λ refusal h want. ample (h.replied ∙ ap Refused want)) (λ refusal h want. ample_too (h.replied ∙ ap Refused want))
+        (λ refusal h want. ample (h.replied ∙ ap Refused want))
+        (λ refusal h want. ample_too (h.replied ∙ ap Refused want))
         (λ refusal x y. (x.replied ∙ sym y.replied, x.stays ∙ sym y.stays)) (does command)

@@ -1,5 +1,6 @@
 -- Whether a module runs in a slot is one fact of its journal, and so is what is shown of an instant.
-use Rattle.std.proofs.Common.{◌≡◌, ℕ, ◌-◌, Bool, true, false, ◌&&◌, ◌||◌, List, [], ◌∷◌, length, map, filter, refl, ap, ◌∙◌, subst, inl, inr, arith, bit_and, bit_or}
+use Rattle.std.proofs.Common.{◌≡◌, ℕ, ◌-◌, Bool, true, false, ◌&&◌, ◌||◌, List, [], ◌∷◌, length, map, filter, refl, ap}
+use Rattle.std.proofs.Common.{◌∙◌, subst, inl, inr, arith, bit_and, bit_or}
 use Rattle.std.proofs.lemmas.Option.{slice_get_within}
 use Rattle.est_kernel.specs.Bits.{bits}
 use Rattle.est_kernel.proofs.Masks.{bits_or, bits_and}
@@ -19,7 +20,8 @@ use Rattle.access_core.specs.SlotStep.{no_instant, Looks}
 pub not_loaded : (journal : List SlotEntry) → is_loaded journal ≡ false → is_loaded journal ≡ true → ⊥
 not_loaded journal none runs = cc
 
-instant_within : (journal : List SlotEntry) (n : ℕ) (i : PastInstant) → IsInstant journal n i → HasNoInstant journal n → ⊥
+instant_within : (journal : List SlotEntry) (n : ℕ) (i : PastInstant) → IsInstant journal n i → HasNoInstant journal n
+    → ⊥
 instant_within journal n i there (inl zero) = let some = there.counted in omega arith
 instant_within journal n i there (inr past) =
     let within = slice_get_within (instants_of journal) (n - 1) i there.there in
@@ -52,27 +54,34 @@ present_is i seen place on =
 
 -- what is shown within the mask of what is seen is what is shown of the instant
 shown_is : (interface : List Declaration) (i : PastInstant) (seen : ℕ)
-    → map (present_at interface (masked i seen).present) (filter (bits seen) (places_of interface)) ≡ shown_of interface (bits seen) i
+    → map (present_at interface (masked i seen).present) (filter (bits seen) (places_of interface))
+    ≡ shown_of interface (bits seen) i
 shown_is interface i seen = same_kept _ _ (bits seen)
-    (λ place on. ap (λ b. let s : ShownSignal = record { name = name_at interface place; present = b } in s) (present_is i seen place on)) (places_of interface)
+    (λ place on. ap (λ b. let s : ShownSignal = record { name = name_at interface place; present = b } in s)
+    (present_is i seen place on)) (places_of interface)
 
 -- a look, from what the reactor shows within the mask of what is seen
-pub looks_from : (entries : List Entry) (slot session n : ℕ) (journal : List SlotEntry) (r : Running) (interface : List Declaration) (i : PastInstant)
+pub looks_from : (entries : List Entry) (slot session n : ℕ) (journal : List SlotEntry) (r : Running)
+    (interface : List Declaration) (i : PastInstant)
     (seen : ℕ) (shown : Shown) (signals : List ShownSignal) (version : ℕ)
     → Runs journal r → interface ≡ r.interface → IsInstant journal n i → shown ≡ masked i seen
     → Sees entries session slot interface (bits seen)
     → signals ≡ map (present_at interface shown.present) (filter (bits shown.mask) (places_of interface))
     → version ≡ length entries
     → Looks entries slot session n journal (Look n signals version) journal
-looks_from entries slot session n journal r interface i seen shown signals version runs same there masks observes shows judged = record {
-  running = r;
-  runs = runs;
-  instant = i;
-  there = there;
-  sees = bits seen;
-  observes = subst (λ ds. Sees entries session slot ds (bits seen)) same observes;
-  replied = ap (λ xs. Look n xs version) (all ∙ ap (λ ds. shown_of ds (bits seen) i) same) ∙ ap (λ v. Look n (shown_of r.interface (bits seen) i) v) judged;
-  stays = refl;
-} where
-  all : signals ≡ shown_of interface (bits seen) i
-  all = shows ∙ ap (λ (w : Shown). map (present_at interface w.present) (filter (bits w.mask) (places_of interface))) masks ∙ shown_is interface i seen
+looks_from entries slot session n journal r interface i seen shown signals version runs same there masks observes shows
+    judged = record {
+      running = r;
+      runs = runs;
+      instant = i;
+      there = there;
+      sees = bits seen;
+      observes = subst (λ ds. Sees entries session slot ds (bits seen)) same observes;
+      replied = ap (λ xs. Look n xs version) (all ∙ ap (λ ds. shown_of ds (bits seen) i) same)
+          ∙ ap (λ v. Look n (shown_of r.interface (bits seen) i) v) judged;
+      stays = refl;
+    } where
+      all : signals ≡ shown_of interface (bits seen) i
+      all = shows
+          ∙ ap (λ (w : Shown). map (present_at interface w.present) (filter (bits w.mask) (places_of interface)))
+          masks ∙ shown_is interface i seen

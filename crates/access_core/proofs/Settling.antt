@@ -4,7 +4,8 @@ use Rattle.refusal_rules.specs.Rules.{Rule, Rules, Unless, Says, MayRefuse, acce
 use Rattle.refusal_rules.proofs.RuleLemmas.{says, unless}
 use Rattle.reactor_core.specs.Converting.{converted}
 
--- the rule refuses or lets pass, not both, and it gives one refusal at most: all of this of the refusals that are not apart
+-- the rule refuses or lets pass, not both, and it gives one refusal at most: all of this of the refusals that are not
+-- apart
 pub record IsSettled {R : Type 0} (Apart : R → Type 0) (rule : Rule R) : Type 0 where
   pub exclusive : (refusal : R) → ¬ (Apart refusal) → rule.refuses refusal → rule.passes → ⊥
   pub one : (a b : R) → ¬ (Apart a) → ¬ (Apart b) → rule.refuses a → rule.refuses b → a ≡ b
@@ -14,9 +15,14 @@ AllSettled Apart accept = Unit {0}
 AllSettled Apart (rule ▸ later) = IsSettled Apart rule × AllSettled Apart later
 
 pub definite : {R : Type 0} {Apart : R → Type 0} {rule : Rule R} → IsDefinite rule → IsSettled Apart rule
-definite d = record { exclusive = λ refusal _ given passed. d.exclusive refusal given passed; one = λ a b _ _ x y. d.one a b x y }
+definite d =
+    record {
+      exclusive = λ refusal _ given passed. d.exclusive refusal given passed;
+      one = λ a b _ _ x y. d.one a b x y;
+    }
 
-pub settled_unless : {R : Type 0} {Apart : R → Type 0} {refusal : R} {Fact : Type 0} → IsSettled Apart (Unless Fact refusal)
+pub settled_unless : {R : Type 0} {Apart : R → Type 0} {refusal : R} {Fact : Type 0}
+    → IsSettled Apart (Unless Fact refusal)
 settled_unless = definite unless
 
 pub settled_says : {R : Type 0} {Apart : R → Type 0} {refusal : R} {Fact : Type 0} → IsSettled Apart (Says refusal Fact)
@@ -42,7 +48,8 @@ pub both_answers : {R : Type 0} {Apart : R → Type 0} {Same : Type 0} (rules : 
     → Answers rules Refused Accepted → Answers rules Told Done → Same
 both_answers accept settled Refused Told Accepted Done here there refused does x y = does x y
 both_answers (rule ▸ later) settled Refused Told Accepted Done here there refused does (inl x) (inl y) =
-    let same = settled.0.one x.refusal y.refusal (here x.refusal x.answered) (there y.refusal y.answered) x.given y.given in
+    let same = settled.0.one x.refusal y.refusal (here x.refusal x.answered)
+    (there y.refusal y.answered) x.given y.given in
     refused x.refusal x.answered (subst Told (sym same) y.answered)
 both_answers (rule ▸ later) settled Refused Told Accepted Done here there refused does (inl x) (inr y) =
     absurd (settled.0.exclusive x.refusal (here x.refusal x.answered) x.given y.passed)

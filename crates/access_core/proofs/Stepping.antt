@@ -13,7 +13,8 @@ use Rattle.reactor_core.specs.declared.entry.SlotEntry.{SlotEntry}
 use Rattle.reactor_core.specs.declared.refusal.Refusal.{Refusal as ReactorRefusal}
 use Rattle.reactor_core.specs.declared.refusal.Refusal.TheVariants as reactor
 use Rattle.reactor_core.specs.Meaning.{is_loaded, instants_of}
-use Rattle.reactor_core.specs.Instants.{IsOutcome, AddsInstant, SettledInstant, CommitAnswer, OpenAnswer, KeepsRelations}
+use Rattle.reactor_core.specs.Instants.{IsOutcome, AddsInstant, SettledInstant, CommitAnswer, OpenAnswer}
+use Rattle.reactor_core.specs.Instants.{KeepsRelations}
 use Rattle.reactor_core.proofs.OneMeaning.{OneModule, is_loaded_where, not_both, ready_or_lacking}
 use Rattle.access_core.specs.declared.command.SlotCommand.{SlotCommand}
 use Rattle.access_core.specs.declared.command.SlotCommand.TheVariants.{Step}
@@ -23,7 +24,8 @@ use Rattle.access_core.specs.declared.reply.Reply.{Reply}
 use Rattle.access_core.specs.declared.reply.Reply.TheVariants.{Refused, Step as Stepped}
 use Rattle.access_core.specs.Refusals.{of_reactor}
 use Rattle.access_core.specs.Answering.{ByRules, no_memory}
-use Rattle.access_core.specs.SlotStep.{SlotStep, no_permission, empty, NamesUndecided, no_reaction, journal_full, settle_rules, step_rules, implied, Steps, stamp_of}
+use Rattle.access_core.specs.SlotStep.{SlotStep, no_permission, empty, NamesUndecided, no_reaction, journal_full}
+use Rattle.access_core.specs.SlotStep.{settle_rules, step_rules, implied, Steps, stamp_of}
 use Rattle.access_core.specs.StuckSteps.{ReachesReactor, IsStuckExactly}
 
 module _ (stamp : Stamp) (settled : SettledInstant) (refused : ReactorRefusal × List SlotEntry) where
@@ -31,11 +33,13 @@ module _ (stamp : Stamp) (settled : SettledInstant) (refused : ReactorRefusal ×
   answer = Err refused
 
   abbrev Told : Type 0
-  Told = ByRules (no_memory ▸ journal_full settled.journal ▸ accept) (Steps stamp) settled.journal (Refused (of_reactor refused.0)) refused.1
+  Told = ByRules (no_memory ▸ journal_full settled.journal ▸ accept) (Steps stamp) settled.journal
+      (Refused (of_reactor refused.0)) refused.1
 
   -- memory is refused for the instant's entry
   no_entry : Answers (MayRefuse reactor.Memory ▸ accept) (λ given. answer ≡ Err (given, settled.journal))
-      ((added : List SlotEntry) × (answer ≡ Ok added) × ((next : Term) × AddsInstant settled.journal settled.outputs next stamp added))
+      ((added : List SlotEntry) × (answer ≡ Ok added)
+      × ((next : Term) × AddsInstant settled.journal settled.outputs next stamp added))
       → Told
   no_entry (inl memory) =
       let told = memory.answered in
@@ -48,7 +52,8 @@ module _ (stamp : Stamp) (settled : SettledInstant) (refused : ReactorRefusal ×
 
   -- the journal refuses the instant's entry
   pub commit_refused : CommitAnswer settled stamp (Err refused)
-      → ByRules (no_memory ▸ journal_full settled.journal ▸ accept) (Steps stamp) settled.journal (Refused (of_reactor refused.0)) refused.1
+      → ByRules (no_memory ▸ journal_full settled.journal ▸ accept) (Steps stamp) settled.journal
+      (Refused (of_reactor refused.0)) refused.1
   commit_refused (inl full) =
       let told = full.answered in
       let same : refused ≡ (full.refusal, settled.journal) = cc in
@@ -62,26 +67,33 @@ module _ (stamp : Stamp) (settled : SettledInstant) (refused : ReactorRefusal ×
 pub commit_accepted : (stamp : Stamp) (before journal after : List SlotEntry) (o : ℕ) (t : Term) (instant place : ℕ)
     → AddsInstant before o t stamp after
     → instant ≡ length (instants_of after) → journal ≡ after → place ≡ length journal
-    → ByRules (no_memory ▸ journal_full before ▸ accept) (Steps stamp) before (Stepped instant place stamp.version) after
-commit_accepted stamp before journal after o t instant place adds counts same counted = pass (record {}) (pass adds.room (record {
-  outputs = o;
-  next = t;
-  adds = adds;
-  replied = ap (λ n. Stepped n place stamp.version) counts ∙ ap (λ n. Stepped (length (instants_of after)) n stamp.version) (counted ∙ ap length same);
-}))
+    → ByRules (no_memory ▸ journal_full before ▸ accept) (Steps stamp) before
+    (Stepped instant place stamp.version) after
+commit_accepted stamp before journal after o t instant place adds counts same counted =
+    pass (record {}) (pass adds.room (record {
+      outputs = o;
+      next = t;
+      adds = adds;
+      replied = ap (λ n. Stepped n place stamp.version) counts
+          ∙ ap (λ n. Stepped (length (instants_of after)) n stamp.version) (counted ∙ ap length same);
+    }))
 
 -- an instant that is settled
-pub step_settled : (entries : List Entry) (slot session : ℕ) (stamp : Stamp) (before : List SlotEntry) (o : ℕ) (t : Term) (reply : Reply) (after : List SlotEntry)
+pub step_settled : (entries : List Entry) (slot session : ℕ) (stamp : Stamp) (before : List SlotEntry) (o : ℕ)
+    (t : Term) (reply : Reply) (after : List SlotEntry)
     → IsOutcome before o t → ByRules (no_memory ▸ journal_full before ▸ accept) (Steps stamp) before reply after
     → ByRules (settle_rules entries slot session before) (Steps stamp) before reply after
 step_settled entries slot session stamp before o t reply after reacts (inl memory) = inl memory
-step_settled entries slot session stamp before o t reply after reacts (inr passes) = pass passes.passed (pass (o, t, reacts) passes.next)
+step_settled entries slot session stamp before o t reply after reacts (inr passes) =
+    pass passes.passed (pass (o, t, reacts) passes.next)
 
 -- an instant that can't be settled
-pub step_stuck : (entries : List Entry) (slot session : ℕ) (stamp : Stamp) (before : List SlotEntry) (refusal : Refusal) (after : List SlotEntry)
+pub step_stuck : (entries : List Entry) (slot session : ℕ) (stamp : Stamp) (before : List SlotEntry) (refusal : Refusal)
+    (after : List SlotEntry)
     → no_memory.refuses refusal ⊎ NamesUndecided entries slot session before refusal → after ≡ before
     → ByRules (settle_rules entries slot session before) (Steps stamp) before (Refused refusal) after
-step_stuck entries slot session stamp before refusal after (inl memory) same = refuse refusal memory (record { replied = refl; stays = same })
+step_stuck entries slot session stamp before refusal after (inl memory) same =
+    refuse refusal memory (record { replied = refl; stays = same })
 step_stuck entries slot session stamp before refusal after (inr named) same =
     pass (record {}) (refuse refusal named (record { replied = refl; stays = same }))
 
@@ -105,7 +117,9 @@ module _ (entries : List Entry) (slot session : ℕ) (stamp : Stamp) (before : L
   step_opened opened reply after (inl lacks) h = absurd (no_err opened (lacks.refusal, before) lacks.answered)
   step_opened opened reply after (inr passes) h =
       let same : opened ≡ before = same_ok opened before passes.next in
-      pass passes.passed (subst (λ (journal : List SlotEntry). ByRules (settle_rules entries slot session journal) (Steps stamp) journal reply after) same h)
+      pass passes.passed
+      (subst (λ (journal : List SlotEntry). ByRules (settle_rules entries slot session journal)
+      (Steps stamp) journal reply after) same h)
 
   -- one whose pending inputs lack an implied one
   pub step_lacking : (refused : ReactorRefusal × List SlotEntry) → OpenAnswer before (Err refused)
@@ -114,37 +128,45 @@ module _ (entries : List Entry) (slot session : ℕ) (stamp : Stamp) (before : L
       let same : refused ≡ (lacks.refusal, before) = same_err refused (lacks.refusal, before) lacks.answered in
       let why = lacks.given in
       refuse (implied why.0 why.1) (why.0, why.1, refl, why.3) (record {
-        replied = ap (λ (r : ReactorRefusal). Refused (of_reactor r)) (ap (λ (r : ReactorRefusal × List SlotEntry). r.0) same ∙ why.2);
+        replied = ap (λ (r : ReactorRefusal). Refused (of_reactor r))
+            (ap (λ (r : ReactorRefusal × List SlotEntry). r.0) same ∙ why.2);
         stays = ap (λ (r : ReactorRefusal × List SlotEntry). r.1) same;
       })
   step_lacking refused (inr passes) = absurd (no_ok before refused passes.next)
 
 -- the reactor of an instant that isn't opened is loaded
-pub lacking_loaded : (before : List SlotEntry) (refused : ReactorRefusal × List SlotEntry) → OpenAnswer before (Err refused) → is_loaded refused.1 ≡ true
+pub lacking_loaded : (before : List SlotEntry) (refused : ReactorRefusal × List SlotEntry)
+    → OpenAnswer before (Err refused) → is_loaded refused.1 ≡ true
 lacking_loaded before refused (inl lacks) =
-    ap (λ (r : ReactorRefusal × List SlotEntry). is_loaded r.1) (same_err refused (lacks.refusal, before) lacks.answered)
+    ap (λ (r : ReactorRefusal × List SlotEntry). is_loaded r.1)
+    (same_err refused (lacks.refusal, before) lacks.answered)
     ∙ is_loaded_where before lacks.given.3.running lacks.given.3.runs
 lacking_loaded before refused (inr passes) = absurd (no_ok before refused passes.next)
 
-module _ (modules : OneModule) (entries : List Entry) (slot session : ℕ) (stamp : Stamp) (before : List SlotEntry) (reply : Reply) (after : List SlotEntry) where
+module _ (modules : OneModule) (entries : List Entry) (slot session : ℕ) (stamp : Stamp) (before : List SlotEntry)
+    (reply : Reply) (after : List SlotEntry) where
   -- where there is an outcome, the step isn't stuck
-  not_stuck : (o : ℕ) (t : Term) → IsOutcome before o t → ByRules (journal_full before ▸ accept) (Steps stamp) before reply after
+  not_stuck : (o : ℕ) (t : Term) → IsOutcome before o t → ByRules (journal_full before ▸ accept)
+      (Steps stamp) before reply after
       → IsStuckExactly entries slot session before reply
   not_stuck o t reacts answer = record {
     only = λ names stuck. absurd (told answer names stuck);
     whenever = λ undecided none. absurd (not_both modules before o t undecided reacts none);
   } where
-    told : ByRules (journal_full before ▸ accept) (Steps stamp) before reply after → (names : List (List ℕ)) → reply ≡ Refused (Stuck names) → ⊥
+    told : ByRules (journal_full before ▸ accept) (Steps stamp) before reply after → (names : List (List ℕ))
+        → reply ≡ Refused (Stuck names) → ⊥
     told (inl full) names stuck = let why = full.given.0 in let e = full.answered.replied in cc
     told (inr passes) names stuck = let e = passes.next.replied in cc
 
-  judged : ByRules (settle_rules entries slot session before) (Steps stamp) before reply after → IsStuckExactly entries slot session before reply
+  judged : ByRules (settle_rules entries slot session before) (Steps stamp) before reply after
+      → IsStuckExactly entries slot session before reply
   judged (inl memory) =
       let why = memory.given in
       let e = memory.answered.replied in
       record { only = λ names stuck. absurd cc; whenever = λ undecided none. inr (e ∙ ap Refused why) }
   judged (inr passes) = reacted passes.next where
-    reacted : ByRules (no_reaction entries slot session before ▸ journal_full before ▸ accept) (Steps stamp) before reply after
+    reacted : ByRules (no_reaction entries slot session before ▸ journal_full before ▸ accept)
+        (Steps stamp) before reply after
         → IsStuckExactly entries slot session before reply
     reacted (inl stuck) =
         let e = stuck.answered.replied in
@@ -157,30 +179,37 @@ module _ (modules : OneModule) (entries : List Entry) (slot session : ℕ) (stam
     reacted (inr passes) = not_stuck passes.passed.0 passes.passed.1 passes.passed.2 passes.next
 
   -- a step whose pending inputs keep each relation is answered by its instant
-  taken : KeepsRelations before → ByRules (step_rules entries slot session before) (Steps stamp) before reply after → IsStuckExactly entries slot session before reply
+  taken : KeepsRelations before → ByRules (step_rules entries slot session before) (Steps stamp) before reply after
+      → IsStuckExactly entries slot session before reply
   taken keeps (inl lacks) =
       let why = lacks.given in
       absurd (ready_or_lacking modules before why.0 why.1 why.3 keeps)
   taken keeps (inr passes) = judged passes.next
 
--- a step that reaches the reactor is Stuck exactly where there is no reaction
-at_reactor : OneModule → (entries : List Entry) (slot session : ℕ) (before : List SlotEntry) (reply : Reply) (after : List SlotEntry)
+-- a step that reaches the reactor is Stuck exactly when there is no reaction
+at_reactor : OneModule → (entries : List Entry) (slot session : ℕ) (before : List SlotEntry) (reply : Reply)
+    (after : List SlotEntry)
     → IsLive entries session → May entries session ToStep (Slot slot) → is_loaded before ≡ true → KeepsRelations before
     → SlotStep entries slot session Step before reply after → IsStuckExactly entries slot session before reply
 at_reactor modules entries slot session before reply after live may runs keeps (inl dead) = absurd (dead.given.1 live)
-at_reactor modules entries slot session before reply after live may runs keeps (inr passes) = permitted passes.next where
-  loaded : ByRules (empty before ▸ step_rules entries slot session before) (Steps (stamp_of entries session)) before reply after
-      → IsStuckExactly entries slot session before reply
-  loaded (inl none) = absurd (none.given.1 runs)
-  loaded (inr passes) = taken modules entries slot session (stamp_of entries session) before reply after keeps passes.next
+at_reactor modules entries slot session before reply after live may runs keeps (inr passes) =
+    permitted passes.next where
+      loaded : ByRules (empty before ▸ step_rules entries slot session before)
+          (Steps (stamp_of entries session)) before reply after
+          → IsStuckExactly entries slot session before reply
+      loaded (inl none) = absurd (none.given.1 runs)
+      loaded (inr passes) = taken modules entries slot session
+          (stamp_of entries session) before reply after keeps passes.next
 
-  permitted : ByRules (no_permission entries session ToStep (Slot slot) ▸ empty before ▸ step_rules entries slot session before)
-      (Steps (stamp_of entries session)) before reply after
-      → IsStuckExactly entries slot session before reply
-  permitted (inl denied) = absurd (denied.given.1 may)
-  permitted (inr passes) = loaded passes.next
+      permitted : ByRules
+          (no_permission entries session ToStep (Slot slot) ▸ empty before ▸ step_rules entries slot session before)
+          (Steps (stamp_of entries session)) before reply after
+          → IsStuckExactly entries slot session before reply
+      permitted (inl denied) = absurd (denied.given.1 may)
+      permitted (inr passes) = loaded passes.next
 
-pub stuck_exactly : OneModule → (entries : List Entry) (slot session : ℕ) (command : SlotCommand) (before : List SlotEntry) (reply : Reply) (after : List SlotEntry)
+pub stuck_exactly : OneModule → (entries : List Entry) (slot session : ℕ) (command : SlotCommand)
+    (before : List SlotEntry) (reply : Reply) (after : List SlotEntry)
     → SlotStep entries slot session command before reply after → ReachesReactor entries slot session command before
     → IsStuckExactly entries slot session before reply
 stuck_exactly modules entries slot session command before reply after h reaches =

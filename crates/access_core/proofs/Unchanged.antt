@@ -21,34 +21,43 @@ use Rattle.access_core.specs.SlotState.{SlotState}
 use Rattle.access_core.specs.SlotStep.{SlotStep, slot_rules, Does, no_session}
 use Rattle.access_core.specs.Needs.{Needs, IsAccepted}
 use Rattle.access_core.proofs.Deciding.{not_refused, accepted_access, has_needed}
-use Rattle.access_core.specs.Desk.{DeskState, AdminStep, DeskStep, InSlot, Appends, list_full, no_slot, reply_of_change, change_of}
+use Rattle.access_core.specs.Desk.{DeskState, AdminStep, DeskStep, InSlot, Appends, list_full, no_slot, reply_of_change}
+use Rattle.access_core.specs.Desk.{change_of}
 
 -- a place that is set to what stands there
-same_place : (slots : List SlotState) (number : ℕ) (slot : SlotState) → slice_get slots number ≡ Some slot → slice_set slots number slot ≡ slots
+same_place : (slots : List SlotState) (number : ℕ) (slot : SlotState) → slice_get slots number ≡ Some slot
+    → slice_set slots number slot ≡ slots
 same_place [] number slot there = refl
 same_place (first ∷ others) zero slot there = let e : first ≡ slot = cc in ap (λ s. s ∷ others) (sym e)
 same_place (first ∷ others) (suc number) slot there = ap (λ slots. first ∷ slots) (same_place others number slot there)
 
 -- the reply to an accepted command is no refusal
-not_accepted : (change : Option Change) (entries : List Entry) (refusal : Refusal) → Refused refusal ≡ reply_of_change change entries → ⊥
+not_accepted : (change : Option Change) (entries : List Entry) (refusal : Refusal)
+    → Refused refusal ≡ reply_of_change change entries → ⊥
 not_accepted None entries refusal e = cc
 not_accepted (Some change) entries refusal e = cc
 
-appends_nothing : (entry : Entry) (before : DeskState) (refusal : Refusal) (after : DeskState) → Appends entry before (Refused refusal) after → after ≡ before
-appends_nothing entry before refusal after appends = absurd (not_accepted (change_of entry.command) before.entries refusal appends.replied)
+appends_nothing : (entry : Entry) (before : DeskState) (refusal : Refusal) (after : DeskState)
+    → Appends entry before (Refused refusal) after → after ≡ before
+appends_nothing entry before refusal after appends = absurd
+    (not_accepted (change_of entry.command) before.entries refusal appends.replied)
 
 admin_replied : (answer : Result Entry PolicyRefusal) (before : DeskState) (refusal : Refusal) (after : DeskState)
     → MatchResult answer
-    (λ entry. ByRules (list_full before.entries entry ▸ no_memory ▸ accept) (Appends entry) before (Refused refusal) after)
+    (λ entry. ByRules (list_full before.entries entry ▸ no_memory ▸ accept) (Appends entry) before
+    (Refused refusal) after)
     (λ given. IsRefused (Policy given) before (Refused refusal) after)
     → after ≡ before
 admin_replied (Ok entry) before refusal after h =
-    answered (list_full before.entries entry ▸ no_memory ▸ accept) (λ given. IsRefused given before (Refused refusal) after)
-    (Appends entry before (Refused refusal) after) (after ≡ before) (λ given refused. refused.stays) (appends_nothing entry before refusal after) h
+    answered (list_full before.entries entry ▸ no_memory ▸ accept)
+    (λ given. IsRefused given before (Refused refusal) after)
+    (Appends entry before (Refused refusal) after) (after ≡ before) (λ given refused. refused.stays)
+    (appends_nothing entry before refusal after) h
 admin_replied (Err given) before refusal after h = h.stays
 
 -- a refused policy command leaves the desk
-pub admin_refused : (session : Option ℕ) (command : AdminCommand) (before : DeskState) (refusal : Refusal) (after : DeskState)
+pub admin_refused : (session : Option ℕ) (command : AdminCommand) (before : DeskState) (refusal : Refusal)
+    (after : DeskState)
     → AdminStep session command before (Refused refusal) after → after ≡ before
 admin_refused session command before refusal after step = admin_replied step.answer before refusal after step.replied
 
@@ -61,7 +70,8 @@ loaded : (entries : List SlotEntry) (answer : Result (List SlotEntry) (ReactorRe
 loaded entries (Ok journal) stamp before refusal after h = let e = h.1 in absurd (cc)
 loaded entries (Err refused) stamp before refusal after h = h.stays
 
-offered : (answer : Result (Unit {0}) ReactorRefusal) (stamp : ℕ) (before : List SlotEntry) (refusal : Refusal) (after : List SlotEntry)
+offered : (answer : Result (Unit {0}) ReactorRefusal) (stamp : ℕ) (before : List SlotEntry) (refusal : Refusal)
+    (after : List SlotEntry)
     → MatchResult answer
     (λ done. Refused refusal ≡ Offered (length after) stamp)
     (λ given. IsRefused (of_reactor given) before (Refused refusal) after)
@@ -70,10 +80,13 @@ offered (Ok done) stamp before refusal after h = absurd (cc)
 offered (Err given) stamp before refusal after h = h.stays
 
 -- what a command does that is accepted gives no refusal
-does_nothing : (entries : List Entry) (slot session : ℕ) (command : SlotCommand) (before : List SlotEntry) (refusal : Refusal) (after : List SlotEntry)
+does_nothing : (entries : List Entry) (slot session : ℕ) (command : SlotCommand) (before : List SlotEntry)
+    (refusal : Refusal) (after : List SlotEntry)
     → Does entries slot session command before (Refused refusal) after → after ≡ before
-does_nothing entries slot session (Load main text) before refusal after h = loaded before h.answer (length entries) before refusal after h.replied
-does_nothing entries slot session (Offer signal) before refusal after h = offered h.answer (length entries) before refusal after h.replied
+does_nothing entries slot session (Load main text) before refusal after h =
+    loaded before h.answer (length entries) before refusal after h.replied
+does_nothing entries slot session (Offer signal) before refusal after h =
+    offered h.answer (length entries) before refusal after h.replied
 does_nothing entries slot session Discard before refusal after h = let e = h.replied in absurd (cc)
 does_nothing entries slot session Step before refusal after h = let e = h.replied in absurd (cc)
 does_nothing entries slot session Unload before refusal after h = let e = h.replied in absurd (cc)
@@ -81,33 +94,43 @@ does_nothing entries slot session (Look n) before refusal after h = h.stays
 does_nothing entries slot session Audit before refusal after h = h.stays
 
 -- a refused slot command leaves the journal
-journal_stays : (entries : List Entry) (slot session : ℕ) (command : SlotCommand) (before : List SlotEntry) (refusal : Refusal) (after : List SlotEntry)
+journal_stays : (entries : List Entry) (slot session : ℕ) (command : SlotCommand) (before : List SlotEntry)
+    (refusal : Refusal) (after : List SlotEntry)
     → SlotStep entries slot session command before (Refused refusal) after → after ≡ before
 journal_stays entries slot session command before refusal after =
     answered (slot_rules entries slot session command before) (λ given. IsRefused given before (Refused refusal) after)
     (Does entries slot session command before (Refused refusal) after) (after ≡ before) (λ given refused. refused.stays)
     (does_nothing entries slot session command before refusal after)
 
-in_slot_stays : (number session : ℕ) (command : SlotCommand) (before : DeskState) (refusal : Refusal) (after : DeskState)
+in_slot_stays : (number session : ℕ) (command : SlotCommand) (before : DeskState) (refusal : Refusal)
+    (after : DeskState)
     → InSlot number session command before (Refused refusal) after → after ≡ before
 in_slot_stays number session command before refusal after h =
-    let e : h.journal ≡ h.slot.journal = journal_stays before.entries number session command h.slot.journal refusal h.journal h.step in
+    let e : h.journal ≡ h.slot.journal = journal_stays before.entries number session command h.slot.journal refusal
+    h.journal h.step in
     h.stored ∙ ap (λ slots. record before { slots = slots })
-    (ap (λ journal. slice_set before.slots number (record h.slot { journal = journal })) e ∙ same_place before.slots number h.slot h.there)
+    (ap (λ journal. slice_set before.slots number (record h.slot { journal = journal })) e
+    ∙ same_place before.slots number h.slot h.there)
 
 -- a refused slot command leaves the desk
-pub slot_refused : (number session : ℕ) (command : SlotCommand) (before : DeskState) (refusal : Refusal) (after : DeskState)
+pub slot_refused : (number session : ℕ) (command : SlotCommand) (before : DeskState) (refusal : Refusal)
+    (after : DeskState)
     → DeskStep number session command before (Refused refusal) after → after ≡ before
 slot_refused number session command before refusal after =
-    answered (no_session before.entries session ▸ no_slot number ▸ accept) (λ given. IsRefused given before (Refused refusal) after)
+    answered (no_session before.entries session ▸ no_slot number ▸ accept)
+    (λ given. IsRefused given before (Refused refusal) after)
     (InSlot number session command before (Refused refusal) after) (after ≡ before) (λ given refused. refused.stays)
     (in_slot_stays number session command before refusal after)
 
 -- a slot command is accepted only from a session that has what it needs
-pub accepted_is_allowed : (number session : ℕ) (command : SlotCommand) (before : DeskState) (reply : Reply) (after : DeskState)
-    → DeskStep number session command before reply after → IsAccepted reply → Needs before.entries number session command
+pub accepted_is_allowed : (number session : ℕ) (command : SlotCommand) (before : DeskState) (reply : Reply)
+    (after : DeskState)
+    → DeskStep number session command before reply after → IsAccepted reply
+    → Needs before.entries number session command
 accepted_is_allowed number session command before reply after h is =
-    let in_slot = (all_passed (no_session before.entries session ▸ no_slot number ▸ accept) (λ refusal. IsRefused refusal before reply after)
+    let in_slot =
+    (all_passed (no_session before.entries session ▸ no_slot number ▸ accept)
+    (λ refusal. IsRefused refusal before reply after)
     (InSlot number session command before reply after) (not_refused is) h).1 in
     has_needed before.entries number session command
     (accepted_access before.entries number session command in_slot.slot.journal reply in_slot.journal is in_slot.step)

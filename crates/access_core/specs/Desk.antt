@@ -1,9 +1,15 @@
 -- The desk: one policy list and sixteen slots, and what each command is answered there (this project's own form).
-use Rattle.std.specs.Prelude.{◌≡◌, ℕ, ◌+◌, ◌<◌, List, [], ◌∷◌, ◌++◌, Option, Some, None, length, take, map, slice_get, slice_set}
+use Rattle.std.specs.Prelude.{◌≡◌, ℕ, ◌+◌, ◌<◌, List, [], ◌∷◌, ◌++◌, Option, Some, None, length, take, map, slice_get}
+use Rattle.std.specs.Prelude.{slice_set}
 use Rattle.std.specs.List.{range_with_len}
 use Rattle.refusal_rules.specs.Rules.{Rule, Unless, accept, ◌▸◌}
 use Rattle.rbac_policy.specs.declared.commands.AdminCommand.{AdminCommand}
-use Rattle.rbac_policy.specs.declared.commands.AdminCommand.TheVariants.{AddUser, DeleteUser, AddRole, DeleteRole, AssignUser, DeassignUser, GrantPermission, RevokePermission, AddInheritance, DeleteInheritance, CreateDsdSet, DeleteDsdSet, CreateSession, DeleteSession, AddActiveRole, DropActiveRole}
+use Rattle.rbac_policy.specs.declared.commands.AdminCommand.TheVariants.{AddUser, DeleteUser, AddRole, DeleteRole}
+use Rattle.rbac_policy.specs.declared.commands.AdminCommand.TheVariants.{AssignUser, DeassignUser, GrantPermission}
+use Rattle.rbac_policy.specs.declared.commands.AdminCommand.TheVariants.{RevokePermission, AddInheritance}
+use Rattle.rbac_policy.specs.declared.commands.AdminCommand.TheVariants.{DeleteInheritance, CreateDsdSet, DeleteDsdSet}
+use Rattle.rbac_policy.specs.declared.commands.AdminCommand.TheVariants.{CreateSession, DeleteSession, AddActiveRole}
+use Rattle.rbac_policy.specs.declared.commands.AdminCommand.TheVariants.{DropActiveRole}
 use Rattle.rbac_policy.specs.declared.commands.Entry.{Entry}
 use Rattle.rbac_policy.specs.declared.objects.TheConstants.{SLOTS}
 use Rattle.rbac_policy.specs.Entries.{logins}
@@ -71,8 +77,8 @@ change_of DeleteSession = Some change.DeleteSession
 change_of (AddActiveRole role) = Some change.AddActiveRole
 change_of (DropActiveRole role) = Some change.DropActiveRole
 
--- the reply to an accepted command that makes this change, or is a login, on this policy list: a login tells the number of its
--- session, and each tells the new version
+-- the reply to an accepted command that makes this change, or is a login, on this policy list: a login tells the number
+-- of its session, and each tells the new version
 abbrev pub reply_of_change : Option Change → List Entry → Reply
 reply_of_change None entries = Login (logins entries + 1) (length entries + 1)
 reply_of_change (Some change) entries = Changed change (length entries + 1)
@@ -86,7 +92,8 @@ pub record Appends (entry : Entry) (before : DeskState) (reply : Reply) (after :
   pub replied : reply ≡ accepted_reply before.entries entry.command
   pub appended : after ≡ record before { entries = before.entries ++ entry ∷ [] }
 
--- the reply to a policy command, which this session gives, and the desk afterwards: the policy step's, or a refusal for want of room
+-- the reply to a policy command, which this session gives, and the desk afterwards: the policy step's, or a refusal for
+-- want of room
 abbrev pub AdminStep : (session : Option ℕ) → AdminCommand → (before : DeskState) → Reply → (after : DeskState) → Type 0
 AdminStep session command before reply after =
     StepsOnList list_refusals before.entries session command (λ refusal. IsRefused refusal before reply after)
@@ -97,7 +104,8 @@ abbrev pub no_slot : ℕ → Rule Refusal
 no_slot number = Unless (number < SLOTS) NoSlot
 
 -- the slot of this number answers by the slot step, and nothing but its journal is changed
-pub record InSlot (number session : ℕ) (command : SlotCommand) (before : DeskState) (reply : Reply) (after : DeskState) : Type 0 where
+pub record InSlot (number session : ℕ) (command : SlotCommand) (before : DeskState) (reply : Reply)
+    (after : DeskState) : Type 0 where
   pub slot : SlotState
   pub there : slice_get before.slots number ≡ Some slot
   pub journal : List SlotEntry

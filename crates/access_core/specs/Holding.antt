@@ -10,7 +10,7 @@ abbrev pub journal_of : Content → List SlotEntry
 journal_of (Empty journal) = journal
 journal_of (Loaded reactor) = reactor
 
--- a reactor is held exactly where the journal says that a module runs
+-- a reactor is held exactly when the journal says that a module runs
 abbrev pub IsHeldRight : Content → Type 0
 IsHeldRight (Empty journal) = is_loaded journal ≡ false
 IsHeldRight (Loaded reactor) = is_loaded reactor ≡ true

@@ -1,5 +1,5 @@
--- Legal journals of a slot: each entry is the very one that the slot step adds for its own command, at its version, to the entries before
--- it, and versions never fall (this project's own form).
+-- Legal journals of a slot: each entry is the very one that the slot step adds for its own command, at its version, to
+-- the entries before it, and versions never fall (this project's own form).
 use Rattle.std.specs.Prelude.{◌≡◌, ℕ, ◌<◌, ◌≤◌, List, [], ◌∷◌, ◌++◌, Some, length, take, fold, slice_get}
 use Rattle.rbac_policy.specs.declared.commands.Entry.{Entry}
 use Rattle.rbac_policy.specs.Entries.{logins}
@@ -31,7 +31,8 @@ pub record HasRightVersion (list : List Entry) (before : List SlotEntry) (entry 
   pub known : entry.stamp.version ≤ length list
 
 -- the slot step of the entry's own command, from its session, on this policy list: the reply and the journal afterwards
-abbrev pub Judges : (judged : List Entry) → (slot : ℕ) → (before : List SlotEntry) → SlotEntry → Reply → (after : List SlotEntry) → Type 0
+abbrev pub Judges : (judged : List Entry) → (slot : ℕ) → (before : List SlotEntry) → SlotEntry → Reply
+    → (after : List SlotEntry) → Type 0
 Judges judged slot before entry reply after =
     SlotStep judged slot entry.stamp.session (command_of entry.action) before reply after
 
@@ -47,17 +48,18 @@ pub record IsLegalEntry (list : List Entry) (slot : ℕ) (before : List SlotEntr
   pub version : HasRightVersion list before entry
   pub added : Adds (take entry.stamp.version list) slot before entry entry
 
--- each of the first entries of the journal, so many of them, is legal after those before it
+-- each of the first `count` entries of the journal is legal after those before it
 abbrev pub AreLegal : List Entry → (slot : ℕ) → List SlotEntry → (count : ℕ) → Type 0
 AreLegal list slot journal count =
-    (at : ℕ) (entry : SlotEntry) → at < count → slice_get journal at ≡ Some entry → IsLegalEntry list slot (take at journal) entry
+    (at : ℕ) (entry : SlotEntry) → at < count → slice_get journal at ≡ Some entry
+    → IsLegalEntry list slot (take at journal) entry
 
 -- the journal of this slot is legal over the policy list: each of its entries is
 abbrev pub IsLegal : List Entry → (slot : ℕ) → List SlotEntry → Type 0
 IsLegal list slot journal = AreLegal list slot journal (length journal)
 
--- the session's number was given within the first entries of the policy list, as many as the version says, and after these
--- entries it doesn't live: it has ended
+-- the session has ended by this version: its number was given within the first `version` entries of the policy list,
+-- and after these entries it doesn't live
 pub record HasEnded (list : List Entry) (session version : ℕ) : Type 0 where
   pub given : session ≤ logins (take version list)
   pub ended : ¬ (IsLive (take version list) session)

@@ -1,7 +1,8 @@
 -- What a command on a slot needs of the session that gives it.
 use Rattle.std.specs.Prelude.{ℕ, List, Option, Some, None}
 use Rattle.rbac_policy.specs.declared.commands.Entry.{Entry}
-use Rattle.rbac_policy.specs.declared.objects.Operation.TheVariants.{Offer as ToOffer, Step as ToStep, Load as ToLoad, Audit as ToAudit}
+use Rattle.rbac_policy.specs.declared.objects.Operation.TheVariants.{Offer as ToOffer, Step as ToStep, Load as ToLoad}
+use Rattle.rbac_policy.specs.declared.objects.Operation.TheVariants.{Audit as ToAudit}
 use Rattle.rbac_policy.specs.declared.objects.Operation.{Operation}
 use Rattle.rbac_policy.specs.declared.objects.Object.{Object}
 use Rattle.rbac_policy.specs.declared.objects.Object.TheVariants.{Policy, Slot, Signal}
@@ -9,11 +10,13 @@ use Rattle.rbac_policy.specs.Facts.{IsLive, May}
 use Rattle.access_core.specs.declared.command.SlotCommand.{SlotCommand}
 use Rattle.access_core.specs.declared.command.SlotCommand.TheVariants.{Load, Offer, Discard, Step, Unload, Look, Audit}
 use Rattle.access_core.specs.declared.reply.Reply.{Reply}
-use Rattle.access_core.specs.declared.reply.Reply.TheVariants.{Refused, Login, Changed, Check}
-use Rattle.access_core.specs.declared.reply.Reply.TheVariants.{Load as Loaded, Offer as Offered, Discard as Discarded, Step as Stepped, Unload as Unloaded, Look as Shown, Audit as Audited}
+use Rattle.access_core.specs.declared.reply.Reply.TheVariants.{Refused, Login, Changed, Check, Load as Loaded}
+use Rattle.access_core.specs.declared.reply.Reply.TheVariants.{Offer as Offered, Discard as Discarded, Step as Stepped}
+use Rattle.access_core.specs.declared.reply.Reply.TheVariants.{Unload as Unloaded, Look as Shown, Audit as Audited}
 
--- the permission that a command on the slot needs: `load` on the slot for a load and an unload, `step` on it for a step and a discard,
--- `offer` on the signal for an offer, `audit` on the policy for an audit, and none for a look (this project's own form)
+-- the permission that a command on the slot needs: `load` on the slot for a load and an unload, `step` on it for a step
+-- and a discard, `offer` on the signal for an offer, `audit` on the policy for an audit, and none for a look (this
+-- project's own form)
 abbrev pub permission_of : (slot : ℕ) → SlotCommand → Option (Operation × Object)
 permission_of slot (Load main text) = Some (ToLoad, Slot slot)
 permission_of slot (Offer signal) = Some (ToOffer, Signal slot signal)

@@ -1,6 +1,7 @@
--- The slot step: what a command on a slot is answered, on a policy list and the slot's journal, and the journal afterwards
--- (this project's own form).
-use Rattle.std.specs.Prelude.{◌≡◌, ℕ, Bool, true, List, [], ◌∷◌, ◌++◌, Option, Some, None, Result, MatchResult, length, if◌then◌else◌}
+-- The slot step: what a command on a slot is answered, on a policy list and the slot's journal, and the journal
+-- afterwards (this project's own form).
+use Rattle.std.specs.Prelude.{◌≡◌, ℕ, Bool, true, List, [], ◌∷◌, ◌++◌, Option, Some, None, Result, MatchResult, length}
+use Rattle.std.specs.Prelude.{if◌then◌else◌}
 use Rattle.refusal_rules.specs.Rules.{Rule, Rules, Says, Unless, AllPass, FirstRefuses, accept, ◌▸◌, ◌▸▸◌}
 use Rattle.est_kernel.specs.Term.{Term}
 use Rattle.est_relations.specs.declared.refusal.Refusal.TheVariants.{Implied}
@@ -26,7 +27,9 @@ use Rattle.access_core.specs.declared.command.SlotCommand.TheVariants.{Load, Off
 use Rattle.access_core.specs.declared.refusal.Refusal.{Refusal}
 use Rattle.access_core.specs.declared.refusal.Refusal.TheVariants.{Policy, Module, Stuck, Occupied, Empty, JournalFull}
 use Rattle.access_core.specs.declared.reply.Reply.{Reply}
-use Rattle.access_core.specs.declared.reply.Reply.TheVariants.{Load as Loaded, Offer as Offered, Discard as Discarded, Step as Stepped, Unload as Unloaded, Look as Shown, Audit as Audited}
+use Rattle.access_core.specs.declared.reply.Reply.TheVariants.{Load as Loaded, Offer as Offered, Discard as Discarded}
+use Rattle.access_core.specs.declared.reply.Reply.TheVariants.{Step as Stepped, Unload as Unloaded, Look as Shown}
+use Rattle.access_core.specs.declared.reply.Reply.TheVariants.{Audit as Audited}
 use Rattle.access_core.specs.Answering.{IsRefused, ByRules, no_memory}
 use Rattle.access_core.specs.Needs.{permission_of}
 use Rattle.access_core.specs.Refusals.{of_reactor}
@@ -38,7 +41,8 @@ no_session entries session = Unless (IsLive entries session) (Policy policy.NoSe
 
 -- refuses a session that may not do the operation on the object
 abbrev pub no_permission : List Entry → (session : ℕ) → Operation → Object → Rule Refusal
-no_permission entries session operation object = Unless (May entries session operation object) (Policy (policy.Permission operation object))
+no_permission entries session operation object = Unless (May entries session operation object)
+    (Policy (policy.Permission operation object))
 
 -- refuses where a module runs in the slot
 abbrev pub occupied : List SlotEntry → Rule Refusal
@@ -60,17 +64,20 @@ implied relation missing = Module (Pending (Implied relation missing))
 abbrev pub stamp_of : List Entry → (session : ℕ) → Stamp
 stamp_of entries session = record { version = length entries; session = session }
 
--- the reactor's answer to a load: its entry is appended, or the load is refused by the text, the journal's limit or for memory
-pub record Loads (stamp : Stamp) (main text : List ℕ) (before : List SlotEntry) (reply : Reply) (after : List SlotEntry) : Type 0 where
+-- the reactor's answer to a load: its entry is appended, or the load is refused by the text, the journal's limit or for
+-- memory
+pub record Loads (stamp : Stamp) (main text : List ℕ) (before : List SlotEntry) (reply : Reply)
+    (after : List SlotEntry) : Type 0 where
   pub answer : Result (List SlotEntry) (ReactorRefusal × List SlotEntry)
   pub given : LoadAnswer before stamp main text answer
   pub replied : MatchResult answer
       (λ journal. (after ≡ journal) × (reply ≡ Loaded (length after) stamp.version))
       (λ refused. IsRefused (of_reactor refused.0) before reply after)
 
--- the reactor's answer to an offer: its entry is appended, or it is refused by the signal, a relation, the journal's limit or for
--- memory
-pub record Offers (stamp : Stamp) (signal : List ℕ) (before : List SlotEntry) (reply : Reply) (after : List SlotEntry) : Type 0 where
+-- the reactor's answer to an offer: its entry is appended, or it is refused by the signal, a relation, the journal's
+-- limit or for memory
+pub record Offers (stamp : Stamp) (signal : List ℕ) (before : List SlotEntry) (reply : Reply)
+    (after : List SlotEntry) : Type 0 where
   pub answer : Result (Unit {0}) ReactorRefusal
   pub given : OfferAnswer before stamp signal answer after
   pub replied : MatchResult answer
@@ -78,13 +85,15 @@ pub record Offers (stamp : Stamp) (signal : List ℕ) (before : List SlotEntry) 
       (λ refusal. IsRefused (of_reactor refusal) before reply after)
 
 -- the entry of the action is appended, and the reply tells its place and the version
-pub record AddsEntry (action : Action) (told : (place version : ℕ) → Reply) (stamp : Stamp) (before : List SlotEntry) (reply : Reply) (after : List SlotEntry) : Type 0 where
+pub record AddsEntry (action : Action) (told : (place version : ℕ) → Reply) (stamp : Stamp) (before : List SlotEntry)
+    (reply : Reply) (after : List SlotEntry) : Type 0 where
   pub added : after ≡ before ++ entry stamp action ∷ []
   pub replied : reply ≡ told (length after) stamp.version
 
--- the next instant has no outcome: its pending inputs have no constructive reaction, and the refusal names those of the undecided
--- outputs that the session may observe
-pub record NamesUndecided (entries : List Entry) (slot session : ℕ) (journal : List SlotEntry) (refusal : Refusal) : Type 0 where
+-- the next instant has no outcome: its pending inputs have no constructive reaction, and the refusal names those of the
+-- undecided outputs that the session may observe
+pub record NamesUndecided (entries : List Entry) (slot session : ℕ) (journal : List SlotEntry)
+    (refusal : Refusal) : Type 0 where
   pub undecided : ℕ
   pub none : HasNoOutcome journal undecided
   pub running : Running
@@ -112,7 +121,8 @@ pub record Steps (stamp : Stamp) (before : List SlotEntry) (reply : Reply) (afte
   pub replied : reply ≡ Stepped (length (instants_of after)) (length after) stamp.version
 
 -- the n-th instant since the load is shown: each signal that the session may observe, and whether it was present
-pub record Looks (entries : List Entry) (slot session n : ℕ) (before : List SlotEntry) (reply : Reply) (after : List SlotEntry) : Type 0 where
+pub record Looks (entries : List Entry) (slot session n : ℕ) (before : List SlotEntry) (reply : Reply)
+    (after : List SlotEntry) : Type 0 where
   pub running : Running
   pub runs : Runs before running
   pub instant : PastInstant
@@ -127,7 +137,8 @@ abbrev pub instants_run : List SlotEntry → ℕ
 instants_run journal = if is_loaded journal then length (instants_of journal) else 0
 
 -- the reply tells how many entries the journal has, and how many instants there were since the load; nothing is changed
-pub record Audits (entries : List Entry) (before : List SlotEntry) (reply : Reply) (after : List SlotEntry) : Type 0 where
+pub record Audits (entries : List Entry) (before : List SlotEntry) (reply : Reply)
+    (after : List SlotEntry) : Type 0 where
   pub replied : reply ≡ Audited (length before) (instants_run before) (length entries)
   pub stays : after ≡ before
 
@@ -154,7 +165,8 @@ entry_rules journal = journal_full journal ▸ no_memory ▸ accept
 
 -- the rules of an instant that may take the pending inputs
 abbrev pub settle_rules : List Entry → (slot session : ℕ) → List SlotEntry → Rules Refusal
-settle_rules entries slot session journal = no_memory ▸ no_reaction entries slot session journal ▸ journal_full journal ▸ accept
+settle_rules entries slot session journal = no_memory ▸ no_reaction entries slot session journal ▸ journal_full journal
+    ▸ accept
 
 -- the rules of a step where a module runs: its relations hold of the pending inputs, and then those of the instant
 abbrev pub step_rules : List Entry → (slot session : ℕ) → List SlotEntry → Rules Refusal
@@ -176,7 +188,8 @@ slot_rules entries slot session command journal =
     access_rules entries session (permission_of slot command) ▸▸ journal_rules entries slot session command journal
 
 -- what a command does that no rule refuses: the reply, and the journal afterwards
-abbrev pub Does : List Entry → (slot session : ℕ) → SlotCommand → (before : List SlotEntry) → Reply → (after : List SlotEntry) → Type 0
+abbrev pub Does : List Entry → (slot session : ℕ) → SlotCommand → (before : List SlotEntry) → Reply
+    → (after : List SlotEntry) → Type 0
 Does entries slot session (Load main text) = Loads (stamp_of entries session) main text
 Does entries slot session (Offer signal) = Offers (stamp_of entries session) signal
 Does entries slot session Discard = AddsEntry action.Discard Discarded (stamp_of entries session)
@@ -185,7 +198,9 @@ Does entries slot session Unload = AddsEntry action.Unload Unloaded (stamp_of en
 Does entries slot session (Look n) = Looks entries slot session n
 Does entries slot session Audit = Audits entries
 
--- the reply to the command, which this session gives to this slot, on a policy list and a journal, and the journal afterwards
-abbrev pub SlotStep : List Entry → (slot session : ℕ) → SlotCommand → (before : List SlotEntry) → Reply → (after : List SlotEntry) → Type 0
+-- the reply to the command, which this session gives to this slot, on a policy list and a journal, and the journal
+-- afterwards
+abbrev pub SlotStep : List Entry → (slot session : ℕ) → SlotCommand → (before : List SlotEntry) → Reply
+    → (after : List SlotEntry) → Type 0
 SlotStep entries slot session command before =
     ByRules (slot_rules entries slot session command before) (Does entries slot session command) before

@@ -1,4 +1,5 @@
-//! Laws of the desk. Each function does nothing but call the laws that it follows from: its contract is the law.
+//! Laws of the desk. Each function does nothing but call the laws that it follows from: its
+//! contract is the law.
 ghost use Rattle.std.specs.Prelude.{◌≡◌, ℕ, ◌≤◌, List, Option, Some, slice_get, take};
 ghost use Rattle.rbac_policy.specs.declared.commands.AdminCommand.{AdminCommand};
 ghost use Rattle.rbac_policy.specs.declared.commands.Entry.{Entry};
@@ -38,8 +39,8 @@ pub fn accepted_is_allowed()
         → Needs before.entries number session command }
 {}
 
-/// A step that reaches the reactor, and whose pending inputs keep each relation, is answered Stuck exactly where there is no
-/// reaction, but for want of memory.
+/// A step that reaches the reactor, and whose pending inputs keep each relation, is answered Stuck
+/// exactly when there is no reaction, want of memory aside.
 pub fn stuck_exactly()
     ensures { (entries : List Entry) (slot session : ℕ) (command : SlotCommand)
         (before : List SlotEntry) (reply : Reply) (after : List SlotEntry)
@@ -50,7 +51,8 @@ pub fn stuck_exactly()
     one_module();
 }
 
-/// A command on a slot has one answer after the same journal: one reply, and one journal afterwards, want of memory aside.
+/// A command on a slot has one answer after the same journal: one reply, and one journal
+/// afterwards, want of memory aside.
 pub fn one_slot_answer()
     ensures { (entries : List Entry) (slot session : ℕ) (command : SlotCommand)
         (before : List SlotEntry) (r s : Reply) (a b : List SlotEntry)
@@ -62,8 +64,9 @@ pub fn one_slot_answer()
     one_load();
 }
 
-/// A legal journal stays legal where the policy list grows, and where the slot step on that list answers a command. Along its places versions
-/// never fall, and each entry was allowed: at its version its session had what its command needs.
+/// A legal journal stays legal when the policy list grows, and when the slot step on that list
+/// answers a command. Along a legal journal versions never fall, and each entry was allowed: at its
+/// version its session had what its command needs.
 pub fn journals_are_legal()
     ensures grows { (list longer : List Entry) (slot : ℕ) (journal : List SlotEntry)
         → Begins list longer → IsLegal list slot journal → IsLegal longer slot journal }

@@ -6,7 +6,8 @@ use crate::reply::SignalNames;
 use rbac_admin::refusals::Refusal as PolicyRefusal;
 use reactor_core::refusal::{ModuleRefusal, Refusal as ReactorRefusal};
 
-/// Why a line was refused. A refusal leaves policy, slots, journals and pending signals as they were.
+/// Why a line was refused. A refusal leaves policy, slots, journals and pending signals as they
+/// were.
 #[derive(Drop)]
 pub enum Refusal {
     /// The line is longer than 65,536 bytes.
@@ -17,11 +18,13 @@ pub enum Refusal {
     NotARequest,
     /// There is a login on this connection already.
     AlreadyLoggedIn,
-    /// The policy refuses the command; NoSession is also where there is no login on this connection.
+    /// The policy refuses the command; NoSession is also where there is no login on this
+    /// connection.
     Policy(PolicyRefusal),
     /// The module refuses the command.
     Module(ModuleRefusal),
-    /// The inputs have no constructive reaction. Those undecided outputs are named that the session may observe.
+    /// The inputs have no constructive reaction. Those undecided outputs are named that the session
+    /// may observe.
     Stuck { undecided: SignalNames },
     /// There is no slot of this number.
     NoSlot,
@@ -31,7 +34,9 @@ pub enum Refusal {
     Empty,
     /// The journal has as many entries as it may have.
     JournalFull,
-    /// A version was found that is older than one seen before, or newer than the policy list.
+    /// The policy that was read is older than one seen before (`found` and `seen` are their
+    /// lengths); in the laws of runs also: the version that an event names is newer than the policy
+    /// list.
     Behind { found: u64, seen: u64 },
     /// Memory was refused.
     Memory,

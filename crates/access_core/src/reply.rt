@@ -56,7 +56,8 @@ pub struct ShownSignal {
     pub present: bool,
 }
 
-/// The signals that are shown of an instant, in declaration order. A contract sees the list of them.
+/// The signals that are shown of an instant, in declaration order. A contract sees the list of
+/// them.
 #[derive(Drop)]
 pub struct ShownSignals {
     signals: Vec<ShownSignal>,
@@ -143,7 +144,8 @@ impl Change {
     }
 }
 
-/// The answer to a request. Versions are lengths of the policy list; places in a journal and instants are counted from 1.
+/// The answer to a request. Versions are lengths of the policy list; places in a journal and
+/// instants are counted from 1.
 #[derive(Drop)]
 pub enum Reply {
     /// The command was refused, and nothing is changed.
@@ -168,7 +170,8 @@ pub enum Reply {
         place: u64,
         version: u64,
     },
-    /// The pending inputs were taken away, at this place of the slot's journal, judged at this version.
+    /// The pending inputs were taken away, at this place of the slot's journal, judged at this
+    /// version.
     Discard {
         place: u64,
         version: u64,
@@ -190,8 +193,8 @@ pub enum Reply {
         signals: ShownSignals,
         version: u64,
     },
-    /// How many entries the slot's journal has, and how many instants there were since the load, none where no module runs; judged at
-    /// this version.
+    /// How many entries the slot's journal has, and how many instants there were since the load,
+    /// none where no module runs; judged at this version.
     Audit {
         entries: u64,
         instants: u64,

@@ -1,6 +1,6 @@
-//! A policy with its list, and sixteen slots, in one hand.
-ghost use Rattle.std.specs.Prelude.{◌≡◌, ◌↔◌, ◌<◌, ◌≤◌, ◌++◌, ◌∷◌, [], List, IsTrue, Ok, IfOk, MatchOption, MatchResult};
-ghost use Rattle.std.specs.Prelude.{length, map, take};
+//! A policy with its list, and sixteen slots, for one owner, without locks.
+ghost use Rattle.std.specs.Prelude.{◌≡◌, ◌↔◌, ◌<◌, ◌≤◌, ◌++◌, ◌∷◌, [], List, IsTrue, Ok, IfOk};
+ghost use Rattle.std.specs.Prelude.{MatchOption, MatchResult, length, map, take};
 ghost use Rattle.rbac_policy.specs.declared.commands.Entry.{Entry};
 ghost use Rattle.rbac_policy.specs.Change.{absorbed, policy_of};
 ghost use Rattle.rbac_policy.specs.Facts.{May};
@@ -9,8 +9,9 @@ ghost use Rattle.refusal_rules.specs.Rules.{accept, ◌▸◌};
 ghost use Rattle.rbac_admin.specs.PolicyStep.{PolicyStep};
 ghost use Rattle.access_core.specs.Answering.{ByRules, no_memory};
 ghost use Rattle.access_core.specs.SlotState.{SlotState};
-ghost use Rattle.access_core.specs.Desk.{DeskState, AreSlots, opening_desk, desk_at, empty_slot, change_of};
-ghost use Rattle.access_core.specs.Desk.{accepted_reply, list_full, Appends, AdminStep, DeskStep};
+ghost use Rattle.access_core.specs.Desk.{DeskState, AreSlots, opening_desk, desk_at, empty_slot};
+ghost use Rattle.access_core.specs.Desk.{change_of, accepted_reply, list_full, Appends, AdminStep};
+ghost use Rattle.access_core.specs.Desk.{DeskStep};
 
 use crate::command::SlotCommand;
 use crate::refusal::Refusal;
@@ -28,7 +29,8 @@ use std::alloc::{AllocError, Global};
 use std::array;
 use std::marker::Model;
 
-/// A policy with the list of its accepted entries, and sixteen slots. A contract sees the list and the slots.
+/// A policy with the list of its accepted entries, and sixteen slots. A contract sees the list and
+/// the slots.
 #[derive(Drop)]
 pub struct Single {
     policy: Policy,
@@ -164,7 +166,7 @@ fn answer_slot(
     decide_slot(policy, &mut slots[place], session, command)
 }
 
-/// The policy of the first entries, so many of them.
+/// The policy of the first `version` entries.
 fn policy_at(entries: &[Entry], version: usize) -> Policy
     requires { version ≤ length entries.now }
     ensures { result ≡ policy_of (take version entries.now) }
@@ -203,7 +205,8 @@ impl Single {
         &self.slots
     }
 
-    /// The policy list and the journals of the slots, by number. It adds no entry and takes no memory.
+    /// The policy list and the journals of the slots, by number. It adds no entry and takes no
+    /// memory.
     pub fn into_journals(self) -> (PolicyJournal, [Journal; SLOTS as usize])
         ensures policy { result.0 ≡ self.entries }
         ensures slots { result.1 ≡ map (λ (s : SlotState). s.journal) self.slots }
@@ -212,7 +215,8 @@ impl Single {
         (entries, slots.map(|slot| slot.into_journal()))
     }
 
-    // Adds an entry to the list and takes it into the policy, or refuses it as JournalFull or Memory.
+    // Adds an entry to the list and takes it into the policy, or refuses it as JournalFull or
+    // Memory.
     fn append(&mut self, entry: Entry) -> Reply
         requires { PolicyStep self.old.entries entry.session entry.command (Ok entry) }
         ensures { ByRules (list_full self.old.entries entry ▸ no_memory ▸ accept) (Appends entry)
@@ -228,7 +232,8 @@ impl Single {
         }
     }
 
-    /// Answers a policy command, which this session gives. An accepted command adds its one entry to the policy list.
+    /// Answers a policy command, which this session gives. An accepted command adds its one entry
+    /// to the policy list.
     pub fn admin(&mut self, session: Option<SessionId>, command: AdminCommand) -> Reply
         ensures { AdminStep session command self.old result self.new }
     {
@@ -238,15 +243,16 @@ impl Single {
         }
     }
 
-    /// Answers a command on the slot of this number, which this session gives, at the whole policy list.
+    /// Answers a command on the slot of this number, which this session gives, at the whole policy
+    /// list.
     pub fn slot(&mut self, session: SessionId, number: u64, command: SlotCommand) -> Reply
         ensures { DeskStep number session command self.old result self.new }
     {
         answer_slot(&self.policy, &mut self.slots, session, number, command)
     }
 
-    /// Answers a command on the slot of this number, which this session gives, at the first entries of the policy list, so many of them.
-    /// The policy is made anew from these, so that a call takes the longer, the more they are.
+    /// Answers a command on the slot of this number as of an older policy: the first `version`
+    /// entries of the list. It replays them, so it takes longer for a later version.
     pub fn slot_at(
         &mut self,
         version: usize,

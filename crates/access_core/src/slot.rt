@@ -7,16 +7,17 @@ ghost use Rattle.rbac_policy.specs.StandsFor.{StandsFor};
 ghost use Rattle.refusal_rules.specs.Rules.{accept, ◌▸◌, TestsAll};
 ghost use Rattle.access_core.specs.Answering.{ByRules, no_memory};
 ghost use Rattle.access_core.specs.SlotStep.{SlotStep, access_rules, IsAdmitted, no_instant};
-ghost use Rattle.access_core.specs.SlotStep.{NamesUndecided, settle_rules};
-ghost use Rattle.access_core.specs.SlotStep.{step_rules, entry_rules, journal_full, stamp_of, Offers, AddsEntry};
-ghost use Rattle.access_core.specs.SlotStep.{Steps, Looks, Audits};
+ghost use Rattle.access_core.specs.SlotStep.{NamesUndecided, settle_rules, step_rules, entry_rules};
+ghost use Rattle.access_core.specs.SlotStep.{journal_full, stamp_of, Offers, AddsEntry, Steps};
+ghost use Rattle.access_core.specs.SlotStep.{Looks, Audits};
 ghost use Rattle.reactor_core.specs.Meaning.{is_loaded};
 ghost use Rattle.reactor_core.specs.declared.entry.Action.TheVariants as action;
 ghost use Rattle.reactor_core.specs.Instants.{IsOutcome, HasNoOutcome};
 ghost use Rattle.access_core.specs.Needs.{permission_of};
 ghost use Rattle.access_core.specs.declared.command.SlotCommand.TheVariants.{Load};
 ghost use Rattle.access_core.specs.Holding.{journal_of, IsHeldRight};
-ghost use Rattle.access_core.specs.declared.reply.Reply.TheVariants.{Discard as Discarded, Unload as Unloaded};
+ghost use Rattle.access_core.specs.declared.reply.Reply.TheVariants.{Discard as Discarded};
+ghost use Rattle.access_core.specs.declared.reply.Reply.TheVariants.{Unload as Unloaded};
 
 use crate::command::SlotCommand;
 use crate::refusal::Refusal;
@@ -46,7 +47,8 @@ enum Content {
     Loaded(Reactor),
 }
 
-/// A slot: its number, and a journal with no module or a reactor. A contract sees the number and the journal.
+/// A slot: its number, and a journal with no module or a reactor. A contract sees the number and
+/// the journal.
 #[derive(Drop)]
 pub struct Slot {
     alloc: Global,
@@ -110,7 +112,8 @@ fn show_instant(
     }
 }
 
-/// The refusal of a step that has no reaction: it names the undecided outputs that the session may observe.
+/// The refusal of a step that has no reaction: it names the undecided outputs that the session may
+/// observe.
 fn refuse_stuck(
     alloc: Global,
     policy: &Policy,
@@ -405,7 +408,8 @@ impl Slot {
         ensures { (entries : List Entry) → StandsFor policy.now entries
             → ByRules (empty self.now.journal ▸ no_instant self.now.journal instant ▸ no_memory
             ▸ accept)
-            (Looks entries self.now.number session instant) self.now.journal result self.now.journal }
+            (Looks entries self.now.number session instant) self.now.journal result
+            self.now.journal }
     {
         match &self.content {
             Content::Empty(_) => Reply::Refused(Refusal::Empty),
@@ -496,9 +500,10 @@ pub fn load_admitted(
 
 /// Answers a command, which this session gives to the slot, at the policy as it is.
 ///
-/// The session is to live, and to have the command's permission: `load` on the slot for a load and an unload, `step` on it for a step
-/// and a discard, `offer` on the signal, `audit` on the policy; a look needs none and shows what the session may observe. A refusal
-/// leaves the slot, and a command that is accepted adds its one entry, but for a look and an audit, which add none.
+/// The session is to live, and to have the command's permission: `load` on the slot for a load and
+/// an unload, `step` on it for a step and a discard, `offer` on the signal, `audit` on the policy;
+/// a look needs none and shows what the session may observe. A refusal leaves the slot, and a
+/// command that is accepted adds its one entry, but for a look and an audit, which add none.
 pub fn decide_slot(
     policy: &Policy,
     slot: &mut Slot,

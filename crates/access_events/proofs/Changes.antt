@@ -1,11 +1,17 @@
 -- What an event changes, and that it is allowed.
-use Rattle.std.proofs.Common.{◌≡◌, ℕ, zero, suc, ◌≤◌, List, [], ◌∷◌, ◌++◌, length, take, refl, sym, ◌∙◌, ap, inl, inr, subst, ⊎_elim}
+use Rattle.std.proofs.Common.{◌≡◌, ℕ, zero, suc, ◌≤◌, List, [], ◌∷◌, ◌++◌, length, take, refl, sym, ◌∙◌, ap, inl, inr}
+use Rattle.std.proofs.Common.{subst, ⊎_elim}
 use Rattle.std.specs.Prelude.{Option, Some, None, Result, Ok, Err, MatchResult, slice_get, slice_set}
 use Rattle.std.proofs.lemmas.List.{length-take-le}
 use Rattle.refusal_rules.specs.Rules.{accept, ◌▸◌}
 use Rattle.refusal_rules.proofs.RuleLemmas.{all_passed, first_or_none}
 use Rattle.rbac_policy.specs.declared.commands.AdminCommand.{AdminCommand}
-use Rattle.rbac_policy.specs.declared.commands.AdminCommand.TheVariants.{AddUser, DeleteUser, AddRole, DeleteRole, AssignUser, DeassignUser, GrantPermission, RevokePermission, AddInheritance, DeleteInheritance, CreateDsdSet, DeleteDsdSet, CreateSession, DeleteSession, AddActiveRole, DropActiveRole}
+use Rattle.rbac_policy.specs.declared.commands.AdminCommand.TheVariants.{AddUser, DeleteUser, AddRole, DeleteRole}
+use Rattle.rbac_policy.specs.declared.commands.AdminCommand.TheVariants.{AssignUser, DeassignUser, GrantPermission}
+use Rattle.rbac_policy.specs.declared.commands.AdminCommand.TheVariants.{RevokePermission, AddInheritance}
+use Rattle.rbac_policy.specs.declared.commands.AdminCommand.TheVariants.{DeleteInheritance, CreateDsdSet, DeleteDsdSet}
+use Rattle.rbac_policy.specs.declared.commands.AdminCommand.TheVariants.{CreateSession, DeleteSession, AddActiveRole}
+use Rattle.rbac_policy.specs.declared.commands.AdminCommand.TheVariants.{DropActiveRole}
 use Rattle.rbac_policy.specs.declared.commands.Entry.{Entry}
 use Rattle.rbac_admin.specs.declared.refusals.Refusal.{Refusal as PolicyRefusal}
 use Rattle.rbac_admin.specs.PolicyStep.{PolicyStep, entry_of, policy_rules}
@@ -20,7 +26,8 @@ use Rattle.access_core.specs.Answering.{IsRefused, ByRules, no_memory}
 use Rattle.access_core.specs.Needs.{IsAccepted}
 use Rattle.access_core.specs.SlotState.{SlotState}
 use Rattle.access_core.specs.SlotStep.{no_session}
-use Rattle.access_core.specs.Desk.{DeskState, desk_at, AdminStep, InSlot, Appends, list_full, no_slot, accepted_reply, reply_of_change, change_of}
+use Rattle.access_core.specs.Desk.{DeskState, desk_at, AdminStep, InSlot, Appends, list_full, no_slot, accepted_reply}
+use Rattle.access_core.specs.Desk.{reply_of_change, change_of}
 use Rattle.access_core.proofs.Unchanged.{accepted_is_allowed}
 use Rattle.access_events.specs.declared.event.Event.{Event}
 use Rattle.access_events.specs.declared.event.Event.TheVariants.{Admin, OnSlot}
@@ -31,7 +38,8 @@ use Rattle.access_events.proofs.Following.{reached}
 use Rattle.access_events.proofs.Moving.{moves, not_accepted}
 
 -- a place that is set to what stands there
-same_place : (slots : List SlotState) (number : ℕ) (slot : SlotState) → slice_get slots number ≡ Some slot → slice_set slots number slot ≡ slots
+same_place : (slots : List SlotState) (number : ℕ) (slot : SlotState) → slice_get slots number ≡ Some slot
+    → slice_set slots number slot ≡ slots
 same_place [] number slot there = refl
 same_place (first ∷ others) zero slot there = let e : first ≡ slot = cc in ap (λ s. s ∷ others) (sym e)
 same_place (first ∷ others) (suc number) slot there = ap (λ slots. first ∷ slots) (same_place others number slot there)
@@ -48,11 +56,13 @@ same_entry : (e given : Entry) → (let r : Result Entry PolicyRefusal = Ok e in
 same_entry e given is = cc
 
 -- the entry of an accepted policy command is its own, with the session that gave it
-own_entry : (entries : List Entry) (session : Option ℕ) (command : AdminCommand) (e : Entry) → PolicyStep entries session command (Ok e)
+own_entry : (entries : List Entry) (session : Option ℕ) (command : AdminCommand) (e : Entry)
+    → PolicyStep entries session command (Ok e)
     → e ≡ entry_of session command
 own_entry entries session command e step =
     same_entry e (entry_of session command)
-    (all_passed (policy_rules entries session command) (λ refusal. (let r : Result Entry PolicyRefusal = Ok e in r) ≡ Err refusal)
+    (all_passed (policy_rules entries session command)
+    (λ refusal. (let r : Result Entry PolicyRefusal = Ok e in r) ≡ Err refusal)
     ((let r : Result Entry PolicyRefusal = Ok e in r) ≡ Ok (entry_of session command)) (no_refusal e) step).1
 
 -- the entry of a command has this command
@@ -81,23 +91,27 @@ module _ (m : Moment) where
       → Changes (OnSlot seat version slot session command) m
   in_slot seat version slot session command known h i =
       let long : length (take version m.before.entries) ≡ version = length-take-le version m.before.entries known in
-      let slots : m.after.slots ≡ slice_set m.before.slots slot (record i.slot { journal = i.journal }) = ap (λ (d : DeskState). d.slots) i.stored in
+      let slots : m.after.slots ≡ slice_set m.before.slots slot (record i.slot { journal = i.journal }) =
+      ap (λ (d : DeskState). d.slots) i.stored in
       elim (moves (take version m.before.entries) slot session i.slot.journal m.reply i.journal command i.step) [
         | inl a ↦
-            let added : i.journal ≡ i.slot.journal ++ entry (record { version = version; session = session }) a.does ∷ [] =
+            let added : i.journal ≡ i.slot.journal ++ entry (record { version = version; session = session }) a.does
+            ∷ [] =
             a.added ∙ ap (λ v. i.slot.journal ++ entry (record { version = v; session = session }) a.does ∷ []) long in
             inl (
               a.accepted,
               record {
                 known = known;
-                allowed = accepted_is_allowed slot session command (desk_at version (desk_of m.before)) m.reply (desk_at version (desk_of m.after)) h.step a.accepted;
+                allowed = accepted_is_allowed slot session command (desk_at version (desk_of m.before)) m.reply
+                    (desk_at version (desk_of m.after)) h.step a.accepted;
                 old = i.slot;
                 there = i.there;
                 does = a.does;
                 is = a.is;
                 room = a.room;
                 added = slots ∙ ap (λ j. slice_set m.before.slots slot (record i.slot { journal = j })) added;
-                told = subst (λ j. Tells command version j m.reply) added (subst (λ v. Tells command v i.journal m.reply) long a.told);
+                told = subst (λ j. Tells command version j m.reply) added
+                    (subst (λ v. Tells command v i.journal m.reply) long a.told);
                 entries = h.entries;
               },
             )
@@ -112,7 +126,8 @@ module _ (m : Moment) where
       ]
 
   judged : (seat version slot session : ℕ) (command : SlotCommand) → version ≤ length m.before.entries
-      → Judged seat version slot session command m.before m.reply m.after → Changes (OnSlot seat version slot session command) m
+      → Judged seat version slot session command m.before m.reply m.after
+      → Changes (OnSlot seat version slot session command) m
   judged seat version slot session command known h =
       ⊎_elim
       (λ first. inr (
@@ -122,12 +137,15 @@ module _ (m : Moment) where
       (λ passed. in_slot seat version slot session command known h passed.1)
       (first_or_none (no_session (take version m.before.entries) session ▸ no_slot slot ▸ accept)
       (λ refusal. IsRefused refusal (desk_at version (desk_of m.before)) m.reply (desk_at version (desk_of m.after)))
-      (InSlot slot session command (desk_at version (desk_of m.before)) m.reply (desk_at version (desk_of m.after))) h.step)
+      (InSlot slot session command (desk_at version (desk_of m.before)) m.reply (desk_at version (desk_of m.after)))
+      h.step)
 
-  administered : (seat : ℕ) (session : Option ℕ) (command : AdminCommand) → AdminStep session command (desk_of m.before) m.reply (desk_of m.after)
+  administered : (seat : ℕ) (session : Option ℕ) (command : AdminCommand)
+      → AdminStep session command (desk_of m.before) m.reply (desk_of m.after)
       → Changes (Admin seat session command) m
   administered seat session command h = by_answer h.answer h.given h.replied where
-    stays : (refusal : Refusal) → IsRefused refusal (desk_of m.before) m.reply (desk_of m.after) → Changes (Admin seat session command) m
+    stays : (refusal : Refusal) → IsRefused refusal (desk_of m.before) m.reply (desk_of m.after)
+        → Changes (Admin seat session command) m
     stays refusal h = inr (
       (λ is. not_accepted m.reply refusal h.replied is),
       record { entries = ap (λ (d : DeskState). d.entries) h.stays; slots = ap (λ (d : DeskState). d.slots) h.stays },
@@ -153,14 +171,16 @@ module _ (m : Moment) where
 
     by_answer : (answer : Result Entry PolicyRefusal) → PolicyStep m.before.entries session command answer
         → MatchResult answer
-        (λ e. ByRules (list_full m.before.entries e ▸ no_memory ▸ accept) (Appends e) (desk_of m.before) m.reply (desk_of m.after))
+        (λ e. ByRules (list_full m.before.entries e ▸ no_memory ▸ accept) (Appends e) (desk_of m.before) m.reply
+        (desk_of m.after))
         (λ refusal. IsRefused (Policy refusal) (desk_of m.before) m.reply (desk_of m.after))
         → Changes (Admin seat session command) m
     by_answer (Ok e) given replied =
         ⊎_elim
         (λ first. stays first.0 first.2)
         (λ passed. appends e given passed.0.0 passed.1)
-        (first_or_none (list_full m.before.entries e ▸ no_memory ▸ accept) (λ refusal. IsRefused refusal (desk_of m.before) m.reply (desk_of m.after))
+        (first_or_none (list_full m.before.entries e ▸ no_memory ▸ accept)
+        (λ refusal. IsRefused refusal (desk_of m.before) m.reply (desk_of m.after))
         (Appends e (desk_of m.before) m.reply (desk_of m.after)) replied)
     by_answer (Err refusal) given replied = stays (Policy refusal) replied
 
@@ -170,7 +190,10 @@ module _ (m : Moment) where
       ⊎_elim
       (λ first. inr (
         (λ is. not_accepted m.reply first.0 first.2.replied is),
-        record { entries = ap (λ (w : WorldState). w.entries) first.2.stays; slots = ap (λ (w : WorldState). w.slots) first.2.stays },
+        record {
+          entries = ap (λ (w : WorldState). w.entries) first.2.stays;
+          slots = ap (λ (w : WorldState). w.slots) first.2.stays;
+        },
       ))
       (λ passed. judged seat version slot session command passed.0.1.0 passed.1)
       (first_or_none (version_rules m.before seat version slot) (λ refusal. IsRefused refusal m.before m.reply m.after)

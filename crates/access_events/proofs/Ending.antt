@@ -4,21 +4,26 @@ use Rattle.std.proofs.lemmas.List.{map-append}
 use Rattle.rbac_policy.proofs.Steps.{get_push}
 use Rattle.access_core.specs.declared.reply.Reply.{Reply}
 use Rattle.access_events.specs.declared.event.Event.{Event}
-use Rattle.access_events.specs.Runs.{WorldState, opening_world, Moment, EventStep, Follow, world_after, wants_memory, EndsIn}
+use Rattle.access_events.specs.Runs.{WorldState, opening_world, Moment, EventStep, Follow, world_after, wants_memory}
+use Rattle.access_events.specs.Runs.{EndsIn}
 
-follow_more : (world : WorldState) (moments : List Moment) (m : Moment) → Follow world moments → m.before ≡ world_after world moments
+follow_more : (world : WorldState) (moments : List Moment) (m : Moment) → Follow world moments
+    → m.before ≡ world_after world moments
     → EventStep m.event m.before m.reply m.after → Follow world (moments ++ m ∷ [])
 follow_more world [] m follow before step = (before, step, tt)
-follow_more world (x ∷ moments) m follow before step = (follow.0, follow.1, follow_more x.after moments m follow.2 before step)
+follow_more world (x ∷ moments) m follow before step =
+    (follow.0, follow.1, follow_more x.after moments m follow.2 before step)
 
 after_more : (world : WorldState) (moments : List Moment) (m : Moment) → world_after world (moments ++ m ∷ []) ≡ m.after
 after_more world [] m = refl
 after_more world (x ∷ moments) m = after_more x.after moments m
 
 pub nothing_yet : EndsIn [] [] opening_world
-nothing_yet = record { moments = []; run = tt; are = refl; answered = refl; ends = refl; ample = λ place reply there. cc }
+nothing_yet =
+    record { moments = []; run = tt; are = refl; answered = refl; ends = refl; ample = λ place reply there. cc }
 
-pub one_more : (events : List Event) (replies : List Reply) (before : WorldState) (event : Event) (reply : Reply) (after : WorldState)
+pub one_more : (events : List Event) (replies : List Reply) (before : WorldState) (event : Event) (reply : Reply)
+    (after : WorldState)
     → EndsIn events replies before → EventStep event before reply after → wants_memory reply ≡ false
     → EndsIn (events ++ event ∷ []) (replies ++ reply ∷ []) after
 one_more events replies before event reply after h step ample =

@@ -27,7 +27,8 @@ pub step_of : (past : List Moment) (m : Moment) → Comes past m → EventStep m
 step_of past m comes = (reached (λ past world. Unit {0}) (λ past m were step. tt) tt past m comes).step
 
 -- one moment adds one instant at most
-pub same_instant : OneModule → (m : Moment) (slot : ℕ) (r s : Running) (i j : PastInstant) → AddsInstantAt m slot r i → AddsInstantAt m slot s j → (r ≡ s) × (i ≡ j)
+pub same_instant : OneModule → (m : Moment) (slot : ℕ) (r s : Running) (i j : PastInstant) → AddsInstantAt m slot r i
+    → AddsInstantAt m slot s j → (r ≡ s) × (i ≡ j)
 same_instant modules m slot r s i j one other =
     let entries : entry one.stamp (action.Step i) ≡ entry other.stamp (action.Step j) =
     last_same (journal_at m.before slot) _ _ (sym one.added ∙ other.added) in
@@ -40,7 +41,8 @@ pub record Steps (m : Moment) (slot : ℕ) : Type 0 where
   pub outputs : ℕ
   pub adds : AddsInstantAt m slot running (instant running.pending outputs)
 
-pub accepted_steps : (m : Moment) (slot : ℕ) → EventStep m.event m.before m.reply m.after → Accepts slot IsStep m → Steps m slot
+pub accepted_steps : (m : Moment) (slot : ℕ) → EventStep m.event m.before m.reply m.after → Accepts slot IsStep m
+    → Steps m slot
 accepted_steps m slot step accepts = by_event m.event step accepts.0 where
   stepped : (number : ℕ) (stamp : Stamp) (does : Action) → RunsInstant (journal_at m.before number) does
       → journal_at m.after number ≡ journal_at m.before number ++ entry stamp does ∷ [] → Steps m number
@@ -55,7 +57,8 @@ accepted_steps m slot step accepts = by_event m.event step accepts.0 where
   }
 
   by_moves : (version number session : ℕ) (command : SlotCommand) → command ≡ Step
-      → Moves (take version m.before.entries) session command (journal_at m.before number) m.reply (journal_at m.after number) → Steps m number
+      → Moves (take version m.before.entries) session command (journal_at m.before number) m.reply
+      (journal_at m.after number) → Steps m number
   by_moves version number session command c (inl h) =
       stepped number _ h.does (subst (λ c. IsActionOf c (journal_at m.before number) h.does) c h.is) h.added
   by_moves version number session command c (inr h) =
@@ -68,14 +71,21 @@ accepted_steps m slot step accepts = by_event m.event step accepts.0 where
       (event_moves seat version number session command m.before m.reply m.after step).here)
 
 -- a signal stands in the inputs of an accepted step where it was offered
-pub enters : OneModule → (past : List Moment) (m : Moment) (slot : ℕ) (name : List ℕ) → Comes past m → Accepts slot IsStep m
+pub enters : OneModule → (past : List Moment) (m : Moment) (slot : ℕ) (name : List ℕ) → Comes past m
+    → Accepts slot IsStep m
     → (Enters m slot name ↔ WasOffered past slot name)
 enters modules past m slot name comes accepts =
     let s = accepted_steps m slot (step_of past m comes) accepts in
     let agrees = pending_as_offered modules past m comes slot s.running s.adds.runs name in (
       λ h.
-          let same = same_instant modules m slot h.running s.running h.instant (instant s.running.pending s.outputs) h.adds s.adds in
+          let same = same_instant modules m slot h.running s.running h.instant
+          (instant s.running.pending s.outputs) h.adds s.adds in
           agrees.0 (subst (λ (r : Running). StandsIn r.interface s.running.pending name) same.0
           (subst (λ (i : PastInstant). StandsIn h.running.interface i.inputs name) same.1 h.stands)),
-      λ offered. record { running = s.running; instant = instant s.running.pending s.outputs; adds = s.adds; stands = agrees.1 offered },
+      λ offered. record {
+        running = s.running;
+        instant = instant s.running.pending s.outputs;
+        adds = s.adds;
+        stands = agrees.1 offered;
+      },
     )

@@ -1,5 +1,6 @@
 -- Where a look is answered.
-use Rattle.std.proofs.Common.{◌≡◌, ◌↔◌, ℕ, ◌-◌, ◌<◌, true, false, List, length, take, refl, sym, ◌∙◌, ap, inl, inr, subst, arith, ⊎_elim}
+use Rattle.std.proofs.Common.{◌≡◌, ◌↔◌, ℕ, ◌-◌, ◌<◌, true, false, List, length, take, refl, sym, ◌∙◌, ap, inl, inr}
+use Rattle.std.proofs.Common.{subst, arith, ⊎_elim}
 use Rattle.std.specs.Prelude.{Option, Some, None, slice_get}
 use Rattle.std.proofs.lemmas.Option.{slice_get_within}
 use Rattle.rbac_policy.specs.declared.commands.Entry.{Entry}
@@ -23,7 +24,8 @@ use Rattle.access_events.proofs.Enterings.{step_of}
 use Rattle.access_events.proofs.Showing.{looked}
 
 -- where a module runs there is a slot
-loaded_below : (slots : List SlotState) (slot : ℕ) → length slots ≡ 16 → is_loaded (journal_in (slice_get slots slot)) ≡ true → slot < 16
+loaded_below : (slots : List SlotState) (slot : ℕ) → length slots ≡ 16
+    → is_loaded (journal_in (slice_get slots slot)) ≡ true → slot < 16
 loaded_below slots slot sixteen loaded = by_option (slice_get slots slot) refl where
   by_option : (o : Option SlotState) → slice_get slots slot ≡ o → slot < 16
   by_option None is = let none : false ≡ true = sym (ap (λ o. is_loaded (journal_in o)) is) ∙ loaded in absurd cc
@@ -32,22 +34,29 @@ loaded_below slots slot sixteen loaded = by_option (slice_get slots slot) refl w
 -- an instant that is there is not missing
 not_missing : (journal : List SlotEntry) (n : ℕ) (i : PastInstant) → IsInstant journal n i → HasNoInstant journal n → ⊥
 not_missing journal n i there (inl none) = omega (arith, there.counted, none)
-not_missing journal n i there (inr short) = omega (arith, there.counted, short, slice_get_within (instants_of journal) (n - 1) i there.there)
+not_missing journal n i there (inr short) =
+    omega (arith, there.counted, short, slice_get_within (instants_of journal) (n - 1) i there.there)
 
 -- a look that reaches its slot is answered where the instant is there
-look_accepted : (entries : List Entry) (slot session n : ℕ) (before : List SlotEntry) (reply : Reply) (after : List SlotEntry) → MeetsNoLimit reply
-    → IsLive entries session → is_loaded before ≡ true → (HasNoInstant before n → ⊥) → SlotStep entries slot session (Look n) before reply after
+look_accepted : (entries : List Entry) (slot session n : ℕ) (before : List SlotEntry) (reply : Reply)
+    (after : List SlotEntry) → MeetsNoLimit reply
+    → IsLive entries session → is_loaded before ≡ true → (HasNoInstant before n → ⊥)
+    → SlotStep entries slot session (Look n) before reply after
     → IsAccepted reply
 look_accepted entries slot session n before reply after limit live loaded there =
     ⊎_elim (λ r. absurd (r.given.1 live))
     (λ p. ⊎_elim (λ r. absurd (r.given.1 loaded))
     (λ p. ⊎_elim (λ r. absurd (there r.given.1))
-    (λ p. ⊎_elim (λ r. absurd (subst (λ (x : Refusal). MeetsNoLimit (Refused x)) r.given (subst MeetsNoLimit r.answered.replied limit)))
+    (λ p. ⊎_elim
+    (λ r. absurd
+    (subst (λ (x : Refusal). MeetsNoLimit (Refused x)) r.given (subst MeetsNoLimit r.answered.replied limit)))
     (λ p. subst IsAccepted (sym p.next.replied) tt) p.next) p.next) p.next)
 
-pub look_law : (past : List Moment) (m : Moment) (seat version slot session n : ℕ) → Comes past m → m.event ≡ OnSlot seat version slot session (Look n)
+pub look_law : (past : List Moment) (m : Moment) (seat version slot session n : ℕ) → Comes past m
+    → m.event ≡ OnSlot seat version slot session (Look n)
     → MeetsNoLimit m.reply
-    → (IsAccepted m.reply ↔ (IsLive (take version m.before.entries) session × (is_loaded (journal_at m.before slot) ≡ true)
+    → (IsAccepted m.reply
+    ↔ (IsLive (take version m.before.entries) session × (is_loaded (journal_at m.before slot) ≡ true)
     × HasInstant (journal_at m.before slot) n))
 look_law past m seat version slot session n comes is limit =
     let step : EventStep (OnSlot seat version slot session (Look n)) m.before m.reply m.after =
@@ -57,7 +66,8 @@ look_law past m seat version slot session n comes is limit =
           (s.lives, s.holds, (s.looks.instant, s.looks.there)),
       λ all. judged_accepted m seat version slot session (Look n) limit all.0
           (loaded_below m.before.slots slot (sixteen_slots past m comes) all.1)
-          (λ after h. look_accepted (take version m.before.entries) slot session n (journal_at m.before slot) m.reply after limit all.0 all.1
+          (λ after h. look_accepted (take version m.before.entries) slot session n
+          (journal_at m.before slot) m.reply after limit all.0 all.1
           (not_missing (journal_at m.before slot) n all.2.0 all.2.1) h)
           step,
     )

@@ -24,11 +24,14 @@ use Rattle.access_events.specs.Changing.{Moves}
 pub not_accepted : {A : Type 0} (reply : Reply) (refusal : Refusal) → reply ≡ Refused refusal → IsAccepted reply → A
 not_accepted reply refusal is accepted = absurd (subst IsAccepted is accepted)
 
-module _ (entries : List Entry) (slot session : ℕ) (before : List SlotEntry) (reply : Reply) (after : List SlotEntry) where
-  refused : (command : SlotCommand) (refusal : Refusal) → IsRefused refusal before reply after → Moves entries session command before reply after
+module _ (entries : List Entry) (slot session : ℕ) (before : List SlotEntry) (reply : Reply)
+    (after : List SlotEntry) where
+  refused : (command : SlotCommand) (refusal : Refusal) → IsRefused refusal before reply after
+      → Moves entries session command before reply after
   refused command refusal h = inr (record { no_more = not_accepted reply refusal h.replied; stays = h.stays })
 
-  loads : (main text : List ℕ) → (is_loaded before ≡ true → ⊥) → Loads (stamp_of entries session) main text before reply after
+  loads : (main text : List ℕ) → (is_loaded before ≡ true → ⊥)
+      → Loads (stamp_of entries session) main text before reply after
       → Moves entries session (Load main text) before reply after
   loads main text none h = by_answer h.answer h.given h.replied where
     by_answer : (answer : Result (List SlotEntry) (ReactorRefusal × List SlotEntry))
@@ -39,7 +42,8 @@ module _ (entries : List Entry) (slot session : ℕ) (before : List SlotEntry) (
         → Moves entries session (Load main text) before reply after
     by_answer (Ok journal) given replied =
         let passed = all_passed (load_rules before main text) (λ refusal. Ok journal ≡ Err (refusal, before))
-        ((longer : List SlotEntry) × (Ok journal ≡ Ok longer) × AddsLoad before (stamp_of entries session) main text longer) (λ refusal e. cc) given in
+        ((longer : List SlotEntry) × (Ok journal ≡ Ok longer)
+        × AddsLoad before (stamp_of entries session) main text longer) (λ refusal e. cc) given in
         let longer = passed.1.0 in
         let adds = passed.1.2 in
         let e = passed.1.1 in
@@ -54,7 +58,8 @@ module _ (entries : List Entry) (slot session : ℕ) (before : List SlotEntry) (
         })
     by_answer (Err refusal) given replied = refused (Load main text) _ replied
 
-  offers : (signal : List ℕ) → Offers (stamp_of entries session) signal before reply after → Moves entries session (Offer signal) before reply after
+  offers : (signal : List ℕ) → Offers (stamp_of entries session) signal before reply after
+      → Moves entries session (Offer signal) before reply after
   offers signal h = by_answer h.answer h.given h.replied where
     by_answer : (answer : Result (Unit {0}) ReactorRefusal)
         → OfferAnswer before (stamp_of entries session) signal answer after
@@ -63,7 +68,8 @@ module _ (entries : List Entry) (slot session : ℕ) (before : List SlotEntry) (
         (λ refusal. IsRefused (of_reactor refusal) before reply after)
         → Moves entries session (Offer signal) before reply after
     by_answer (Ok done) given replied =
-        let passed = all_passed (offer_rules before given.running signal) _ _ (λ refusal e. let no = e.0 in cc) given.given in
+        let passed = all_passed (offer_rules before given.running signal) _ _
+        (λ refusal e. let no = e.0 in cc) given.given in
         inl (record {
           accepted = subst IsAccepted (sym replied) tt;
           does = _;
@@ -84,7 +90,8 @@ module _ (entries : List Entry) (slot session : ℕ) (before : List SlotEntry) (
         })
     by_answer (Err refusal) given replied = refused (Offer signal) _ replied
 
-  steps : KeepsRelations before → HasRoom before → Steps (stamp_of entries session) before reply after → Moves entries session Step before reply after
+  steps : KeepsRelations before → HasRoom before → Steps (stamp_of entries session) before reply after
+      → Moves entries session Step before reply after
   steps lawful room h = inl (record {
     accepted = subst IsAccepted (sym h.replied) tt;
     does = _;
@@ -95,7 +102,8 @@ module _ (entries : List Entry) (slot session : ℕ) (before : List SlotEntry) (
   })
 
   -- a command that each rule lets pass does this
-  does : (command : SlotCommand) → AllPass (slot_rules entries slot session command before) → Does entries slot session command before reply after
+  does : (command : SlotCommand) → AllPass (slot_rules entries slot session command before)
+      → Does entries slot session command before reply after
       → Moves entries session command before reply after
   does (Load main text) all h = loads main text all.1.1.0 h
   does (Offer signal) all h = offers signal h
@@ -120,7 +128,8 @@ module _ (entries : List Entry) (slot session : ℕ) (before : List SlotEntry) (
   does Audit all h = inr (record { no_more = λ _. inr refl; stays = h.stays })
 
   -- the slot step adds what the command asks for, or nothing
-  pub moves : (command : SlotCommand) → SlotStep entries slot session command before reply after → Moves entries session command before reply after
+  pub moves : (command : SlotCommand) → SlotStep entries slot session command before reply after
+      → Moves entries session command before reply after
   moves command h =
       ⊎_elim
       (λ first. refused command first.0 first.2)

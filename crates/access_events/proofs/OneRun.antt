@@ -1,5 +1,6 @@
 -- A list of events has one run, want of memory aside.
-use Rattle.std.proofs.Common.{◌≡◌, ◌⊎◌, ◌∙◌, ℕ, Bool, true, false, IsTrue, List, [], ◌∷◌, ◌++◌, length, inl, inr, refl, sym, ap, subst, ⊎_elim}
+use Rattle.std.proofs.Common.{◌≡◌, ◌⊎◌, ◌∙◌, ℕ, Bool, true, false, IsTrue, List, [], ◌∷◌, ◌++◌, length, inl, inr, refl}
+use Rattle.std.proofs.Common.{sym, ap, subst, ⊎_elim}
 use Rattle.std.specs.Prelude.{Option, Some, Result, Ok, Err, MatchResult, map, slice_get, slice_set}
 use Rattle.std.proofs.lemmas.Option.{same_Some}
 use Rattle.refusal_rules.specs.Rules.{Rules, accept, ◌▸◌}
@@ -21,7 +22,8 @@ use Rattle.access_core.specs.SlotStep.{SlotStep, no_session}
 use Rattle.access_events.specs.declared.event.Event.{Event}
 use Rattle.access_events.specs.declared.event.Event.TheVariants.{Admin, OnSlot}
 use Rattle.access_events.specs.OneRun.{events_of, PartForMemory}
-use Rattle.access_events.specs.Runs.{WorldState, opening_world, Moment, EventStep, Follow, IsRun, Comes, world_after, wants_memory, has_seen, desk_of, version_rules, Administered, Judged, EndsIn}
+use Rattle.access_events.specs.Runs.{WorldState, opening_world, Moment, EventStep, Follow, IsRun, Comes, world_after}
+use Rattle.access_events.specs.Runs.{wants_memory, has_seen, desk_of, version_rules, Administered, Judged, EndsIn}
 use Rattle.access_events.proofs.Enterings.{step_of}
 use Rattle.access_core.proofs.OneSlotStep.{OneLoad, IsWant, Same, one_slot_step}
 use Rattle.access_core.proofs.Settling.{AllSettled, settled_unless, settled_apart, both_answers}
@@ -35,33 +37,48 @@ same_desk a b entries slots =
 same_world : (a b : WorldState) → a.entries ≡ b.entries → a.slots ≡ b.slots → a.seen ≡ b.seen → a ≡ b
 same_world a b entries slots seen =
     ap (λ (es : List Entry). let x : WorldState = record { entries = es; slots = a.slots; seen = a.seen } in x) entries
-    ∙ ap (λ (ss : List SlotState). let x : WorldState = record { entries = b.entries; slots = ss; seen = a.seen } in x) slots
+    ∙ ap (λ (ss : List SlotState). let x : WorldState = record { entries = b.entries; slots = ss; seen = a.seen } in x)
+    slots
     ∙ ap (λ (vs : List ℕ). let x : WorldState = record { entries = b.entries; slots = b.slots; seen = vs } in x) seen
 
 same_moment : (m n : Moment) → m.before ≡ n.before → m.event ≡ n.event → m.reply ≡ n.reply → m.after ≡ n.after → m ≡ n
 same_moment m n before event reply after =
-    ap (λ (w : WorldState). let x : Moment = record { before = w; event = m.event; reply = m.reply; after = m.after } in x) before
-    ∙ ap (λ (e : Event). let x : Moment = record { before = n.before; event = e; reply = m.reply; after = m.after } in x) event
-    ∙ ap (λ (r : Reply). let x : Moment = record { before = n.before; event = n.event; reply = r; after = m.after } in x) reply
-    ∙ ap (λ (w : WorldState). let x : Moment = record { before = n.before; event = n.event; reply = n.reply; after = w } in x) after
+    ap (λ (w : WorldState). let x : Moment = record { before = w; event = m.event; reply = m.reply; after = m.after } in
+    x) before
+    ∙ ap (λ (e : Event). let x : Moment = record { before = n.before; event = e; reply = m.reply; after = m.after } in
+    x) event
+    ∙ ap (λ (r : Reply). let x : Moment = record { before = n.before; event = n.event; reply = r; after = m.after } in
+    x) reply
+    ∙ ap (λ (w : WorldState). let x : Moment = record {
+      before = n.before;
+      event = n.event;
+      reply = n.reply;
+      after = w;
+    } in x) after
 
-module _ (modules : OneModule) (one_load : OneLoad) (r s : Reply) (ample : r ≡ Refused Memory → ⊥) (ample_too : s ≡ Refused Memory → ⊥) where
+module _ (modules : OneModule) (one_load : OneLoad) (r s : Reply) (ample : r ≡ Refused Memory → ⊥)
+    (ample_too : s ≡ Refused Memory → ⊥) where
   -- what is answered by settled rules is one, where what follows them is
-  by_rules : {S : Type 0} (rules : Rules Refusal) → AllSettled IsWant rules → (Next : S → Reply → S → Type 0) (before a b : S)
-      → (Next before r a → Next before s b → Same r s a b) → ByRules rules Next before r a → ByRules rules Next before s b → Same r s a b
+  by_rules : {S : Type 0} (rules : Rules Refusal) → AllSettled IsWant rules
+      → (Next : S → Reply → S → Type 0) (before a b : S)
+      → (Next before r a → Next before s b → Same r s a b) → ByRules rules Next before r a
+      → ByRules rules Next before s b → Same r s a b
   by_rules rules settled Next before a b next =
       both_answers rules settled (λ refusal. IsRefused refusal before r a) (λ refusal. IsRefused refusal before s b)
       (Next before r a) (Next before s b)
-      (λ refusal h want. ample (h.replied ∙ ap Refused want)) (λ refusal h want. ample_too (h.replied ∙ ap Refused want))
+      (λ refusal h want. ample (h.replied ∙ ap Refused want))
+      (λ refusal h want. ample_too (h.replied ∙ ap Refused want))
       (λ refusal x y. (x.replied ∙ sym y.replied, x.stays ∙ sym y.stays)) next
 
   -- a slot's answer
-  in_slot : (number session : ℕ) (command : SlotCommand) (before a b : DeskState) → InSlot number session command before r a
+  in_slot : (number session : ℕ) (command : SlotCommand) (before a b : DeskState)
+      → InSlot number session command before r a
       → InSlot number session command before s b → Same r s a b
   in_slot number session command before a b x y =
       let slot : x.slot ≡ y.slot = same_Some x.slot y.slot (sym x.there ∙ y.there) in
       let other : SlotStep before.entries number session command x.slot.journal s y.journal =
-      subst (λ (v : SlotState). SlotStep before.entries number session command v.journal s y.journal) (sym slot) y.step in
+      subst (λ (v : SlotState). SlotStep before.entries number session command v.journal s y.journal)
+      (sym slot) y.step in
       let both = one_slot_step modules one_load before.entries number session x.slot.journal r s ample ample_too
       x.journal y.journal command x.step other in
       let stored : SlotState → List SlotEntry → DeskState =
@@ -69,14 +86,17 @@ module _ (modules : OneModule) (one_load : OneLoad) (r s : Reply) (ample : r ≡
       (both.0, x.stored ∙ ap (λ v. stored v x.journal) slot ∙ ap (stored y.slot) both.1 ∙ sym y.stored)
 
   -- a desk's answer to a command on a slot
-  desk_step : (number session : ℕ) (command : SlotCommand) (before a b : DeskState) → DeskStep number session command before r a
+  desk_step : (number session : ℕ) (command : SlotCommand) (before a b : DeskState)
+      → DeskStep number session command before r a
       → DeskStep number session command before s b → Same r s a b
   desk_step number session command before a b =
-      by_rules (no_session before.entries session ▸ no_slot number ▸ accept) (settled_unless, (settled_unless, record {}))
+      by_rules (no_session before.entries session ▸ no_slot number ▸ accept)
+      (settled_unless, (settled_unless, record {}))
       (InSlot number session command) before a b (in_slot number session command before a b)
 
   -- a desk's answer to a policy command
-  admin_step : (session : Option ℕ) (command : AdminCommand) (before a b : DeskState) → AdminStep session command before r a
+  admin_step : (session : Option ℕ) (command : AdminCommand) (before a b : DeskState)
+      → AdminStep session command before r a
       → AdminStep session command before s b → Same r s a b
   admin_step session command before a b x y = by_answer x.answer x.replied other where
     Replied : Reply → DeskState → Result Entry PolicyRefusal → Type 0
@@ -90,7 +110,8 @@ module _ (modules : OneModule) (one_load : OneLoad) (r s : Reply) (ample : r ≡
 
     by_answer : (answer : Result Entry PolicyRefusal) → Replied r a answer → Replied s b answer → Same r s a b
     by_answer (Ok entry) h k =
-        by_rules (list_full before.entries entry ▸ no_memory ▸ accept) (settled_unless, (settled_apart, record {})) (Appends entry) before a b
+        by_rules (list_full before.entries entry ▸ no_memory ▸ accept) (settled_unless, (settled_apart, record {}))
+        (Appends entry) before a b
         (λ p q. (p.replied ∙ sym q.replied, p.appended ∙ sym q.appended)) h k
     by_answer (Err refusal) h k = (h.replied ∙ sym k.replied, h.stays ∙ sym k.stays)
 
@@ -100,11 +121,13 @@ module _ (modules : OneModule) (one_load : OneLoad) (r s : Reply) (ample : r ≡
       let both = admin_step session command (desk_of before) (desk_of a) (desk_of b) x.step y.step in
       let entries : a.entries ≡ b.entries = ap (λ (d : DeskState). d.entries) both.1 in
       let slots : a.slots ≡ b.slots = ap (λ (d : DeskState). d.slots) both.1 in
-      let seen : a.seen ≡ b.seen = x.seen ∙ ap (λ (es : List Entry). has_seen seat (length es) before.seen) entries ∙ sym y.seen in
+      let seen : a.seen ≡ b.seen = x.seen ∙ ap (λ (es : List Entry). has_seen seat (length es) before.seen) entries
+      ∙ sym y.seen in
       (both.0, same_world a b entries slots seen)
 
   judged : (seat version slot session : ℕ) (command : SlotCommand) (before a b : WorldState)
-      → Judged seat version slot session command before r a → Judged seat version slot session command before s b → Same r s a b
+      → Judged seat version slot session command before r a → Judged seat version slot session command before s b
+      → Same r s a b
   judged seat version slot session command before a b x y =
       let both = desk_step slot session command (desk_at version (desk_of before)) (desk_at version (desk_of a))
       (desk_at version (desk_of b)) x.step y.step in
@@ -112,14 +135,16 @@ module _ (modules : OneModule) (one_load : OneLoad) (r s : Reply) (ample : r ≡
       (both.0, same_world a b (x.entries ∙ sym y.entries) slots (x.seen ∙ sym y.seen))
 
   -- an event has one reply, and leaves one world
-  one_step : (event : Event) (before a b : WorldState) → EventStep event before r a → EventStep event before s b → Same r s a b
+  one_step : (event : Event) (before a b : WorldState) → EventStep event before r a → EventStep event before s b
+      → Same r s a b
   one_step (Admin seat session command) before a b = administered seat session command before a b
   one_step (OnSlot seat version slot session command) before a b =
       by_rules (version_rules before seat version slot) (settled_unless, (settled_unless, record {}))
       (Judged seat version slot session command) before a b (judged seat version slot session command before a b)
 
 -- a moment stands in the world that the moments before it leave
-comes_after : (world : WorldState) (past later : List Moment) (m : Moment) → Follow world (past ++ m ∷ later) → m.before ≡ world_after world past
+comes_after : (world : WorldState) (past later : List Moment) (m : Moment) → Follow world (past ++ m ∷ later)
+    → m.before ≡ world_after world past
 comes_after world [] later m h = h.0
 comes_after world (x ∷ past) later m h = comes_after x.after past later m h.2
 
@@ -130,7 +155,8 @@ module _ (modules : OneModule) (one_load : OneLoad) where
       → (m.reply ≡ Refused Memory → ⊥) → (n.reply ≡ Refused Memory → ⊥) → m ≡ n
   same_next m n before event x y ample ample_too =
       let other : EventStep m.event m.before n.reply n.after =
-      subst (λ e. EventStep e m.before n.reply n.after) (sym event) (subst (λ w. EventStep n.event w n.reply n.after) (sym before) y) in
+      subst (λ e. EventStep e m.before n.reply n.after) (sym event)
+      (subst (λ w. EventStep n.event w n.reply n.after) (sym before) y) in
       let both = one_step modules one_load m.reply n.reply ample ample_too m.event m.before m.after n.after x other in
       same_moment m n before event both.0 both.1
 
@@ -145,7 +171,8 @@ module _ (modules : OneModule) (one_load : OneLoad) where
   not_wanting : (reply : Reply) → wants_memory reply ≡ false → reply ≡ Refused Memory → ⊥
   not_wanting reply ample is = let no : true ≡ false = sym (ap wants_memory is) ∙ ample in absurd cc
 
-  follow_alike : (world : WorldState) (run other : List Moment) → Follow world run → Follow world other → events_of run ≡ events_of other
+  follow_alike : (world : WorldState) (run other : List Moment) → Follow world run → Follow world other
+      → events_of run ≡ events_of other
       → (run ≡ other) ⊎ PartForMemory run other
   follow_alike world [] [] x y e = inl refl
   follow_alike world [] (n ∷ rest) x y e = absurd cc
@@ -159,9 +186,11 @@ module _ (modules : OneModule) (one_load : OneLoad) where
         tails = cc
 
         parts : IsTrue (wants_memory m.reply) ⊎ IsTrue (wants_memory n.reply) → PartForMemory (m ∷ later) (n ∷ rest)
-        parts refused = record { past = []; m = m; n = n; later = later; rest = rest; one = refl; two = refl; refused = refused }
+        parts refused =
+            record { past = []; m = m; n = n; later = later; rest = rest; one = refl; two = refl; refused = refused }
 
-        more : m ≡ n → (later ≡ rest) ⊎ PartForMemory later rest → ((m ∷ later) ≡ (n ∷ rest)) ⊎ PartForMemory (m ∷ later) (n ∷ rest)
+        more : m ≡ n → (later ≡ rest) ⊎ PartForMemory later rest
+            → ((m ∷ later) ≡ (n ∷ rest)) ⊎ PartForMemory (m ∷ later) (n ∷ rest)
         more same (inl tail) = inl (ap (λ (x : Moment). x ∷ later) same ∙ ap (λ (xs : List Moment). n ∷ xs) tail)
         more same (inr p) = inr (record {
           past = m ∷ p.past;
@@ -175,19 +204,23 @@ module _ (modules : OneModule) (one_load : OneLoad) where
         })
 
         by_memory : (Follow m.after rest → events_of later ≡ events_of rest → (later ≡ rest) ⊎ PartForMemory later rest)
-            → (a b : Bool) → wants_memory m.reply ≡ a → wants_memory n.reply ≡ b → ((m ∷ later) ≡ (n ∷ rest)) ⊎ PartForMemory (m ∷ later) (n ∷ rest)
+            → (a b : Bool) → wants_memory m.reply ≡ a → wants_memory n.reply ≡ b
+            → ((m ∷ later) ≡ (n ∷ rest)) ⊎ PartForMemory (m ∷ later) (n ∷ rest)
         by_memory alike true b here there = inr (parts (inl here))
         by_memory alike false true here there = inr (parts (inr there))
         by_memory alike false false here there =
-            let same : m ≡ n = same_next m n (x.0 ∙ sym y.0) event x.1 y.1 (not_wanting m.reply here) (not_wanting n.reply there) in
+            let same : m ≡ n = same_next m n (x.0 ∙ sym y.0) event x.1 y.1 (not_wanting m.reply here)
+            (not_wanting n.reply there) in
             let follows : Follow m.after rest = subst (λ (w : Moment). Follow w.after rest) (sym same) y.2 in
             more same (alike follows tails)
 
-  pub one_run : (run other : List Moment) → IsRun run → IsRun other → events_of run ≡ events_of other → (run ≡ other) ⊎ PartForMemory run other
+  pub one_run : (run other : List Moment) → IsRun run → IsRun other → events_of run ≡ events_of other
+      → (run ≡ other) ⊎ PartForMemory run other
   one_run = follow_alike opening_world
 
   -- memory is refused at no moment whose replies are these
-  reply_there : (past later : List Moment) (m : Moment) → slice_get (map (λ (x : Moment). x.reply) (past ++ m ∷ later)) (length past) ≡ Some m.reply
+  reply_there : (past later : List Moment) (m : Moment) → slice_get (map (λ (x : Moment). x.reply) (past ++ m ∷ later))
+      (length past) ≡ Some m.reply
   reply_there [] later m = refl
   reply_there (x ∷ past) later m = reply_there past later m
 
@@ -205,9 +238,13 @@ module _ (modules : OneModule) (one_load : OneLoad) where
   pub one_end : (events : List Event) (replies others : List Reply) (world last : WorldState)
       → EndsIn events replies world → EndsIn events others last
       → (replies ≡ others) × (world ≡ last)
-  one_end events replies others world last x y = by_run (one_run x.moments y.moments x.run y.run (x.are ∙ sym y.are)) where
-    by_run : (x.moments ≡ y.moments) ⊎ PartForMemory x.moments y.moments → (replies ≡ others) × (world ≡ last)
-    by_run (inl same) =
-        (sym x.answered ∙ ap (map (λ (m : Moment). m.reply)) same ∙ y.answered, sym x.ends ∙ ap (world_after opening_world) same ∙ y.ends)
-    by_run (inr p) =
-        absurd (⊎_elim (no_want events replies world x p.past p.later p.m p.one) (no_want events others last y p.past p.rest p.n p.two) p.refused)
+  one_end events replies others world last x y = by_run (one_run x.moments y.moments x.run y.run (x.are ∙ sym y.are))
+    where
+      by_run : (x.moments ≡ y.moments) ⊎ PartForMemory x.moments y.moments → (replies ≡ others) × (world ≡ last)
+      by_run (inl same) = (
+        sym x.answered ∙ ap (map (λ (m : Moment). m.reply)) same ∙ y.answered,
+        sym x.ends ∙ ap (world_after opening_world) same ∙ y.ends,
+      )
+      by_run (inr p) =
+          absurd (⊎_elim (no_want events replies world x p.past p.later p.m p.one)
+          (no_want events others last y p.past p.rest p.n p.two) p.refused)

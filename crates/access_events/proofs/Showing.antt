@@ -1,5 +1,6 @@
 -- A look shows the reaction of the step that it asks for.
-use Rattle.std.proofs.Common.{◌≡◌, ◌↔◌, ℕ, ◌-◌, ◌≤◌, List, [], ◌∷◌, ◌++◌, length, take, true, refl, sym, ◌∙◌, ap, inl, inr, subst, arith}
+use Rattle.std.proofs.Common.{◌≡◌, ◌↔◌, ℕ, ◌-◌, ◌≤◌, List, [], ◌∷◌, ◌++◌, length, take, true, refl, sym, ◌∙◌, ap, inl}
+use Rattle.std.proofs.Common.{inr, subst, arith}
 use Rattle.std.specs.Prelude.{Some, None, slice_get}
 use Rattle.std.proofs.lemmas.List.{length-take-le, length_push}
 use Rattle.std.proofs.lemmas.Option.{same_Some, slice_get_within}
@@ -14,7 +15,9 @@ use Rattle.reactor_core.specs.declared.entry.Load.{Load as LoadEntry}
 use Rattle.reactor_core.specs.declared.entry.PastInstant.{PastInstant}
 use Rattle.reactor_core.specs.declared.entry.Stamp.{Stamp}
 use Rattle.reactor_core.specs.declared.entry.SlotEntry.{SlotEntry}
-use Rattle.reactor_core.specs.Meaning.{entry, instant, is_loaded, last_load, load_after, instants_of, instants_after, offers_of, mask_of, ModuleOf, Running, Runs, Leaves, loaded, offered, discarded, stepped}
+use Rattle.reactor_core.specs.Meaning.{entry, instant, is_loaded, last_load, load_after, instants_of, instants_after}
+use Rattle.reactor_core.specs.Meaning.{offers_of, mask_of, ModuleOf, Running, Runs, Leaves, loaded, offered, discarded}
+use Rattle.reactor_core.specs.Meaning.{stepped}
 use Rattle.reactor_core.specs.Reacting.{ReactsWith}
 use Rattle.reactor_core.proofs.OneMeaning.{OneModule, one_term, same_running}
 use Rattle.reactor_core.proofs.Steps.{after_snoc}
@@ -46,50 +49,59 @@ use Rattle.access_events.proofs.Pendings.{load_adds, on_more}
 use Rattle.access_events.proofs.Slotwise.{Adds, slotwise}
 
 -- one of the reactions
-record ReactionAt (interface : List Declaration) (start : Term) (instants : List PastInstant) (at : ℕ) (i : PastInstant) : Type 0 where
+record ReactionAt (interface : List Declaration) (start : Term) (instants : List PastInstant) (at : ℕ)
+    (i : PastInstant) : Type 0 where
   term : Term
   earlier : Reactions interface start (take at instants) term
   next : Term
   reacts : ReactsWith interface term i.inputs i.outputs next
 
-reaction_at : (interface : List Declaration) (start : Term) (instants : List PastInstant) (term : Term) → Reactions interface start instants term
+reaction_at : (interface : List Declaration) (start : Term) (instants : List PastInstant) (term : Term)
+    → Reactions interface start instants term
     → (at : ℕ) (i : PastInstant) → slice_get instants at ≡ Some i → ReactionAt interface start instants at i
 reaction_at interface start _ _ starts at i there = absurd (omega (arith, slice_get_within [] at i there))
-reaction_at interface start _ _ (goes_on earlier term before inputs outputs next reacts) at i there = elim (get_push earlier (instant inputs outputs) i at there) [
-  | inl old ↦
-      let r = reaction_at interface start earlier term before at i old.1 in
-      record {
-        term = r.term;
-        earlier = subst (λ is. Reactions interface start is r.term) (sym (take_front earlier (instant inputs outputs) at (omega (arith, old.0)))) r.earlier;
-        next = r.next;
-        reacts = r.reacts;
-      }
-  | inr last ↦
-      let whole : take at (earlier ++ instant inputs outputs ∷ []) ≡ earlier =
-      ap (λ k. take k (earlier ++ instant inputs outputs ∷ [])) last.0 ∙ take_whole earlier (instant inputs outputs) in
-      record {
-        term = term;
-        earlier = subst (λ is. Reactions interface start is term) (sym whole) before;
-        next = next;
-        reacts = subst (λ (j : PastInstant). ReactsWith interface term j.inputs j.outputs next) last.1 reacts;
-      }
-]
+reaction_at interface start _ _ (goes_on earlier term before inputs outputs next reacts) at i there =
+    elim (get_push earlier (instant inputs outputs) i at there) [
+      | inl old ↦
+          let r = reaction_at interface start earlier term before at i old.1 in
+          record {
+            term = r.term;
+            earlier = subst (λ is. Reactions interface start is r.term)
+                (sym (take_front earlier (instant inputs outputs) at (omega (arith, old.0)))) r.earlier;
+            next = r.next;
+            reacts = r.reacts;
+          }
+      | inr last ↦
+          let whole : take at (earlier ++ instant inputs outputs ∷ []) ≡ earlier =
+          ap (λ k. take k (earlier ++ instant inputs outputs ∷ [])) last.0
+          ∙ take_whole earlier (instant inputs outputs) in
+          record {
+            term = term;
+            earlier = subst (λ is. Reactions interface start is term) (sym whole) before;
+            next = next;
+            reacts = subst (λ (j : PastInstant). ReactsWith interface term j.inputs j.outputs next) last.1 reacts;
+          }
+    ]
 
 -- what is known of the module that runs in a slot, and begins as this term
-record Known (past : List Moment) (slot : ℕ) (journal : List SlotEntry) (interface : List Declaration) (start : Term) : Type 0 where
+record Known (past : List Moment) (slot : ℕ) (journal : List SlotEntry) (interface : List Declaration)
+    (start : Term) : Type 0 where
   term : Term
   leaves : Leaves journal term
   reactions : Reactions interface start (instants_of journal) term
-  stepped : (n : ℕ) (i : PastInstant) → IsInstant journal n i → Since (WasStep slot n interface i) (Accepts slot IsLoad) past
+  stepped : (n : ℕ) (i : PastInstant) → IsInstant journal n i
+      → Since (WasStep slot n interface i) (Accepts slot IsLoad) past
 
 abbrev KnownSlot : List Moment → (slot : ℕ) → List SlotEntry → Type 0
 KnownSlot past slot journal = (r : Running) (runs : Runs journal r) → Known past slot journal r.interface runs.term
 
 -- a fact of the history stays where nothing undoes it
-still_since : {A : Type 0} (M U : A → Type 0) (xs : List A) (x : A) → (U x → ⊥) → Since M U xs → Since M U (xs ++ x ∷ [])
+still_since : {A : Type 0} (M U : A → Type 0) (xs : List A) (x : A) → (U x → ⊥) → Since M U xs
+    → Since M U (xs ++ x ∷ [])
 still_since M U xs x no_undo h = (since_push M U xs x).1 (inr (h, no_undo))
 
-idle : (past : List Moment) (m : Moment) (slot : ℕ) (journal : List SlotEntry) → (Accepts slot Adds m → ⊥) → KnownSlot past slot journal
+idle : (past : List Moment) (m : Moment) (slot : ℕ) (journal : List SlotEntry) → (Accepts slot Adds m → ⊥)
+    → KnownSlot past slot journal
     → KnownSlot (past ++ m ∷ []) slot journal
 idle past m slot journal none known r runs =
     let k = known r runs in
@@ -101,8 +113,10 @@ idle past m slot journal none known r runs =
           (λ undo. none (on_more slot m load_adds undo)) (k.stepped n i there);
     }
 
-module _ (modules : OneModule) (past : List Moment) (m : Moment) (seat version slot session : ℕ) (command : SlotCommand) (is : m.event ≡ OnSlot seat version slot session command)
-    (a : AddsAction (take version m.before.entries) session command (journal_at m.before slot) m.reply (journal_at m.after slot))
+module _ (modules : OneModule) (past : List Moment) (m : Moment) (seat version slot session : ℕ) (command : SlotCommand)
+    (is : m.event ≡ OnSlot seat version slot session command)
+    (a : AddsAction (take version m.before.entries) session command (journal_at m.before slot) m.reply
+    (journal_at m.after slot))
     (known : KnownSlot past slot (journal_at m.before slot)) where
   abbrev before : List SlotEntry
   before = journal_at m.before slot
@@ -124,7 +138,12 @@ module _ (modules : OneModule) (past : List Moment) (m : Moment) (seat version s
 
   -- what ran before, where the load is the same
   abbrev ran : Running → Running
-  ran r = record { interface = r.interface; relations = r.relations; pending = mask_of r.interface (offers_of before); instants = instants_of before }
+  ran r = record {
+    interface = r.interface;
+    relations = r.relations;
+    pending = mask_of r.interface (offers_of before);
+    instants = instants_of before;
+  }
 
   abbrev ran_before : (r : Running) (runs : Runs after r) → last_load after ≡ last_load before → Runs before (ran r)
   ran_before r runs same = record {
@@ -136,7 +155,8 @@ module _ (modules : OneModule) (past : List Moment) (m : Moment) (seat version s
     past = refl;
   }
 
-  not_load : (c : SlotCommand) → command ≡ c → ((main text : List ℕ) → c ≡ Load main text → ⊥) → Accepts slot IsLoad m → ⊥
+  not_load : (c : SlotCommand) → command ≡ c → ((main text : List ℕ) → c ≡ Load main text → ⊥) → Accepts slot IsLoad m
+      → ⊥
   not_load c e none loads =
       let load = (subst (IsOn slot IsLoad) is loads.0).1 in
       none load.0 load.1 (sym e ∙ load.2)
@@ -150,15 +170,24 @@ module _ (modules : OneModule) (past : List Moment) (m : Moment) (seat version s
       let none : instants_of after ≡ [] = instants_then (action.Load l) h.is in
       record {
         term = runs.term;
-        leaves = subst (λ j. Leaves j runs.term) (sym (added (action.Load l) h.is)) (loaded before stamp l given begins);
+        leaves = subst (λ j. Leaves j runs.term) (sym (added (action.Load l) h.is))
+            (loaded before stamp l given begins);
         reactions = subst (λ is. Reactions r.interface runs.term is runs.term) (sym none) starts;
-        stepped = λ n i there. absurd (omega (arith, slice_get_within [] (n - 1) i (subst (λ is. slice_get is (n - 1) ≡ Some i) none there.there)));
+        stepped =
+            λ n i there. absurd
+            (omega (
+              arith,
+              slice_get_within [] (n - 1) i (subst (λ is. slice_get is (n - 1) ≡ Some i) none there.there),
+            ));
       }
 
   -- where neither term nor instants change
-  stays : (c : SlotCommand) → command ≡ c → ((main text : List ℕ) → c ≡ Load main text → ⊥) → (does : Action) → a.does ≡ does
-      → load_after (last_load before) does ≡ last_load before → instants_after (instants_of before) does ≡ instants_of before
-      → ((term : Term) → Leaves before term → Leaves (before ++ entry stamp does ∷ []) term) → KnownSlot (past ++ m ∷ []) slot after
+  stays : (c : SlotCommand) → command ≡ c → ((main text : List ℕ) → c ≡ Load main text → ⊥) → (does : Action)
+      → a.does ≡ does
+      → load_after (last_load before) does ≡ last_load before
+      → instants_after (instants_of before) does ≡ instants_of before
+      → ((term : Term) → Leaves before term → Leaves (before ++ entry stamp does ∷ []) term)
+      → KnownSlot (past ++ m ∷ []) slot after
   stays c e no_load does is_does loads instants leaves r runs =
       let k = known (ran r) (ran_before r runs (load_then does is_does ∙ loads)) in
       let same : instants_of after ≡ instants_of before = instants_then does is_does ∙ instants in
@@ -166,11 +195,18 @@ module _ (modules : OneModule) (past : List Moment) (m : Moment) (seat version s
         term = k.term;
         leaves = subst (λ j. Leaves j k.term) (sym (added does is_does)) (leaves k.term k.leaves);
         reactions = subst (λ is. Reactions r.interface runs.term is k.term) (sym same) k.reactions;
-        stepped = λ n i there. still_since (WasStep slot n r.interface i) (Accepts slot IsLoad) past m (not_load c e no_load)
-            (k.stepped n i (record { counted = there.counted; there = subst (λ is. slice_get is (n - 1) ≡ Some i) same there.there }));
+        stepped = λ n i there. still_since (WasStep slot n r.interface i) (Accepts slot IsLoad) past m
+            (not_load c e no_load)
+            (k.stepped n i
+            (record {
+              counted = there.counted;
+              there = subst
+                  (λ is. slice_get is (n - 1) ≡ Some i) same there.there;
+            }));
       }
 
-  steps : command ≡ Step → (h : IsActionOf Step before a.does) → Tells Step (length (take version m.before.entries)) after m.reply
+  steps : command ≡ Step → (h : IsActionOf Step before a.does)
+      → Tells Step (length (take version m.before.entries)) after m.reply
       → KnownSlot (past ++ m ∷ []) slot after
   steps e h told r runs =
       let o = h.outcome in
@@ -191,9 +227,11 @@ module _ (modules : OneModule) (past : List Moment) (m : Moment) (seat version s
             (goes_on (instants_of before) k.term k.reactions o.running.pending h.outputs h.next
             (subst (λ ds. ReactsWith ds k.term o.running.pending h.outputs h.next) declares reacts));
         stepped = λ n i there.
-            let at : slice_get (instants_of before ++ now ∷ []) (n - 1) ≡ Some i = subst (λ is. slice_get is (n - 1) ≡ Some i) more there.there in
+            let at : slice_get (instants_of before ++ now ∷ []) (n - 1) ≡ Some i =
+            subst (λ is. slice_get is (n - 1) ≡ Some i) more there.there in
             elim (get_push (instants_of before) now i (n - 1) at) [
-              | inl old ↦ still_since (WasStep slot n r.interface i) (Accepts slot IsLoad) past m (not_load Step e (λ main text no. cc))
+              | inl old ↦ still_since (WasStep slot n r.interface i) (Accepts slot IsLoad) past m
+                  (not_load Step e (λ main text no. cc))
                   (k.stepped n i (record { counted = there.counted; there = old.1 }))
               | inr last ↦
                   let number : length (instants_of after) ≡ n =
@@ -202,26 +240,32 @@ module _ (modules : OneModule) (past : List Moment) (m : Moment) (seat version s
                     accepted = (subst (IsOn slot IsStep) (sym is) (refl, e), a.accepted);
                     place = _;
                     version = _;
-                    numbered = told ∙ ap (λ n. Stepped n (length after) (length (take version m.before.entries))) number;
+                    numbered = told ∙ ap (λ n. Stepped n (length after) (length (take version m.before.entries)))
+                        number;
                     running = o.running;
                     declares = declares;
                     adds = record {
                       stamp = stamp;
                       runs = o.runs;
-                      added = added (action.Step now) h.is ∙ ap (λ i. before ++ entry stamp (action.Step i) ∷ []) last.1;
+                      added = added (action.Step now) h.is ∙ ap (λ i. before ++ entry stamp (action.Step i) ∷ [])
+                          last.1;
                     };
                   }))
             ];
       }
 
-  by_command : (c : SlotCommand) → command ≡ c → IsActionOf c before a.does → Tells c (length (take version m.before.entries)) after m.reply
+  by_command : (c : SlotCommand) → command ≡ c → IsActionOf c before a.does
+      → Tells c (length (take version m.before.entries)) after m.reply
       → KnownSlot (past ++ m ∷ []) slot after
   by_command (Load main text) e h told = loads main text h
   by_command (Offer signal) e h told =
-      stays (Offer signal) e (λ main text no. cc) (action.Offer signal) h.is refl refl (λ term leaves. offered before term leaves stamp signal)
+      stays (Offer signal) e (λ main text no. cc) (action.Offer signal) h.is refl refl
+      (λ term leaves. offered before term leaves stamp signal)
   by_command Discard e h told =
-      stays Discard e (λ main text no. cc) action.Discard h.is refl refl (λ term leaves. discarded before term leaves stamp)
-  by_command Unload e h told = λ r runs. let none : None ≡ Some runs.load = sym (load_then action.Unload h.is) ∙ runs.last in absurd cc
+      stays Discard e (λ main text no. cc) action.Discard h.is refl refl
+      (λ term leaves. discarded before term leaves stamp)
+  by_command Unload e h told = λ r runs. let none : None ≡ Some runs.load =
+      sym (load_then action.Unload h.is) ∙ runs.last in absurd cc
   by_command Step e h told = steps e h told
   by_command (Look n) e h told = absurd h
   by_command Audit e h told = absurd h
@@ -229,7 +273,8 @@ module _ (modules : OneModule) (past : List Moment) (m : Moment) (seat version s
   grows : KnownSlot (past ++ m ∷ []) slot after
   grows = by_command command refl a.is a.told
 
-known_slots : OneModule → (past : List Moment) (m : Moment) → Comes past m → (slot : ℕ) → KnownSlot past slot (journal_at m.before slot)
+known_slots : OneModule → (past : List Moment) (m : Moment) → Comes past m → (slot : ℕ)
+    → KnownSlot past slot (journal_at m.before slot)
 known_slots modules = slotwise KnownSlot idle (grows modules) (λ slot r runs. let none = runs.last in absurd cc)
 
 -- the instant that an accepted look shows, by the slot step
@@ -244,8 +289,10 @@ pub looked : (m : Moment) (seat version slot session n : ℕ) → IsAccepted m.r
     → EventStep (OnSlot seat version slot session (Look n)) m.before m.reply m.after → Looked m version slot session n
 looked m seat version slot session n accepted step =
     let entries : List Entry = take version m.before.entries in
-    let judged = all_passed (version_rules m.before seat version slot) (λ refusal. IsRefused refusal m.before m.reply m.after)
-    (Judged seat version slot session (Look n) m.before m.reply m.after) (λ refusal h. not_accepted m.reply refusal h.replied accepted) step in
+    let judged = all_passed (version_rules m.before seat version slot)
+    (λ refusal. IsRefused refusal m.before m.reply m.after)
+    (Judged seat version slot session (Look n) m.before m.reply m.after)
+    (λ refusal h. not_accepted m.reply refusal h.replied accepted) step in
     let inside = all_passed (no_session entries session ▸ no_slot slot ▸ accept)
     (λ refusal. IsRefused refusal (desk_at version (desk_of m.before)) m.reply (desk_at version (desk_of m.after)))
     (InSlot slot session (Look n) (desk_at version (desk_of m.before)) m.reply (desk_at version (desk_of m.after)))
@@ -254,12 +301,14 @@ looked m seat version slot session n accepted step =
     let slot_step : SlotStep entries slot session (Look n) (journal_at m.before slot) m.reply s.journal =
     subst (λ j. SlotStep entries slot session (Look n) j m.reply s.journal) (sym (ap journal_in s.there)) s.step in
     let answered = all_passed (slot_rules entries slot session (Look n) (journal_at m.before slot))
-    (λ refusal. IsRefused refusal (journal_at m.before slot) m.reply s.journal) (Looks entries slot session n (journal_at m.before slot) m.reply s.journal)
+    (λ refusal. IsRefused refusal (journal_at m.before slot) m.reply s.journal)
+    (Looks entries slot session n (journal_at m.before slot) m.reply s.journal)
     (λ refusal h. not_accepted m.reply refusal h.replied accepted) slot_step in
     record { known = judged.0.1.0; lives = inside.0.0; holds = answered.0.1.0; journal = s.journal; looks = answered.1 }
 
 -- the inputs of a step are what was offered before it
-step_inputs : OneModule → (past : List Moment) (m : Moment) (slot n : ℕ) (interface : List Declaration) (i : PastInstant) → Comes past m → WasStep slot n interface i m
+step_inputs : OneModule → (past : List Moment) (m : Moment) (slot n : ℕ) (interface : List Declaration)
+    (i : PastInstant) → Comes past m → WasStep slot n interface i m
     → (name : List ℕ) → StandsIn interface i.inputs name ↔ WasOffered past slot name
 step_inputs modules past m slot n interface i comes w name =
     let entered = enters modules past m slot name comes w.accepted in (
@@ -277,26 +326,32 @@ step_inputs modules past m slot n interface i comes w name =
           (subst (λ (j : PastInstant). StandsIn h.running.interface j.inputs name) same.1 h.stands)),
     )
 
-pub display_law : OneModule → (past : List Moment) (m : Moment) (seat version slot session n : ℕ) → Comes past m → m.event ≡ OnSlot seat version slot session (Look n)
+pub display_law : OneModule → (past : List Moment) (m : Moment) (seat version slot session n : ℕ) → Comes past m
+    → m.event ≡ OnSlot seat version slot session (Look n)
     → IsAccepted m.reply → ShowsReaction past m version slot session n
 display_law modules past m seat version slot session n comes is accepted =
-    let s = looked m seat version slot session n accepted (subst (λ e. EventStep e m.before m.reply m.after) is (step_of past m comes)) in
+    let s = looked m seat version slot session n accepted
+    (subst (λ e. EventStep e m.before m.reply m.after) is (step_of past m comes)) in
     let h = s.looks in
     let k = known_slots modules past m comes slot h.running h.runs in
     let stepped = k.stepped n h.instant h.there in
     let came = earlier_comes past m comes stepped.at stepped.maker stepped.there in
-    let r = reaction_at h.running.interface h.runs.term (instants_of (journal_at m.before slot)) k.term k.reactions (n - 1) h.instant h.there.there in
+    let r = reaction_at h.running.interface h.runs.term (instants_of (journal_at m.before slot)) k.term k.reactions
+    (n - 1) h.instant h.there.there in
     record {
       running = h.running;
       runs = h.runs;
       instant = h.instant;
       stepped = stepped;
-      inputs = step_inputs modules (take stepped.at past) stepped.maker slot n h.running.interface h.instant came stepped.made;
+      inputs = step_inputs modules (take stepped.at past) stepped.maker slot n h.running.interface h.instant came
+          stepped.made;
       term = r.term;
-      reactions = subst (λ is. Reactions h.running.interface h.runs.term (take (n - 1) is) r.term) (sym h.runs.past) r.earlier;
+      reactions = subst (λ is. Reactions h.running.interface h.runs.term (take (n - 1) is) r.term)
+          (sym h.runs.past) r.earlier;
       next = r.next;
       reacts = r.reacts;
       sees = h.sees;
       observes = h.observes;
-      shows = h.replied ∙ ap (λ v. Shown n (shown_of h.running.interface h.sees h.instant) v) (length-take-le version m.before.entries s.known);
+      shows = h.replied ∙ ap (λ v. Shown n (shown_of h.running.interface h.sees h.instant) v)
+          (length-take-le version m.before.entries s.known);
     }

@@ -1,5 +1,6 @@
 -- What an event changes, and what it took to be allowed (this project's own form).
-use Rattle.std.specs.Prelude.{◌≡◌, ◌⊎◌, ℕ, ◌≤◌, [], ◌∷◌, ◌++◌, Option, Some, Ok, IsTrue, length, take, slice_get, slice_set}
+use Rattle.std.specs.Prelude.{◌≡◌, ◌⊎◌, ℕ, ◌≤◌, [], ◌∷◌, ◌++◌, Option, Some, Ok, IsTrue, length, take, slice_get}
+use Rattle.std.specs.Prelude.{slice_set}
 use Rattle.rbac_policy.specs.declared.commands.AdminCommand.{AdminCommand}
 use Rattle.rbac_policy.specs.declared.commands.Entry.{Entry}
 use Rattle.rbac_policy.specs.Entries.{is_administrative}
@@ -18,9 +19,9 @@ use Rattle.access_events.specs.declared.event.Event.TheVariants.{Admin, OnSlot}
 use Rattle.access_events.specs.Changing.{IsActionOf, OnlyAsks, Tells}
 use Rattle.access_events.specs.Runs.{Moment}
 
--- one entry is added to the policy list, which has room for it: that of the command, with the session that gave it, which the policy
--- step accepts. A command that administers the policy is given by a session that may do so. The reply tells the version with the entry,
--- and of a login the number of its session. No slot is changed
+-- one entry is added to the policy list, which has room for it: that of the command, with the session that gave it,
+-- which the policy step accepts. A command that administers the policy is given by a session that may do so. The reply
+-- tells the version with the entry, and of a login the number of its session. No slot is changed
 pub record AddsPolicyEntry (session : Option ℕ) (command : AdminCommand) (m : Moment) : Type 0 where
   pub entry : Entry
   pub is : entry ≡ entry_of session command
@@ -31,8 +32,8 @@ pub record AddsPolicyEntry (session : Option ℕ) (command : AdminCommand) (m : 
   pub told : m.reply ≡ accepted_reply m.before.entries command
   pub slots : m.after.slots ≡ m.before.slots
 
--- one entry is added to the journal of the slot, which has room for it: that of the command, which the session may give at the version
--- of the event; no other slot is changed, and no policy entry
+-- one entry is added to the journal of the slot, which has room for it: that of the command, which the session may give
+-- at the version of the event; no other slot is changed, and no policy entry
 pub record AddsSlotEntry (version slot session : ℕ) (command : SlotCommand) (m : Moment) : Type 0 where
   pub known : version ≤ length m.before.entries
   pub allowed : Needs (take version m.before.entries) slot session command
@@ -41,9 +42,11 @@ pub record AddsSlotEntry (version slot session : ℕ) (command : SlotCommand) (m
   pub does : Action
   pub is : IsActionOf command old.journal does
   pub room : HasRoom old.journal
-  pub added : let new : SlotState = record old { journal = old.journal ++ entry (record { version = version; session = session }) does ∷ [] } in
+  pub added : let new : SlotState =
+      record old { journal = old.journal ++ entry (record { version = version; session = session }) does ∷ [] } in
       m.after.slots ≡ slice_set m.before.slots slot new
-  pub told : Tells command version (old.journal ++ entry (record { version = version; session = session }) does ∷ []) m.reply
+  pub told : Tells command version (old.journal ++ entry (record { version = version; session = session }) does ∷ [])
+      m.reply
   pub entries : m.after.entries ≡ m.before.entries
 
 -- no list is changed
@@ -51,8 +54,8 @@ pub record ChangesNothing (m : Moment) : Type 0 where
   pub entries : m.after.entries ≡ m.before.entries
   pub slots : m.after.slots ≡ m.before.slots
 
--- an accepted command changes its one list by its one entry, but for a look and an audit, which change none; and a refused one changes
--- none
+-- an accepted command changes its one list by its one entry, but for a look and an audit, which change none; and a
+-- refused one changes none
 abbrev pub Changes : Event → Moment → Type 0
 Changes (Admin seat session command) m =
     (IsAccepted m.reply × AddsPolicyEntry session command m)

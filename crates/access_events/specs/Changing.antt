@@ -12,7 +12,8 @@ use Rattle.reactor_core.specs.Instants.{IsOutcome, KeepsRelations}
 use Rattle.access_core.specs.declared.command.SlotCommand.{SlotCommand}
 use Rattle.access_core.specs.declared.command.SlotCommand.TheVariants.{Load, Offer, Discard, Step, Unload, Look, Audit}
 use Rattle.access_core.specs.declared.reply.Reply.{Reply}
-use Rattle.access_core.specs.declared.reply.Reply.TheVariants.{Load as Loaded, Offer as Offered, Discard as Discarded, Step as Stepped, Unload as Unloaded}
+use Rattle.access_core.specs.declared.reply.Reply.TheVariants.{Load as Loaded, Offer as Offered, Discard as Discarded}
+use Rattle.access_core.specs.declared.reply.Reply.TheVariants.{Step as Stepped, Unload as Unloaded}
 use Rattle.access_core.specs.Needs.{IsAccepted}
 use Rattle.access_core.specs.SlotStep.{stamp_of}
 use Rattle.access_events.specs.Accepting.{CanOffer}
@@ -70,7 +71,8 @@ Tells (Look n) version after reply = ⊥
 Tells Audit version after reply = ⊥
 
 -- the command is accepted, and one entry of what it asks for is added, for which there is room
-pub record AddsAction (entries : List Entry) (session : ℕ) (command : SlotCommand) (before : List SlotEntry) (reply : Reply) (after : List SlotEntry) : Type 0 where
+pub record AddsAction (entries : List Entry) (session : ℕ) (command : SlotCommand) (before : List SlotEntry)
+    (reply : Reply) (after : List SlotEntry) : Type 0 where
   pub accepted : IsAccepted reply
   pub does : Action
   pub is : IsActionOf command before does
@@ -83,10 +85,13 @@ abbrev pub OnlyAsks : SlotCommand → Type 0
 OnlyAsks command = ((n : ℕ) × (command ≡ Look n)) ⊎ (command ≡ Audit)
 
 -- the command is refused or only asks, and nothing is added
-pub record AddsNone (command : SlotCommand) (before : List SlotEntry) (reply : Reply) (after : List SlotEntry) : Type 0 where
+pub record AddsNone (command : SlotCommand) (before : List SlotEntry) (reply : Reply)
+    (after : List SlotEntry) : Type 0 where
   pub no_more : IsAccepted reply → OnlyAsks command
   pub stays : after ≡ before
 
 -- what a command on a slot does to its journal
-abbrev pub Moves : (entries : List Entry) → (session : ℕ) → SlotCommand → (before : List SlotEntry) → Reply → (after : List SlotEntry) → Type 0
-Moves entries session command before reply after = AddsAction entries session command before reply after ⊎ AddsNone command before reply after
+abbrev pub Moves : (entries : List Entry) → (session : ℕ) → SlotCommand → (before : List SlotEntry) → Reply
+    → (after : List SlotEntry) → Type 0
+Moves entries session command before reply after = AddsAction entries session command before reply after
+    ⊎ AddsNone command before reply after

@@ -1,4 +1,5 @@
--- The laws of runs (this project's own form). Each speaks of a moment, and of the past: the moments of its run that come before it.
+-- The laws of runs (this project's own form). Each speaks of a moment, and of the past: the moments of its run that
+-- come before it.
 use Rattle.std.specs.Prelude.{◌≡◌, ◌↔◌, ℕ, true, List, Some, take, slice_get}
 use Rattle.rbac_policy.specs.declared.objects.Operation.TheVariants.{Offer as ToOffer, Step as ToStep}
 use Rattle.rbac_policy.specs.declared.objects.Object.TheVariants.{Slot, Signal}
@@ -29,40 +30,44 @@ WhateverIsSent Fact =
     (events : List Event) (run : List Moment) → IsRun run → events_of run ≡ events
     → (n : ℕ) (m : Moment) → slice_get run n ≡ Some m → Fact (take n run) m
 
--- a signal stands in the inputs of an accepted step exactly where an offer of it was accepted in the slot since the slot's last
--- accepted load, step or discard
+-- a signal stands in the inputs of an accepted step exactly when an offer of it was accepted in the slot since the
+-- slot's last accepted load, step or discard
 abbrev pub EntersWhereOffered : (past : List Moment) → Moment → Type 0
 EntersWhereOffered past m =
     (slot : ℕ) (name : List ℕ) → Accepts slot IsStep m → (Enters m slot name ↔ WasOffered past slot name)
 
--- an offer of an input that isn't pending, in a slot where a module runs, is accepted exactly where the session may offer that signal
--- there at the version of the event and no exclusion would be broken, unless a limit is met
+-- an offer of an input that isn't pending, in a slot where a module runs, is accepted exactly when the session may
+-- offer that signal there at the version of the event and no exclusion would be broken, unless a limit is met
 abbrev pub OffersWhereAllowed : (past : List Moment) → Moment → Type 0
 OffersWhereAllowed past m =
     (seat version slot session : ℕ) (name : List ℕ) (running : Running)
     → m.event ≡ OnSlot seat version slot session (Offer name) → MeetsNoLimit m.reply
     → Runs (journal_at m.before slot) running → IsInputName running.interface name → ¬ (WasOffered past slot name)
-    → (IsAccepted m.reply ↔ (May (take version m.before.entries) session ToOffer (Signal slot name) × ¬ (IsExcluded running name)))
+    → (IsAccepted m.reply
+    ↔ (May (take version m.before.entries) session ToOffer (Signal slot name) × ¬ (IsExcluded running name)))
 
--- a step of a slot where a module runs is accepted exactly where the session may step the slot at the version of the event, each
--- relation holds of what is pending, and there is a constructive reaction to it, unless a limit is met
+-- a step of a slot where a module runs is accepted exactly when the session may step the slot at the version of the
+-- event, each relation holds of what is pending, and there is a constructive reaction to it, unless a limit is met
 abbrev pub StepsWhereAllowed : (past : List Moment) → Moment → Type 0
 StepsWhereAllowed past m =
     (seat version slot session : ℕ) (running : Running)
     → m.event ≡ OnSlot seat version slot session Step → MeetsNoLimit m.reply → Runs (journal_at m.before slot) running
-    → (IsAccepted m.reply ↔ (May (take version m.before.entries) session ToStep (Slot slot) × KeepsRelations (journal_at m.before slot)
+    → (IsAccepted m.reply
+    ↔ (May (take version m.before.entries) session ToStep (Slot slot) × KeepsRelations (journal_at m.before slot)
     × HasReaction (journal_at m.before slot)))
 
--- a look is answered exactly where its session lives at the version of the event, a module runs in the slot, and the instant is there,
--- unless a limit is met
+-- a look is answered exactly when its session lives at the version of the event, a module runs in the slot, and the
+-- instant is there, unless a limit is met
 abbrev pub LooksWhereThere : (past : List Moment) → Moment → Type 0
 LooksWhereThere past m =
     (seat version slot session n : ℕ) → m.event ≡ OnSlot seat version slot session (Look n) → MeetsNoLimit m.reply
-    → (IsAccepted m.reply ↔ (IsLive (take version m.before.entries) session × (is_loaded (journal_at m.before slot) ≡ true)
+    → (IsAccepted m.reply
+    ↔ (IsLive (take version m.before.entries) session × (is_loaded (journal_at m.before slot) ≡ true)
     × HasInstant (journal_at m.before slot) n))
 
--- an accepted look at an instant shows exactly the signals that its session may observe, with their statuses in the constructive
--- reaction to the inputs of the step that was answered with that instant's number since the slot's last load
+-- an accepted look at an instant shows exactly the signals that its session may observe, with their statuses in the
+-- constructive reaction to the inputs of the step that was answered with that instant's number since the slot's last
+-- load
 abbrev pub LooksShowTheReaction : (past : List Moment) → Moment → Type 0
 LooksShowTheReaction past m =
     (seat version slot session n : ℕ) → m.event ≡ OnSlot seat version slot session (Look n) → IsAccepted m.reply
@@ -72,18 +77,19 @@ LooksShowTheReaction past m =
 abbrev pub ChangesWhatIsAllowed : (past : List Moment) → Moment → Type 0
 ChangesWhatIsAllowed past m = Changes m.event m
 
--- the reply is the first refusal, in the order of the rules of the event, whose condition holds, and none only where none holds, unless
--- memory was refused
+-- the reply is the first refusal, in the order of the rules of the event, whose condition holds, and none only where
+-- none holds, unless memory was refused
 abbrev pub DenialsNameTheFirst : (past : List Moment) → Moment → Type 0
 DenialsNameTheFirst past m = ¬ (m.reply ≡ Refused Memory) → AnswersBy (rules_of m.event m.before) m.reply
 
--- a signal enters an instant exactly where an active role's permission and the declared relations allow it
+-- a signal enters an instant exactly when an active role's permission and the declared relations allow it
 pub record EntersAsAllowed (past : List Moment) (m : Moment) : Type 0 where
   pub enters : EntersWhereOffered past m
   pub offers : OffersWhereAllowed past m
   pub steps : StepsWhereAllowed past m
 
--- a session is shown exactly the statuses of the signals that it may observe, in the constructive reaction to that instant's inputs
+-- a session is shown exactly the statuses of the signals that it may observe, in the constructive reaction to that
+-- instant's inputs
 pub record ShowsAsAllowed (past : List Moment) (m : Moment) : Type 0 where
   pub there : LooksWhereThere past m
   pub shows : LooksShowTheReaction past m

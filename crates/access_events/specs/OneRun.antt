@@ -10,7 +10,8 @@ use Rattle.access_events.specs.Runs.{WorldState, Moment, IsRun, Comes, wants_mem
 abbrev pub events_of : List Moment → List Event
 events_of moments = map (λ (m : Moment). m.event) moments
 
--- after the same past, the same event is answered the same and leaves the same world, unless memory is refused to one of the two
+-- after the same past, the same event is answered the same and leaves the same world, unless memory is refused to one
+-- of the two
 abbrev pub OneMomentFollows : Type 0
 OneMomentFollows =
     (past : List Moment) (m n : Moment) → Comes past m → Comes past n → m.event ≡ n.event

@@ -1,6 +1,7 @@
--- Runs of events: what each event does to the policy list, the slots and what the seats have seen, and what it is answered (this
--- project's own form).
-use Rattle.std.specs.Prelude.{◌≡◌, ℕ, ◌≤◌, List, [], ◌∷◌, ◌++◌, Option, Some, None, length, max, slice_get, slice_set, slice_index_or, map, Bool, true, false}
+-- Runs of events: what each event does to the policy list, the slots and what the seats have seen, and what it is
+-- answered (this project's own form).
+use Rattle.std.specs.Prelude.{◌≡◌, ℕ, ◌≤◌, List, [], ◌∷◌, ◌++◌, Option, Some, None, length, max, slice_get, slice_set}
+use Rattle.std.specs.Prelude.{slice_index_or, map, Bool, true, false}
 use Rattle.std.specs.List.{range_with_len}
 use Rattle.refusal_rules.specs.Rules.{Rules, Unless, accept, ◌▸◌}
 use Rattle.rbac_policy.specs.declared.commands.AdminCommand.{AdminCommand}
@@ -66,12 +67,15 @@ abbrev pub desk_of : WorldState → DeskState
 desk_of world = record { entries = world.entries; slots = world.slots }
 
 -- a policy command is answered by the policy step on the whole list, which the seat has then seen
-pub record Administered (seat : ℕ) (session : Option ℕ) (command : AdminCommand) (before : WorldState) (reply : Reply) (after : WorldState) : Type 0 where
+pub record Administered (seat : ℕ) (session : Option ℕ) (command : AdminCommand) (before : WorldState) (reply : Reply)
+    (after : WorldState) : Type 0 where
   pub step : AdminStep session command (desk_of before) reply (desk_of after)
   pub seen : after.seen ≡ has_seen seat (length after.entries) before.seen
 
--- a command on a slot is answered by the slot step on so many entries of the policy list, and the seat has seen that version
-pub record Judged (seat version slot session : ℕ) (command : SlotCommand) (before : WorldState) (reply : Reply) (after : WorldState) : Type 0 where
+-- a command on a slot is answered by the slot step on the first `version` entries of the policy list, and the seat has
+-- then seen that version
+pub record Judged (seat version slot session : ℕ) (command : SlotCommand) (before : WorldState) (reply : Reply)
+    (after : WorldState) : Type 0 where
   pub step : DeskStep slot session command (desk_at version (desk_of before)) reply (desk_at version (desk_of after))
   pub entries : after.entries ≡ before.entries
   pub seen : after.seen ≡ has_seen seat version before.seen

@@ -1,6 +1,7 @@
 //! A desk, and what the seats by which its commands come have seen of its policy list.
 ghost use Rattle.std.specs.Prelude.{◌≡◌, IfOk, slice_get, slice_index_or};
-ghost use Rattle.access_events.specs.Runs.{opening_world, journal_in, last_version, newest_known, has_seen, EventStep};
+ghost use Rattle.access_events.specs.Runs.{opening_world, journal_in, last_version, newest_known};
+ghost use Rattle.access_events.specs.Runs.{has_seen, EventStep};
 ghost use Rattle.access_events.specs.declared.event.Event.TheVariants as event;
 
 use crate::event::{SEATS, SeatNumber};
@@ -15,7 +16,8 @@ use reactor_core::entry::SlotEntry;
 use std::alloc::{AllocError, Global};
 use std::marker::Model;
 
-/// A desk, and for each seat the newest version that it has seen. A contract sees the policy list, the slots and what was seen.
+/// A desk, and for each seat the newest version that it has seen. A contract sees the policy list,
+/// the slots and what was seen.
 #[derive(Drop)]
 pub struct EventDesk {
     desk: Single,
@@ -44,7 +46,8 @@ fn last_version(entries: &[SlotEntry]) -> u64
     entries[entries.len() - 1].stamp.version
 }
 
-/// The version of the last entry of the slot of this number, 0 where it has none or there is no such slot.
+/// The version of the last entry of the slot of this number, 0 where it has none or there is no
+/// such slot.
 fn slot_version(slots: &[Slot], number: u64) -> u64
     ensures { result ≡ last_version 0 (journal_in (slice_get slots.now number)) }
 {
@@ -93,7 +96,7 @@ impl EventDesk {
         slot_version(self.desk.slots(), slot).max(self.seen(seat))
     }
 
-    /// The seat has seen this version, too.
+    /// Notes that the seat has seen this version, too.
     fn note(&mut self, seat: SeatNumber, version: u64)
         ensures entries { self.new.entries ≡ self.old.entries }
         ensures slots { self.new.slots ≡ self.old.slots }

@@ -10,7 +10,8 @@ use access_core::slot::Slot;
 use rbac_policy::commands::Entry;
 use std::alloc::{AllocError, Global};
 
-/// What a run leaves: the policy list, the slots and what the seats have seen, and the reply to each event.
+/// What a run leaves: the policy list, the slots and what the seats have seen, and the reply to
+/// each event.
 #[derive(Drop)]
 pub struct World {
     desk: EventDesk,
@@ -54,7 +55,8 @@ fn wants_memory(reply: &Reply) -> bool
     matches!(reply, Reply::Refused(Refusal::Memory))
 }
 
-/// Answers the event. The error, where memory was refused for a copy of its command, leaves the desk as it was.
+/// Answers the event. The error, where memory was refused for a copy of its command, leaves the
+/// desk as it was.
 fn answer_event(alloc: Global, desk: &mut EventDesk, event: &Event) -> Result<Reply, AllocError>
     ensures { IfOk result (λ reply. EventStep event.now desk.old reply desk.new) }
 {

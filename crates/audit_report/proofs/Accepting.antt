@@ -28,24 +28,34 @@ module _ (before : List Entry) (entry asked : Entry) (copied : asked ≡ entry) 
   stepped answer step = subst (λ (e : Entry). PolicyStep before e.session e.command answer) copied step
 
   -- what is given with the entry's own session is the entry
-  pub gives : (given : Entry) → PolicyStep before asked.session asked.command (Ok given) → HasRoomFor entry.command before
+  pub gives : (given : Entry) → PolicyStep before asked.session asked.command (Ok given)
+      → HasRoomFor entry.command before
       → given.session ≡ entry.session → IsAccepted before entry
   gives given step room same =
       let own = stepped (Ok given) step in
       let command : given.command ≡ entry.command =
-      ap (λ (e : Entry). e.command) (accepted_entry before entry.session entry.command given own) ∙ same_command entry.session entry.command in
+      ap (λ (e : Entry). e.command) (accepted_entry before entry.session entry.command given own)
+      ∙ same_command entry.session entry.command in
       let whole : given ≡ entry =
       ap (λ s. let e : Entry = record { session = s; command = given.command } in e) same
       ∙ ap (λ c. let e : Entry = record { session = entry.session; command = c } in e) command in
-      record { step = subst (λ (e : Entry). PolicyStep before entry.session entry.command (Ok e)) whole own; room = room }
+      record {
+        step = subst (λ (e : Entry). PolicyStep before entry.session entry.command (Ok e)) whole own;
+        room = room;
+      }
 
   -- where the entry is accepted, it is what is given
-  pub given_is : (given : Entry) → PolicyStep before asked.session asked.command (Ok given) → IsAccepted before entry → given.session ≡ entry.session
+  pub given_is : (given : Entry) → PolicyStep before asked.session asked.command (Ok given) → IsAccepted before entry
+      → given.session ≡ entry.session
   given_is given step accepted =
       ap (λ (e : Entry). e.session)
-      (same_ok given entry (one_answer before entry.session entry.command (Ok given) (Ok entry) (stepped (Ok given) step) accepted.step))
+      (same_ok given entry
+      (one_answer before entry.session entry.command (Ok given) (Ok entry) (stepped (Ok given) step) accepted.step))
 
   -- where the command is refused, the entry is not accepted
-  pub refuses : (refusal : Refusal) → PolicyStep before asked.session asked.command (Err refusal) → IsAccepted before entry → ⊥
+  pub refuses : (refusal : Refusal) → PolicyStep before asked.session asked.command (Err refusal)
+      → IsAccepted before entry → ⊥
   refuses refusal step accepted =
-      no_ok refusal entry (one_answer before entry.session entry.command (Err refusal) (Ok entry) (stepped (Err refusal) step) accepted.step)
+      no_ok refusal entry
+      (one_answer before entry.session entry.command (Err refusal) (Ok entry)
+      (stepped (Err refusal) step) accepted.step)

@@ -6,10 +6,12 @@ use Rattle.rbac_admin.specs.PolicyLists.{IsPolicyList}
 use Rattle.reactor_core.specs.declared.entry.SlotEntry.{SlotEntry}
 use Rattle.audit_report.specs.declared.finding.Finding.{Finding}
 use Rattle.audit_report.specs.declared.finding.Finding.TheVariants.{Policy, Version, Refused, Reaction, Memory}
-use Rattle.audit_report.specs.Findings.{IsPolicyFinding, AreSlotsLegal, IsFirstOfSlot, IsFirstInSlots, IsFirst, HaveNoFinding, IsVerdict}
+use Rattle.audit_report.specs.Findings.{IsPolicyFinding, AreSlotsLegal, IsFirstOfSlot, IsFirstInSlots, IsFirst}
+use Rattle.audit_report.specs.Findings.{HaveNoFinding, IsVerdict}
 
 -- a finding of the policy list is the first of all
-pub first_of_policy : (entries : List Entry) (slots : List (List SlotEntry)) (finding : Finding) → IsPolicyFinding entries finding
+pub first_of_policy : (entries : List Entry) (slots : List (List SlotEntry)) (finding : Finding)
+    → IsPolicyFinding entries finding
     → IsFirst entries slots finding
 first_of_policy entries slots (Policy place) h = h
 first_of_policy entries slots (Version slot place) h = absurd h
@@ -17,25 +19,31 @@ first_of_policy entries slots (Refused slot place code) h = absurd h
 first_of_policy entries slots (Reaction slot place) h = absurd h
 first_of_policy entries slots Memory h = tt
 
-module _ (entries : List Entry) (slots : List (List SlotEntry)) (slot : ℕ) (journal : List SlotEntry) (policy : IsPolicyList entries)
+module _ (entries : List Entry) (slots : List (List SlotEntry)) (slot : ℕ) (journal : List SlotEntry)
+    (policy : IsPolicyList entries)
     (earlier : AreSlotsLegal entries slots slot) (there : slice_get slots slot ≡ Some journal) where
-  in_slots : (finding : Finding) → IsFirstOfSlot entries slot journal finding → IsFirstInSlots entries slots slot finding
+  in_slots : (finding : Finding) → IsFirstOfSlot entries slot journal finding
+      → IsFirstInSlots entries slots slot finding
   in_slots finding h = record { policy = policy; earlier = earlier; journal = journal; there = there; finds = h }
 
   -- the first finding of a slot's journal is the first of all, where those before it have none
   pub first_of_slot : (finding : Finding) → IsFirstOfSlot entries slot journal finding → IsFirst entries slots finding
   first_of_slot (Policy place) h = absurd h
   first_of_slot (Version number place) h =
-      subst (λ k. IsFirstInSlots entries slots k (Version k place)) (sym h.0) (in_slots (Version slot place) (refl, h.1))
+      subst (λ k. IsFirstInSlots entries slots k (Version k place)) (sym h.0)
+      (in_slots (Version slot place) (refl, h.1))
   first_of_slot (Refused number place code) h =
-      subst (λ k. IsFirstInSlots entries slots k (Refused k place code)) (sym h.0) (in_slots (Refused slot place code) (refl, h.1))
+      subst (λ k. IsFirstInSlots entries slots k (Refused k place code)) (sym h.0)
+      (in_slots (Refused slot place code) (refl, h.1))
   first_of_slot (Reaction number place) h =
-      subst (λ k. IsFirstInSlots entries slots k (Reaction k place)) (sym h.0) (in_slots (Reaction slot place) (refl, h.1))
+      subst (λ k. IsFirstInSlots entries slots k (Reaction k place)) (sym h.0)
+      (in_slots (Reaction slot place) (refl, h.1))
   first_of_slot Memory h = tt
 
 -- what an audit answers is its verdict, where memory wasn't refused
 pub is_verdict : (entries : List Entry) (slots : List (List SlotEntry)) (verdict : Result (Unit {0}) Finding)
-    → OnOk verdict (HaveNoFinding entries slots) → IfErr verdict (IsFirst entries slots) → ¬ (verdict ≡ Err Memory) → IsVerdict entries slots verdict
+    → OnOk verdict (HaveNoFinding entries slots) → IfErr verdict (IsFirst entries slots) → ¬ (verdict ≡ Err Memory)
+    → IsVerdict entries slots verdict
 is_verdict entries slots (Ok done) ok err ample = ok
 is_verdict entries slots (Err (Policy place)) ok err ample = err
 is_verdict entries slots (Err (Version slot place)) ok err ample = err

@@ -1,5 +1,6 @@
 -- The fronts of a policy list: each is one, and a policy stands for it.
-use Rattle.std.proofs.Common.{◌≡◌, ◌∙◌, ℕ, zero, suc, ◌+◌, ◌-◌, ◌<◌, ◌≤◌, List, [], ◌∷◌, ◌++◌, length, take, get_or, refl, sym, ap, subst, arith}
+use Rattle.std.proofs.Common.{◌≡◌, ◌∙◌, ℕ, zero, suc, ◌+◌, ◌-◌, ◌<◌, ◌≤◌, List, [], ◌∷◌, ◌++◌, length, take, get_or}
+use Rattle.std.proofs.Common.{refl, sym, ap, subst, arith}
 use Rattle.std.specs.Prelude.{Some, None, slice_get}
 use Rattle.std.proofs.Math.Seq.{take-length}
 use Rattle.std.proofs.lemmas.List.{take_more, length-append}
@@ -45,11 +46,14 @@ module _ (L : List Entry) where
   -- each front of a list that is right up to there is a policy list
   list_from : (m n : ℕ) → n ≡ m + 4 → n ≤ length L → ((k : ℕ) → k < n → IsRightAt L k) → IsPolicyList (take n L)
   list_from zero n is low right =
-      let opens : Begins opening_entries L = begins opening_entries L (λ k below. (right k (omega arith)).opens below) in
+      let opens : Begins opening_entries L = begins opening_entries L
+      (λ k below. (right k (omega arith)).opens below) in
       subst IsPolicyList (sym (opening_front L opens n (omega arith))) opening_is_list
   list_from (suc m) n is low right =
-      let before : IsPolicyList (take (m + 4) L) = list_from m (m + 4) refl (omega arith) (λ k below. right k (omega arith)) in
-      let there : slice_get L (m + 4) ≡ Some (get_or L (m + 4) logout) = slice_get-get_or L (m + 4) logout (omega arith) in
+      let before : IsPolicyList (take (m + 4) L) = list_from m (m + 4) refl (omega arith)
+      (λ k below. right k (omega arith)) in
+      let there : slice_get L (m + 4) ≡ Some (get_or L (m + 4) logout) =
+      slice_get-get_or L (m + 4) logout (omega arith) in
       let accepted : IsAccepted (take (m + 4) L) (get_or L (m + 4) logout) =
       (right (m + 4) (omega arith)).accepted (get_or L (m + 4) logout) (omega arith) there in
       subst IsPolicyList (sym (one_more (m + 4) n (omega arith) (omega arith)))
@@ -62,22 +66,27 @@ module _ (L : List Entry) where
   list_whole late right = subst IsPolicyList (take-length L) (list_at (length L) late (omega arith) right)
 
   -- the entries of each front of a policy list fit those before them, and leave room for each logout
-  fit_from : IsPolicyList L → (m n : ℕ) → n ≡ m + 4 → n ≤ length L → AllFit (take n L) × LeavesRoom most_entries (take n L)
+  fit_from : IsPolicyList L → (m n : ℕ) → n ≡ m + 4 → n ≤ length L
+      → AllFit (take n L) × LeavesRoom most_entries (take n L)
   fit_from list zero n is low =
-      subst (λ (xs : List Entry). AllFit xs × LeavesRoom most_entries xs) (sym (opening_front L list.opens n (omega arith)))
+      subst (λ (xs : List Entry). AllFit xs × LeavesRoom most_entries xs)
+      (sym (opening_front L list.opens n (omega arith)))
       (opening_fits, leaves_room (policy_of opening_entries) opening_entries most_entries opening_stands (omega arith))
   fit_from list (suc m) n is low =
       let front : List Entry = take (m + 4) L in
       let entry : Entry = get_or L (m + 4) logout in
-      let before : AllFit (take (m + 4) L) × LeavesRoom most_entries (take (m + 4) L) = fit_from list m (m + 4) refl (omega arith) in
+      let before : AllFit (take (m + 4) L) × LeavesRoom most_entries (take (m + 4) L) =
+      fit_from list m (m + 4) refl (omega arith) in
       let accepted : IsAccepted (take (m + 4) L) (get_or L (m + 4) logout) =
       list.accepted (m + 4) (get_or L (m + 4) logout) (omega arith) (slice_get-get_or L (m + 4) logout (omega arith)) in
       let few : length (take (m + 4) L) < most_entries = few_entries front entry before.1 accepted in
       let fits : Fits (take (m + 4) L) (get_or L (m + 4) logout) =
-      step_fits (policy_of front) front (stands_whole front before.0) entry.session entry.command entry (omega (arith, few)) accepted.step in
+      step_fits (policy_of front) front (stands_whole front before.0) entry.session entry.command entry
+      (omega (arith, few)) accepted.step in
       let all : AllFit (take (m + 4) L ++ get_or L (m + 4) logout ∷ []) = fit_push front entry before.0 fits in
       let stands = stands_whole (front ++ entry ∷ []) all in
-      subst (λ (xs : List Entry). AllFit xs × LeavesRoom most_entries xs) (sym (one_more (m + 4) n (omega arith) (omega arith)))
+      subst (λ (xs : List Entry). AllFit xs × LeavesRoom most_entries xs)
+      (sym (one_more (m + 4) n (omega arith) (omega arith)))
       (all, still_leaves (policy_of (front ++ entry ∷ [])) front entry before.1 stands accepted)
 
   pub list_fits : IsPolicyList L → AllFit L
@@ -110,19 +119,23 @@ pub right_opening : (L : List Entry) (at : ℕ) → at < 4 → slice_get L at �
 right_opening L at low same = record { opens = λ _. same; accepted = λ e late there. absurd (omega (arith, low, late)) }
 
 -- else it is the first wrong one, where those before it are right
-pub wrong_opening : (L : List Entry) (at : ℕ) → at < 4 → ((k : ℕ) → k < at → IsRightAt L k) → ¬ (slice_get L at ≡ slice_get opening_entries at)
+pub wrong_opening : (L : List Entry) (at : ℕ) → at < 4 → ((k : ℕ) → k < at → IsRightAt L k)
+    → ¬ (slice_get L at ≡ slice_get opening_entries at)
     → IsFirstWrong L (at + 1)
-wrong_opening L at low before other = record { at = at; counted = refl; before = before; wrong = λ right. other (right.opens low) }
+wrong_opening L at low before other =
+    record { at = at; counted = refl; before = before; wrong = λ right. other (right.opens low) }
 
 -- a later place is right where its entry is accepted
-pub right_later : (L : List Entry) (at : ℕ) (e : Entry) → 4 ≤ at → slice_get L at ≡ Some e → IsAccepted (take at L) e → IsRightAt L at
+pub right_later : (L : List Entry) (at : ℕ) (e : Entry) → 4 ≤ at → slice_get L at ≡ Some e → IsAccepted (take at L) e
+    → IsRightAt L at
 right_later L at e late there accepted = record {
   opens = λ low. absurd (omega (arith, low, late));
   accepted = λ x _ is. subst (IsAccepted (take at L)) (same_Some e x (sym there ∙ is)) accepted;
 }
 
 -- else it is the first wrong one, where those before it are right
-pub wrong_later : (L : List Entry) (at : ℕ) (e : Entry) → 4 ≤ at → slice_get L at ≡ Some e → ((k : ℕ) → k < at → IsRightAt L k)
+pub wrong_later : (L : List Entry) (at : ℕ) (e : Entry) → 4 ≤ at → slice_get L at ≡ Some e
+    → ((k : ℕ) → k < at → IsRightAt L k)
     → ¬ (IsAccepted (take at L) e) → IsFirstWrong L (at + 1)
 wrong_later L at e late there before refused =
     record { at = at; counted = refl; before = before; wrong = λ right. refused (right.accepted e late there) }

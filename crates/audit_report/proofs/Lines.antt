@@ -1,5 +1,6 @@
 -- The lines of one slot more.
-use Rattle.std.proofs.Common.{◌≡◌, ◌∙◌, ℕ, ◌+◌, ◌<◌, List, [], ◌∷◌, ◌++◌, length, take, sym, ap, arith, append_assoc, append-nil}
+use Rattle.std.proofs.Common.{◌≡◌, ◌∙◌, ℕ, ◌+◌, ◌<◌, List, [], ◌∷◌, ◌++◌, length, take, sym, ap, arith, append_assoc}
+use Rattle.std.proofs.Common.{append-nil}
 use Rattle.std.specs.Prelude.{Some, slice_get}
 use Rattle.std.proofs.lemmas.List.{take_more, length-take-le}
 use Rattle.std.proofs.lemmas.Option.{get_or_from_slice_get, slice_get_within}
@@ -13,7 +14,8 @@ lines_push slot [] x =
     append-nil (slot_line slot x) ∙ ap (λ k. slot_line k x) same
 lines_push slot (y ∷ ys) x =
     let same : slot + 1 + length ys ≡ slot + length (y ∷ ys) = omega arith in
-    ap (λ t. slot_line slot y ++ t) (lines_push (slot + 1) ys x ∙ ap (λ k. slot_lines (slot + 1) ys ++ slot_line k x) same)
+    ap (λ t. slot_line slot y ++ t)
+    (lines_push (slot + 1) ys x ∙ ap (λ k. slot_lines (slot + 1) ys ++ slot_line k x) same)
     ∙ sym (append_assoc (slot_line slot y) (slot_lines (slot + 1) ys) (slot_line (slot + length (y ∷ ys)) x))
 
 -- the lines of the slots up to the next
@@ -22,7 +24,8 @@ pub lines_more : (slots : List (List SlotEntry)) (at : ℕ) (journal : List Slot
 lines_more slots at journal there =
     let low : at < length slots = slice_get_within slots at journal there in
     let next : take (at + 1) slots ≡ take at slots ++ journal ∷ [] =
-    take_more slots at journal low ∙ ap (λ x. take at slots ++ x ∷ []) (get_or_from_slice_get slots at journal journal there) in
+    take_more slots at journal low ∙ ap (λ x. take at slots ++ x ∷ [])
+    (get_or_from_slice_get slots at journal journal there) in
     let long : 0 + length (take at slots) ≡ at = omega (arith, length-take-le at slots (omega arith)) in
     ap (slot_lines 0) next ∙ lines_push 0 (take at slots) journal
     ∙ ap (λ k. slot_lines 0 (take at slots) ++ slot_line k journal) long

@@ -21,7 +21,8 @@ abbrev Opens : (place : ℕ) → AdminCommand → Type 0
 Opens place (AddUser user) = (place ≡ 0) × (user ≡ root)
 Opens place (AddRole role) = (place ≡ 1) × (role ≡ root)
 Opens place (AssignUser user role) = (place ≡ 2) × ((user ≡ root) × (role ≡ root))
-Opens place (GrantPermission role operation object) = (place ≡ 3) × ((role ≡ root) × ((operation ≡ Administer) × (object ≡ Policy)))
+Opens place (GrantPermission role operation object) = (place ≡ 3)
+    × ((role ≡ root) × ((operation ≡ Administer) × (object ≡ Policy)))
 Opens place _ = ⊥
 
 administers : (operation : Operation) → Decides (is_administer operation) (operation ≡ Administer)
@@ -63,7 +64,8 @@ by_none_opened (suc (suc zero)) entry e = sym (ap (λ (x : Entry). x.session) (s
 by_none_opened (suc (suc (suc zero))) entry e = sym (ap (λ (x : Entry). x.session) (same_Some _ entry e))
 by_none_opened (suc (suc (suc (suc n)))) entry e = absurd cc
 
-opens : (place : ℕ) (command : AdminCommand) → Opens place command → slice_get opening_entries place ≡ Some (by_none command)
+opens : (place : ℕ) (command : AdminCommand) → Opens place command
+    → slice_get opening_entries place ≡ Some (by_none command)
 opens place (AddUser user) h =
     ap (slice_get opening_entries) h.0 ∙ ap (λ u. Some (by_none (AddUser u))) (sym h.1)
 opens place (AddRole role) h =

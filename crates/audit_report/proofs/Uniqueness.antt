@@ -1,5 +1,6 @@
 -- Journals have one finding at most, and none where there is nothing to find; want of memory aside.
-use Rattle.std.proofs.Common.{◌≡◌, ◌⊎◌, ◌∙◌, ℕ, zero, suc, ◌+◌, ◌<◌, List, [], ◌∷◌, ◌++◌, length, take, inl, inr, refl, sym, ap, subst, arith}
+use Rattle.std.proofs.Common.{◌≡◌, ◌⊎◌, ◌∙◌, ℕ, zero, suc, ◌+◌, ◌<◌, List, [], ◌∷◌, ◌++◌, length, take, inl, inr, refl}
+use Rattle.std.proofs.Common.{sym, ap, subst, arith}
 use Rattle.std.specs.Prelude.{Some, slice_get}
 use Rattle.std.proofs.lemmas.Bool.{cases_order}
 use Rattle.std.proofs.lemmas.Option.{same_Some, slice_get_within}
@@ -19,18 +20,21 @@ use Rattle.access_core.specs.Refusals.{code_of}
 use Rattle.access_core.specs.SlotStep.{SlotStep}
 use Rattle.audit_report.specs.declared.finding.Finding.{Finding}
 use Rattle.audit_report.specs.declared.finding.Finding.TheVariants.{Policy, Version, Refused, Reaction, Memory}
-use Rattle.audit_report.specs.Findings.{IsFirstWrong, IsRefusedWith, ReactsOtherwise, IsFirstAt, FindsVersion, AtItsVersion, IsFirstOfSlot, IsFirstInSlots, IsFirst, HaveNoFinding}
+use Rattle.audit_report.specs.Findings.{IsFirstWrong, IsRefusedWith, ReactsOtherwise, IsFirstAt, FindsVersion}
+use Rattle.audit_report.specs.Findings.{AtItsVersion, IsFirstOfSlot, IsFirstInSlots, IsFirst, HaveNoFinding}
 use Rattle.audit_report.specs.Replaying.{IsRightAt}
 
 -- a command on a slot has one answer (a law of access_core)
 abbrev pub OneSlotAnswer : Type 0
 OneSlotAnswer =
-    (entries : List Entry) (slot session : ℕ) (command : SlotCommand) (before : List SlotEntry) (r s : Reply) (a b : List SlotEntry)
+    (entries : List Entry) (slot session : ℕ) (command : SlotCommand) (before : List SlotEntry) (r s : Reply)
+    (a b : List SlotEntry)
     → SlotStep entries slot session command before r a → SlotStep entries slot session command before s b
     → ¬ (r ≡ reply.Refused refusal.Memory) → ¬ (s ≡ reply.Refused refusal.Memory) → (r ≡ s) × (a ≡ b)
 
 -- the first place that lacks a property is one
-first_place : (P : ℕ → Type 0) (a b : ℕ) → ((k : ℕ) → k < a → P k) → (P a → ⊥) → ((k : ℕ) → k < b → P k) → (P b → ⊥) → a ≡ b
+first_place : (P : ℕ → Type 0) (a b : ℕ) → ((k : ℕ) → k < a → P k) → (P a → ⊥) → ((k : ℕ) → k < b → P k) → (P b → ⊥)
+    → a ≡ b
 first_place P a b before wrong earlier other = elim (cases_order a b) [
   | inl same ↦ same
   | inr apart ↦ elim apart [ inl low ↦ absurd (wrong (earlier a low)) | inr high ↦ absurd (other (before b high)) ]
@@ -46,13 +50,16 @@ get_front (x ∷ xs) ys (suc at) low = get_front xs ys at (omega (arith, low))
 -- each place of a policy list is right
 right_everywhere : (entries : List Entry) → IsPolicyList entries → (at : ℕ) → IsRightAt entries at
 right_everywhere entries list at = record {
-  opens = λ low. ap (λ (es : List Entry). slice_get es at) (sym list.opens.is) ∙ get_front opening_entries list.opens.rest at low;
+  opens = λ low. ap (λ (es : List Entry). slice_get es at) (sym list.opens.is)
+      ∙ get_front opening_entries list.opens.rest at low;
   accepted = λ entry late there. list.accepted at entry late there;
 }
 
-same_wrong : (entries : List Entry) (place other : ℕ) → IsFirstWrong entries place → IsFirstWrong entries other → place ≡ other
+same_wrong : (entries : List Entry) (place other : ℕ) → IsFirstWrong entries place → IsFirstWrong entries other
+    → place ≡ other
 same_wrong entries place other x y =
-    x.counted ∙ ap (λ k. k + 1) (first_place (IsRightAt entries) x.at y.at x.before x.wrong y.before y.wrong) ∙ sym y.counted
+    x.counted ∙ ap (λ k. k + 1) (first_place (IsRightAt entries) x.at y.at x.before x.wrong y.before y.wrong)
+    ∙ sym y.counted
 
 -- ---- one entry of a slot
 
@@ -61,7 +68,8 @@ same_refusal a b e = cc
 
 same_last : (before : List SlotEntry) (x y : SlotEntry) → before ++ x ∷ [] ≡ before ++ y ∷ [] → x ≡ y
 same_last before x y e =
-    same_Some x y (sym (get_last before x) ∙ ap (λ (es : List SlotEntry). slice_get es (length before)) e ∙ get_last before y)
+    same_Some x y
+    (sym (get_last before x) ∙ ap (λ (es : List SlotEntry). slice_get es (length before)) e ∙ get_last before y)
 
 -- an accepted reply isn't that memory was refused
 ample : (r : Reply) → IsAccepted r → r ≡ reply.Refused refusal.Memory → ⊥
@@ -72,23 +80,28 @@ module _ (answers : OneSlotAnswer) (judged : List Entry) (slot : ℕ) (before : 
   told given enough same = enough (same_refusal given refusal.Memory same)
 
   -- a command isn't both refused and accepted
-  refused_or_added : (code : ℕ) (added : SlotEntry) → IsRefusedWith judged slot before e code → Adds judged slot before e added → ⊥
+  refused_or_added : (code : ℕ) (added : SlotEntry) → IsRefusedWith judged slot before e code
+      → Adds judged slot before e added → ⊥
   refused_or_added code added x y =
-      let same = answers judged slot e.stamp.session (command_of e.action) before (reply.Refused x.given) y.reply before (before ++ added ∷ [])
+      let same = answers judged slot e.stamp.session (command_of e.action) before (reply.Refused x.given) y.reply before
+      (before ++ added ∷ [])
       x.step y.step (told x.given x.ample) (ample y.reply y.accepted) in
       subst IsAccepted (sym same.0) y.accepted
 
   -- it is refused with one number
-  one_code : (code other : ℕ) → IsRefusedWith judged slot before e code → IsRefusedWith judged slot before e other → code ≡ other
+  one_code : (code other : ℕ) → IsRefusedWith judged slot before e code → IsRefusedWith judged slot before e other
+      → code ≡ other
   one_code code other x y =
-      let same = answers judged slot e.stamp.session (command_of e.action) before (reply.Refused x.given) (reply.Refused y.given) before before
+      let same = answers judged slot e.stamp.session (command_of e.action) before (reply.Refused x.given)
+      (reply.Refused y.given) before before
       x.step y.step (told x.given x.ample) (told y.given y.ample) in
       x.numbered ∙ ap code_of (same_refusal x.given y.given same.0) ∙ sym y.numbered
 
   -- and adds one entry
   one_added : (x y : SlotEntry) → Adds judged slot before e x → Adds judged slot before e y → x ≡ y
   one_added x y a b =
-      let same = answers judged slot e.stamp.session (command_of e.action) before a.reply b.reply (before ++ x ∷ []) (before ++ y ∷ [])
+      let same = answers judged slot e.stamp.session (command_of e.action) before a.reply b.reply (before ++ x ∷ [])
+      (before ++ y ∷ [])
       a.step b.step (ample a.reply a.accepted) (ample b.reply b.accepted) in
       same_last before x y same.1
 
@@ -112,18 +125,21 @@ module _ (answers : OneSlotAnswer) (entries : List Entry) (slot : ℕ) where
   version_refutes before e found legal = found legal.version
 
   code_refutes : (code : ℕ) → Refutes (WithCode code)
-  code_refutes code before e found legal = refused_or_added answers (take e.stamp.version entries) slot before e code e found.1 legal.added
+  code_refutes code before e found legal = refused_or_added answers
+      (take e.stamp.version entries) slot before e code e found.1 legal.added
 
   reaction_refutes : Refutes Otherwise
   reaction_refutes before e found legal =
-      found.1.other (one_added answers (take e.stamp.version entries) slot before e found.1.added e found.1.adds legal.added)
+      found.1.other
+      (one_added answers (take e.stamp.version entries) slot before e found.1.added e found.1.adds legal.added)
 
   module _ (journal : List SlotEntry) where
     -- the entry at this place, if there is one, is legal
     abbrev LegalAt : ℕ → Type 0
     LegalAt at = (e : SlotEntry) → slice_get journal at ≡ Some e → IsLegalEntry entries slot (take at journal) e
 
-    not_there : (place : ℕ) (Finds : Found) → Refutes Finds → (x : IsFirstAt entries slot journal place Finds) → LegalAt x.at → ⊥
+    not_there : (place : ℕ) (Finds : Found) → Refutes Finds → (x : IsFirstAt entries slot journal place Finds)
+        → LegalAt x.at → ⊥
     not_there place Finds refutes x legal = refutes (take x.at journal) x.entry x.finds (legal x.entry x.there)
 
     -- two first findings are of one place, and of one entry
@@ -134,19 +150,22 @@ module _ (answers : OneSlotAnswer) (entries : List Entry) (slot : ℕ) where
       one : Finds before entry
       two : Also before entry
 
-    together : (place other : ℕ) (Finds Also : Found) → Refutes Finds → Refutes Also → IsFirstAt entries slot journal place Finds
+    together : (place other : ℕ) (Finds Also : Found) → Refutes Finds → Refutes Also
+        → IsFirstAt entries slot journal place Finds
         → IsFirstAt entries slot journal other Also → AreTogether place other Finds Also
     together place other Finds Also refutes rebuts x y =
         let at : x.at ≡ y.at =
         first_place LegalAt x.at y.at (λ k low e there. x.before k e low there) (not_there place Finds refutes x)
         (λ k low e there. y.before k e low there) (not_there other Also rebuts y) in
-        let entry : y.entry ≡ x.entry = same_Some y.entry x.entry (sym y.there ∙ ap (slice_get journal) (sym at) ∙ x.there) in
+        let entry : y.entry ≡ x.entry = same_Some y.entry x.entry
+        (sym y.there ∙ ap (slice_get journal) (sym at) ∙ x.there) in
         record {
           places = x.counted ∙ ap (λ k. k + 1) at ∙ sym y.counted;
           before = take x.at journal;
           entry = x.entry;
           one = x.finds;
-          two = subst (λ (e : SlotEntry). Also (take x.at journal) e) entry (subst (λ k. Also (take k journal) y.entry) (sym at) y.finds);
+          two = subst (λ (e : SlotEntry). Also (take x.at journal) e) entry
+              (subst (λ k. Also (take k journal) y.entry) (sym at) y.finds);
         }
 
     -- the first finding of a journal is one
@@ -166,17 +185,20 @@ module _ (answers : OneSlotAnswer) (entries : List Entry) (slot : ℕ) where
         absurd (t.two t.one.0)
     one_of_slot (Refused n p c) (Refused m q d) x y enough too =
         let t = together p q _ _ (code_refutes c) (code_refutes d) x.1 y.1 in
-        let codes : c ≡ d = one_code answers (take t.entry.stamp.version entries) slot t.before t.entry c d t.one.1 t.two.1 in
+        let codes : c ≡ d = one_code answers (take t.entry.stamp.version entries) slot t.before t.entry c d t.one.1
+        t.two.1 in
         ap (λ k. Refused k p c) (x.0 ∙ sym y.0) ∙ ap (λ k. Refused m k c) t.places ∙ ap (Refused m q) codes
     one_of_slot (Refused n p c) (Reaction m q) x y enough too =
         let t = together p q _ _ (code_refutes c) reaction_refutes x.1 y.1 in
-        absurd (refused_or_added answers (take t.entry.stamp.version entries) slot t.before t.entry c t.two.1.added t.one.1 t.two.1.adds)
+        absurd (refused_or_added answers (take t.entry.stamp.version entries) slot t.before t.entry c t.two.1.added
+        t.one.1 t.two.1.adds)
     one_of_slot (Reaction n p) (Version m q) x y enough too =
         let t = together p q _ _ reaction_refutes version_refutes x.1 y.1 in
         absurd (t.two t.one.0)
     one_of_slot (Reaction n p) (Refused m q c) x y enough too =
         let t = together p q _ _ reaction_refutes (code_refutes c) x.1 y.1 in
-        absurd (refused_or_added answers (take t.entry.stamp.version entries) slot t.before t.entry c t.one.1.added t.two.1 t.one.1.adds)
+        absurd (refused_or_added answers (take t.entry.stamp.version entries) slot t.before t.entry c t.one.1.added
+        t.two.1 t.one.1.adds)
     one_of_slot (Reaction n p) (Reaction m q) x y enough too =
         let t = together p q _ _ reaction_refutes reaction_refutes x.1 y.1 in
         ap (λ k. Reaction k p) (x.0 ∙ sym y.0) ∙ ap (Reaction m) t.places
@@ -189,12 +211,14 @@ module _ (answers : OneSlotAnswer) (entries : List Entry) (slot : ℕ) where
     one_of_slot (Refused n p c) Memory x y enough too = absurd (too refl)
     one_of_slot (Reaction n p) Memory x y enough too = absurd (too refl)
 
-    found_in : (place : ℕ) (Finds : Found) → Refutes Finds → IsFirstAt entries slot journal place Finds → IsLegal entries slot journal → ⊥
+    found_in : (place : ℕ) (Finds : Found) → Refutes Finds → IsFirstAt entries slot journal place Finds
+        → IsLegal entries slot journal → ⊥
     found_in place Finds refutes x legal =
         not_there place Finds refutes x (λ e there. legal x.at e (slice_get_within journal x.at e there) there)
 
     -- a journal of which something is found isn't legal
-    not_legal : (f : Finding) → IsFirstOfSlot entries slot journal f → (f ≡ Memory → ⊥) → IsLegal entries slot journal → ⊥
+    not_legal : (f : Finding) → IsFirstOfSlot entries slot journal f → (f ≡ Memory → ⊥) → IsLegal entries slot journal
+        → ⊥
     not_legal (Policy p) x enough legal = x
     not_legal (Version n p) x enough legal = found_in p _ version_refutes x.1 legal
     not_legal (Refused n p c) x enough legal = found_in p _ (code_refutes c) x.1 legal
@@ -209,7 +233,8 @@ module _ (answers : OneSlotAnswer) (entries : List Entry) (slots : List (List Sl
     slot : ℕ
     finds : IsFirstInSlots entries slots slot f
 
-  where_found : (f : Finding) → IsFirst entries slots f → (f ≡ Memory → ⊥) → ((place : ℕ) × (f ≡ Policy place) × IsFirstWrong entries place) ⊎ InSlot f
+  where_found : (f : Finding) → IsFirst entries slots f → (f ≡ Memory → ⊥)
+      → ((place : ℕ) × (f ≡ Policy place) × IsFirstWrong entries place) ⊎ InSlot f
   where_found (Policy p) x enough = inl (p, refl, x)
   where_found (Version n p) x enough = inr (record { slot = n; finds = x })
   where_found (Refused n p c) x enough = inr (record { slot = n; finds = x })
@@ -255,7 +280,8 @@ module _ (answers : OneSlotAnswer) (entries : List Entry) (slots : List (List Sl
   nothing_found f enough none x = elim (where_found f x enough) [
     | inl p ↦ p.2.wrong (right_everywhere entries none.policy p.2.at)
     | inr s ↦
-        not_legal answers entries s.slot s.finds.journal f s.finds.finds enough (none.journals s.slot s.finds.journal s.finds.there)
+        not_legal answers entries s.slot s.finds.journal f s.finds.finds enough
+        (none.journals s.slot s.finds.journal s.finds.there)
   ]
 
   pub only_memory : (f : Finding) → HaveNoFinding entries slots → IsFirst entries slots f → f ≡ Memory

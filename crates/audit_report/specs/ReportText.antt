@@ -1,5 +1,6 @@
 -- The text of an audit's report, as bytes (this project's own form).
-use Rattle.std.specs.Prelude.{ℕ, ◌+◌, Bool, true, false, List, [], ◌∷◌, ◌++◌, Result, Ok, Err, length, codes, decimal, count_by}
+use Rattle.std.specs.Prelude.{ℕ, ◌+◌, Bool, true, false, List, [], ◌∷◌, ◌++◌, Result, Ok, Err, length, codes, decimal}
+use Rattle.std.specs.Prelude.{count_by}
 use Rattle.rbac_policy.specs.declared.commands.Entry.{Entry}
 use Rattle.reactor_core.specs.declared.entry.Action.{Action}
 use Rattle.reactor_core.specs.declared.entry.Action.TheVariants.{Load, Step}

@@ -21,14 +21,16 @@ pub(crate) fn slot_at(number: usize) -> SlotNumber
     }
 }
 
-/// Whether there is nothing to find in the policy list and in the journals of the slots, which stand by number.
+/// Whether there is nothing to find in the policy list and in the journals of the slots, which
+/// stand by number.
 ///
-/// It replays the policy list through the policy step, each entry once, and each journal through the slot step on a slot of its own.
+/// It replays the policy list through the policy step, each entry once, and each journal through
+/// the slot step on a slot of its own.
 ///
 /// # Errors
 ///
-/// The first finding: in the policy list, then in the journals by number; of one entry its version before its refusal, and that before its
-/// reaction. Or Memory, where memory was refused.
+/// The first finding: in the policy list, then in the journals by number; of one entry its version
+/// before its refusal, and that before its reaction. Or Memory, where memory was refused.
 pub fn check(
     alloc: Global,
     policy: &PolicyJournal,

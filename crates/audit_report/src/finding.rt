@@ -7,12 +7,13 @@ use std::fmt;
 /// The first thing that is wrong in journals. Places are counted from 1.
 #[derive(Clone, Copy, PartialEq, Eq, Debug)]
 pub enum Finding {
-    /// At this place of the policy list stands not the opening entry that has to, or one that the policy step doesn't give there for its
-    /// session and command.
+    /// The entry at this place of the policy list is not the opening entry that belongs there; or
+    /// it is not the one that the policy step gives for its session and command.
     Policy {
         place: u64,
     },
-    /// The version of this entry of the slot is under that of the entry before it, or over the length of the policy list.
+    /// The version of this entry of the slot is under that of the entry before it, or over the
+    /// length of the policy list.
     Version {
         slot: SlotNumber,
         place: u64,

@@ -1,4 +1,5 @@
-//! The laws of audits. Each function does nothing but call the laws that it follows from: its contract is the law.
+//! The laws of audits. Each function does nothing but call the laws that it follows from: its
+//! contract is the law.
 ghost use Rattle.std.specs.Prelude.{◌≡◌, ℕ, List, Some, slice_get, take};
 ghost use Rattle.rbac_policy.specs.declared.commands.Entry.{Entry};
 ghost use Rattle.reactor_core.specs.declared.entry.SlotEntry.{SlotEntry};
@@ -10,8 +11,8 @@ ghost use Rattle.audit_report.specs.Findings.{HaveNoFinding, IsFirst};
 
 use access_core::laws::{journals_are_legal, one_slot_answer};
 
-/// Journals have one verdict, want of memory aside: where there is nothing to find there is no finding, and else there is one first finding.
-/// So two audits of the same journals say the same.
+/// Journals have one verdict, want of memory aside: where there is nothing to find there is no
+/// finding, and else there is one first finding. So two audits of the same journals say the same.
 pub fn one_verdict()
     ensures none { (entries : List Entry) (slots : List (List SlotEntry)) (finding : Finding)
         → HaveNoFinding entries slots → IsFirst entries slots finding → finding ≡ Memory }
@@ -22,7 +23,7 @@ pub fn one_verdict()
     one_slot_answer();
 }
 
-/// Where there is nothing to find, each entry of a slot was allowed: on as many entries of the policy list as its version says, its session had
+/// When there is nothing to find, each entry of a slot was allowed: at its version, its session had
 /// what the entry's command needs.
 pub fn each_entry_was_allowed()
     ensures { (entries : List Entry) (slots : List (List SlotEntry)) (number at : ℕ)

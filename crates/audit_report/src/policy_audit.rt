@@ -44,7 +44,7 @@ fn is_opening(place: usize, command: &AdminCommand) -> bool
     }
 }
 
-/// Whether at this place of the list stands the opening entry of this place.
+/// Whether this place of the list has its opening entry.
 fn opens_at(entries: &[Entry], place: usize) -> bool
     requires { place < length opening_entries }
     ensures { IsTrue result ↔ (slice_get entries.now place ≡ slice_get opening_entries place) }
@@ -70,14 +70,15 @@ fn check_opening(entries: &[Entry]) -> Result<(), Finding>
     Ok(())
 }
 
-/// Whether it is the same session, or none both times.
+/// Whether the two are the same session, or both none.
 fn is_same_session(one: Option<SessionId>, other: Option<SessionId>) -> bool
     ensures { IsTrue result ↔ (one ≡ other) }
 {
     one == other
 }
 
-/// Whether the policy step gives this entry for its session and command after those before it, and there is room for it.
+/// Whether the policy step gives this entry for its session and command after those before it, and
+/// there is room for it.
 fn is_accepted(policy: &Policy, before: &[Entry], entry: &Entry) -> Result<bool, AllocError>
     requires { StandsFor policy.now before.now }
     ensures { IfOk result (λ accepted. IsTrue accepted ↔ IsAccepted before.now entry.now) }

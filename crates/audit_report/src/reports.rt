@@ -3,7 +3,8 @@ ghost use Rattle.std.specs.Prelude.{◌≡◌, ◌++◌, ◌<◌, ℕ, Result, I
 ghost use Rattle.reactor_core.specs.declared.entry.SlotEntry.{SlotEntry};
 ghost use Rattle.audit_report.specs.declared.finding.Finding.{Finding};
 ghost use Rattle.audit_report.specs.Findings.{IsVerdict};
-ghost use Rattle.audit_report.specs.ReportText.{is_load, is_step, slot_line, verdict_text, report_text};
+ghost use Rattle.audit_report.specs.ReportText.{is_load, is_step, slot_line, verdict_text};
+ghost use Rattle.audit_report.specs.ReportText.{report_text};
 
 use crate::audit::check;
 use crate::finding::Finding;

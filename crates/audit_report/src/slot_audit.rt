@@ -6,7 +6,8 @@ ghost use Rattle.rbac_policy.specs.StandsFor.{StandsFor};
 ghost use Rattle.rbac_admin.specs.PolicyLists.{IsPolicyList};
 ghost use Rattle.access_core.specs.Journals.{command_of, IsLegal};
 ghost use Rattle.audit_report.specs.Findings.{IsFirstOfSlot};
-ghost use Rattle.audit_report.specs.Inner.Faults.{last_instant, KeepsInstant, fault_of, Replays, finding_of};
+ghost use Rattle.audit_report.specs.Inner.Faults.{last_instant, KeepsInstant, fault_of, Replays};
+ghost use Rattle.audit_report.specs.Inner.Faults.{finding_of};
 
 use crate::finding::Finding;
 use access_core::command::SlotCommand;
@@ -122,7 +123,7 @@ fn replay_entry(
     }
 }
 
-/// The policy of so many entries takes in those up to this version.
+/// The policy after the first `from` entries takes in those up to this version.
 fn take_in(policy: &mut Policy, entries: &[Entry], from: usize, version: usize)
     requires stands { policy.old ≡ policy_of (take from entries.now) }
     requires low { from ≤ version }
@@ -145,8 +146,8 @@ fn finding_of(fault: Fault, slot: SlotNumber, place: u64) -> Finding
     }
 }
 
-/// Whether the journal of the slot of this number is legal over the policy list, and else the first finding in it, or that memory was
-/// refused.
+/// Whether the journal of the slot of this number is legal over the policy list, and else the first
+/// finding in it, or that memory was refused.
 ///
 /// The journal is replayed on an empty slot, each entry at the policy of its version.
 pub(crate) fn check_slot(

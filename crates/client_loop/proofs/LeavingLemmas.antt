@@ -23,11 +23,14 @@ none_left Ended (reply.Audit entries instants version) session says = refl
 none_left Ended (reply.Check allowed) session says = refl
 none_left WasEnded given session says = ap (λ (g : Reply). left_after g session) says
 
-pub left_none : {D : Type 0} (answers : D → Ask → Reply → D → Type 0) (session : ℕ) (before : D) (done : Logout) (after : D)
+pub left_none : {D : Type 0} (answers : D → Ask → Reply → D → Type 0) (session : ℕ) (before : D) (done : Logout)
+    (after : D)
     → LogsOut answers session before done after → Leaves answers (Some session) before after None
 left_none answers session before done after out =
-    subst (λ (left : Option ℕ). Leaves answers (Some session) before after left) (none_left done out.given session out.says) (logs_out session before after out.given out.asked)
+    subst (λ (left : Option ℕ). Leaves answers (Some session) before after left)
+    (none_left done out.given session out.says) (logs_out session before after out.given out.asked)
 
 pub left_some : {D : Type 0} (answers : D → Ask → Reply → D → Type 0) (session : ℕ) (before after : D)
-    → EndsSession answers session before (reply.Refused Memory) after → Leaves answers (Some session) before after (Some session)
+    → EndsSession answers session before (reply.Refused Memory) after
+    → Leaves answers (Some session) before after (Some session)
 left_some answers session before after asked = logs_out session before after (reply.Refused Memory) asked

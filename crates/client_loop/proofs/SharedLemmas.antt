@@ -1,11 +1,17 @@
 -- What the board answers, as the reply of a desk of one client.
-use Rattle.std.proofs.Common.{◌≡◌, ◌∙◌, inl, inr, ℕ, ◌+◌, List, [], ◌∷◌, ◌++◌, length, refl, sym, ap, subst, Option, Some, None, Result, Ok, Err, MatchResult, if◌then◌else◌, true}
+use Rattle.std.proofs.Common.{◌≡◌, ◌∙◌, inl, inr, ℕ, ◌+◌, List, [], ◌∷◌, ◌++◌, length, refl, sym, ap, subst, Option}
+use Rattle.std.proofs.Common.{Some, None, Result, Ok, Err, MatchResult, if◌then◌else◌, true}
 use Rattle.std.proofs.lemmas.List.{append-nil, length-append}
 use Rattle.refusal_rules.specs.Rules.{accept, MayRefuse, ◌▸◌, Answers}
 use Rattle.refusal_rules.proofs.RuleLemmas.{all_passed}
 use Rattle.std.specs.Prelude.{IfOk, IfErr}
 use Rattle.rbac_policy.specs.declared.commands.AdminCommand.{AdminCommand}
-use Rattle.rbac_policy.specs.declared.commands.AdminCommand.TheVariants.{AddUser, DeleteUser, AddRole, DeleteRole, AssignUser, DeassignUser, GrantPermission, RevokePermission, AddInheritance, DeleteInheritance, CreateDsdSet, DeleteDsdSet, CreateSession, DeleteSession, AddActiveRole, DropActiveRole}
+use Rattle.rbac_policy.specs.declared.commands.AdminCommand.TheVariants.{AddUser, DeleteUser, AddRole, DeleteRole}
+use Rattle.rbac_policy.specs.declared.commands.AdminCommand.TheVariants.{AssignUser, DeassignUser, GrantPermission}
+use Rattle.rbac_policy.specs.declared.commands.AdminCommand.TheVariants.{RevokePermission, AddInheritance}
+use Rattle.rbac_policy.specs.declared.commands.AdminCommand.TheVariants.{DeleteInheritance, CreateDsdSet, DeleteDsdSet}
+use Rattle.rbac_policy.specs.declared.commands.AdminCommand.TheVariants.{CreateSession, DeleteSession, AddActiveRole}
+use Rattle.rbac_policy.specs.declared.commands.AdminCommand.TheVariants.{DropActiveRole}
 use Rattle.rbac_policy.specs.declared.commands.Entry.{Entry}
 use Rattle.rbac_policy.specs.Entries.{is_login, logins}
 use Rattle.rbac_admin.specs.declared.refusals.Refusal.{Refusal as PolicyRefusal}
@@ -31,7 +37,8 @@ use Rattle.slot_table.specs.Conversions.{of_board}
 use Rattle.client_loop.specs.SharedAnswers.{KeepsAdded, desk_with}
 
 -- only a login makes no change
-login_makes_session : (command : AdminCommand) (session : Option ℕ) → change_of command ≡ None → is_login (record { session = session; command = command }) ≡ true
+login_makes_session : (command : AdminCommand) (session : Option ℕ) → change_of command ≡ None
+    → is_login (record { session = session; command = command }) ≡ true
 login_makes_session (AddUser user) session is = absurd cc
 login_makes_session (DeleteUser user) session is = absurd cc
 login_makes_session (AddRole role) session is = absurd cc
@@ -56,7 +63,8 @@ module _ {B : Type 0} where
     pub version : length receipt.list ≡ length before + 1
     pub session : receipt.session ≡ session_made before entry
 
-  published_tells : (receipt : Receipt B) (entry : Entry) (before after : List Entry) → IsPublished entry before (Ok receipt) after → Tells receipt entry before
+  published_tells : (receipt : Receipt B) (entry : Entry) (before after : List Entry)
+      → IsPublished entry before (Ok receipt) after → Tells receipt entry before
   published_tells receipt entry before after p =
       let same : receipt ≡ p.receipt = (let is = p.answered in cc) in
       let list : receipt.list ≡ before ++ entry ∷ [] = ap (λ (r : Receipt B). r.list) same ∙ (p.list_is ∙ p.appended) in
@@ -67,58 +75,74 @@ module _ {B : Type 0} where
       }
 
   -- the reply to a receipt whose command makes this change
-  pub reply_changed : (receipt : Receipt B) (entry : Entry) (before after : List Entry) (change : Change) → IsPublished entry before (Ok receipt) after
-      → change_of receipt.entry.command ≡ Some change → Changed change (length receipt.list) ≡ accepted_reply before entry.command
+  pub reply_changed : (receipt : Receipt B) (entry : Entry) (before after : List Entry) (change : Change)
+      → IsPublished entry before (Ok receipt) after
+      → change_of receipt.entry.command ≡ Some change → Changed change (length receipt.list)
+      ≡ accepted_reply before entry.command
   reply_changed receipt entry before after change p is =
       let t = published_tells receipt entry before after p in
-      let made : change_of entry.command ≡ Some change = subst (λ (e : Entry). change_of e.command ≡ Some change) t.entry_is is in
+      let made : change_of entry.command ≡ Some change = subst
+      (λ (e : Entry). change_of e.command ≡ Some change) t.entry_is is in
       ap (λ n. Changed change n) t.version ∙ sym (ap (λ c. reply_of_change c before) made)
 
   -- a receipt of a login has the session that it made
-  pub session_of_login : (receipt : Receipt B) (entry : Entry) (before after : List Entry) → IsPublished entry before (Ok receipt) after
+  pub session_of_login : (receipt : Receipt B) (entry : Entry) (before after : List Entry)
+      → IsPublished entry before (Ok receipt) after
       → change_of receipt.entry.command ≡ None → receipt.session ≡ Some (logins before + 1)
   session_of_login receipt entry before after p is =
       let t = published_tells receipt entry before after p in
       let made : change_of entry.command ≡ None = subst (λ (e : Entry). change_of e.command ≡ None) t.entry_is is in
-      t.session ∙ ap (λ b. if b then Some (logins before + 1) else None) (login_makes_session entry.command entry.session made)
+      t.session ∙ ap (λ b. if b then Some (logins before + 1) else None)
+      (login_makes_session entry.command entry.session made)
 
   -- the reply to a receipt of a login
-  pub reply_login : (receipt : Receipt B) (entry : Entry) (before after : List Entry) (session : ℕ) → IsPublished entry before (Ok receipt) after
-      → change_of receipt.entry.command ≡ None → receipt.session ≡ Some session → Login session (length receipt.list) ≡ accepted_reply before entry.command
+  pub reply_login : (receipt : Receipt B) (entry : Entry) (before after : List Entry) (session : ℕ)
+      → IsPublished entry before (Ok receipt) after
+      → change_of receipt.entry.command ≡ None → receipt.session ≡ Some session
+      → Login session (length receipt.list) ≡ accepted_reply before entry.command
   reply_login receipt entry before after session p is made =
       let t = published_tells receipt entry before after p in
       let none : change_of entry.command ≡ None = subst (λ (e : Entry). change_of e.command ≡ None) t.entry_is is in
-      let number : session ≡ logins before + 1 = (let a = sym made ∙ session_of_login receipt entry before after p is in cc) in
-      ap (λ n. Login n (length receipt.list)) number ∙ (ap (λ n. Login (logins before + 1) n) t.version ∙ sym (ap (λ c. reply_of_change c before) none))
+      let number : session ≡ logins before + 1 =
+      (let a = sym made ∙ session_of_login receipt entry before after p is in cc) in
+      ap (λ n. Login n (length receipt.list)) number
+      ∙ (ap (λ n. Login (logins before + 1) n) t.version ∙ sym (ap (λ c. reply_of_change c before) none))
 
   -- an accepted command published an entry
   published_by : (old new : List Entry) (receipt : Receipt B) (decided : Result Entry PolicyRefusal)
       → MatchResult decided
-      (λ entry. Answers (room.list_full board.JournalFull old entry ▸ MayRefuse board.Memory ▸ accept) (λ refusal. board_step.IsRefused refusal old (Ok receipt) new) (IsPublished entry old (Ok receipt) new))
+      (λ entry. Answers (room.list_full board.JournalFull old entry ▸ MayRefuse board.Memory ▸ accept)
+      (λ refusal. board_step.IsRefused refusal old (Ok receipt) new) (IsPublished entry old (Ok receipt) new))
       (λ refusal. board_step.IsRefused (board.Policy refusal) old (Ok receipt) new)
       → (entry : Entry) × IsPublished entry old (Ok receipt) new
   published_by old new receipt (Ok e) h =
-      let all = all_passed (room.list_full board.JournalFull old e ▸ MayRefuse board.Memory ▸ accept) (λ (r : Refusal). board_step.IsRefused r old (Ok receipt) new) (IsPublished e old (Ok receipt) new)
+      let all = all_passed (room.list_full board.JournalFull old e ▸ MayRefuse board.Memory ▸ accept)
+      (λ (r : Refusal). board_step.IsRefused r old (Ok receipt) new) (IsPublished e old (Ok receipt) new)
       (λ r refused. let is = refused.answered in absurd cc) h in
       (e, all.1)
   published_by old new receipt (Err r) h = let is = h.answered in absurd cc
 
   -- a refused command left the list
-  stayed_by : (old new : List Entry) (answer : Result (Receipt B) Refusal) (refusal : Refusal) (decided : Result Entry PolicyRefusal) → answer ≡ Err refusal
+  stayed_by : (old new : List Entry) (answer : Result (Receipt B) Refusal) (refusal : Refusal)
+      (decided : Result Entry PolicyRefusal) → answer ≡ Err refusal
       → MatchResult decided
-      (λ entry. Answers (room.list_full board.JournalFull old entry ▸ MayRefuse board.Memory ▸ accept) (λ r. board_step.IsRefused r old answer new) (IsPublished entry old answer new))
+      (λ entry. Answers (room.list_full board.JournalFull old entry ▸ MayRefuse board.Memory ▸ accept)
+      (λ r. board_step.IsRefused r old answer new) (IsPublished entry old answer new))
       (λ r. board_step.IsRefused (board.Policy r) old answer new)
       → new ≡ old
   stayed_by old new answer refusal (Ok e) is (inl r) = r.answered.stays
   stayed_by old new answer refusal (Ok e) is (inr p) = later p.next where
-    later : Answers (MayRefuse board.Memory ▸ accept) (λ r. board_step.IsRefused r old answer new) (IsPublished e old answer new) → new ≡ old
+    later : Answers (MayRefuse board.Memory ▸ accept) (λ r. board_step.IsRefused r old answer new)
+        (IsPublished e old answer new) → new ≡ old
     later (inl m) = m.answered.stays
     later (inr q) = let was = q.next.answered in absurd cc
   stayed_by old new answer refusal (Err r) is h = h.stays
 
   -- the seat keeps the receipt of the entry that the command added, if it added one
-  pub keeps_added : (old new : List Entry) (answer : Result (Receipt B) Refusal) (seat after : SeatState) (session : Option ℕ) (command : AdminCommand)
-      → board_step.AdminStep old session command answer new → board_step.SeatAfter seat answer new after → KeepsAdded old new seat after
+  pub keeps_added : (old new : List Entry) (answer : Result (Receipt B) Refusal) (seat after : SeatState)
+      (session : Option ℕ) (command : AdminCommand)
+      → board_step.AdminStep old session command answer new → board_step.SeatAfter seat answer new after
+      → KeepsAdded old new seat after
   keeps_added old new (Ok receipt) seat after session command step keeps =
       let p = published_by old new receipt step.answer step.replied in
       let entry : receipt.entry ≡ p.0 = (published_tells receipt p.0 old new p.1).entry_is in
@@ -127,10 +151,13 @@ module _ {B : Type 0} where
       inl (stayed_by old new (Err refusal) refusal step.answer refl step.replied, keeps.kept ∙ append-nil seat.kept)
 
   -- the receipt, if the answer is one, is of a published entry
-  pub published : (session : Option ℕ) (command : AdminCommand) (old new : List Entry) (answer : Result (Receipt B) Refusal)
+  pub published : (session : Option ℕ) (command : AdminCommand) (old new : List Entry)
+      (answer : Result (Receipt B) Refusal)
       → board_step.AdminStep old session command answer new
-      → IfOk answer (λ receipt. (entry : Entry) × (o : List Entry) × (n : List Entry) × IsPublished entry o (Ok receipt) n)
-  published session command old new (Ok receipt) step = let p = published_by old new receipt step.answer step.replied in (p.0, old, new, p.1)
+      → IfOk answer
+      (λ receipt. (entry : Entry) × (o : List Entry) × (n : List Entry) × IsPublished entry o (Ok receipt) n)
+  published session command old new (Ok receipt) step = let p = published_by old new receipt step.answer step.replied in
+      (p.0, old, new, p.1)
   published session command old new (Err refusal) step = tt
 
   module _ (slots : List SlotState) (old new : List Entry) (answer : Result (Receipt B) Refusal) (given : Reply) where
@@ -142,38 +169,47 @@ module _ {B : Type 0} where
         → ((entry : Entry) → IsPublished entry old answer new → given ≡ accepted_reply old entry.command)
         → (decided : Result Entry PolicyRefusal)
         → MatchResult decided
-        (λ entry. Answers (room.list_full board.JournalFull old entry ▸ MayRefuse board.Memory ▸ accept) (λ refusal. board_step.IsRefused refusal old answer new) (IsPublished entry old answer new))
+        (λ entry. Answers (room.list_full board.JournalFull old entry ▸ MayRefuse board.Memory ▸ accept)
+        (λ refusal. board_step.IsRefused refusal old answer new) (IsPublished entry old answer new))
         (λ refusal. board_step.IsRefused (board.Policy refusal) old answer new)
         → MatchResult decided
-        (λ entry. ByRules (list_full old entry ▸ no_memory ▸ accept) (Appends entry) (desk_with old slots) given (desk_with new slots))
+        (λ entry. ByRules (list_full old entry ▸ no_memory ▸ accept) (Appends entry) (desk_with old slots) given
+        (desk_with new slots))
         (λ refusal. IsRefused (Policy refusal) (desk_with old slots) given (desk_with new slots))
-    decided_same refused accepted (Err refusal) h = refused_same (board.Policy refusal) (refused (board.Policy refusal) h.answered) h.stays
+    decided_same refused accepted (Err refusal) h = refused_same (board.Policy refusal)
+        (refused (board.Policy refusal) h.answered) h.stays
     decided_same refused accepted (Ok entry) (inl r) =
-        let replied : given ≡ Refused JournalFull = refused r.refusal r.answered.answered ∙ ap (λ (x : Refusal). Refused (of_board x)) r.given.0 in
+        let replied : given ≡ Refused JournalFull = refused r.refusal r.answered.answered
+        ∙ ap (λ (x : Refusal). Refused (of_board x)) r.given.0 in
         inl (record {
           refusal = JournalFull;
           given = (refl, λ room. r.given.1 (room));
           answered = refused_same board.JournalFull replied r.answered.stays;
         })
     decided_same refused accepted (Ok entry) (inr p) = inr (record { passed = p.passed; next = later p.next }) where
-      later : Answers (MayRefuse board.Memory ▸ accept) (λ refusal. board_step.IsRefused refusal old answer new) (IsPublished entry old answer new)
+      later : Answers (MayRefuse board.Memory ▸ accept) (λ refusal. board_step.IsRefused refusal old answer new)
+          (IsPublished entry old answer new)
           → ByRules (no_memory ▸ accept) (Appends entry) (desk_with old slots) given (desk_with new slots)
       later (inl m) =
-          let replied : given ≡ Refused Memory = refused m.refusal m.answered.answered ∙ ap (λ (x : Refusal). Refused (of_board x)) m.given in
+          let replied : given ≡ Refused Memory = refused m.refusal m.answered.answered
+          ∙ ap (λ (x : Refusal). Refused (of_board x)) m.given in
           inl (record { refusal = Memory; given = refl; answered = refused_same board.Memory replied m.answered.stays })
       later (inr q) = inr (record {
         passed = tt;
         next = record { replied = accepted entry q.next; appended = ap (λ l. desk_with l slots) q.next.appended };
       })
 
-    refused_at : IfErr answer (λ refusal. given ≡ Refused (of_board refusal)) → (refusal : Refusal) → answer ≡ Err refusal → given ≡ Refused (of_board refusal)
-    refused_at h refusal is = subst (λ (a : Result (Receipt B) Refusal). IfErr a (λ r. given ≡ Refused (of_board r))) is h
+    refused_at : IfErr answer (λ refusal. given ≡ Refused (of_board refusal)) → (refusal : Refusal)
+        → answer ≡ Err refusal → given ≡ Refused (of_board refusal)
+    refused_at h refusal is = subst (λ (a : Result (Receipt B) Refusal). IfErr a (λ r. given ≡ Refused (of_board r))) is
+        h
 
     -- the board's answer to a policy command is a desk's, where the reply is made so of it
     pub step_same : (session : Option ℕ) (command : AdminCommand)
         → IfErr answer (λ refusal. given ≡ Refused (of_board refusal))
         → ((entry : Entry) → IsPublished entry old answer new → given ≡ accepted_reply old entry.command)
-        → board_step.AdminStep old session command answer new → AdminStep session command (desk_with old slots) given (desk_with new slots)
+        → board_step.AdminStep old session command answer new
+        → AdminStep session command (desk_with old slots) given (desk_with new slots)
     step_same session command refused accepted step = record {
       answer = step.answer;
       given = step.given;
@@ -181,7 +217,8 @@ module _ {B : Type 0} where
     }
 
 -- a logout is answered by its change, or refused because its session had ended, or for want of memory
-pub logout_reply : (session : Option ℕ) (before : DeskState) (given : Reply) (after : DeskState) → AdminStep session DeleteSession before given after → IsLogoutReply given
+pub logout_reply : (session : Option ℕ) (before : DeskState) (given : Reply) (after : DeskState)
+    → AdminStep session DeleteSession before given after → IsLogoutReply given
 logout_reply session before given after step = by_policy step.given step.replied where
   of_reply : (known : Reply) → IsLogoutReply known → given ≡ known → IsLogoutReply given
   of_reply known is same = subst (λ (r : Reply). IsLogoutReply r) (sym same) is
@@ -191,12 +228,15 @@ logout_reply session before given after step = by_policy step.given step.replied
       (λ entry. ByRules (list_full before.entries entry ▸ no_memory ▸ accept) (Appends entry) before given after)
       (λ refusal. IsRefused (Policy refusal) before given after)
 
-  accepted : (entry : Entry) → entry.command ≡ DeleteSession → ByRules (list_full before.entries entry ▸ no_memory ▸ accept) (Appends entry) before given after → IsLogoutReply given
+  accepted : (entry : Entry) → entry.command ≡ DeleteSession
+      → ByRules (list_full before.entries entry ▸ no_memory ▸ accept) (Appends entry) before given after
+      → IsLogoutReply given
   accepted entry is (inl r) = absurd (r.given.1 (inl is))
   accepted entry is (inr p) = by_memory p.next where
     by_memory : ByRules (no_memory ▸ accept) (Appends entry) before given after → IsLogoutReply given
     by_memory (inl m) = of_reply (Refused Memory) tt (m.answered.replied ∙ ap (λ r. Refused r) m.given)
-    by_memory (inr q) = of_reply (accepted_reply before.entries DeleteSession) tt (q.next.replied ∙ ap (λ c. accepted_reply before.entries c) is)
+    by_memory (inr q) = of_reply (accepted_reply before.entries DeleteSession) tt
+        (q.next.replied ∙ ap (λ c. accepted_reply before.entries c) is)
 
   by_policy : PolicyStep before.entries session DeleteSession step.answer → Replied step.answer → IsLogoutReply given
   by_policy (inl r) replied =

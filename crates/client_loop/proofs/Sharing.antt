@@ -1,4 +1,5 @@
--- Threads may share a board, and a table of slots. A search of its own would walk through sixteen slots, and end at its limit of steps.
+-- Threads may share a board, and a table of slots. A search of its own would walk through sixteen slots, and end at its
+-- limit of steps.
 use denote.RattleType.{RattleType}
 use denote.Param.Send.{IsSend, IsSync, view_send, sendable}
 use denote.Param.SendFields.{declared_send, declared_sync, as_row_send}
@@ -22,14 +23,18 @@ reactor_sends : IsSend reactor.the_row
 reactor_sends = search (journal_sends, statement.crosses, crosses, maps.crosses, sendable) depth 60 fits 20000
 
 slot_sends : IsSend slot.the_row
-slot_sends = search (journal_sends, reactor_sends, statement.crosses, crosses, maps.crosses, sendable) depth 60 fits 20000
+slot_sends = search (journal_sends, reactor_sends, statement.crosses, crosses, maps.crosses, sendable) depth 60 fits
+    20000
 
 option_sends : (R : RattleType) → IsSend R → IsSend (option.the_field R).row
 option_sends R sends = search sendable depth 12
 
 module _ (B : RattleType) (g : Ghosts B.Denot) (reader_sends : IsSend (reader.the_row B g)) where
   inside_sends : (N : RattleType) → IsSend (inside.the_row B N g)
-  inside_sends N = declared_send (inside.the_type B N g) (slot_sends, (as_row_send (option.the_field (reader.the_row B g)) (option_sends (reader.the_row B g) reader_sends), tt))
+  inside_sends N = declared_send (inside.the_type B N g) (
+    slot_sends,
+    (as_row_send (option.the_field (reader.the_row B g)) (option_sends (reader.the_row B g) reader_sends), tt),
+  )
 
   locked_sends : (N : RattleType) → IsSend (locked.the_row B N g)
   locked_sends N = view_send (inside.the_row B N g) _ _ _ _ (inside_sends N)

@@ -8,12 +8,14 @@ use Rattle.client_loop.specs.Logins.{LogsOutAtLast}
 use Rattle.client_loop.specs.Serving.{ServesDesk}
 
 -- where a connection left a login, that is logged out at last; and else the desk stays
-abbrev pub LogsOutLeft : {D : Type 0} → (answers : D → Ask → Reply → D → Type 0) → (left : Option ℕ) → (before after : D) → Type 0
+abbrev pub LogsOutLeft : {D : Type 0} → (answers : D → Ask → Reply → D → Type 0) → (left : Option ℕ)
+    → (before after : D) → Type 0
 LogsOutLeft answers None before after = after ≡ before
 LogsOutLeft answers (Some session) before after = (done : Logout) × LogsOutAtLast answers session before done after
 
 -- a connection to this desk is served to its end, which comes for this reason, and no login of it is held any more
-pub record ServesConnection {D : Type 0} (answers : D → Ask → Reply → D → Type 0) (refused : Bool) (ahead : Option (List ℕ)) (before : D) (why : Why) (after : D) (written wrote : Option (List ℕ)) : Type 0 where
+pub record ServesConnection {D : Type 0} (answers : D → Ask → Reply → D → Type 0) (refused : Bool)
+    (ahead : Option (List ℕ)) (before : D) (why : Why) (after : D) (written wrote : Option (List ℕ)) : Type 0 where
   pub desk : D
   pub left : Option ℕ
   pub served : ServesDesk answers refused ahead before why desk left written wrote

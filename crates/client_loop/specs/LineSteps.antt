@@ -1,4 +1,5 @@
--- One line of a connection: what it is answered, and the desk and the connection's login afterwards (this project's own form).
+-- One line of a connection: what it is answered, and the desk and the connection's login afterwards (this project's own
+-- form).
 use Rattle.std.specs.Prelude.{◌≡◌, ℕ, ◌<◌, ◌≤◌, ◌⊎◌, List, Option, Some, None, Err, length}
 use Rattle.rbac_policy.specs.declared.commands.AdminCommand.TheVariants.{CreateSession, DeleteSession}
 use Rattle.rbac_admin.specs.declared.refusals.Refusal.TheVariants as policy
@@ -22,18 +23,22 @@ ask_of (Slot number command) session = to_slot session number command
 ask_of (Check operation object) session = to_check session operation object
 
 -- a login is asked where none is held, and refused while one is
-abbrev pub Unheld : {D : Type 0} → (answers : D → Ask → Reply → D → Type 0) → (login : Option ℕ) → Ask → (before : D) → Reply → (after : D) → Type 0
+abbrev pub Unheld : {D : Type 0} → (answers : D → Ask → Reply → D → Type 0) → (login : Option ℕ) → Ask → (before : D)
+    → Reply → (after : D) → Type 0
 Unheld answers None ask before given after = answers before ask given after
 Unheld answers (Some session) ask before given after = IsRefused fault.AlreadyLoggedIn before given after
 
 -- any other request is asked by the session of the login, and refused where none is held
-abbrev pub Held : {D : Type 0} → (answers : D → Ask → Reply → D → Type 0) → (login : Option ℕ) → (ℕ → Ask) → (before : D) → Reply → (after : D) → Type 0
+abbrev pub Held : {D : Type 0} → (answers : D → Ask → Reply → D → Type 0) → (login : Option ℕ) → (ℕ → Ask)
+    → (before : D) → Reply → (after : D) → Type 0
 Held answers None ask before given after = IsRefused (fault.Policy policy.NoSession) before given after
 Held answers (Some session) ask before given after = answers before (ask session) given after
 
 -- what is answered to a request on a connection with this login, and the desk afterwards
-abbrev pub Asks : {D : Type 0} → (answers : D → Ask → Reply → D → Type 0) → Request → (login : Option ℕ) → (before : D) → Reply → (after : D) → Type 0
-Asks answers (Policy (CreateSession user roles)) login before given after = Unheld answers login (to_policy None (CreateSession user roles)) before given after
+abbrev pub Asks : {D : Type 0} → (answers : D → Ask → Reply → D → Type 0) → Request → (login : Option ℕ) → (before : D)
+    → Reply → (after : D) → Type 0
+Asks answers (Policy (CreateSession user roles)) login before given after =
+    Unheld answers login (to_policy None (CreateSession user roles)) before given after
 Asks answers request login before given after = Held answers login (ask_of request) before given after
 
 -- the login after this reply to the request
@@ -52,7 +57,8 @@ abbrev pub with_login : {D : Type 0} → D → Option ℕ → DeskAndLogin D
 with_login desk login = record { desk = desk; login = login }
 
 -- the line asks for a request, which is answered
-pub record AnswersRequest {D : Type 0} (answers : D → Ask → Reply → D → Type 0) (line : List ℕ) (before : DeskAndLogin D) (given : Reply) (after : DeskAndLogin D) : Type 0 where
+pub record AnswersRequest {D : Type 0} (answers : D → Ask → Reply → D → Type 0) (line : List ℕ)
+    (before : DeskAndLogin D) (given : Reply) (after : DeskAndLogin D) : Type 0 where
   pub short : length line ≤ LINE_BYTES
   pub request : Request
   pub is : IsRequest line request
@@ -65,23 +71,28 @@ pub data IsNoRequest (line : List ℕ) (refusal : Refusal) : Type 0 where
   not_read : length line ≤ LINE_BYTES → IsReadAs line (Err refusal) → IsNoRequest line refusal
 
 -- the line is refused before anything is asked, and nothing is changed
-pub record RefusesLine {D : Type 0} (line : List ℕ) (before : DeskAndLogin D) (given : Reply) (after : DeskAndLogin D) : Type 0 where
+pub record RefusesLine {D : Type 0} (line : List ℕ) (before : DeskAndLogin D) (given : Reply)
+    (after : DeskAndLogin D) : Type 0 where
   pub refusal : Refusal
   pub replied : given ≡ reply.Refused refusal
   pub why : IsNoRequest line refusal
   pub stays : after ≡ before
 
 -- what one line does: the reply, and desk and login afterwards
-abbrev pub LineStep : {D : Type 0} → (answers : D → Ask → Reply → D → Type 0) → List ℕ → (before : DeskAndLogin D) → Reply → (after : DeskAndLogin D) → Type 0
-LineStep answers line before given after = RefusesLine line before given after ⊎ AnswersRequest answers line before given after
+abbrev pub LineStep : {D : Type 0} → (answers : D → Ask → Reply → D → Type 0) → List ℕ → (before : DeskAndLogin D)
+    → Reply → (after : DeskAndLogin D) → Type 0
+LineStep answers line before given after = RefusesLine line before given after
+    ⊎ AnswersRequest answers line before given after
 
 -- the text is that of the reply to the line
-pub record Tells {D : Type 0} (answers : D → Ask → Reply → D → Type 0) (line : List ℕ) (before : DeskAndLogin D) (text : List ℕ) (after : DeskAndLogin D) : Type 0 where
+pub record Tells {D : Type 0} (answers : D → Ask → Reply → D → Type 0) (line : List ℕ) (before : DeskAndLogin D)
+    (text : List ℕ) (after : DeskAndLogin D) : Type 0 where
   pub given : Reply
   pub step : LineStep answers line before given after
   pub written : text ≡ line_of given
 
 -- the line was answered, and no memory was found for the text of the reply: what the line did stands
-pub record TellsNothing {D : Type 0} (answers : D → Ask → Reply → D → Type 0) (line : List ℕ) (before after : DeskAndLogin D) : Type 0 where
+pub record TellsNothing {D : Type 0} (answers : D → Ask → Reply → D → Type 0) (line : List ℕ)
+    (before after : DeskAndLogin D) : Type 0 where
   pub given : Reply
   pub step : LineStep answers line before given after

@@ -33,23 +33,28 @@ Says Ended given = IsAccepted given
 Says WasEnded given = given ≡ reply.Refused (Policy policy.NoSession)
 
 -- the desk was asked to end the session, and this was its reply
-abbrev pub EndsSession : {D : Type 0} → (answers : D → Ask → Reply → D → Type 0) → (session : ℕ) → (before : D) → Reply → (after : D) → Type 0
+abbrev pub EndsSession : {D : Type 0} → (answers : D → Ask → Reply → D → Type 0) → (session : ℕ) → (before : D) → Reply
+    → (after : D) → Type 0
 EndsSession answers session before given after = answers before (to_policy (Some session) DeleteSession) given after
 
 -- the desk was asked to end the session, and its reply says this
-pub record LogsOut {D : Type 0} (answers : D → Ask → Reply → D → Type 0) (session : ℕ) (before : D) (done : Logout) (after : D) : Type 0 where
+pub record LogsOut {D : Type 0} (answers : D → Ask → Reply → D → Type 0) (session : ℕ) (before : D) (done : Logout)
+    (after : D) : Type 0 where
   pub given : Reply
   pub asked : EndsSession answers session before given after
   pub says : Says done given
 
 -- the desk was asked to end the session any number of times, and each time memory was refused
-pub data RefusesLogouts {D : Type 0} (answers : D → Ask → Reply → D → Type 0) (session : ℕ) : (before after : D) → Type 0 where
+pub data RefusesLogouts {D : Type 0} (answers : D → Ask → Reply → D → Type 0) (session : ℕ) : (before after : D)
+    → Type 0 where
   none_yet : (desk : D) → RefusesLogouts answers session desk desk
-  one_more : (before now after : D) → RefusesLogouts answers session before now → EndsSession answers session now (reply.Refused Memory) after
+  one_more : (before now after : D) → RefusesLogouts answers session before now
+      → EndsSession answers session now (reply.Refused Memory) after
       → RefusesLogouts answers session before after
 
--- the session is logged out, after as many refusals for want of memory as there were
-pub record LogsOutAtLast {D : Type 0} (answers : D → Ask → Reply → D → Type 0) (session : ℕ) (before : D) (done : Logout) (after : D) : Type 0 where
+-- the session is logged out, after any number of refusals for want of memory
+pub record LogsOutAtLast {D : Type 0} (answers : D → Ask → Reply → D → Type 0) (session : ℕ) (before : D)
+    (done : Logout) (after : D) : Type 0 where
   pub now : D
   pub refused : RefusesLogouts answers session before now
   pub out : LogsOut answers session now done after
@@ -60,7 +65,8 @@ left_after (reply.Refused Memory) session = Some session
 left_after _ session = None
 
 -- the end of a connection with this login: where one is held, its logout is asked, and what that leaves is left
-pub data Leaves {D : Type 0} (answers : D → Ask → Reply → D → Type 0) : (held : Option ℕ) → (before after : D) → (left : Option ℕ) → Type 0 where
+pub data Leaves {D : Type 0} (answers : D → Ask → Reply → D → Type 0) : (held : Option ℕ) → (before after : D)
+    → (left : Option ℕ) → Type 0 where
   none_held : (desk : D) → Leaves answers None desk desk None
   logs_out : (session : ℕ) → (before after : D) → (given : Reply) → EndsSession answers session before given after
       → Leaves answers (Some session) before after (left_after given session)

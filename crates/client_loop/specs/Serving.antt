@@ -17,20 +17,26 @@ abbrev pub too_long_text : List ℕ
 too_long_text = line_of (Refused refusal.TooLong)
 
 -- the allocator refused the buffers before anything was read, so nothing is changed
-pub record NeverBegins {D : Type 0} (refused : Bool) (before : D) (why : Why) (last : DeskAndLogin D) (written after : Option (List ℕ)) : Type 0 where
+pub record NeverBegins {D : Type 0} (refused : Bool) (before : D) (why : Why) (last : DeskAndLogin D)
+    (written after : Option (List ℕ)) : Type 0 where
   pub no_memory : why ≡ Memory
   pub noted : refused ≡ true
   pub same : last ≡ with_login before None
   pub silent : Keeps written after
 
 -- lines are answered in turn, each by its line step, from no login on; and then the connection ends so
-abbrev pub ServesLines : {D : Type 0} → (answers : D → Ask → Reply → D → Type 0) → (refused : Bool) → (ahead : Option (List ℕ)) → (before : D) → Why → (last : DeskAndLogin D) → (written after : Option (List ℕ)) → Type 0
+abbrev pub ServesLines : {D : Type 0} → (answers : D → Ask → Reply → D → Type 0) → (refused : Bool)
+    → (ahead : Option (List ℕ)) → (before : D) → Why → (last : DeskAndLogin D) → (written after : Option (List ℕ))
+    → Type 0
 ServesLines answers refused ahead before why last written after =
-    Serves (λ a line text b. Tells answers line a text b) (λ a line b. TellsNothing answers line a b) too_long_text (between ahead (with_login before None)) why last written after [] []
+    Serves (λ a line text b. Tells answers line a text b) (λ a line b. TellsNothing answers line a b) too_long_text
+    (between ahead (with_login before None)) why last written after [] []
     ⊎ NeverBegins refused before why last written after
 
--- the lines of a connection are answered, and then the login that it holds is logged out, or left where memory was refused for that
-pub record ServesDesk {D : Type 0} (answers : D → Ask → Reply → D → Type 0) (refused : Bool) (ahead : Option (List ℕ)) (before : D) (why : Why) (desk : D) (left : Option ℕ) (written after : Option (List ℕ)) : Type 0 where
+-- the lines of a connection are answered, and then the login that it holds is logged out, or left where memory was
+-- refused for that
+pub record ServesDesk {D : Type 0} (answers : D → Ask → Reply → D → Type 0) (refused : Bool) (ahead : Option (List ℕ))
+    (before : D) (why : Why) (desk : D) (left : Option ℕ) (written after : Option (List ℕ)) : Type 0 where
   pub last : DeskAndLogin D
   pub lines : ServesLines answers refused ahead before why last written after
   pub leaves : Leaves answers last.login last.desk desk left

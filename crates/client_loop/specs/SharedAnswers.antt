@@ -1,5 +1,6 @@
--- What a seat at a shared board and table is answered (this project's own form). Others change the policy and the slots between its calls: so
--- each answer is for some policy list, which begins with all that the seat knew and is no shorter than its seen number.
+-- What a seat at a shared board and table is answered (this project's own form). Others change the policy and the slots
+-- between its calls: so each answer is for some policy list, which begins with all that the seat knew and is no shorter
+-- than its seen number.
 use Rattle.std.specs.Prelude.{◌≡◌, ◌⊎◌, ℕ, max, List, [], ◌∷◌, ◌++◌, length, Option, Bool, Result, Ok, Err}
 use Rattle.rbac_policy.specs.declared.commands.AdminCommand.{AdminCommand}
 use Rattle.rbac_policy.specs.declared.commands.Entry.{Entry}
@@ -30,9 +31,11 @@ KeepsAdded old new seat after =
     ((new ≡ old) × (after.kept ≡ seat.kept))
     ⊎ ((entry : Entry) × (new ≡ old ++ entry ∷ []) × (after.kept ≡ seat.kept ++ Admin (length new) entry ∷ []))
 
--- under the admin lock there was a policy list that begins with all that the seat knew. On it the command is answered as by a desk of one
--- client, whatever the slots; the seat knows the list as it then is, and keeps the receipt of an entry that was added
-pub record IsAdministered (session : Option ℕ) (command : AdminCommand) (seat : SeatState) (given : Reply) (after : SeatState) : Type 0 where
+-- under the admin lock there was a policy list that begins with all that the seat knew. On it the command is answered
+-- as by a desk of one client, whatever the slots; the seat knows the list as it then is, and keeps the receipt of an
+-- entry that was added
+pub record IsAdministered (session : Option ℕ) (command : AdminCommand) (seat : SeatState) (given : Reply)
+    (after : SeatState) : Type 0 where
   pub old : List Entry
   pub new : List Entry
   pub is_list : IsPolicyList old
@@ -49,7 +52,8 @@ check_reply (Ok allowed) = Check allowed
 check_reply (Err refusal) = Refused (of_board refusal)
 
 -- whether the session may is answered for a policy list that the seat has read, or the read is refused
-pub record IsCheckedAt (session : ℕ) (operation : Operation) (object : Object) (seat : SeatState) (given : Reply) (after : SeatState) : Type 0 where
+pub record IsCheckedAt (session : ℕ) (operation : Operation) (object : Object) (seat : SeatState) (given : Reply)
+    (after : SeatState) : Type 0 where
   pub answer : Result Bool Refusal
   pub asks : Asks (λ entries. May entries session operation object) seat answer after
   pub replied : given ≡ check_reply answer
@@ -57,5 +61,7 @@ pub record IsCheckedAt (session : ℕ) (operation : Operation) (object : Object)
 -- what a seat at a board and a table is answered to what it asks, and the seat afterwards
 abbrev pub SharedAnswers : (before : SeatState) → Ask → Reply → (after : SeatState) → Type 0
 SharedAnswers before (to_policy session command) given after = IsAdministered session command before given after
-SharedAnswers before (to_slot session number command) given after = TableCommand number session command before given after
-SharedAnswers before (to_check session operation object) given after = IsCheckedAt session operation object before given after
+SharedAnswers before (to_slot session number command) given after =
+    TableCommand number session command before given after
+SharedAnswers before (to_check session operation object) given after =
+    IsCheckedAt session operation object before given after

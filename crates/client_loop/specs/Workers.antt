@@ -12,4 +12,5 @@ pub record ServesNext (before after : SeatState) : Type 0 where
   pub refused : Bool
   pub why : Why
   pub wrote : Option (List ℕ)
-  pub served : ServesConnection (λ a ask given b. SharedAnswers a ask given b) refused ahead before why after written wrote
+  pub served : ServesConnection (λ a ask given b. SharedAnswers a ask given b) refused ahead before why after written
+      wrote

@@ -1,6 +1,7 @@
 //! From a line to its reply: the rules of a connection, over any desk.
 ghost use Rattle.std.specs.Prelude.{◌≡◌, Some};
-ghost use Rattle.rbac_policy.specs.declared.commands.AdminCommand.TheVariants.{CreateSession, DeleteSession};
+ghost use Rattle.rbac_policy.specs.declared.commands.AdminCommand.TheVariants.{CreateSession};
+ghost use Rattle.rbac_policy.specs.declared.commands.AdminCommand.TheVariants.{DeleteSession};
 ghost use Rattle.wire_lines.specs.declared.request.Request.TheVariants.{Policy};
 ghost use Rattle.client_loop.specs.Asking.{to_policy, to_slot, to_check};
 ghost use Rattle.client_loop.specs.Logins.{session_of};
@@ -26,7 +27,7 @@ pub(crate) struct Turn {
     pub(crate) login: Option<Login>,
 }
 
-/// A policy command of the session that the connection holds.
+/// Answers a policy command of the session that the connection holds; NoSession if it holds none.
 fn command_policy<D: Desk>(desk: &mut D, held: &Option<SessionId>, command: AdminCommand) -> Reply
     ensures { Held D.answers held.now (λ session. to_policy (Some session) command)
         desk.old result desk.new }
@@ -37,7 +38,7 @@ fn command_policy<D: Desk>(desk: &mut D, held: &Option<SessionId>, command: Admi
     }
 }
 
-/// A slot command of the session that the connection holds.
+/// Answers a slot command of the session that the connection holds; NoSession if it holds none.
 fn command_slot<D: Desk>(
     desk: &mut D,
     held: &Option<SessionId>,
@@ -69,7 +70,7 @@ fn check_permission<D: Desk>(
     }
 }
 
-/// A login of this user in these roles, on a connection with this login.
+/// Answers a login of this user in these roles; AlreadyLoggedIn if the connection holds a login.
 fn ask_login<D: Desk>(desk: &mut D, login: Option<Login>, user: Name, roles: RoleNames) -> Turn
     ensures asked { Asks D.answers (Policy (CreateSession user roles)) (session_of login)
         desk.old result.reply desk.new }
@@ -88,7 +89,7 @@ fn ask_login<D: Desk>(desk: &mut D, login: Option<Login>, user: Name, roles: Rol
     }
 }
 
-/// A logout on a connection with this login.
+/// Answers a logout; NoSession if the connection holds no login.
 fn ask_logout<D: Desk>(desk: &mut D, login: Option<Login>) -> Turn
     ensures asked { Asks D.answers (Policy DeleteSession) (session_of login)
         desk.old result.reply desk.new }
@@ -107,7 +108,8 @@ fn ask_logout<D: Desk>(desk: &mut D, login: Option<Login>) -> Turn
     }
 }
 
-/// A policy command on a connection with this login, which a login and a logout change.
+/// Answers a policy command on a connection that holds this login, which a login and a logout
+/// change.
 fn ask_policy<D: Desk>(desk: &mut D, login: Option<Login>, command: AdminCommand) -> Turn
     ensures asked { Asks D.answers (Policy command) (session_of login)
         desk.old result.reply desk.new }
@@ -124,7 +126,7 @@ fn ask_policy<D: Desk>(desk: &mut D, login: Option<Login>, command: AdminCommand
     }
 }
 
-/// A request on a connection with this login.
+/// Answers a request on a connection that holds this login.
 fn ask<D: Desk>(desk: &mut D, login: Option<Login>, request: Request) -> Turn
     ensures asked { Asks D.answers request (session_of login) desk.old result.reply desk.new }
     ensures login { session_of result.login
@@ -139,7 +141,7 @@ fn ask<D: Desk>(desk: &mut D, login: Option<Login>, request: Request) -> Turn
     Turn { reply, login }
 }
 
-/// What a line does on a connection with this login.
+/// Answers a line on a connection that holds this login.
 pub(crate) fn respond<D: Desk>(
     alloc: Global,
     requests: &mut RequestReader,

@@ -11,8 +11,8 @@ use std::alloc::{AllocError, Global};
 use wire_lines::reading::RequestReader;
 use wire_lines::reply::reply_line;
 
-/// The login that a connection holds, if it holds one, what reads its lines, and the worker that answers it through a
-/// gate.
+/// The login that a connection holds, if it holds one, what reads its lines, and the worker that
+/// answers it through a gate.
 pub(crate) struct Client<'g, G> {
     pub(crate) login: Option<Login>,
     pub(crate) requests: RequestReader,

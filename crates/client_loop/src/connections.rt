@@ -16,7 +16,8 @@ use std::alloc::Global;
 use std::io::{Read, Write};
 use std::sync::Wait;
 
-/// Logs out at last the login that a connection left, where it left one.
+/// Logs out the login that a connection left, if it left one. It asks again for as long as memory
+/// is refused.
 pub fn log_out_left<R: Wait, D: Desk>(rt: &R, desk: &mut D, left: Option<Login>)
     ensures { LogsOutLeft D.answers (session_of left) desk.old desk.new }
 {
@@ -41,9 +42,9 @@ pub struct Served<I, O> {
     pub memory: MeteredMemory,
 }
 
-/// Serves a connection to its end over this desk, and has this worker go through the gate round
-/// each answer. A login that is left, where memory was refused for its logout, is logged out at
-/// last.
+/// Serves a connection to its end over this desk, and has this worker go through the gate around
+/// each answer. If memory is refused for the logout at the end, the logout is asked again until it
+/// is answered.
 pub fn serve_connection<R: Wait, I: Read + Drop, O: Write + Drop, D: Desk, G: Gate>(
     rt: &R,
     alloc: Global,

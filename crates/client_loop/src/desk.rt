@@ -1,8 +1,9 @@
-//! What the commands of connections are asked of.
+//! What one connection talks to: it is asked commands, and answers them.
 ghost use Rattle.std.specs.Prelude.{◌≡◌};
 ghost use Rattle.rbac_policy.specs.declared.commands.AdminCommand.TheVariants.{DeleteSession};
 ghost use Rattle.access_core.specs.declared.reply.Reply.{Reply};
-ghost use Rattle.client_loop.specs.Asking.{Ask, to_policy, to_slot, to_check, DeskAnswers, IsLogoutReply};
+ghost use Rattle.client_loop.specs.Asking.{Ask, to_policy, to_slot, to_check, DeskAnswers};
+ghost use Rattle.client_loop.specs.Asking.{IsLogoutReply};
 
 use access_core::command::SlotCommand;
 use access_core::reply::Reply;
@@ -10,13 +11,14 @@ use access_core::single::Single;
 use rbac_policy::commands::{AdminCommand, SessionId};
 use rbac_policy::objects::{Object, Operation};
 
-/// What the commands of connections are asked of: one desk, or many connections' way to a shared one.
+/// What one connection talks to: it is asked commands, and answers them. Either a desk of one
+/// client, or a seat at a policy and slots that many share.
 pub trait Desk {
-    /// It is asked this, gives this reply, and is so afterwards.
+    /// Relates the desk before, what it is asked, its reply, and the desk after.
     ghost answers: { Self → Ask → Reply → Self → Type 0 };
 
-    /// Answers a policy command, which this session gives; a login is given by none. A logout is refused only where its session has ended,
-    /// or where memory was refused.
+    /// Answers a policy command, which this session gives; a login is given by none. A logout is
+    /// refused only where its session has ended, or where memory was refused.
     fn admin(&mut self, session: Option<SessionId>, command: AdminCommand) -> Reply
         ensures answered { answers self.old (to_policy session command) result self.new }
         ensures logout { command ≡ DeleteSession → IsLogoutReply result };

@@ -1,6 +1,7 @@
-//! What happens round each answer of a worker.
+//! What a worker passes before and after each answer.
 
-/// What happens round each answer of a worker. A server's gate holds nobody up; a test's may.
+/// What a worker passes before and after each answer. A server's gate does nothing; a test's may
+/// hold the worker.
 pub trait Gate {
     /// Before this worker answers a line.
     fn before(&self, worker: usize);
@@ -9,7 +10,7 @@ pub trait Gate {
     fn after(&self, worker: usize);
 }
 
-/// A gate that holds nobody up.
+/// A gate that does nothing.
 #[derive(Clone, Copy, Drop)]
 pub struct OpenGate;
 

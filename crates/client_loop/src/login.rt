@@ -4,7 +4,8 @@ ghost use Rattle.rbac_policy.specs.declared.commands.AdminCommand.TheVariants.{C
 ghost use Rattle.access_core.specs.declared.refusal.Refusal.TheVariants.{Memory};
 ghost use Rattle.access_core.specs.declared.reply.Reply.TheVariants.{Refused};
 ghost use Rattle.client_loop.specs.Asking.{to_policy, IsLogoutReply};
-ghost use Rattle.client_loop.specs.Logins.{session_of, after_login, after_logout, EndsSession, LogsOut, LogsOutAtLast};
+ghost use Rattle.client_loop.specs.Logins.{session_of, after_login, after_logout, EndsSession};
+ghost use Rattle.client_loop.specs.Logins.{LogsOut, LogsOutAtLast};
 
 use crate::desk::Desk;
 use access_core::refusal::Refusal;
@@ -29,7 +30,7 @@ pub struct Login {
     session: SessionId,
 }
 
-/// Asks for a session of this user in these roles, and holds it where it was begun.
+/// Asks for a session of this user in these roles, and holds it if it was made.
 pub fn log_in<D: Desk>(desk: &mut D, user: Name, roles: RoleNames) -> (Reply, Option<Login>)
     ensures asked { D.answers desk.old (to_policy None (CreateSession user roles)) result.0
         desk.new }
@@ -43,7 +44,7 @@ pub fn log_in<D: Desk>(desk: &mut D, user: Name, roles: RoleNames) -> (Reply, Op
     (reply, login)
 }
 
-/// Lets a place that holds no login hold what there is.
+/// Stores the login, if there is one, in an empty place.
 pub(crate) fn hold(place: &mut Option<Login>, login: Option<Login>)
     requires { place.old ≡ None }
     ensures { place.new ≡ login }

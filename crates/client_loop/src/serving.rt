@@ -44,7 +44,8 @@ fn answer_lines<R: Read, W: Write, D: Desk, G: Gate>(
     worker: usize,
 ) -> (Why, Option<Login>)
     ensures serves { ServesLines D.answers (has_failed memory.old.refusals memory.new.refusals)
-        (R.remaining reader.old.device) desk.old result.0 (with_login desk.new (session_of result.1))
+        (R.remaining reader.old.device) desk.old result.0
+        (with_login desk.new (session_of result.1))
         (W.contents writer.old.device) (W.contents writer.new.device) }
     ensures read_fault { result.0 ≡ why.ReadFault →
         IsStopped (has_failed reader.old.faults reader.new.faults) reader.new.left }
@@ -59,7 +60,14 @@ fn answer_lines<R: Read, W: Write, D: Desk, G: Gate>(
         gate,
         worker,
     };
-    let why = serving::answer_connection(memory, reader, writer, &mut client, desk, too_long_line());
+    let why = serving::answer_connection(
+        memory,
+        reader,
+        writer,
+        &mut client,
+        desk,
+        too_long_line(),
+    );
     let Client {
         login,
         requests: _,
@@ -82,7 +90,8 @@ fn leave<D: Desk>(desk: &mut D, held: Option<Login>) -> Option<Login>
     }
 }
 
-/// Serves a connection to its end over this desk, as `serve` does, and has this worker go through the gate round each answer.
+/// Serves a connection to its end over this desk, as `serve` does, and has this worker go through
+/// the gate around each answer.
 pub fn serve_gated<R: Read, W: Write, D: Desk, G: Gate>(
     memory: &mut MeteredMemory,
     reader: &mut MeteredReader<R>,
@@ -106,9 +115,10 @@ pub fn serve_gated<R: Read, W: Write, D: Desk, G: Gate>(
     End { why, left }
 }
 
-/// Serves a connection to its end over this desk, and logs out the login that it holds then. Each line that the reader gives is answered in
-/// turn. Answers are gathered, and are written before a read that could wait and before the end. An over-long line is answered TooLong, and
-/// ends the connection.
+/// Serves a connection to its end over this desk, and logs out the login that it holds then. Each
+/// line that the reader gives is answered in turn. Answers are gathered, and are written before a
+/// read that could wait and before the end. An over-long line is answered TooLong, and ends the
+/// connection.
 pub fn serve<R: Read, W: Write, D: Desk>(
     memory: &mut MeteredMemory,
     reader: &mut MeteredReader<R>,

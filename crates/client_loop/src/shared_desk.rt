@@ -24,7 +24,7 @@ use std::sync::Wait;
 
 /// A seat, with the board and the table that it asks. A contract sees the seat.
 pub struct SharedDesk<'a, B: BoardName, R> {
-    /// What its waits are called through.
+    /// The handle by which it may wait.
     pub rt: &'a R,
     pub board: &'a Board<B>,
     pub table: &'a SlotTable<B>,

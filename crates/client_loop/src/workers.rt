@@ -22,7 +22,8 @@ use std::sync::Wait;
 use std::thread::Threads;
 use worker_threads::workers::{Turn, Work, run_each};
 
-/// What workers are lent: a value of this type. Of the type that lends it nothing else is known, and threads may share it.
+/// What lends workers a value of type T. Proofs know no more of the lender than that, so threads
+/// may share it.
 trait Lends<T> {
     /// The value.
     fn lent(&self) -> &T;
@@ -77,7 +78,7 @@ impl<'a, B: BoardName + Send, L: Lends<Board<B>>, T: Lends<SlotTable<B>>, S: Sou
     }
 }
 
-/// Tells proofs that values of this type may cross threads. It does nothing.
+/// Does nothing. Its bound tells proofs that values of this type may cross threads.
 fn may_cross<T: Send>()
     ensures { IsSend (param 0 T.row) }
 {}
@@ -100,14 +101,14 @@ fn run_over<
     run_each(rt, service.alloc, service, seats)
 }
 
-/// Serves the connections of a source over this board and table: a thread for each seat, all started before the source is
-/// asked, which each serve one connection after another until there is none. It waits for their ends. A worker is its seat's
-/// place, counted from 0.
+/// Serves the connections of a source over this board and table: a thread for each seat, all
+/// started before the source is asked, which each serve one connection after another until there is
+/// none. It waits for their ends. A worker is its seat's place, counted from 0.
 ///
 /// # Errors
 ///
-/// Memory, where a thread could not be started, or memory was refused for that: then nothing was accepted, and the seats are
-/// dropped.
+/// Memory, where a thread could not be started, or memory was refused for that: then nothing was
+/// accepted, and the seats are dropped.
 pub fn run_workers<
     B: BoardName + Send + Sync,
     R: Threads + Wait + Sync,

@@ -25,9 +25,11 @@ use Rattle.command_line.specs.Words.{command_line, number_in, number_of}
 second : (a b : Bool) → (a && b) ≡ true → b ≡ true
 second a b e = (both a b e).1
 
-tenth : (a b c d e f g h i j : Bool) → (a && (b && (c && (d && (e && (f && (g && (h && (i && j))))))))) ≡ true → j ≡ true
+tenth : (a b c d e f g h i j : Bool) → (a && (b && (c && (d && (e && (f && (g && (h && (i && j))))))))) ≡ true
+    → j ≡ true
 tenth a b c d e f g h i j is =
-    second i j (second h _ (second g _ (second f _ (second e _ (second d _ (second c _ (second b _ (second a _ is))))))))
+    second i j
+    (second h _ (second g _ (second f _ (second e _ (second d _ (second c _ (second b _ (second a _ is))))))))
 
 simple_is_local : (a : Arg) → is_simple_arg a ≡ true → a.global ≡ false
 simple_is_local a e =
@@ -90,7 +92,8 @@ fits ds = is_numeral ds && nat_lt (digits_value 10 ds) (2 ^ 64)
 
 -- how the code reads a number of 64 bits
 abbrev pub Reads64 : List ℕ → Result ℕ ParseIntError → Type 0
-Reads64 text read = ParsesUnsigned 64 10 text read × ExplainsUnsignedError 10 text read × HasUnsignedDigitsIfOk text read
+Reads64 text read = ParsesUnsigned 64 10 text read × ExplainsUnsignedError 10 text read
+    × HasUnsignedDigitsIfOk text read
 
 -- what is read of a text as a number of 64 bits
 number_reads : (t : List ℕ) (o : Option ℕ) → ReadsOne Reads64 t o → o ≡ number_in t

@@ -1,6 +1,7 @@
 -- Words that have no fault name one of the orders.
-use Rattle.std.proofs.Common.{arith, suc, length, ◌≡◌, ◌∙◌, ◌&&◌, ◌||◌, ◌⊎◌, ℕ, Bool, cond, not, true, false, refl, sym, ap}
-use Rattle.std.proofs.Common.{inl, inr, List, [], ◌∷◌, fold, Option, Some, None, is_some, option_map, true≢false, codes}
+use Rattle.std.proofs.Common.{arith, suc, length, ◌≡◌, ◌∙◌, ◌&&◌, ◌||◌, ◌⊎◌, ℕ, Bool, cond, not, true, false, refl, sym}
+use Rattle.std.proofs.Common.{ap, inl, inr, List, [], ◌∷◌, fold, Option, Some, None, is_some, option_map, true≢false}
+use Rattle.std.proofs.Common.{codes}
 use Rattle.std.specs.Prelude.{find}
 use Rattle.std.specs.Str.{bytes_eq}
 use Rattle.std.proofs.lemmas.Slice.Eq.{bytes_eq-Decides}
@@ -8,13 +9,12 @@ use Rattle.clap.specs.Lexer.{long_of, short_of}
 use Rattle.clap.specs.Kinds.{Kinds, or_else}
 use Rattle.clap.specs.declared.error.kind.ErrorKind.{ErrorKind}
 use Rattle.clap.specs.Walk.{Held, Names as SubcommandNames, Outcome, Rule, Row, Step, Text, Waiting, Walk, after_flag}
-use Rattle.clap.specs.Walk.{after_step, answers_to}
-use Rattle.clap.specs.Walk.{done, idle, finished, long_or_other, next, option, plain, plain_word, positional, refused}
-use Rattle.clap.specs.Walk.{settled, subcommand, to_positional, trailing, value, waits, walk, walk_from, walked, walked_from}
-use Rattle.clap.specs.Walk.{word_met, subcommand_met, subcommand_or_other, short_or_plain, nothing_held, stop_after}
-use Rattle.clap.specs.Walk.{arg_by_index}
-use Rattle.clap.specs.Faults.{built_fault, check_fault, defaults_fault, entered_fault, fault_of, other_fault, settle_fault}
-use Rattle.clap.specs.Faults.{step_fault, turn_fault, walk_fault, word_fault}
+use Rattle.clap.specs.Walk.{after_step, answers_to, done, idle, finished, long_or_other, next, option, plain}
+use Rattle.clap.specs.Walk.{plain_word, positional, refused, settled, subcommand, to_positional, trailing, value, waits}
+use Rattle.clap.specs.Walk.{walk, walk_from, walked, walked_from, word_met, subcommand_met, subcommand_or_other}
+use Rattle.clap.specs.Walk.{short_or_plain, nothing_held, stop_after, arg_by_index}
+use Rattle.clap.specs.Faults.{built_fault, check_fault, defaults_fault, entered_fault, fault_of, other_fault}
+use Rattle.clap.specs.Faults.{settle_fault, step_fault, turn_fault, walk_fault, word_fault}
 use Rattle.clap.specs.Simple.{App, Shape, argument_words, built, entered, label_of, names_of, rows_at, subcommand_of}
 use Rattle.clap.proofs.OnLiterals.{clap_on_literals}
 use Rattle.clap.proofs.WalkLemmas.{walk_stopped}
@@ -27,7 +27,8 @@ abbrev enters : Step → Bool
 enters (subcommand name) = true
 enters _ = false
 
-plain_enters : (c : List Rule) (waiting : Waiting) (word : Text) (h : Held) → enters (plain_word c waiting word h).1 ≡ false
+plain_enters : (c : List Rule) (waiting : Waiting) (word : Text) (h : Held)
+    → enters (plain_word c waiting word h).1 ≡ false
 plain_enters c idle word h = refl
 plain_enters c (option id) word h = refl
 plain_enters c positional word h = refl
@@ -62,7 +63,8 @@ positional_goes_on : (c : List Rule) (a : Option Rule) (word : Text) (w : Walk) 
 positional_goes_on c None word w h e = e
 positional_goes_on c (Some a) word w h e = refl
 
-step_goes_on : (c : List Rule) (word : Text) (w : Walk) (h : Held) (step : Step) → w.stopped ≡ None → enters step ≡ false
+step_goes_on : (c : List Rule) (word : Text) (w : Walk) (h : Held) (step : Step) → w.stopped ≡ None
+    → enters step ≡ false
     → (after_step c word w h step).stopped ≡ None
 step_goes_on c word w h (next waiting) e goes = e
 step_goes_on c word w h (trailing position) e goes = e
@@ -93,11 +95,13 @@ module _ (s : Shape) (names : SubcommandNames) (has_help : s.disable_help_subcom
 
   -- a word that stops the walk is the name of a subcommand other than `help`
   abbrev Stops : Walk → Walk → Type 0
-  Stops w after = (name : Text) × (after ≡ record w { stopped = Some (name, []) }) × (bytes_eq name (codes "help") ≡ false)
+  Stops w after = (name : Text) × (after ≡ record w { stopped = Some (name, []) })
+      × (bytes_eq name (codes "help") ≡ false)
 
   turned : (w : Walk) (word : Text) → w.stopped ≡ None → (is_trailing : Bool) (met : Option Text)
       → cond is_trailing [] (other_fault s met word w.held) ≡ []
-      → let went = cond is_trailing (w.held, value) (subcommand_or_other s.rules met w.waiting w.position word w.held) in
+      → let went =
+      cond is_trailing (w.held, value) (subcommand_or_other s.rules met w.waiting w.position word w.held) in
       ((after_step s.rules word w went.0 went.1).stopped ≡ None) ⊎ Stops w (after_step s.rules word w went.0 went.1)
   turned w word e true met f = inl (positional_goes_on s.rules (arg_by_index s.rules w.position) word w w.held e)
   turned w word e false None f =
@@ -114,7 +118,8 @@ module _ (s : Shape) (names : SubcommandNames) (has_help : s.disable_help_subcom
       → cond (is_some o) [] (or_else (word_fault s names w.is_trailing w.waiting word w.held) (next_fault w word)) ≡ []
       → ((walked_from s.rules names o w word).stopped ≡ None) ⊎ Stops w (walked_from s.rules names o w word)
   turn_from w word (Some p) none e f = absurd (some≢none p none)
-  turn_from w word None none e f = turned w word e w.is_trailing (subcommand_met names w.waiting word) (or_else_nil _ _ f).0
+  turn_from w word None none e f = turned w word e w.is_trailing (subcommand_met names w.waiting word)
+      (or_else_nil _ _ f).0
 
   turn : (w : Walk) (word : Text) → w.stopped ≡ None → turn_fault s names w word ≡ []
       → ((walked s.rules names w word).stopped ≡ None) ⊎ Stops w (walked s.rules names w word)
@@ -134,7 +139,8 @@ module _ (s : Shape) (names : SubcommandNames) (has_help : s.disable_help_subcom
       ap (λ (q : Text × List Text). bytes_eq q.0 (codes "help")) same ∙ stop.2
 
   never_help : (w : Walk) (words : List Text) → w.stopped ≡ None → walk_fault s names w words ≡ []
-      → (p : Text × List Text) → (fold (walked s.rules names) w words).stopped ≡ Some p → bytes_eq p.0 (codes "help") ≡ false
+      → (p : Text × List Text) → (fold (walked s.rules names) w words).stopped ≡ Some p
+      → bytes_eq p.0 (codes "help") ≡ false
   unfolding walk_fault
   never_help w [] e f p g = absurd (some≢none p (sym g ∙ e))
   never_help w (word ∷ rest) e f p g =

@@ -2,6 +2,6 @@
 use Rattle.std.specs.Prelude.{◌&&◌, ℕ, Bool, nat_le}
 use Rattle.command_line.specs.declared.order.TheConstants.{MOST_WORKERS}
 
--- there may be so many workers
+-- this number of workers is allowed
 abbrev pub may_work : (count : ℕ) → Bool
 may_work count = nat_le 1 count && nat_le count MOST_WORKERS

@@ -3,7 +3,7 @@
 /// Why words give no order.
 #[derive(Debug, Drop)]
 pub enum WordFault {
-    /// They are none, or ask for help: clap's text about them is for the user.
+    /// The words are no order, or ask for help. clap's text about them is for the user.
     Words(clap::Error),
     /// Memory was refused.
     Memory,

@@ -49,7 +49,7 @@ pub fn serve_has_four_workers()
         (Serve (record { path = path; workers = WORKERS; connections = None })) }
 {}
 
-/// Numbers are read of the options that they stand behind.
+/// A number is read for the option that it follows.
 pub fn serve_reads_its_numbers()
     ensures { (path : Bor Text) → path.now ≡ codes "a"
         → IsOrder (codes "estserve" ∷ codes "serve" ∷ codes "--socket" ∷ codes "a"

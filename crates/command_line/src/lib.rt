@@ -1,8 +1,7 @@
 //! The command line of the program: which words are an order, and which order they are.
 //!
-//! `clap` reads the words. What it makes of the program's command line, whatever the words, is known
-//! from its contracts, so that the order is known too: `specs/Words` says it, and
-//! `Order::from_words` meets it both ways.
+//! `clap` reads the words. Its contracts say what it makes of any words, so they determine the
+//! order: `specs/Words` says which, and `Order::from_words` answers exactly that.
 #![tactic(auto)]
 
 pub mod fault;

@@ -11,7 +11,7 @@ pub const MOST_WORKERS: usize = 16;
 /// How many workers there are where no number is given.
 pub const WORKERS: usize = 4;
 
-/// After how many connections a worker ends at most, where a number is given.
+/// The greatest number that may be given for the connections after which a worker ends.
 pub const MOST_CONNECTIONS: u64 = 65_535;
 
 /// A number of workers: from 1 to `MOST_WORKERS`. A contract sees the number.
@@ -34,7 +34,7 @@ impl Model for WorkerCount {
 }
 
 impl WorkerCount {
-    /// The number of workers, if there may be so many.
+    /// This number of workers, if it is allowed.
     pub fn new(count: usize) -> Option<WorkerCount>
         ensures { result ≡ (if may_work count then Some count else None) }
     {

@@ -1,5 +1,6 @@
 -- What is known of the seats of workers that ended, and of the journals of a closed server.
-use Rattle.std.proofs.Common.{◌≡◌, ◌∙◌, ◌+◌, ◌<◌, ◌∷◌, [], List, Some, ℕ, length, sym, ap, subst, unwrap_or, slice_get, replicate, refl}
+use Rattle.std.proofs.Common.{◌≡◌, ◌∙◌, ◌+◌, ◌<◌, ◌∷◌, [], List, Some, ℕ, length, sym, ap, subst, unwrap_or, slice_get}
+use Rattle.std.proofs.Common.{replicate, refl}
 use Rattle.std.proofs.lemmas.List.{length_push, length-replicate}
 use Rattle.std.proofs.lemmas.Option.{slice_get_within}
 use Rattle.rbac_policy.specs.declared.commands.Entry.{Entry}
@@ -18,13 +19,15 @@ as_many_back turn [] [] no_seat = refl
 as_many_back turn _ _ (next_seat before after old new back turns) =
     length_push after new ∙ ap (λ n. n + 1) (as_many_back turn before after back) ∙ sym (length_push before old)
 
--- of so many seats that were alike, as many come back
+-- of n seats that were alike, n come back
 pub as_many : {Seat : Type 0} (turn : Seat → Seat → Type 0) (workers : ℕ) (seat : Seat) (after : List Seat)
     → AreBack turn (replicate workers seat) after → length after ≡ workers
-as_many turn workers seat after back = as_many_back turn (replicate workers seat) after back ∙ length-replicate workers seat
+as_many turn workers seat after back = as_many_back turn (replicate workers seat) after back
+    ∙ length-replicate workers seat
 
 -- in legal journals over a policy list an audit finds nothing
-pub nothing_is_found : (policy : List Entry) (slots : List (List SlotEntry)) → length slots ≡ SLOTS → IsPolicyList policy
+pub nothing_is_found : (policy : List Entry) (slots : List (List SlotEntry)) → length slots ≡ SLOTS
+    → IsPolicyList policy
     → AreLegal policy slots → HaveNoFinding policy slots
 nothing_is_found policy slots sixteen list legal = record {
   policy = list;

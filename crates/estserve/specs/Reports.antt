@@ -17,19 +17,22 @@ pub record IsReport (entries : List Entry) (slots : List (List SlotEntry)) (text
   pub tells : text ≡ report_text entries slots verdict
 
 -- the report is written
-pub record IsReported (entries : List Entry) (slots : List (List SlotEntry)) (written after : Option (List ℕ)) : Type 0 where
+pub record IsReported (entries : List Entry) (slots : List (List SlotEntry))
+    (written after : Option (List ℕ)) : Type 0 where
   pub text : List ℕ
   pub report : IsReport entries slots text
   pub appended : Appends written after text
 
--- a front of the report is written
-pub record IsCutShort (entries : List Entry) (slots : List (List SlotEntry)) (written after : Option (List ℕ)) : Type 0 where
+-- a beginning of the report is written
+pub record IsCutShort (entries : List Entry) (slots : List (List SlotEntry))
+    (written after : Option (List ℕ)) : Type 0 where
   pub text : List ℕ
   pub report : IsReport entries slots text
   pub front : WritesFront written after text
 
--- the report is written; or memory was refused for it, and nothing is; or its writer failed, and a front of it is
-abbrev pub Reports : List Entry → (slots : List (List SlotEntry)) → (written : Option (List ℕ)) → Result ⊤ Fault → (after : Option (List ℕ)) → Type 0
+-- the report is written; or memory was refused for it, and nothing is; or its writer failed, and a beginning of it is
+abbrev pub Reports : List Entry → (slots : List (List SlotEntry)) → (written : Option (List ℕ)) → Result ⊤ Fault
+    → (after : Option (List ℕ)) → Type 0
 Reports entries slots written (Ok _) after = IsReported entries slots written after
 Reports entries slots written (Err fault.Memory) after = Keeps written after
 Reports entries slots written (Err fault.Write) after = IsCutShort entries slots written after

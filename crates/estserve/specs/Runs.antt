@@ -20,9 +20,11 @@ use Rattle.command_line.specs.declared.order.Order.TheVariants.{Script, Serve}
 use Rattle.clap.specs.Words.{Text}
 
 -- one connection is served over a desk as it opens, for this reason it ends, and no login of it is held any more
-pub record ServesOne (refused : Bool) (ahead : Option (List ℕ)) (why : Why) (written after : Option (List ℕ)) : Type 0 where
+pub record ServesOne (refused : Bool) (ahead : Option (List ℕ)) (why : Why)
+    (written after : Option (List ℕ)) : Type 0 where
   pub desk : DeskState
-  pub one : ServesConnection (λ a ask given b. DeskAnswers a ask given b) refused ahead opening_desk why desk written after
+  pub one : ServesConnection (λ a ask given b. DeskAnswers a ask given b) refused ahead opening_desk why desk written
+      after
 
 -- memory was refused before the connection was opened, and nothing is written
 pub record NeverOpens (answer : Result ⊤ Fault) (written after : Option (List ℕ)) : Type 0 where
@@ -32,30 +34,34 @@ pub record NeverOpens (answer : Result ⊤ Fault) (written after : Option (List 
 -- the end of a run without a fault: the report on the desk's list and journals, where it is asked for, and else no
 -- more is written
 abbrev pub Finishes : (report : Bool) → DeskState → Result ⊤ Fault → (written after : Option (List ℕ)) → Type 0
-Finishes true desk answer written after = Reports desk.entries (map (λ (s : SlotState). s.journal) desk.slots) written answer after
+Finishes true desk answer written after = Reports desk.entries
+    (map (λ (s : SlotState). s.journal) desk.slots) written answer after
 Finishes false desk answer written after = (answer ≡ Ok tt) × (after ≡ written)
 
--- what can't be written is no fault of a writer that worked: it failed in the connection, after which no more is written; or later
+-- where something can't be written, the writer has failed: in the connection, and then no more is written; or after it
 abbrev pub CannotWrite : Why → (before after : ℕ) → Type 0
 CannotWrite why.WriteFault before after = after ≡ before
 CannotWrite other before after = has_failed before after ≡ true
 
--- what the end of a connection means for the program, which has written so much by then: a fault, or what follows it
+-- what the end of a connection means for the program, with what it has written by then: a fault, or what follows it
 abbrev pub EndsSo : (report : Bool) → Why → DeskState → Result ⊤ Fault → (written after : Option (List ℕ)) → Type 0
 EndsSo report why.Closed desk answer written after = Finishes report desk answer written after
 EndsSo report why.TooLong desk answer written after = Finishes report desk answer written after
 EndsSo report other desk answer written after = IsOutcome other answer × (after ≡ written)
 
 -- what a connection that was served means for the program
-pub record Ends (refused report : Bool) (ahead : Option (List ℕ)) (answer : Result ⊤ Fault) (written after : Option (List ℕ)) : Type 0 where
+pub record Ends (refused report : Bool) (ahead : Option (List ℕ)) (answer : Result ⊤ Fault)
+    (written after : Option (List ℕ)) : Type 0 where
   pub why : Why
   pub answers : Option (List ℕ)
   pub one : ServesOne refused ahead why written answers
   pub ends : EndsSo report why one.desk answer answers after
 
 -- standard input and output are served as one connection, or no memory was there for that
-abbrev pub RunsScript : (refused report : Bool) → (ahead : Option (List ℕ)) → Result ⊤ Fault → (written after : Option (List ℕ)) → Type 0
-RunsScript refused report ahead answer written after = NeverOpens answer written after ⊎ Ends refused report ahead answer written after
+abbrev pub RunsScript : (refused report : Bool) → (ahead : Option (List ℕ)) → Result ⊤ Fault
+    → (written after : Option (List ℕ)) → Type 0
+RunsScript refused report ahead answer written after = NeverOpens answer written after
+    ⊎ Ends refused report ahead answer written after
 
 -- the command line is rejected, or there was no memory to read it; nothing is written
 pub record IsNoOrder (words : List Text) (answer : Result ⊤ Fault) (written after : Option (List ℕ)) : Type 0 where
@@ -66,21 +72,25 @@ pub record IsNoOrder (words : List Text) (answer : Result ⊤ Fault) (written af
   pub of_words : IsOfWords why given
   pub silent : Keeps written after
 
--- what the order asks for is done: of a script with the report or without; of a service by so many workers, and
--- standard output gets the report of its end alone
-abbrev pub Does : Order → (refused : Bool) → (ahead : Option (List ℕ)) → Result ⊤ Fault → (written after : Option (List ℕ)) → Type 0
+-- what the order asks for is done: one connection is served, with or without a report; or n workers serve a socket, and
+-- standard output gets only the report at the end
+abbrev pub Does : Order → (refused : Bool) → (ahead : Option (List ℕ)) → Result ⊤ Fault
+    → (written after : Option (List ℕ)) → Type 0
 Does (Script log report) refused ahead answer written after = RunsScript refused report ahead answer written after
 Does (Serve service) refused ahead answer written after = ServesSocket service.workers answer written after
 
 -- the command line spells an order, and it is carried out
-pub record DoesOrder (words : List Text) (refused : Bool) (ahead : Option (List ℕ)) (answer : Result ⊤ Fault) (written after : Option (List ℕ)) : Type 0 where
+pub record DoesOrder (words : List Text) (refused : Bool) (ahead : Option (List ℕ)) (answer : Result ⊤ Fault)
+    (written after : Option (List ℕ)) : Type 0 where
   pub order : Order
   pub is : IsOrder words order
   pub does : Does order refused ahead answer written after
 
--- the words are no order, or the one that they are is done
-abbrev pub Obeys : (words : List Text) → (refused : Bool) → (ahead : Option (List ℕ)) → Result ⊤ Fault → (written after : Option (List ℕ)) → Type 0
-Obeys words refused ahead answer written after = IsNoOrder words answer written after ⊎ DoesOrder words refused ahead answer written after
+-- the command line is rejected, or what it orders is done
+abbrev pub Obeys : (words : List Text) → (refused : Bool) → (ahead : Option (List ℕ)) → Result ⊤ Fault
+    → (written after : Option (List ℕ)) → Type 0
+Obeys words refused ahead answer written after = IsNoOrder words answer written after
+    ⊎ DoesOrder words refused ahead answer written after
 
 -- the status with which the program ends: 0 without a fault, and else that of the fault
 abbrev pub status_after : Result ⊤ Fault → ℕ
@@ -88,12 +98,14 @@ status_after (Ok _) = 0
 status_after (Err given) = status_of given
 
 -- a fault of a device is told only where that device failed in the run, or was read too often
-pub record NamesDevices (answer : Result ⊤ Fault) (reader_failed : Bool) (reads_left : ℕ) (writer_failed : Bool) : Type 0 where
+pub record NamesDevices (answer : Result ⊤ Fault) (reader_failed : Bool) (reads_left : ℕ)
+    (writer_failed : Bool) : Type 0 where
   pub read : answer ≡ Err fault.Read → IsStopped reader_failed reads_left
   pub write : answer ≡ Err fault.Write → writer_failed ≡ true
 
 -- a run of the program: what its words ask for is done, and its status tells how that ended
-pub record Runs (words : List Text) (refused : Bool) (ahead : Option (List ℕ)) (written after : Option (List ℕ)) (reader_failed : Bool) (reads_left : ℕ) (writer_failed : Bool) (status : ℕ) : Type 0 where
+pub record Runs (words : List Text) (refused : Bool) (ahead : Option (List ℕ)) (written after : Option (List ℕ))
+    (reader_failed : Bool) (reads_left : ℕ) (writer_failed : Bool) (status : ℕ) : Type 0 where
   pub answer : Result ⊤ Fault
   pub obeys : Obeys words refused ahead answer written after
   pub devices : NamesDevices answer reader_failed reads_left writer_failed

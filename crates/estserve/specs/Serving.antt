@@ -15,13 +15,14 @@ use Rattle.estserve.specs.declared.fault.Fault.{Fault}
 use Rattle.estserve.specs.declared.fault.Fault.TheVariants as fault
 use Rattle.estserve.specs.Reports.{Reports}
 
--- each of so many workers served connections to their ends, one after another, at a seat of its own that was new, and left it so
+-- each of n workers served connections to their ends, one after another, at a new seat of its own; these are the seats
+-- afterwards
 abbrev pub ServesAll : (workers : ℕ) → (seats : List SeatState) → Type 0
 ServesAll workers seats = AreBack ServesNext (replicate workers new_seat) seats
 
--- the journals of a server that left its seats so: they are those of one run of the calls whose receipts the seats keep;
--- one list of events has them and what the seats keep as its parts, along what each seat keeps the order is right, and
--- an audit finds nothing
+-- the journals of a server that is closed with these seats. They are those of one run of the calls whose receipts the
+-- seats keep. One list of events has them and what the seats keep as its parts. Along what each seat keeps the order is
+-- right. An audit finds nothing
 pub record AreHistories (seats : List SeatState) (policy : List Entry) (slots : List (List SlotEntry)) : Type 0 where
   pub run : AreOfOneRun policy slots (kept_of seats)
   pub one : AreOfOneList policy slots (kept_of seats)
@@ -29,22 +30,25 @@ pub record AreHistories (seats : List SeatState) (policy : List Entry) (slots : 
   pub sound : HaveNoFinding policy slots
 
 -- the report on the journals is written, or memory or its writer was wanting
-pub record ReportsHistories (seats : List SeatState) (answer : Result ⊤ Fault) (written after : Option (List ℕ)) : Type 0 where
+pub record ReportsHistories (seats : List SeatState) (answer : Result ⊤ Fault)
+    (written after : Option (List ℕ)) : Type 0 where
   pub policy : List Entry
   pub slots : List (List SlotEntry)
   pub are : AreHistories seats policy slots
   pub reports : Reports policy slots written answer after
 
 -- journals and receipts don't match, and nothing is written
-pub record TellsMismatch (seats : List SeatState) (answer : Result ⊤ Fault) (written after : Option (List ℕ)) : Type 0 where
+pub record TellsMismatch (seats : List SeatState) (answer : Result ⊤ Fault)
+    (written after : Option (List ℕ)) : Type 0 where
   pub mismatch : Mismatch
   pub justified : IsJustified (kept_of seats) mismatch
   pub told : answer ≡ Err fault.Mismatch
   pub silent : Keeps written after
 
--- what comes behind the last connection of all, when no accept failed
+-- what follows the last of all connections, if no accept failed
 abbrev pub ClosesSo : (seats : List SeatState) → Result ⊤ Fault → (written after : Option (List ℕ)) → Type 0
-ClosesSo seats answer written after = ReportsHistories seats answer written after ⊎ TellsMismatch seats answer written after
+ClosesSo seats answer written after = ReportsHistories seats answer written after
+    ⊎ TellsMismatch seats answer written after
 
 -- the connections of a socket are served to their ends, and the server is closed
 pub record ServesAndCloses (workers : ℕ) (answer : Result ⊤ Fault) (written after : Option (List ℕ)) : Type 0 where
@@ -61,4 +65,5 @@ pub record FailsToServe (answer : Result ⊤ Fault) (written after : Option (Lis
 
 -- the connections of a socket are served and the server is closed; or memory was refused before, or the socket failed
 abbrev pub ServesSocket : (workers : ℕ) → Result ⊤ Fault → (written after : Option (List ℕ)) → Type 0
-ServesSocket workers answer written after = ServesAndCloses workers answer written after ⊎ FailsToServe answer written after
+ServesSocket workers answer written after = ServesAndCloses workers answer written after
+    ⊎ FailsToServe answer written after

@@ -73,7 +73,8 @@ pub fn tell<E: Write>(fault: &Fault, errors: &mut E) -> io::Result<()>
     }
 }
 
-/// The fault where the words of the command line could not be taken: memory was refused, or else one is not UTF-8.
+/// The fault where the words of the command line could not be taken: memory was refused, or else
+/// one is not UTF-8.
 pub fn taking_fault(error: &io::Error) -> Fault
     ensures { result ≡ fault_of_taking (error_kind error.now) }
 {

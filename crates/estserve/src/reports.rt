@@ -1,4 +1,4 @@
-//! The report of an audit, written behind what else was written.
+//! Writes the report of an audit, after all that was written before.
 ghost use Rattle.std.specs.Prelude.{◌≡◌, Err, true};
 ghost use Rattle.line_reader.specs.Meters.{has_failed};
 ghost use Rattle.estserve.specs.declared.fault.Fault.TheVariants as fault;
@@ -18,7 +18,8 @@ use std::io::Write;
 ///
 /// # Errors
 ///
-/// Where memory was refused for it, and then nothing is written; or where it could not be written, and then a front of it is.
+/// Where memory was refused for it, and then nothing is written; or where it could not be written,
+/// and then a beginning of it is.
 pub fn write_report<O: Write>(
     alloc: Global,
     policy: &PolicyJournal,

@@ -29,7 +29,7 @@ fn log_end<E: Write>(errors: &mut E, why: Why) {
     info!(log; "connection ended: {why:?}");
 }
 
-/// What comes behind a connection that ended so: its fault; or the report on the desk, where it is asked for.
+/// What follows the end of a connection: its fault, or the report on the desk if one was asked for.
 fn finish<O: Write>(
     alloc: Global,
     why: Why,
@@ -55,8 +55,8 @@ fn finish<O: Write>(
     }
 }
 
-/// Serves the input and the output as one connection over a desk as it opens, and writes the report on the desk
-/// behind it where that is asked for.
+/// Serves input and output as one connection over a new desk. Then writes the report on the desk,
+/// if one was asked for.
 fn script<R: Wait, I: Read, O: Write, E: Write>(
     rt: &R,
     memory: &mut MeteredMemory,
@@ -105,8 +105,8 @@ fn obey<R: Threads + Wait + Net + Files + Sync, I: Read, O: Write, E: Write>(
     }
 }
 
-/// Runs the program on these words, of which the first is its own name, and gives its status. A fault is told by a line on `errors`; where that
-/// cannot be written, the status tells it alone.
+/// Runs the program on these words (the first is its own name) and answers its status. A fault is
+/// also told by a line on `errors`, if that can be written.
 pub fn run<R: Threads + Wait + Net + Files + Sync, I: Read, O: Write, E: Write>(
     rt: &R,
     memory: &mut MeteredMemory,

@@ -23,8 +23,8 @@ const AMPLE: usize = 1_000_000;
 /// Lines, and the answers that are wanted.
 type Turns<'a> = &'a [(&'a str, &'a str)];
 
-/// Gives one part of its bytes and then the other, so many bytes at once, and fails after so many
-/// calls.
+/// Gives one part of its bytes and then the other, at most `step` bytes at once. After
+/// `calls_that_work` calls it fails.
 #[derive(Clone, Copy)]
 struct Feed<'a> {
     first: &'a [u8],
@@ -62,7 +62,7 @@ impl Read for Feed<'_> {
     }
 }
 
-/// Takes at most `step` bytes at once, and fails after so many calls.
+/// Takes at most `step` bytes at once. After `calls_that_work` calls it fails.
 #[derive(Drop)]
 struct Sink {
     written: Vec<u8>,
@@ -325,7 +325,7 @@ fn a_byte_at_a_time(rt: HostRuntime) -> Result<(), Fail> {
     Ok(())
 }
 
-/// How many bytes the first so many lines have, their ends counted.
+/// How many bytes the first `lines` lines have, with their ends.
 fn length_of(text: &[u8], lines: usize) -> usize
     ensures { result ≤ length text.now }
 {
@@ -402,7 +402,7 @@ const NO_JSON: &str = "{\"code\":2,\"fault\":\"NotJson\"}\n";
 /// The line that refuses an over-long line.
 const TOO_LONG: &str = "{\"code\":1,\"fault\":\"TooLong\"}\n";
 
-/// What the program answers to a line of so many of one byte, and what follows.
+/// What the program answers to `count` times this byte, and then the rest.
 fn after_bytes<R: Threads + Wait + Net + Files + Sync>(
     rt: &R,
     alloc: Global,

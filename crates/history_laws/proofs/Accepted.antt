@@ -1,5 +1,6 @@
 -- What is lawful is accepted: the call of which a receipt tells, where it comes next.
-use Rattle.std.proofs.Common.{◌≡◌, ◌∙◌, ℕ, ◌+◌, ◌<◌, ◌≤◌, List, [], ◌∷◌, ◌++◌, length, take, refl, sym, ap, subst, arith, inl, inr, Option, Some, None}
+use Rattle.std.proofs.Common.{◌≡◌, ◌∙◌, ℕ, ◌+◌, ◌<◌, ◌≤◌, List, [], ◌∷◌, ◌++◌, length, take, refl, sym, ap, subst}
+use Rattle.std.proofs.Common.{arith, inl, inr, Option, Some, None}
 use Rattle.std.specs.Prelude.{fold, slice_get, slice_set, slice_index_or}
 use Rattle.std.proofs.Math.Seq.{take-length}
 use Rattle.std.proofs.lemmas.List.{length-append}
@@ -7,7 +8,12 @@ use Rattle.std.proofs.lemmas.Option.{slice_get_within}
 use Rattle.refusal_rules.specs.Rules.{Rules, AllPass, ◌▸▸◌}
 use Rattle.refusal_rules.proofs.RuleLemmas.{all_passed, pass}
 use Rattle.rbac_policy.specs.declared.commands.AdminCommand.{AdminCommand}
-use Rattle.rbac_policy.specs.declared.commands.AdminCommand.TheVariants.{AddUser, DeleteUser, AddRole, DeleteRole, AssignUser, DeassignUser, GrantPermission, RevokePermission, AddInheritance, DeleteInheritance, CreateDsdSet, DeleteDsdSet, CreateSession, DeleteSession, AddActiveRole, DropActiveRole}
+use Rattle.rbac_policy.specs.declared.commands.AdminCommand.TheVariants.{AddUser, DeleteUser, AddRole, DeleteRole}
+use Rattle.rbac_policy.specs.declared.commands.AdminCommand.TheVariants.{AssignUser, DeassignUser, GrantPermission}
+use Rattle.rbac_policy.specs.declared.commands.AdminCommand.TheVariants.{RevokePermission, AddInheritance}
+use Rattle.rbac_policy.specs.declared.commands.AdminCommand.TheVariants.{DeleteInheritance, CreateDsdSet, DeleteDsdSet}
+use Rattle.rbac_policy.specs.declared.commands.AdminCommand.TheVariants.{CreateSession, DeleteSession, AddActiveRole}
+use Rattle.rbac_policy.specs.declared.commands.AdminCommand.TheVariants.{DropActiveRole}
 use Rattle.rbac_policy.specs.declared.commands.Entry.{Entry}
 use Rattle.rbac_policy.specs.declared.objects.Object.{Object}
 use Rattle.rbac_policy.specs.declared.objects.Operation.{Operation}
@@ -31,7 +37,8 @@ use Rattle.access_core.specs.SlotStep.{SlotStep, slot_rules, access_rules, journ
 use Rattle.access_events.specs.declared.event.TheConstants.{SEATS}
 use Rattle.access_events.specs.declared.event.Event.TheVariants as event
 use Rattle.access_events.specs.Changing.{Moves, OnlyAsks, Tells}
-use Rattle.access_events.specs.Runs.{WorldState, Moment, EventStep, journal_in, journal_at, last_version, has_seen, newest_known}
+use Rattle.access_events.specs.Runs.{WorldState, Moment, EventStep, journal_in, journal_at, last_version, has_seen}
+use Rattle.access_events.specs.Runs.{newest_known}
 use Rattle.access_events.proofs.Moving.{moves, not_accepted}
 use Rattle.seat_receipts.specs.declared.receipt.SlotReceipt.{SlotReceipt}
 use Rattle.history_merge.specs.OneList.{asked_of, Tells as TellsEntry}
@@ -70,7 +77,8 @@ module _ (seat : ℕ) (entry : Entry) (world : WorldState) where
     seen = refl;
   }
 
-  pub policy_call : (version : ℕ) → seat < SEATS → version ≡ length world.entries + 1 → IsPolicyCall seat version entry Made
+  pub policy_call : (version : ℕ) → seat < SEATS → version ≡ length world.entries + 1
+      → IsPolicyCall seat version entry Made
   policy_call version seated next = record {
     seated = seated;
     is = refl;
@@ -115,8 +123,9 @@ asked_same action.Discard = refl
 asked_same (action.Step i) = refl
 asked_same action.Unload = refl
 
--- the receipt's entry comes next: it is legal behind what stands in the slot, at the version that the world has
-pub record IsNext (policy : List Entry) (seat : ℕ) (r : SlotReceipt) (e : SlotEntry) (slot : SlotState) (world : WorldState)
+-- the receipt's entry comes next: it is legal after what stands in the slot, at the version that the world has
+pub record IsNext (policy : List Entry) (seat : ℕ) (r : SlotReceipt) (e : SlotEntry) (slot : SlotState)
+    (world : WorldState)
     : Type 0 where
   pub there : slice_get world.slots r.slot ≡ Some slot
   pub inside : r.slot < SLOTS
@@ -135,7 +144,8 @@ slot_moment seat r e slot world reply = record {
   reply = reply;
   after = record {
     entries = world.entries;
-    slots = slice_set world.slots r.slot (let new : SlotState = record slot { journal = slot.journal ++ e ∷ [] } in new);
+    slots = slice_set world.slots r.slot (let new : SlotState = record slot { journal = slot.journal ++ e ∷ [] } in
+        new);
     seen = has_seen seat r.version world.seen;
   };
 }
@@ -170,7 +180,8 @@ module _ (policy : List Entry) (seat : ℕ) (r : SlotReceipt) (e : SlotEntry) (s
       (λ refusal. IsRefused refusal slot.journal reply (slot.journal ++ e ∷ []))
       (Does list r.slot r.session command slot.journal reply (slot.journal ++ e ∷ []))
       (λ refusal h. not_accepted reply refusal h.replied next.legal.added.accepted) steps in
-      lives list r.session (permission_of r.slot command) (journal_rules list r.slot r.session command slot.journal) passed.0
+      lives list r.session (permission_of r.slot command) (journal_rules list r.slot r.session command slot.journal)
+      passed.0
 
   was : journal_at world r.slot ≡ slot.journal
   was = ap journal_in next.there
@@ -203,7 +214,8 @@ module _ (policy : List Entry) (seat : ℕ) (r : SlotReceipt) (e : SlotEntry) (s
   pub slot_after : journal_at Given.after r.slot ≡ slot.journal ++ e ∷ []
   slot_after = ap journal_in (get_set_same world.slots r.slot _ (slice_get_within world.slots r.slot slot next.there))
 
-  told : Moves (take r.version world.entries) r.session (command_of e.action) slot.journal reply (slot.journal ++ e ∷ [])
+  told : Moves (take r.version world.entries) r.session (command_of e.action) slot.journal reply
+      (slot.journal ++ e ∷ [])
       → Tells (command_of e.action) r.version (journal_at Given.after r.slot) reply
   told (inl a) =
       let long : length (take r.version world.entries) ≡ r.version =

@@ -1,5 +1,7 @@
 -- The calls of one list of events, made in turn, leave the policy list and the journals that are its parts.
-use Rattle.std.proofs.Common.{◌≡◌, ◌≢◌, ◌∙◌, ℕ, ◌+◌, ◌<◌, ◌≤◌, Bool, true, false, List, [], ◌∷◌, ◌++◌, length, map, take, drop, refl, sym, ap, subst, arith, Option, Some, None, eq-eqb, ne_eqb, append-nil, append_assoc}
+use Rattle.std.proofs.Common.{◌≡◌, ◌≢◌, ◌∙◌, ℕ, ◌+◌, ◌<◌, ◌≤◌, Bool, true, false, List, [], ◌∷◌, ◌++◌, length, map}
+use Rattle.std.proofs.Common.{take, drop, refl, sym, ap, subst, arith, Option, Some, None, eq-eqb, ne_eqb, append-nil}
+use Rattle.std.proofs.Common.{append_assoc}
 use Rattle.std.specs.Prelude.{◌==◌, if◌then◌else◌, max, slice_get, slice_index_or}
 use Rattle.std.specs.List.{AllZip, range_with_len}
 use Rattle.std.proofs.Math.ListN.{length-set}
@@ -27,7 +29,8 @@ use Rattle.history_merge.specs.Events.{Event, Publishes, Commands, of_policy, of
 use Rattle.history_merge.specs.OneList.{Tell, Tells, HasParts, AreOfOneList}
 use Rattle.history_merge.specs.Order.{part_at, version_at, InOrder}
 use Rattle.history_laws.specs.CallsInTurn.{IsCallOf, AreOfOneRun}
-use Rattle.history_laws.proofs.Accepted.{IsNext, policy_moment, policy_step, policy_call, slot_moment, slot_step, slot_call, slot_after}
+use Rattle.history_laws.proofs.Accepted.{IsNext, policy_moment, policy_step, policy_call, slot_moment, slot_step}
+use Rattle.history_laws.proofs.Accepted.{slot_call, slot_after}
 use Rattle.history_laws.proofs.Parts.{StandsAt, at_past, stands_at, behind, same_journals, set_within, all_zero}
 
 -- where nothing is kept, the first is not, and neither are the others
@@ -36,7 +39,8 @@ none_kept true x xs none = absurd cc
 none_kept false x xs none = (refl, none)
 
 -- so a seat that keeps the first is one that may
-seat_within : {A : Type 0} (seat : ℕ) (x : A) (xs : List A) → (SEATS ≤ seat → (if seat == seat then x ∷ xs else xs) ≡ [])
+seat_within : {A : Type 0} (seat : ℕ) (x : A) (xs : List A)
+    → (SEATS ≤ seat → (if seat == seat then x ∷ xs else xs) ≡ [])
     → Dec (SEATS ≤ seat) → seat < SEATS
 seat_within seat x xs none (yes high) =
     absurd (false≢true (sym (none_kept (seat == seat) x xs (none high)).0 ∙ eq-eqb seat seat refl))
@@ -47,7 +51,8 @@ no_rest place number [] told = refl
 no_rest place number (e ∷ rest) told = absurd told
 
 module _ (policy : List Entry) (journals : List (List SlotEntry)) (lawful : IsPolicyList policy)
-    (legal : (slot : ℕ) → slot < SLOTS → IsLegal policy slot (part_at journals slot)) (sixteen : length journals ≡ SLOTS) where
+    (legal : (slot : ℕ) → slot < SLOTS → IsLegal policy slot (part_at journals slot))
+    (sixteen : length journals ≡ SLOTS) where
   -- what is left of the slot's journal is told by what is left of the events
   record Left (world : WorldState) (events : List Event) (slot : ℕ) : Type 0 where
     pub rest : List SlotEntry
@@ -78,7 +83,8 @@ module _ (policy : List Entry) (journals : List (List SlotEntry)) (lawful : IsPo
   begun : (world : WorldState) (later : List Entry) → world.entries ++ later ≡ policy
       → take (length world.entries) policy ≡ world.entries
   begun world later whole =
-      ap (λ list. take (length world.entries) list) (sym whole) ∙ take_at world.entries later (length world.entries) refl
+      ap (λ list. take (length world.entries) list) (sym whole)
+      ∙ take_at world.entries later (length world.entries) refl
 
   -- ---- a policy command comes next
   module _ (world : WorldState) (last : Rank) (seat version : ℕ) (entry : Entry) (events : List Event)
@@ -102,13 +108,16 @@ module _ (policy : List Entry) (journals : List (List SlotEntry)) (lawful : IsPo
 
     policy_stands : Stands After (rank.Entry version) events
     policy_stands =
-        let long : length (world.entries ++ entry ∷ []) ≡ length world.entries + 1 = length-append world.entries (entry ∷ []) in
+        let long : length (world.entries ++ entry ∷ []) ≡ length world.entries + 1 =
+        length-append world.entries (entry ∷ []) in
         let opened = st.opened in
         record {
           whole = append_assoc world.entries (entry ∷ []) (of_policy events) ∙ st.whole;
           opened = omega arith;
-          left = λ slot. let l = st.left slot in record { rest = l.rest; number = l.number; told = l.told; whole = l.whole };
-          seen = set_within world.seen seat (max (slice_index_or world.seen seat 0) (length (world.entries ++ entry ∷ [])))
+          left = λ slot. let l = st.left slot in
+              record { rest = l.rest; number = l.number; told = l.told; whole = l.whole };
+          seen = set_within world.seen seat
+              (max (slice_index_or world.seen seat 0) (length (world.entries ++ entry ∷ [])))
               (length (world.entries ++ entry ∷ []))
               (λ at. let low = st.seen at in omega arith) (let low = st.seen seat in omega arith);
           slots = st.slots;
@@ -139,7 +148,8 @@ module _ (policy : List Entry) (journals : List (List SlotEntry)) (lawful : IsPo
   slot_within : (world : WorldState) (r : SlotReceipt) (events : List Event) → First world r events
       → Dec (length journals ≤ r.slot) → r.slot < SLOTS
   slot_within world r events f (yes past) =
-      let none : length (journal_at world r.slot ++ f.entry ∷ f.later) ≡ 0 = ap length (f.whole ∙ at_past journals r.slot past) in
+      let none : length (journal_at world r.slot ++ f.entry ∷ f.later) ≡ 0 =
+      ap length (f.whole ∙ at_past journals r.slot past) in
       let long = length-append (journal_at world r.slot) (f.entry ∷ f.later) in
       absurd (omega arith)
   slot_within world r events f (no inside) = omega arith
@@ -166,9 +176,11 @@ module _ (policy : List Entry) (journals : List (List SlotEntry)) (lawful : IsPo
         let whole : journal ++ first.entry ∷ first.later ≡ part_at journals r.slot =
         ap (λ j. j ++ first.entry ∷ first.later) (sym was) ∙ first.whole in
         let there : slice_get (part_at journals r.slot) (length journal) ≡ Some first.entry =
-        subst (λ list. slice_get list (length journal) ≡ Some first.entry) whole (behind journal first.entry first.later) in
+        subst (λ list. slice_get list (length journal) ≡ Some first.entry) whole
+        (behind journal first.entry first.later) in
         let front : take (length journal) (part_at journals r.slot) ≡ journal =
-        ap (λ list. take (length journal) list) (sym whole) ∙ take_at journal (first.entry ∷ first.later) (length journal) refl in
+        ap (λ list. take (length journal) list) (sym whole)
+        ∙ take_at journal (first.entry ∷ first.later) (length journal) refl in
         subst (λ before. IsLegalEntry policy r.slot before first.entry) front
         (legal r.slot within (length journal) first.entry
         (slice_get_within (part_at journals r.slot) (length journal) first.entry there) there)
@@ -202,7 +214,8 @@ module _ (policy : List Entry) (journals : List (List SlotEntry)) (lawful : IsPo
           rest = first.later;
           number = Some r.number;
           told = subst (λ n. Tell n (Some r.number) (of_slot r.slot events) first.later) long first.told;
-          whole = ap (λ j. j ++ first.later) longer ∙ append_assoc (journal_at world r.slot) (first.entry ∷ []) first.later
+          whole = ap (λ j. j ++ first.later) longer ∙ append_assoc (journal_at world r.slot)
+              (first.entry ∷ []) first.later
               ∙ first.whole;
         }
 
@@ -229,7 +242,8 @@ module _ (policy : List Entry) (journals : List (List SlotEntry)) (lawful : IsPo
           whole = st.whole;
           opened = st.opened;
           left = λ slot. left_each slot (ℕ_discrete r.slot slot);
-          seen = set_within world.seen seat (max (slice_index_or world.seen seat 0) r.version) (length world.entries) st.seen
+          seen = set_within world.seen seat (max (slice_index_or world.seen seat 0) r.version)
+              (length world.entries) st.seen
               (let low = st.seen seat in omega arith);
           slots = length-set world.slots r.slot _ ∙ st.slots;
           seated = λ s high. (none_kept (seat == s) _ (of_seat s events) (st.seated s high)).1;
@@ -280,7 +294,8 @@ module _ (policy : List Entry) (journals : List (List SlotEntry)) (lawful : IsPo
 
   -- ---- from the opening on
 
-  opening_left : (events : List Event) → ((slot : ℕ) → Tell 0 None (of_slot slot events) (part_at journals slot)) → (slot : ℕ)
+  opening_left : (events : List Event) → ((slot : ℕ) → Tell 0 None (of_slot slot events) (part_at journals slot))
+      → (slot : ℕ)
       → Left opening_world events slot
   opening_left events told slot = record {
     rest = part_at journals slot;
@@ -290,10 +305,12 @@ module _ (policy : List Entry) (journals : List (List SlotEntry)) (lawful : IsPo
     whole = ap (λ j. j ++ part_at journals slot) (opening_journal slot);
   }
 
-  opening_stands : (seats : List (List Kept)) (events : List Event) → length seats ≤ SEATS → HasParts policy journals seats events
+  opening_stands : (seats : List (List Kept)) (events : List Event) → length seats ≤ SEATS
+      → HasParts policy journals seats events
       → Stands opening_world (rank.Entry OPENING_ENTRIES) events
   opening_stands seats events few parts =
-      let rest : drop OPENING_ENTRIES policy ≡ lawful.opens.rest = ap (λ list. drop OPENING_ENTRIES list) (sym lawful.opens.is) in
+      let rest : drop OPENING_ENTRIES policy ≡ lawful.opens.rest =
+      ap (λ list. drop OPENING_ENTRIES list) (sym lawful.opens.is) in
       record {
         whole = ap (λ later. opening_entries ++ later) (parts.published ∙ rest) ∙ lawful.opens.is;
         opened = omega arith;
@@ -306,8 +323,10 @@ module _ (policy : List Entry) (journals : List (List SlotEntry)) (lawful : IsPo
       }
 
 -- so journals and receipts that are the parts of one list are those of one run
-pub one_run : (policy : List Entry) (journals : List (List SlotEntry)) (seats : List (List Kept)) → length journals ≡ SLOTS
-    → length seats ≤ SEATS → IsPolicyList policy → ((slot : ℕ) → slot < SLOTS → IsLegal policy slot (part_at journals slot))
+pub one_run : (policy : List Entry) (journals : List (List SlotEntry)) (seats : List (List Kept))
+    → length journals ≡ SLOTS
+    → length seats ≤ SEATS → IsPolicyList policy
+    → ((slot : ℕ) → slot < SLOTS → IsLegal policy slot (part_at journals slot))
     → AreOfOneList policy journals seats → AreOfOneRun policy journals seats
 one_run policy journals seats sixteen few lawful legal one =
     let events = one.0 in

@@ -4,8 +4,9 @@ use Rattle.std.specs.Prelude.{slice_get}
 use Rattle.std.specs.List.{AllZip}
 use Rattle.std.proofs.lemmas.Option.{same_Some}
 use Rattle.access_core.specs.declared.reply.Reply.{Reply}
-use Rattle.access_core.specs.declared.reply.Reply.TheVariants.{Refused, Login, Changed, Check}
-use Rattle.access_core.specs.declared.reply.Reply.TheVariants.{Load as Loaded, Offer as Offered, Discard as Discarded, Step as Stepped, Unload as Unloaded, Look as Shown, Audit as Audited}
+use Rattle.access_core.specs.declared.reply.Reply.TheVariants.{Refused, Login, Changed, Check, Load as Loaded}
+use Rattle.access_core.specs.declared.reply.Reply.TheVariants.{Offer as Offered, Discard as Discarded, Step as Stepped}
+use Rattle.access_core.specs.declared.reply.Reply.TheVariants.{Unload as Unloaded, Look as Shown, Audit as Audited}
 use Rattle.access_core.specs.Needs.{IsAccepted}
 use Rattle.access_events.specs.OneRun.{OneEnd}
 use Rattle.access_events.specs.Runs.{Moment, wants_memory}

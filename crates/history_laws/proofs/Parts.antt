@@ -1,5 +1,6 @@
 -- The parts of lists: journals by the number of their slot, and what is left of a list.
-use Rattle.std.proofs.Common.{◌≡◌, ℕ, zero, suc, ◌<◌, ◌≤◌, List, [], ◌∷◌, ◌++◌, length, map, set, get_or, refl, ap, arith, Some}
+use Rattle.std.proofs.Common.{◌≡◌, ℕ, zero, suc, ◌<◌, ◌≤◌, List, [], ◌∷◌, ◌++◌, length, map, set, get_or, refl, ap}
+use Rattle.std.proofs.Common.{arith, Some}
 use Rattle.std.specs.Prelude.{slice_get, unwrap_or}
 use Rattle.std.proofs.lemmas.Option.{slice_get_past}
 use Rattle.reactor_core.specs.declared.entry.SlotEntry.{SlotEntry}
@@ -24,7 +25,7 @@ stands_at (x ∷ xs) (suc place) inside =
     let found = stands_at xs place (omega arith) in
     record { item = found.item; there = found.there }
 
--- the item behind a beginning
+-- the item after a beginning
 pub behind : {A : Type 0} (beginning : List A) (x : A) (rest : List A)
     → slice_get (beginning ++ x ∷ rest) (length beginning) ≡ Some x
 behind [] x rest = refl

@@ -31,8 +31,9 @@ asked_by Unload = Some asked.Unload
 asked_by (Look n) = None
 asked_by Audit = None
 
--- the moment is the call of which this seat keeps the receipt of this entry: the entry's command, which the entry's session gives
--- through the seat, is accepted and adds the entry to the policy list, which then has this version; and the reply tells so
+-- the moment is the call of which this seat keeps the receipt of this entry: the entry's command, which the entry's
+-- session gives through the seat, is accepted and adds the entry to the policy list, which then has this version; and
+-- the reply tells so
 pub record IsPolicyCall (seat version : ℕ) (entry : Entry) (m : Moment) : Type 0 where
   pub seated : seat < SEATS
   pub is : m.event ≡ event.Admin seat entry.session entry.command
@@ -63,16 +64,19 @@ pub record AreOfWorld (policy : List Entry) (journals : List (List SlotEntry)) (
   pub entries : world.entries ≡ policy
   pub slots : map (λ (slot : SlotState). slot.journal) world.slots ≡ journals
 
--- the run is that of the events, one call for each and in their order, and it leaves this policy list and these journals
+-- the run is that of the events, one call for each and in their order, and it leaves this policy list and these
+-- journals
 pub record IsRunOf (policy : List Entry) (journals : List (List SlotEntry)) (events : List Event) (run : List Moment)
     : Type 0 where
   pub is : IsRun run
   pub calls : AllZip IsCallOf events run
   pub leaves : AreOfWorld policy journals (world_after opening_world run)
 
--- there is one list of events, of which the policy list, the journals and the seats' receipts are the parts, and a run of the
--- calls of which these events tell, which leaves this policy list and these journals. None is behind: each is accepted
-pub record AreOfOneRun (policy : List Entry) (journals : List (List SlotEntry)) (seats : List (List Kept)) : Type 0 where
+-- there is one list of events, of which the policy list, the journals and the seats' receipts are the parts, and a run
+-- of the calls of which these events tell, which leaves this policy list and these journals. None is refused as Behind:
+-- each is accepted
+pub record AreOfOneRun (policy : List Entry) (journals : List (List SlotEntry))
+    (seats : List (List Kept)) : Type 0 where
   pub events : List Event
   pub parts : HasParts policy journals seats events
   pub run : List Moment
@@ -82,6 +86,7 @@ pub record AreOfOneRun (policy : List Entry) (journals : List (List SlotEntry)) 
 -- they leave this policy list and these journals
 abbrev pub CallsEndSo : Type 0
 CallsEndSo =
-    (policy : List Entry) (journals : List (List SlotEntry)) (seats : List (List Kept)) (one : AreOfOneRun policy journals seats)
+    (policy : List Entry) (journals : List (List SlotEntry)) (seats : List (List Kept))
+    (one : AreOfOneRun policy journals seats)
     (replies : List Reply) (world : WorldState) → EndsIn (events_of one.run) replies world
     → (replies ≡ map (λ (m : Moment). m.reply) one.run) × AreOfWorld policy journals world

@@ -14,11 +14,11 @@ ghost use Rattle.history_laws.specs.CallsInTurn.{AreOfOneRun, CallsEndSo};
 
 use access_events::laws::one_run;
 
-/// Where the policy list is lawful, the journal of each slot is legal over it, and one list of
-/// events has the journals and the receipts of the seats as its parts, these are the journals of
-/// the world of a run of exactly those events: each comes by the seat that keeps its receipt, those
-/// of a seat in the order of its receipts, and each is accepted with the place and the version that
-/// the receipt tells, so that none is behind.
+/// Suppose that the policy list is lawful, the journal of each slot is legal over it, and one list
+/// of events has the journals and the receipts of the seats as its parts. Then these are the
+/// journals of the world of a run of exactly those events. Each event comes by the seat that keeps
+/// its receipt, and those of a seat come in the order of its receipts. Each is accepted with the
+/// place and the version that the receipt tells, so none is refused as Behind.
 pub fn journals_are_of_one_run()
     ensures { (policy : List Entry) (journals : List (List SlotEntry)) (seats : List (List Kept))
         → length journals ≡ SLOTS → length seats ≤ SEATS → IsPolicyList policy

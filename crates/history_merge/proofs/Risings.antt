@@ -1,5 +1,6 @@
 -- Receipts that rise, one by one.
-use Rattle.std.proofs.Common.{◌≡◌, ℕ, zero, suc, ◌+◌, ◌<◌, get_or, List, [], ◌∷◌, ◌++◌, length, take, refl, sym, ap, ◌∙◌, subst, Some, None, arith, append-nil, append_assoc}
+use Rattle.std.proofs.Common.{◌≡◌, ℕ, zero, suc, ◌+◌, ◌<◌, get_or, List, [], ◌∷◌, ◌++◌, length, take, refl, sym, ap}
+use Rattle.std.proofs.Common.{◌∙◌, subst, Some, None, arith, append-nil, append_assoc}
 use Rattle.std.specs.Prelude.{Option, slice_get}
 use Rattle.std.proofs.lemmas.Option.{slice_get_within}
 use Rattle.seat_receipts.specs.declared.receipt.Kept.{Kept}
@@ -16,7 +17,8 @@ pub record Risen (ks : List Kept) (n version : ℕ) (number : Option ℕ) : Type
   pub goes : (xs : List Kept) → Rises version number xs → Rises 0 None (take n ks ++ xs)
   pub comes : (xs : List Kept) → Rises 0 None (take n ks ++ xs) → Rises version number xs
 
-pub take_one : {A : Type 0} (k : ℕ) (xs : List A) (x : A) → slice_get xs k ≡ Some x → take (k + 1) xs ≡ take k xs ++ x ∷ []
+pub take_one : {A : Type 0} (k : ℕ) (xs : List A) (x : A) → slice_get xs k ≡ Some x
+    → take (k + 1) xs ≡ take k xs ++ x ∷ []
 take_one k [] x h = absurd cc
 take_one zero (y ∷ xs) x h = ap (λ z. z ∷ []) (cc (h))
 take_one (suc k) (y ∷ xs) x h =
@@ -32,19 +34,24 @@ risen_start [] = record { goes = λ xs h. h; comes = λ xs h. h }
 risen_start (k ∷ ks) = record { goes = λ xs h. h; comes = λ xs h. h }
 
 -- one more, from a state to the next
-pub risen_on : (ks : List Kept) (n version version' : ℕ) (number number' : Option ℕ) (k : Kept) → slice_get ks n ≡ Some k → ((xs : List Kept) → Rises version number (k ∷ xs) → Rises version' number' xs) → ((xs : List Kept) → Rises version' number' xs → Rises version number (k ∷ xs))
+pub risen_on : (ks : List Kept) (n version version' : ℕ) (number number' : Option ℕ) (k : Kept)
+    → slice_get ks n ≡ Some k → ((xs : List Kept) → Rises version number (k ∷ xs) → Rises version' number' xs)
+    → ((xs : List Kept) → Rises version' number' xs → Rises version number (k ∷ xs))
     → Risen ks n version number → Risen ks (n + 1) version' number'
 risen_on ks n version version' number number' k here there back r =
-    let e : (xs : List Kept) → take (n + 1) ks ++ xs ≡ take n ks ++ (k ∷ xs) = λ xs. ap (λ ys. ys ++ xs) (take_one n ks k here) ∙ append_assoc (take n ks) (k ∷ []) xs in
+    let e : (xs : List Kept) → take (n + 1) ks ++ xs ≡ take n ks ++ (k ∷ xs) =
+    λ xs. ap (λ ys. ys ++ xs) (take_one n ks k here) ∙ append_assoc (take n ks) (k ∷ []) xs in
     record {
       goes = λ xs h. subst (Rises 0 None) (sym (e xs)) (r.goes (k ∷ xs) (back xs h));
       comes = λ xs h. there xs (r.comes (k ∷ xs) (subst (Rises 0 None) (e xs) h));
     }
 
-pub risen_all : (ks : List Kept) (version : ℕ) (number : Option ℕ) → Risen ks (length ks) version number → Rises 0 None ks
+pub risen_all : (ks : List Kept) (version : ℕ) (number : Option ℕ) → Risen ks (length ks) version number
+    → Rises 0 None ks
 risen_all ks version number r = subst (Rises 0 None) (append-nil (take (length ks) ks) ∙ take_whole ks) (r.goes [] tt)
 
-pub risen_breaks : (ks : List Kept) (n version : ℕ) (number : Option ℕ) (k : Kept) → slice_get ks n ≡ Some k → (Rises version number (k ∷ []) → ⊥) → Risen ks n version number → Breaks ks n
+pub risen_breaks : (ks : List Kept) (n version : ℕ) (number : Option ℕ) (k : Kept) → slice_get ks n ≡ Some k
+    → (Rises version number (k ∷ []) → ⊥) → Risen ks n version number → Breaks ks n
 risen_breaks ks n version number k here not r = record {
   below = slice_get_within ks n k here;
   before = subst (Rises 0 None) (append-nil (take n ks)) (r.goes [] tt);

@@ -1,4 +1,5 @@
--- Events: calls of seats that added an entry, and which of them are one seat's, one slot's and the policy's (this project's own form).
+-- Events: calls of seats that added an entry, and which of them are one seat's, one slot's and the policy's (this
+-- project's own form).
 use Rattle.std.specs.Prelude.{ℕ, ◌==◌, List, [], ◌∷◌, if◌then◌else◌}
 use Rattle.rbac_policy.specs.declared.commands.Entry.{Entry}
 use Rattle.seat_receipts.specs.declared.receipt.SlotReceipt.{SlotReceipt}

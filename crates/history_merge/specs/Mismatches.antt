@@ -1,5 +1,6 @@
 -- What a mismatch says (this project's own form).
-use Rattle.std.specs.Prelude.{◌≡◌, ◌≢◌, ◌⊎◌, ℕ, ◌+◌, ◌-◌, ◌<◌, ◌≤◌, ◌==◌, List, [], ◌∷◌, Some, None, if◌then◌else◌, slice_get, take, length, flat_map}
+use Rattle.std.specs.Prelude.{◌≡◌, ◌≢◌, ◌⊎◌, ℕ, ◌+◌, ◌-◌, ◌<◌, ◌≤◌, ◌==◌, List, [], ◌∷◌, Some, None, if◌then◌else◌}
+use Rattle.std.specs.Prelude.{slice_get, take, length, flat_map}
 use Rattle.rbac_policy.specs.declared.commands.Entry.{Entry}
 use Rattle.rbac_policy.specs.declared.objects.TheConstants.{SLOTS}
 use Rattle.reactor_core.specs.declared.entry.SlotEntry.{SlotEntry}
@@ -25,8 +26,9 @@ kept_of_policy [] = []
 kept_of_policy (Admin version entry ∷ ks) = Admin version entry ∷ kept_of_policy ks
 kept_of_policy (Slot r ∷ ks) = kept_of_policy ks
 
--- the entry that the receipt tells stands in its place: that of a policy command behind the opening entries, at its version; and that of a slot
--- command in the journal of its slot, where its version is one that the policy list has had since it was opened
+-- the entry that the receipt tells stands in its place: that of a policy command after the opening entries, at its
+-- version; and that of a slot command in the journal of its slot, where its version is one that the policy list has had
+-- since it was opened
 abbrev pub IsThere : (policy : List Entry) → (journals : List (List SlotEntry)) → Kept → Type 0
 IsThere policy journals (Admin version entry) =
     (OPENING_ENTRIES < version) × (slice_get policy (version - 1) ≡ Some entry)
@@ -63,9 +65,10 @@ pub record Clashes (seats : List (List Kept)) (seat n : ℕ) (kept : Kept) : Typ
   pub another : (keeper ≢ seat) ⊎ (place ≢ n)
   pub clash : Clash other kept
 
--- its entry isn't there; or it is the first of its seat with which versions fall, don't rise at a policy command, or numbers don't rise; or it
--- clashes with another
-abbrev pub IsFault : (policy : List Entry) → (journals : List (List SlotEntry)) → (seats : List (List Kept)) → (seat n : ℕ) → Kept → Type 0
+-- its entry isn't there; or it is the first of its seat with which versions fall, don't rise at a policy command, or
+-- numbers don't rise; or it clashes with another
+abbrev pub IsFault : (policy : List Entry) → (journals : List (List SlotEntry)) → (seats : List (List Kept))
+    → (seat n : ℕ) → Kept → Type 0
 IsFault policy journals seats seat n kept =
     (IsThere policy journals kept → ⊥)
     ⊎ (Breaks (part_at seats seat) n
@@ -77,7 +80,8 @@ mismatch_of seat (Admin version entry) = Receipt seat POLICY_LIST version
 mismatch_of seat (Slot r) = Receipt seat r.slot r.place
 
 -- the mismatch names a receipt that is at fault
-pub record ReceiptFails (policy : List Entry) (journals : List (List SlotEntry)) (seats : List (List Kept)) (mismatch : Mismatch) : Type 0 where
+pub record ReceiptFails (policy : List Entry) (journals : List (List SlotEntry)) (seats : List (List Kept))
+    (mismatch : Mismatch) : Type 0 where
   pub seat : ℕ
   pub n : ℕ
   pub kept : Kept
@@ -85,13 +89,18 @@ pub record ReceiptFails (policy : List Entry) (journals : List (List SlotEntry))
   pub named : mismatch ≡ mismatch_of seat kept
   pub fault : IsFault policy journals seats seat n kept
 
--- the mismatch names a slot that has not as many entries as there are receipts of it, or the policy list, which has not as many
-abbrev pub CountDiffers : (policy : List Entry) → (journals : List (List SlotEntry)) → (seats : List (List Kept)) → Mismatch → Type 0
+-- the mismatch names a slot that has not as many entries as there are receipts of it, or the policy list, which has not
+-- as many
+abbrev pub CountDiffers : (policy : List Entry) → (journals : List (List SlotEntry)) → (seats : List (List Kept))
+    → Mismatch → Type 0
 CountDiffers policy journals seats mismatch =
-    ((k : ℕ) × (k < SLOTS) × (mismatch ≡ Count k) × (length (flat_map (kept_of_slot k) seats) ≢ length (part_at journals k)))
+    ((k : ℕ) × (k < SLOTS) × (mismatch ≡ Count k)
+    × (length (flat_map (kept_of_slot k) seats) ≢ length (part_at journals k)))
     ⊎ ((mismatch ≡ Count POLICY_LIST) × (OPENING_ENTRIES + length (flat_map kept_of_policy seats) ≢ length policy))
 
--- the mismatch is justified: it names a receipt that is at fault, or a list that has not as many entries as there are receipts of it
-abbrev pub IsMismatch : (policy : List Entry) → (journals : List (List SlotEntry)) → (seats : List (List Kept)) → Mismatch → Type 0
+-- the mismatch is justified: it names a receipt that is at fault, or a list that has not as many entries as there are
+-- receipts of it
+abbrev pub IsMismatch : (policy : List Entry) → (journals : List (List SlotEntry)) → (seats : List (List Kept))
+    → Mismatch → Type 0
 IsMismatch policy journals seats mismatch =
     CountDiffers policy journals seats mismatch ⊎ ReceiptFails policy journals seats mismatch

@@ -27,9 +27,11 @@ abbrev pub IsOfVersion : (version : ℕ) → Kept → Type 0
 IsOfVersion v (Admin version entry) = version ≡ v
 IsOfVersion v (Slot r) = ⊥
 
--- each entry of a slot, and each policy entry after the opening ones, belongs by its place to exactly one receipt of one seat; and the entry that
--- a receipt tells stands in its place
+-- each entry of a slot, and each policy entry after the opening ones, belongs by its place to exactly one receipt of
+-- one seat; and the entry that a receipt tells stands in its place
 pub record EachOnce (policy : List Entry) (journals : List (List SlotEntry)) (seats : List (List Kept)) : Type 0 where
-  pub slots : (k i : ℕ) (e : SlotEntry) → slice_get (part_at journals k) i ≡ Some e → ExactlyOne seats (IsOfPlace k (i + 1))
-  pub policy_entries : (i : ℕ) (e : Entry) → slice_get (drop OPENING_ENTRIES policy) i ≡ Some e → ExactlyOne seats (IsOfVersion (OPENING_ENTRIES + i + 1))
+  pub slots : (k i : ℕ) (e : SlotEntry) → slice_get (part_at journals k) i ≡ Some e
+      → ExactlyOne seats (IsOfPlace k (i + 1))
+  pub policy_entries : (i : ℕ) (e : Entry) → slice_get (drop OPENING_ENTRIES policy) i ≡ Some e
+      → ExactlyOne seats (IsOfVersion (OPENING_ENTRIES + i + 1))
   pub receipts : (s n : ℕ) (kept : Kept) → slice_get (part_at seats s) n ≡ Some kept → IsThere policy journals kept

@@ -1,11 +1,13 @@
 //! The merge of the seats' lists: the receipts are taken one by one, the first in order of those
 //! that come next.
-ghost use Rattle.std.specs.Prelude.{◌≡◌, ◌<◌, ◌≤◌, ◌+◌, ◌^◌, ℕ, MatchOption, length, option_map, slice_index};
+ghost use Rattle.std.specs.Prelude.{◌≡◌, ◌<◌, ◌≤◌, ◌+◌, ◌^◌, ℕ, MatchOption, length, option_map};
+ghost use Rattle.std.specs.Prelude.{slice_index};
 ghost use Rattle.std.specs.Bool.{Decides, MatchBool};
 ghost use Rattle.rbac_policy.specs.declared.objects.TheConstants.{SLOTS};
 ghost use Rattle.seat_receipts.specs.declared.receipts.TheConstants.{SEATS};
-ghost use Rattle.history_merge.specs.Inner.Taking.{none_taken, Lesser, LeastOf, taken_entry, taken_command, IsInLine};
-ghost use Rattle.history_merge.specs.Inner.Taking.{HasRoom, Takes, Refuses, head, AreAllRead, IsLeast};
+ghost use Rattle.history_merge.specs.Inner.Taking.{none_taken, Lesser, LeastOf, taken_entry};
+ghost use Rattle.history_merge.specs.Inner.Taking.{taken_command, IsInLine, HasRoom, Takes};
+ghost use Rattle.history_merge.specs.Inner.Taking.{Refuses, head, AreAllRead, IsLeast};
 ghost use Rattle.history_merge.specs.Order.{rank_of};
 
 use crate::order::{Rank, is_over, precedes, rank_of};
@@ -153,7 +155,7 @@ fn head<'a>(seats: &'a [Receipts], read: &[usize; SEATS], seat: usize) -> Option
     seats[seat].as_slice().get(read[seat])
 }
 
-/// Where that stands.
+/// Where the next receipt of a seat stands in the order of all.
 fn rank_head(seats: &[Receipts], read: &[usize; SEATS], seat: usize) -> Option<Rank>
     requires inside { seat < length seats.now }
     requires few { seat < SEATS }

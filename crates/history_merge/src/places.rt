@@ -41,7 +41,7 @@ fn tells(receipt: &SlotReceipt, entry: &SlotEntry) -> bool
         && asks(&receipt.asked, &entry.action)
 }
 
-/// Whether this entry stands in the policy list behind the opening ones, at the place of this
+/// Whether this entry stands in the policy list after the opening ones, at the place of this
 /// version.
 fn is_entry_there(policy: &[Entry], version: u64, entry: &Entry) -> bool
     ensures { Decides result ((OPENING_ENTRIES < version)

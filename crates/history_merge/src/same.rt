@@ -1,10 +1,10 @@
-//! Whether two policy entries are one.
+//! Whether two policy entries are equal.
 ghost use Rattle.std.specs.Prelude.{◌≡◌};
 ghost use Rattle.std.specs.Bool.{Decides};
 
 use rbac_policy::commands::{AdminCommand, Entry};
 
-/// Whether the two commands are one.
+/// Whether the two commands are equal.
 #[tactic(auto, using(crate::proofs::Sameness::names_one, crate::proofs::Sameness::lists_one, crate::proofs::Sameness::objects_one))]
 fn is_same_command(one: &AdminCommand, other: &AdminCommand) -> bool
     ensures { Decides result (one.now ≡ other.now) }
@@ -30,8 +30,8 @@ fn is_same_command(one: &AdminCommand, other: &AdminCommand) -> bool
             role,
             operation,
             object,
-        } =>
-            matches!(other, AdminCommand::GrantPermission { role: other_role, operation: other_operation, object: other_object }
+        } => matches!(other, AdminCommand::GrantPermission
+                { role: other_role, operation: other_operation, object: other_object }
                 if role == other_role
                     && operation == other_operation
                     && object == other_object),
@@ -39,21 +39,24 @@ fn is_same_command(one: &AdminCommand, other: &AdminCommand) -> bool
             role,
             operation,
             object,
-        } =>
-            matches!(other, AdminCommand::RevokePermission { role: other_role, operation: other_operation, object: other_object }
+        } => matches!(other, AdminCommand::RevokePermission
+                { role: other_role, operation: other_operation, object: other_object }
                 if role == other_role
                     && operation == other_operation
                     && object == other_object),
         AdminCommand::AddInheritance { senior, junior } =>
-            matches!(other, AdminCommand::AddInheritance { senior: other_senior, junior: other_junior }
+            matches!(other, AdminCommand::AddInheritance
+                { senior: other_senior, junior: other_junior }
                 if senior == other_senior
                     && junior == other_junior),
         AdminCommand::DeleteInheritance { senior, junior } =>
-            matches!(other, AdminCommand::DeleteInheritance { senior: other_senior, junior: other_junior }
+            matches!(other, AdminCommand::DeleteInheritance
+                { senior: other_senior, junior: other_junior }
                 if senior == other_senior
                     && junior == other_junior),
         AdminCommand::CreateDsdSet { set, count, roles } =>
-            matches!(other, AdminCommand::CreateDsdSet { set: other_set, count: other_count, roles: other_roles }
+            matches!(other, AdminCommand::CreateDsdSet
+                { set: other_set, count: other_count, roles: other_roles }
                 if set == other_set
                     && count == other_count
                     && roles == other_roles),
@@ -72,7 +75,7 @@ fn is_same_command(one: &AdminCommand, other: &AdminCommand) -> bool
     }
 }
 
-/// Whether the two entries are one.
+/// Whether the two entries are equal.
 pub(crate) fn is_same_entry(one: &Entry, other: &Entry) -> bool
     ensures { Decides result (one.now ≡ other.now) }
 {

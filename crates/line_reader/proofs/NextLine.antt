@@ -58,6 +58,8 @@ end_inside (a ∷ later) others (b ∷ bs) rest none longer e =
 pub next_or_too_long : (bytes line others : List ℕ) → IsNext bytes line others → IsTooLong bytes → ⊥
 next_or_too_long bytes line others p long =
     elim p.ended [
-      | inl a ↦ end_inside line others long.front long.others long.no_end (omega (arith, p.short, long.long)) (sym a ∙ long.whole)
-      | inr a ↦ omega (arith, p.short, long.long, length-append long.front long.others, ap length (sym a.all ∙ long.whole))
+      | inl a ↦ end_inside line others long.front long.others long.no_end (omega (arith, p.short, long.long))
+          (sym a ∙ long.whole)
+      | inr a ↦
+          omega (arith, p.short, long.long, length-append long.front long.others, ap length (sym a.all ∙ long.whole))
     ]

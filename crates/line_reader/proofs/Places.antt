@@ -1,5 +1,7 @@
 -- Parts of a buffer.
-use Rattle.std.proofs.Common.{◌≡◌, ◌∙◌, ◌<◌, ◌≤◌, ◌+◌, ◌-◌, ℕ, zero, suc, List, [], ◌∷◌, ◌++◌, length, take, drop, slice_range, get_or, true, not, ◌==◌, Option, Some, None, append_assoc, sym, ap, subst, arith}
+use Rattle.std.proofs.Common.{◌≡◌, ◌∙◌, ◌<◌, ◌≤◌, ◌+◌, ◌-◌, ℕ, zero, suc, List, [], ◌∷◌, ◌++◌, length, take, drop}
+use Rattle.std.proofs.Common.{slice_range, get_or, true, not, ◌==◌, Option, Some, None, append_assoc, sym, ap, subst}
+use Rattle.std.proofs.Common.{arith}
 use Rattle.std.proofs.Math.Seq.{split_at, take-add}
 use Rattle.std.proofs.lemmas.List.{drop-drop, drop-take, take-take, length-take-le, length-drop}
 use Rattle.std.proofs.lemmas.List.Folds.{list_all-append}
@@ -31,12 +33,14 @@ pub no_end_append : (xs ys : List ℕ) → HasNoEnd xs → HasNoEnd ys → HasNo
 no_end_append xs ys a b = grind (arith, common_steps, list_all-append (λ c. not (c == 10)) xs ys)
 
 -- two parts, one after the other
-pub range_join : (xs : List ℕ) (a s e : ℕ) → a ≤ s → s ≤ e → slice_range xs a e ≡ slice_range xs a s ++ slice_range xs s e
+pub range_join : (xs : List ℕ) (a s e : ℕ) → a ≤ s → s ≤ e
+    → slice_range xs a e ≡ slice_range xs a s ++ slice_range xs s e
 range_join xs a s e low high =
     let sum : (s - a) + (e - s) ≡ e - a = omega arith in
     let there : a + (s - a) ≡ s = omega arith in
     ap (λ n. take n (drop a xs)) (sym sum) ∙ take-add (s - a) (e - s) (drop a xs)
-    ∙ ap (λ (ys : List ℕ). take (s - a) (drop a xs) ++ take (e - s) ys) (drop-drop (s - a) a xs ∙ ap (λ n. drop n xs) there)
+    ∙ ap (λ (ys : List ℕ). take (s - a) (drop a xs) ++ take (e - s) ys)
+    (drop-drop (s - a) a xs ∙ ap (λ n. drop n xs) there)
 
 pub length_range : (xs : List ℕ) (a e : ℕ) → a ≤ e → e ≤ length xs → length (slice_range xs a e) ≡ e - a
 length_range xs a e low high = length-take-le (e - a) (drop a xs) (omega (arith, length-drop a xs))
@@ -94,8 +98,10 @@ found xs start scanned end p low high within before none place cut =
 
 -- what a search for LF found
 pub first_found : (bs : List ℕ) (r : Option ℕ) → IsFirstByte (is_byte 10) bs r
-    → MatchOption r (HasNoEnd bs) (λ p. HasNoEnd (take p bs) × (p < length bs) × (bs ≡ take p bs ++ 10 ∷ drop (p + 1) bs))
-first_found bs None h = subst HasNoEnd (take_all (length bs) bs (omega arith)) (no_end_before bs (length bs) h (omega arith))
+    → MatchOption r (HasNoEnd bs)
+    (λ p. HasNoEnd (take p bs) × (p < length bs) × (bs ≡ take p bs ++ 10 ∷ drop (p + 1) bs))
+first_found bs None h = subst HasNoEnd (take_all (length bs) bs (omega arith))
+    (no_end_before bs (length bs) h (omega arith))
 first_found bs (Some p) h =
     let is : get_or bs p 0 ≡ 10 = eqb-true _ _ h.1 in (
       no_end_before bs p h.0.before (omega (arith, h.0.high)),
@@ -106,7 +112,8 @@ first_found bs (Some p) h =
 
 -- no LF was found, so none is held_bytes
 pub none_found : (xs : List ℕ) (start scanned end : ℕ) → start ≤ scanned → scanned ≤ end
-    → HasNoEnd (slice_range xs start scanned) → HasNoEnd (slice_range xs scanned end) → HasNoEnd (slice_range xs start end)
+    → HasNoEnd (slice_range xs start scanned) → HasNoEnd (slice_range xs scanned end)
+    → HasNoEnd (slice_range xs start end)
 none_found xs start scanned end low high a b = subst HasNoEnd (sym (range_join xs start scanned end low high))
     (no_end_append (slice_range xs start scanned) (slice_range xs scanned end) a b)
 

@@ -1,5 +1,6 @@
 -- Lines answered one after the other, and one more.
-use Rattle.std.proofs.Common.{◌≡◌, ◌∙◌, List, ℕ, [], ◌∷◌, ◌++◌, Option, append_assoc, append-nil, refl, sym, subst, ap, inl, inr, Some, None}
+use Rattle.std.proofs.Common.{◌≡◌, ◌∙◌, List, ℕ, [], ◌∷◌, ◌++◌, Option, append_assoc, append-nil, refl, sym, subst, ap}
+use Rattle.std.proofs.Common.{inl, inr, Some, None}
 use Rattle.std.specs.Io.KnownBytes.{Appends, prepend_known}
 use Rattle.std.proofs.KnownBytes.{Appends-nil, Appends-trans}
 use Rattle.line_reader.specs.declared.serving.Why.{Why}
@@ -19,13 +20,15 @@ pub record Reaches {A : Type 0} (tells : A → List ℕ → List ℕ → A → T
 run_append : {A : Type 0} (tells : A → List ℕ → List ℕ → A → Type 0) (before : BetweenLines A) (es : List Exchange)
     (next : BetweenLines A) (fs : List Exchange) (after : BetweenLines A)
     → Runs tells before es next → Runs tells next fs after → Runs tells before (es ++ fs) after
-run_append {A} tells before [] next fs after runs more = subst (λ (c : BetweenLines A). Runs tells c fs after) (sym runs) more
+run_append {A} tells before [] next fs after runs more =
+    subst (λ (c : BetweenLines A). Runs tells c fs after) (sym runs) more
 run_append tells before (first ∷ later) next fs after runs more =
     (runs.0, runs.1, run_append tells runs.0 later next fs after runs.2 more)
 
 texts_append : (es fs : List Exchange) → texts (es ++ fs) ≡ texts es ++ texts fs
 texts_append [] fs = refl
-texts_append (e ∷ es) fs = ap (λ (l : List ℕ). e.text ++ l) (texts_append es fs) ∙ sym (append_assoc e.text (texts es) (texts fs))
+texts_append (e ∷ es) fs = ap (λ (l : List ℕ). e.text ++ l) (texts_append es fs)
+    ∙ sym (append_assoc e.text (texts es) (texts fs))
 
 -- nothing is answered yet
 pub reach_first : {A : Type 0} (tells : A → List ℕ → List ℕ → A → Type 0) (c : BetweenLines A)
@@ -38,7 +41,8 @@ reach_first tells c written waiting = record {
 
 pub reach_on : {A : Type 0} (tells : A → List ℕ → List ℕ → A → Type 0) (before next after : BetweenLines A)
     (a m b : Option (List ℕ)) (w waits left : List ℕ)
-    → Reaches tells before next a m w waits → Answers tells next after m b waits left → Reaches tells before after a b w left
+    → Reaches tells before next a m w waits → Answers tells next after m b waits left
+    → Reaches tells before after a b w left
 reach_on tells before next after a m b w waits left r answers =
     let e : Exchange = record { line = answers.line; text = answers.text } in
     let same : (w ++ texts r.exchanges) ++ answers.text ≡ w ++ texts (r.exchanges ++ e ∷ []) =
@@ -61,11 +65,13 @@ puts_more why.Memory a m b text waits more left u p = up_to_more a m b text wait
 puts_more why.WriteFault a m b text waits more left u p = (p.0, up_to_more a m b text waits more p.0 u p.1)
 
 pub served : {A : Type 0} (tells : A → List ℕ → List ℕ → A → Type 0) (fails : A → List ℕ → A → Type 0)
-    (refusal : List ℕ) (before next : BetweenLines A) (y : Why) (desk : A) (a m b : Option (List ℕ)) (w waits left : List ℕ)
+    (refusal : List ℕ) (before next : BetweenLines A) (y : Why) (desk : A) (a m b : Option (List ℕ))
+    (w waits left : List ℕ)
     → Reaches tells before next a m w waits → Serves tells fails refusal next y desk m b waits left
     → Serves tells fails refusal before y desk a b w left
 served tells fails refusal before next y desk a m b w waits left r s =
-    let same : (w ++ texts r.exchanges) ++ (texts s.exchanges ++ s.more) ≡ w ++ (texts (r.exchanges ++ s.exchanges) ++ s.more) =
+    let same : (w ++ texts r.exchanges) ++ (texts s.exchanges ++ s.more) ≡ w
+    ++ (texts (r.exchanges ++ s.exchanges) ++ s.more) =
     append_assoc w (texts r.exchanges) (texts s.exchanges ++ s.more)
     ∙ ap (λ (l : List ℕ). w ++ l) (sym (append_assoc (texts r.exchanges) (texts s.exchanges) s.more)
     ∙ ap (λ (l : List ℕ). l ++ s.more) (sym (texts_append r.exchanges s.exchanges))) in
@@ -115,7 +121,14 @@ finished tells fails refusal before y desk a b c w left n s k =
       whole = first.whole ∙ sym (append-nil (first.front ++ left));
       written = Appends-trans a b c first.front left first.written k;
     } in
-    record { exchanges = s.exchanges; last = s.last; more = s.more; runs = s.runs; ends = s.ends; puts = puts_all y a c text all }
+    record {
+      exchanges = s.exchanges;
+      last = s.last;
+      more = s.more;
+      runs = s.runs;
+      ends = s.ends;
+      puts = puts_all y a c text all;
+    }
 
 -- what waits is written at the end in part
 pub cut_short : {A : Type 0} (tells : A → List ℕ → List ℕ → A → Type 0) (fails : A → List ℕ → A → Type 0)
@@ -127,7 +140,8 @@ cut_short tells fails refusal before y desk a b c w left n s k =
     let first : WritesUpTo a b text left = all_puts y a b text left n s.puts in
     let part : WritesUpTo a c text k.0 = record {
       front = first.front ++ k.1.front;
-      whole = first.whole ∙ ap (λ (l : List ℕ). first.front ++ l) k.1.whole ∙ sym (append_assoc first.front k.1.front k.0);
+      whole = first.whole ∙ ap (λ (l : List ℕ). first.front ++ l) k.1.whole
+          ∙ sym (append_assoc first.front k.1.front k.0);
       written = Appends-trans a b c first.front k.1.front first.written k.1.written;
     } in
     record {
@@ -160,12 +174,14 @@ pub from_nothing : {A : Type 0} (tells : A → List ℕ → List ℕ → A → T
     → Serves tells fails refusal (record { ahead = ahead; desk = start }) y desk a b [] left
 from_nothing {A} tells fails refusal held ahead start y desk a b w left e f s =
     let same : prepend_known held ahead ≡ ahead = ap (λ (h : List ℕ). prepend_known h ahead) e ∙ none_held ahead in
-    subst (λ (x : Option (List ℕ)). Serves tells fails refusal (record { ahead = x; desk = start }) y desk a b [] left) same
+    subst (λ (x : Option (List ℕ)). Serves tells fails refusal (record { ahead = x; desk = start }) y desk a b [] left)
+    same
     (subst (λ (x : List ℕ). Serves tells fails refusal
     (record { ahead = prepend_known held ahead; desk = start }) y desk a b x left) f s)
 
 pub faulted : {A : Type 0} (tells : A → List ℕ → List ℕ → A → Type 0) (fails : A → List ℕ → A → Type 0)
-    (refusal : List ℕ) (held : List ℕ) (ahead : Option (List ℕ)) (start : A) (desk : A) (a b : Option (List ℕ)) (w left : List ℕ)
+    (refusal : List ℕ) (held : List ℕ) (ahead : Option (List ℕ)) (start : A) (desk : A) (a b : Option (List ℕ))
+    (w left : List ℕ)
     → held ≡ [] → w ≡ [] → Serves tells fails refusal
     (record { ahead = prepend_known held ahead; desk = start }) why.WriteFault desk a b w left
     → Serves tells fails refusal (record { ahead = ahead; desk = start }) why.WriteFault desk a b [] []

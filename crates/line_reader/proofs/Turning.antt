@@ -1,5 +1,6 @@
 -- A turn of a connection.
-use Rattle.std.proofs.Common.{◌≡◌, ◌∙◌, ℕ, List, [], ◌∷◌, ◌++◌, Option, Some, None, Result, Ok, Err, append-nil, refl, sym, ap, subst, inl}
+use Rattle.std.proofs.Common.{◌≡◌, ◌∙◌, ℕ, List, [], ◌∷◌, ◌++◌, Option, Some, None, Result, Ok, Err, append-nil, refl}
+use Rattle.std.proofs.Common.{sym, ap, subst, inl}
 use Rattle.std.specs.Io.KnownBytes.{prepend_known}
 use Rattle.std.specs.Prelude.{IfSome, IfOk}
 use Rattle.line_reader.specs.declared.replies.WriteFault.{WriteFault}
@@ -41,7 +42,8 @@ pub next_is : (Q : Type 0) (e : Option Ending) (h : List ℕ) (r : Option (List 
 next_is Q None h r res line h' r' s g again = next_of h r res line h' r' (g refl)
 next_is Q (Some e) h r res line h' r' s g again =
     let is : res ≡ Ok End = again.0 ∙ ap answer_after s.0 in
-    subst (λ (x : Result Line LineFault). IsNextOf (prepend_known h r) x line (prepend_known h' r')) (sym is) (over h r e s)
+    subst (λ (x : Result Line LineFault). IsNextOf (prepend_known h r) x line (prepend_known h' r')) (sym is)
+    (over h r e s)
 
 -- the same where the writer may have failed
 pub ok_next_is : (Q : Type 0) (e : Option Ending) (h : List ℕ) (r : Option (List ℕ))

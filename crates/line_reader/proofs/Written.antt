@@ -1,5 +1,6 @@
 -- Writing a text in parts.
-use Rattle.std.proofs.Common.{◌≡◌, ◌∙◌, ℕ, List, [], ◌++◌, Option, take, drop, append_assoc, append-nil, take-append-drop, refl, sym, ap, subst}
+use Rattle.std.proofs.Common.{◌≡◌, ◌∙◌, ℕ, List, [], ◌++◌, Option, take, drop, append_assoc, append-nil}
+use Rattle.std.proofs.Common.{take-append-drop, refl, sym, ap, subst}
 use Rattle.std.specs.Io.KnownBytes.{Appends, Keeps}
 use Rattle.std.proofs.KnownBytes.{Appends-nil, Appends-trans, Appends-kept}
 use Rattle.line_reader.specs.Writing.{WritesUpTo}
@@ -25,7 +26,8 @@ written_kept a b c text left w kept =
     record { front = w.front; whole = w.whole; written = Appends-kept a b c w.front w.written kept }
 
 -- all is written
-pub written_whole : (a b : Option (List ℕ)) (text left : List ℕ) → WritesUpTo a b text left → left ≡ [] → Appends a b text
+pub written_whole : (a b : Option (List ℕ)) (text left : List ℕ) → WritesUpTo a b text left → left ≡ []
+    → Appends a b text
 written_whole a b text left w none =
     subst (Appends a b) (sym (w.whole ∙ ap (λ (l : List ℕ). w.front ++ l) none ∙ append-nil w.front)) w.written
 

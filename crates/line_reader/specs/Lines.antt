@@ -1,5 +1,6 @@
 -- The lines of bytes: cutting at LF (this project's own form; LF is the byte 10).
-use Rattle.std.specs.Prelude.{◌≡◌, ◌≤◌, ◌<◌, ℕ, List, [], ◌∷◌, ◌++◌, length, ◌==◌, not, IsTrue, ◌⊎◌, Option, Some, None, Result, Ok, Err, ⊤}
+use Rattle.std.specs.Prelude.{◌≡◌, ◌≤◌, ◌<◌, ℕ, List, [], ◌∷◌, ◌++◌, length, ◌==◌, not, IsTrue, ◌⊎◌, Option, Some, None}
+use Rattle.std.specs.Prelude.{Result, Ok, Err, ⊤}
 use Rattle.std.specs.List.{list_all}
 use Rattle.std.specs.Io.KnownBytes.{IsAtEnd}
 use Rattle.line_reader.specs.declared.lines.TheConstants.{LINE_BYTES}
@@ -18,7 +19,8 @@ pub record IsLastLine (bytes line others : List ℕ) : Type 0 where
   pub all : bytes ≡ line
   pub nothing : others ≡ []
 
--- the next line of the bytes, and what follows it: an LF ends a line, and a last line without one counts if it is not empty
+-- the next line of the bytes, and what follows it: an LF ends a line, and a last line without one counts if it is not
+-- empty
 pub record IsNext (bytes line others : List ℕ) : Type 0 where
   pub no_end : HasNoEnd line
   pub short : length line ≤ LINE_BYTES

@@ -1,5 +1,6 @@
 -- What contracts see of a reader of lines (this project's own form).
-use Rattle.std.specs.Prelude.{◌≡◌, ◌+◌, ◌*◌, ℕ, List, length, slice_range, Option, Some, None, Result, Ok, Err, ⊤, ◌≢◌, ◌⊎◌}
+use Rattle.std.specs.Prelude.{◌≡◌, ◌+◌, ◌*◌, ℕ, List, length, slice_range, Option, Some, None, Result, Ok, Err, ⊤, ◌≢◌}
+use Rattle.std.specs.Prelude.{◌⊎◌}
 use Rattle.line_reader.specs.declared.lines.LineReader.{LineReader}
 use Rattle.line_reader.specs.declared.lines.TheConstants.{ROOM}
 use Rattle.line_reader.specs.declared.lines.Ending.{Ending}

@@ -7,7 +7,8 @@ use Rattle.line_reader.specs.Writing.{WritesUpTo, WritesFront}
 use Rattle.line_reader.specs.declared.serving.Why.{Why}
 use Rattle.line_reader.specs.declared.serving.Why.TheVariants.{Closed, TooLong, ReadFault, WriteFault, Memory}
 
--- a connection between two lines: the bytes that are held or still to be read, where they are known, and what answers its lines
+-- a connection between two lines: the bytes that are held or still to be read, where they are known, and what answers
+-- its lines
 pub record BetweenLines (A : Type 0) : Type 0 where
   pub ahead : Option (List ℕ)
   pub desk : A
@@ -60,7 +61,8 @@ KnownCuts (Some bytes) lines None = ⊥
 KnownCuts (Some bytes) lines (Some others) = Cuts bytes lines others
 
 -- the answer to the next line found no memory
-pub record FindsNoMemory {A : Type 0} (fails : A → List ℕ → A → Type 0) (last : BetweenLines A) (desk : A) : Type 0 where
+pub record FindsNoMemory {A : Type 0} (fails : A → List ℕ → A → Type 0) (last : BetweenLines A)
+    (desk : A) : Type 0 where
   pub line : List ℕ
   pub others : Option (List ℕ)
   pub takes : TakesLine last.ahead line others

@@ -1,8 +1,10 @@
 //! Lines in and replies out: what waits is written before a read that could wait.
-ghost use Rattle.std.specs.Prelude.{◌≡◌, ◌<◌, ◌⊎◌, [], true, IfOk, IfSome, OnOk, OnErr, Ok, Err, None};
+ghost use Rattle.std.specs.Prelude.{◌≡◌, ◌<◌, ◌⊎◌, [], true, IfOk, IfSome, OnOk, OnErr, Ok, Err};
+ghost use Rattle.std.specs.Prelude.{None};
 ghost use Rattle.line_reader.specs.Lines.{Gives, HasNoEnd};
 ghost use Rattle.line_reader.specs.Meters.{IsStopped, has_failed};
-ghost use Rattle.line_reader.specs.Readers.{held_bytes, last_line, answer_after, Leaves, weight, IsReady};
+ghost use Rattle.line_reader.specs.Readers.{held_bytes, last_line, answer_after, Leaves, weight};
+ghost use Rattle.line_reader.specs.Readers.{IsReady};
 ghost use Rattle.line_reader.specs.Waiting.{waiting_bytes};
 ghost use Rattle.line_reader.specs.Writing.{WritesUpTo, WritesFront};
 ghost use Rattle.line_reader.specs.declared.lines.Line.TheVariants as line;
@@ -63,8 +65,8 @@ fn read_line<R: Read>(
     lines.next_line(reader)
 }
 
-/// The next line, as `LineReader::next_line` gives it. Where it asks for a read, what waits is written out first: a
-/// writer that fails leaves the reader as it was.
+/// The next line, as `LineReader::next_line` gives it. Where it asks for a read, what waits is
+/// written out first: a writer that fails leaves the reader as it was.
 ///
 /// # Errors
 ///

@@ -1,9 +1,10 @@
 //! A reader of lines.
 //!
-//! Bytes are read into a fixed buffer. A line ends with LF, and a last line without one counts if it is not empty.
-ghost use Rattle.std.specs.Prelude.{ℕ, List, [], ◌≡◌, ◌≤◌, ◌<◌, ◌+◌, ◌-◌, ◌∷◌, ◌++◌, ◌⊎◌, ◌↔◌, true, length, take};
-ghost use Rattle.std.specs.Prelude.{drop, slice_range, MatchOption, IfOk, OnOk, OnErr, IfSome, IfNone, IsTrue, Some, None};
-ghost use Rattle.std.specs.Prelude.{Ok, Err};
+//! Bytes are read into a fixed buffer. A line ends with LF, and a last line without one counts if
+//! it is not empty.
+ghost use Rattle.std.specs.Prelude.{ℕ, List, [], ◌≡◌, ◌≤◌, ◌<◌, ◌+◌, ◌-◌, ◌∷◌, ◌++◌, ◌⊎◌, ◌↔◌};
+ghost use Rattle.std.specs.Prelude.{true, length, take, drop, slice_range, MatchOption, IfOk, OnOk};
+ghost use Rattle.std.specs.Prelude.{OnErr, IfSome, IfNone, IsTrue, Some, None, Ok, Err};
 ghost use Rattle.line_reader.specs.Lines.{HasNoEnd, IsNext, IsTooLong};
 ghost use Rattle.line_reader.specs.Meters.{Reads, IsStopped, has_failed};
 ghost use Rattle.line_reader.specs.declared.lines.TheConstants.{ROOM, LINE_BYTES};
@@ -16,7 +17,8 @@ use std::io::Read;
 /// The most bytes that a line may have, without its LF.
 pub const LINE_BYTES: usize = 65_536;
 
-/// How many bytes the buffer holds: so many that what moves to its front is never more than what was read since the last move.
+/// How many bytes the buffer holds. With this size, no more bytes are moved to the front than were
+/// read since the last move.
 const ROOM: usize = 131_073;
 
 /// What is next.
@@ -88,8 +90,8 @@ fn read_from<R: Read>(
     reader.read(&mut bytes[at..])
 }
 
-/// A reader of lines, with all its room. Each byte is looked for an LF once, however the reads are cut, and bytes move
-/// only where the buffer is full.
+/// A reader of lines, with all its room. Each byte is compared with LF once, however the reads are
+/// cut, and bytes move only when the buffer is full.
 #[derive(Drop)]
 pub struct LineReader {
     /// The buffer.
@@ -114,7 +116,8 @@ pub struct LineReader {
 
 impl LineReader {
     ghost use Rattle.line_reader.specs.Lines.{Gives};
-    ghost use Rattle.line_reader.specs.Readers.{held_bytes, last_line, answer_after, Leaves, weight, IsReady};
+    ghost use Rattle.line_reader.specs.Readers.{held_bytes, last_line, answer_after, Leaves};
+    ghost use Rattle.line_reader.specs.Readers.{weight, IsReady};
     ghost use Rattle.line_reader.specs.Inner.Places.{Adds, HasFirstEnd, Tells, TellsLast, Notes};
     ghost use Rattle.line_reader.specs.declared.lines.Ending.TheVariants as ending;
     ghost use Rattle.line_reader.specs.declared.lines.LineFault.TheVariants as fault;
@@ -276,14 +279,14 @@ impl LineReader {
         }
     }
 
-    /// The next line of what is held and what the reader has left, however it is cut into reads. It takes no memory.
-    /// After the end or a fault each later call answers the same, and reads nothing. It reads nothing either where a
-    /// whole line is held.
+    /// The next line of what is held and what the reader has left, however it is cut into reads. It
+    /// takes no memory. After the end or a fault each later call answers the same, and reads
+    /// nothing. It reads nothing either where a whole line is held.
     ///
     /// # Errors
     ///
-    /// `TooLong` where more than 65,536 bytes stand before the next LF, or the end. `Read` where no whole line is held
-    /// and the reader failed or was read 1,000,000 times.
+    /// `TooLong` where more than 65,536 bytes stand before the next LF, or the end. `Read` where no
+    /// whole line is held and the reader failed or was read 1,000,000 times.
     pub fn next_line<R: Read>(&mut self, reader: &mut MeteredReader<R>) -> Result<Line, LineFault>
         ensures again { IfSome self.old.ending (λ e. (result ≡ answer_after e)
             × (self.new ≡ self.old) × (reader.new ≡ reader.old)) }
@@ -320,8 +323,8 @@ impl LineReader {
     }
 }
 
-/// Bytes have one next line at most, with one rest, and none where more bytes than a line may have stand before an LF,
-/// or the end.
+/// Bytes have at most one next line, with one rest. They have none if more bytes than a line may
+/// have stand before an LF, or the end.
 pub fn bytes_have_one_next_line()
     ensures one { (bytes line others other rest : List ℕ) → IsNext bytes line others
         → IsNext bytes other rest → (line ≡ other) × (others ≡ rest) }

@@ -1,7 +1,7 @@
-//! Meters on a reader, a writer and an allocator: they count how often it failed or refused, and the reader's lets a bounded number of
-//! reads through.
-ghost use Rattle.std.specs.Prelude.{◌≡◌, ◌≤◌, ◌<◌, ◌-◌, ◌⊎◌, length, take, true, MatchOption, IfNone, IfSome};
-ghost use Rattle.std.specs.Prelude.{IfOk, OnOk, OnErr, IsTrue, IsFalse};
+//! Meters on a reader, a writer and an allocator. Each counts how often its device failed or
+//! refused; that of a reader also lets only a bounded number of reads through.
+ghost use Rattle.std.specs.Prelude.{◌≡◌, ◌≤◌, ◌<◌, ◌-◌, ◌⊎◌, length, take, true, MatchOption};
+ghost use Rattle.std.specs.Prelude.{IfNone, IfSome, IfOk, OnOk, OnErr, IsTrue, IsFalse};
 ghost use Rattle.std.specs.Io.KnownBytes.{Appends, Keeps};
 ghost use Rattle.line_reader.specs.Meters.{Reads, has_failed};
 ghost use Rattle.line_reader.specs.declared.meter.TheConstants.{READS};
@@ -64,7 +64,8 @@ impl<R> MeteredReader<R> {
 }
 
 impl<R: Read> MeteredReader<R> {
-    /// Reads once, and says how many bytes came, or none where the reader failed or no read is left.
+    /// Reads once, and says how many bytes came, or none where the reader failed or no read is
+    /// left.
     pub fn read(&mut self, room: &mut [u8]) -> Option<usize>
         ensures bound { IfSome result (λ n. n ≤ length room.new) }
         ensures bytes { Reads (R.remaining self.old.device) (R.remaining self.new.device)
@@ -120,7 +121,8 @@ impl<W> MeteredWriter<W> {
 }
 
 impl<W: Write> MeteredWriter<W> {
-    /// Writes once, and says how many bytes were taken, or none where the writer failed or took nothing.
+    /// Writes once, and says how many bytes were taken, or none where the writer failed or took
+    /// nothing.
     pub fn write(&mut self, bytes: &[u8]) -> Option<usize>
         ensures bound { IfSome result (λ n. (0 < n) × (n ≤ length bytes.now)) }
         ensures bytes { MatchOption result
@@ -139,7 +141,7 @@ impl<W: Write> MeteredWriter<W> {
         }
     }
 
-    /// Hands on what the writer keeps back, and says whether it could.
+    /// Flushes the writer, and says whether it could.
     pub fn flush(&mut self) -> bool
         ensures bytes { Keeps (W.contents self.old.device) (W.contents self.new.device) }
         ensures flushed { IsTrue result → self.new.faults ≡ self.old.faults }
@@ -180,7 +182,7 @@ impl MeteredMemory {
         self.refusals
     }
 
-    /// A buffer of so many zeros.
+    /// A buffer of `count` zeros.
     ///
     /// # Errors
     ///

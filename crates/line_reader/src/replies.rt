@@ -47,7 +47,8 @@ fn place(bytes: &mut Vec<u8>, at: usize, text: &[u8])
     bytes[at..at + text.len()].copy_from_slice(text);
 }
 
-/// Replies that wait, in the order of their lines. The buffer never grows: what finds no room is written out.
+/// Replies that wait, in the order of their lines. The buffer never grows: what finds no room is
+/// written out.
 #[derive(Drop)]
 pub struct Replies {
     bytes: Vec<u8>,
@@ -106,11 +107,13 @@ impl Replies {
         self.filled += text.len();
     }
 
-    /// Adds a reply. Where it finds no room, what waits is written out first, and a reply longer than the buffer with it.
+    /// Adds a reply. Where it finds no room, what waits is written out first, and a reply longer
+    /// than the buffer with it.
     ///
     /// # Errors
     ///
-    /// Where the writer failed or took nothing, and then a front of what waited and of the reply was written.
+    /// Where the writer failed or took nothing, and then a front of what waited and of the reply
+    /// was written.
     pub fn add<W: Write>(
         &mut self,
         writer: &mut MeteredWriter<W>,

@@ -1,10 +1,13 @@
-//! A connection to its end: each line is answered, over any reader and writer, by whatever answers lines.
-ghost use Rattle.std.specs.Prelude.{◌≡◌, ◌<◌, ◌⊎◌, ℕ, List, [], true, map, MatchResult, IfOk, OnOk, OnErr, Ok, Err};
+//! A connection to its end: each line is answered, over any reader and writer, by whatever answers
+//! lines.
+ghost use Rattle.std.specs.Prelude.{◌≡◌, ◌<◌, ◌⊎◌, ℕ, List, [], true, map, MatchResult, IfOk, OnOk};
+ghost use Rattle.std.specs.Prelude.{OnErr, Ok, Err};
 ghost use Rattle.std.specs.Io.KnownBytes.{prepend_known};
 ghost use Rattle.line_reader.specs.Meters.{IsStopped, has_failed};
 ghost use Rattle.line_reader.specs.Readers.{held_bytes, last_line, weight};
 ghost use Rattle.line_reader.specs.Inner.Turns.{IsSound, Turns, IsNextOf};
-ghost use Rattle.line_reader.specs.Serving.{BetweenLines, between, Exchange, Runs, KnownCuts, Serves};
+ghost use Rattle.line_reader.specs.Serving.{BetweenLines, between, Exchange, Runs, KnownCuts};
+ghost use Rattle.line_reader.specs.Serving.{Serves};
 ghost use Rattle.line_reader.specs.Waiting.{waiting_bytes};
 ghost use Rattle.line_reader.specs.Writing.{WritesUpTo, WritesFront};
 ghost use Rattle.line_reader.specs.declared.serving.Why.TheVariants as why;
@@ -20,10 +23,11 @@ use std::io::{Read, Write};
 
 /// What answers the lines of a connection, by a desk that it is lent for each of them.
 pub trait Answerer<D> {
-    /// A line was answered by this text, and left answerer and desk so.
+    /// Relates answerer and desk before, the line, the text of its answer, and both after.
     ghost tells: { (Self × D) → List ℕ → List ℕ → (Self × D) → Type 0 };
 
-    /// A line was answered by nothing, since memory was refused, and left answerer and desk so.
+    /// The same where memory was refused for the text: answerer and desk before, the line, and both
+    /// after.
     ghost fails: { (Self × D) → List ℕ → (Self × D) → Type 0 };
 
     /// The answer to a line, which comes without its LF.
@@ -52,7 +56,7 @@ pub enum Why {
     Memory,
 }
 
-/// The next line, where no ending was met but the end.
+/// The next line. After an ending none is asked for, unless it was the end of the bytes.
 fn take_line<R: Read, W: Write>(
     lines: &mut LineReader,
     replies: &mut Replies,
@@ -151,7 +155,8 @@ fn answer_all<R: Read, W: Write, D, A: Answerer<D>>(
     ensures serves { Serves A.tells A.fails refusal.now
         (between (prepend_known (held_bytes lines.old) (R.remaining reader.old.device))
         (answerer.old, desk.old))
-        result (answerer.new, desk.new) (W.contents writer.old.device) (W.contents writer.new.device)
+        result (answerer.new, desk.new) (W.contents writer.old.device)
+        (W.contents writer.new.device)
         (waiting_bytes replies.old) (waiting_bytes replies.new) }
     ensures read_fault { result ≡ why.ReadFault →
         IsStopped (has_failed reader.old.faults reader.new.faults) reader.new.left }
@@ -184,7 +189,8 @@ pub fn answer_connection<R: Read, W: Write, D, A: Answerer<D>>(
     // or the allocator refused the buffers
     ensures serves { Serves A.tells A.fails refusal.now
         (between (R.remaining reader.old.device) (answerer.old, desk.old))
-        result (answerer.new, desk.new) (W.contents writer.old.device) (W.contents writer.new.device) [] []
+        result (answerer.new, desk.new) (W.contents writer.old.device)
+        (W.contents writer.new.device) [] []
         ⊎ ((result ≡ why.Memory) × (reader.new ≡ reader.old) × (writer.new ≡ writer.old)
         × (answerer.new ≡ answerer.old) × (desk.new ≡ desk.old)
         × (has_failed memory.old.refusals memory.new.refusals ≡ true)) }

@@ -1,5 +1,6 @@
 -- The steps of the word keep the rule of the one list.
-use Rattle.std.proofs.Common.{◌≡◌, ℕ, ◌+◌, ◌<◌, ◌==◌, Bool, true, false, List, [], ◌∷◌, ◌++◌, length, refl, ap, sym, subst, arith, inl, length-append, None}
+use Rattle.std.proofs.Common.{◌≡◌, ℕ, ◌+◌, ◌<◌, ◌==◌, Bool, true, false, List, [], ◌∷◌, ◌++◌, length, refl, ap, sym}
+use Rattle.std.proofs.Common.{subst, arith, inl, length-append, None}
 use Rattle.std.proofs.lemmas.List.{append-nil}
 use Rattle.std.proofs.lemmas.Bool.Decides.{nat_tests}
 use mathlib.Core.List.{IsPrefix}
@@ -21,14 +22,18 @@ moved xs ys n = Unit {0}
 pub opened : IsBook ((4, true) ∷ (0, true) ∷ []) opening_entries
 opened = record { words = refl; list = opening_is_list }
 
-pub adds_goes : (log v : List Entry) (e : Entry) (old : ℕ) → length v ≡ old → IsAccepted v e → IsPolicyList log → IsPrefix v log
+pub adds_goes : (log v : List Entry) (e : Entry) (old : ℕ) → length v ≡ old → IsAccepted v e → IsPolicyList log
+    → IsPrefix v log
     → (b : Bool) → (length log == old) ≡ b
-    → Goes IsBook shown moved 0 (v, (no_nib, None)) (λ n. either (n == old) (old + 1) n) (Adds (step 0 old (old + 1) e) (v, (no_nib, None))) ((length log, true) ∷ (0, true) ∷ []) log
+    → Goes IsBook shown moved 0 (v, (no_nib, None)) (λ n. either (n == old) (old + 1) n)
+    (Adds (step 0 old (old + 1) e) (v, (no_nib, None))) ((length log, true) ∷ (0, true) ∷ []) log
 adds_goes log v e old len may list pre true is =
     let here : length log ≡ old = grind (arith, nat_tests) in
     let same : v ≡ log = begins_whole v log (as_begins v log pre) (omega arith) in
-    let list' : IsPolicyList (log ++ e ∷ []) = list_grows log e list (subst (λ (l : List Entry). IsAccepted l e) same may) in
-    let n : either (length log == old) (old + 1) (length log) ≡ length (log ++ e ∷ []) = rw is (omega (arith, length-append log (e ∷ []))) in (
+    let list' : IsPolicyList (log ++ e ∷ []) = list_grows log e list
+    (subst (λ (l : List Entry). IsAccepted l e) same may) in
+    let n : either (length log == old) (old + 1) (length log) ≡ length (log ++ e ∷ []) =
+    rw is (omega (arith, length-append log (e ∷ []))) in (
       keeps,
       e ∷ [],
       None,
@@ -52,15 +57,21 @@ adds_goes log v e old len may list pre false is =
 
 -- whatever the book is, the exchange adds the entry to all that was seen, or finds that the list is longer
 pub adds_moves : (v : List Entry) (e : Entry) (old : ℕ) → length v ≡ old → IsAccepted v e
-    → Moves IsBook shown moved 0 (v, (no_nib, None)) (λ n. either (n == old) (old + 1) n) (Adds (step 0 old (old + 1) e) (v, (no_nib, None)))
+    → Moves IsBook shown moved 0 (v, (no_nib, None)) (λ n. either (n == old) (old + 1) n)
+    (Adds (step 0 old (old + 1) e) (v, (no_nib, None)))
 adds_moves v e old len may cs log kept pre away =
-    let P : List Cell → Type 0 = λ c. (0 < length c) × ((cell c 0).1 ≡ true) × Goes IsBook shown moved 0 (v, (no_nib, None)) (λ n. either (n == old) (old + 1) n) (Adds (step 0 old (old + 1) e) (v, (no_nib, None))) c log in
+    let P : List Cell → Type 0 = λ c. (0 < length c) × ((cell c 0).1 ≡ true)
+    × Goes IsBook shown moved 0 (v, (no_nib, None)) (λ n. either (n == old) (old + 1) n)
+    (Adds (step 0 old (old + 1) e) (v, (no_nib, None))) c log in
     subst P (sym kept.words) (omega arith, refl, adds_goes log v e old len may kept.list pre (length log == old) refl)
 
 -- whatever the book is, the look sees all of the list, and finds its length
-pub looks_moves : (v : List Entry) → Moves IsBook shown moved 0 (v, (no_nib, None)) (λ n. n) (Looks (step 0 0 0 no_entry) (v, (no_nib, None)))
+pub looks_moves : (v : List Entry) → Moves IsBook shown moved 0 (v, (no_nib, None)) (λ n. n)
+    (Looks (step 0 0 0 no_entry) (v, (no_nib, None)))
 looks_moves v cs log kept pre away =
-    let P : List Cell → Type 0 = λ c. (0 < length c) × ((cell c 0).1 ≡ true) × Goes IsBook shown moved 0 (v, (no_nib, None)) (λ n. n) (Looks (step 0 0 0 no_entry) (v, (no_nib, None))) c log in
+    let P : List Cell → Type 0 = λ c. (0 < length c) × ((cell c 0).1 ≡ true)
+    × Goes IsBook shown moved 0 (v, (no_nib, None)) (λ n. n)
+    (Looks (step 0 0 0 no_entry) (v, (no_nib, None))) c log in
     let all : length (log ++ []) ≡ length log = ap length (append-nil log) in
     subst P (sym kept.words) (
       omega arith,
@@ -70,7 +81,10 @@ looks_moves v cs log kept pre away =
         [],
         None,
         tt,
-        record { words = ap (λ (k : ℕ). (k, true) ∷ (0, true) ∷ []) (sym all); list = subst IsPolicyList (sym (append-nil log)) kept.list },
+        record {
+          words = ap (λ (k : ℕ). (k, true) ∷ (0, true) ∷ []) (sym all);
+          list = subst IsPolicyList (sym (append-nil log)) kept.list;
+        },
         inl (refl, refl),
         all,
       ),

@@ -24,7 +24,8 @@ use Rattle.policy_board.proofs.Beginnings.{begins_push}
 use Rattle.policy_board.proofs.Rules.{Holds, Then, turns}
 
 -- open: the writer's state with the opening entries
-pub publishing_first : (b : Book) (p : Policy) (t : Traced) (pending : List Operation) → t.book ≡ b → t.list ≡ opening_entries → StandsFor p opening_entries → pending ≡ []
+pub publishing_first : (b : Book) (p : Policy) (t : Traced) (pending : List Operation) → t.book ≡ b
+    → t.list ≡ opening_entries → StandsFor p opening_entries → pending ≡ []
     → IsPublishing b p t pending
 publishing_first b p t pending own list stands none = record {
   own = own;
@@ -35,8 +36,10 @@ publishing_first b p t pending own list stands none = record {
 }
 
 -- what is shown once the entry is taken in after what waits
-pub next_is : (p : Policy) (t : Traced) (e : Entry) (trace : Traced) (before pending : List Operation) (next : Policy × Traced)
-    → IsResting (p, t) before → pending ≡ before ++ Add e trace ∷ [] → next ≡ fold after_operation (p, t) pending → next ≡ (absorbed p e, trace)
+pub next_is : (p : Policy) (t : Traced) (e : Entry) (trace : Traced) (before pending : List Operation)
+    (next : Policy × Traced)
+    → IsResting (p, t) before → pending ≡ before ++ Add e trace ∷ [] → next ≡ fold after_operation (p, t) pending
+    → next ≡ (absorbed p e, trace)
 next_is p t e trace before pending next rests is same =
     same
     ∙ (ap (λ (xs : List Operation). fold after_operation (p, t) xs) is
@@ -44,11 +47,13 @@ next_is p t e trace before pending next rests is same =
     ∙ ap (λ (s : Policy × Traced). after_operation s (Add e trace)) rests))
 
 -- the writer's state with one accepted entry more
-pub publishing_more : (b : Book) (p : Policy) (t : Traced) (before : List Operation) (e : Entry) (trace : Traced) → IsPublishing b p t before → IsAccepted t.list e
+pub publishing_more : (b : Book) (p : Policy) (t : Traced) (before : List Operation) (e : Entry) (trace : Traced)
+    → IsPublishing b p t before → IsAccepted t.list e
     → trace.book ≡ b → trace.list ≡ t.list ++ e ∷ [] → IsPublishing b (absorbed p e) trace []
 publishing_more b p t before e trace was accepted own list =
     let few : length t.list < LAST_VERSION = omega (arith, few_entries t.list e was.leaves accepted) in
-    let stands : StandsFor (absorbed p e) (t.list ++ e ∷ []) = accepted_stands p t.list was.stands e.session e.command e few accepted.step in
+    let stands : StandsFor (absorbed p e) (t.list ++ e ∷ []) =
+    accepted_stands p t.list was.stands e.session e.command e few accepted.step in
     record {
       own = own;
       is_list = subst IsPolicyList (sym list) (list_grows t.list e was.is_list accepted);
@@ -58,18 +63,23 @@ publishing_more b p t before e trace was accepted own list =
     }
 
 -- publish: what is shown goes on to the longer list, and the writer sees it
-pub publishes : (b : Book) (place : ℕ) (v : List Entry) (x next : Shown) (before pending : List Operation) (e : Entry) (trace : Traced) → IsPublishing b x.policy x.trace before
-    → IsAccepted x.trace.list e → trace.book ≡ b → trace.list ≡ x.trace.list ++ e ∷ [] → pending ≡ before ++ Add e trace ∷ []
+pub publishes : (b : Book) (place : ℕ) (v : List Entry) (x next : Shown) (before pending : List Operation) (e : Entry)
+    (trace : Traced) → IsPublishing b x.policy x.trace before
+    → IsAccepted x.trace.list e → trace.book ≡ b → trace.list ≡ x.trace.list ++ e ∷ []
+    → pending ≡ before ++ Add e trace ∷ []
     → (let s : Policy × Traced = (next.policy, next.trace) in s) ≡ fold after_operation (x.policy, x.trace) pending
-    → TurnsAt (Holds (λ (y : Shown). y.trace.book) b (λ (y : Shown). y.policy) (λ (y : Shown). y.trace.list)) place v x next (Then (λ (y : Shown). y.trace.book) b (λ (y : Shown). y.policy) (λ (y : Shown). y.trace.list))
+    → TurnsAt (Holds (λ (y : Shown). y.trace.book) b (λ (y : Shown). y.policy) (λ (y : Shown). y.trace.list)) place v x
+    next (Then (λ (y : Shown). y.trace.book) b (λ (y : Shown). y.policy) (λ (y : Shown). y.trace.list))
 publishes b place v x next before pending e trace was accepted own list is same =
     let State : Type 0 = Policy × Traced in
     let s : State = (next.policy, next.trace) in
-    let now : s ≡ (absorbed x.policy e, trace) = next_is x.policy x.trace e trace before pending s was.resting is same in
+    let now : s ≡ (absorbed x.policy e, trace) = next_is x.policy x.trace e trace before pending s was.resting is
+    same in
     let t : next.trace ≡ trace = ap (λ (s : State). s.1) now in
     let after = publishing_more b x.policy x.trace before e trace was accepted own list in
     turns (λ (y : Shown). y.trace.book) b (λ (y : Shown). y.policy) (λ (y : Shown). y.trace.list) place v x next
     (ap (λ (t : Traced). t.book) t ∙ own)
-    (subst (λ (l : List Entry). Begins x.trace.list l) (sym (ap (λ (t : Traced). t.list) t ∙ list)) (begins_push x.trace.list e))
+    (subst (λ (l : List Entry). Begins x.trace.list l) (sym (ap (λ (t : Traced). t.list) t ∙ list))
+    (begins_push x.trace.list e))
     (subst (λ (t : Traced). IsPolicyList t.list) (sym t) after.is_list)
     (subst (λ (s : State). StandsFor s.0 s.1.list) (sym now) after.stands)

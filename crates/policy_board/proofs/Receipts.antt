@@ -23,32 +23,42 @@ module _ {B : Type 0} where
     pub list_is : receipt.list ≡ after
     pub later : Begins before after
 
-  published_tells : (before : List Entry) (receipt : Receipt B) (after : List Entry) (e : Entry) → IsPublished e before (Ok receipt) after → Tells before receipt after
+  published_tells : (before : List Entry) (receipt : Receipt B) (after : List Entry) (e : Entry)
+      → IsPublished e before (Ok receipt) after → Tells before receipt after
   published_tells before receipt after e p =
       let same : receipt ≡ p.receipt = (let is = p.answered in cc) in
-      record { list_is = ap (λ (r : Receipt B). r.list) same ∙ p.list_is; later = subst (Begins before) (sym p.appended) (begins_push before e) }
+      record {
+        list_is = ap (λ (r : Receipt B). r.list) same ∙ p.list_is;
+        later = subst (Begins before) (sym p.appended) (begins_push before e);
+      }
 
-  replied_tells : (before : List Entry) (receipt : Receipt B) (after : List Entry) (decided : Result Entry PolicyRefusal)
+  replied_tells : (before : List Entry) (receipt : Receipt B) (after : List Entry)
+      (decided : Result Entry PolicyRefusal)
       → MatchResult decided
-      (λ e. Answers (list_full JournalFull before e ▸ MayRefuse Memory ▸ accept) (λ r. IsRefused r before (Ok receipt) after) (IsPublished e before (Ok receipt) after))
+      (λ e. Answers (list_full JournalFull before e ▸ MayRefuse Memory ▸ accept)
+      (λ r. IsRefused r before (Ok receipt) after) (IsPublished e before (Ok receipt) after))
       (λ r. IsRefused (Policy r) before (Ok receipt) after)
       → Tells before receipt after
   replied_tells before receipt after (Ok e) h =
-      let all = all_passed (list_full JournalFull before e ▸ MayRefuse Memory ▸ accept) (λ (r : Refusal). IsRefused r before (Ok receipt) after) (IsPublished e before (Ok receipt) after)
+      let all = all_passed (list_full JournalFull before e ▸ MayRefuse Memory ▸ accept)
+      (λ (r : Refusal). IsRefused r before (Ok receipt) after) (IsPublished e before (Ok receipt) after)
       (λ r refused. let is = refused.answered in absurd cc) h in
       published_tells before receipt after e all.1
   replied_tells before receipt after (Err r) h = let is = h.answered in absurd cc
 
   -- the receipt of an accepted command has the list after it, which begins with the list before it
-  pub receipt_tells : (before : List Entry) (session : Option ℕ) (command : AdminCommand) (answer : Result (Receipt B) Refusal) (after : List Entry) (receipt : Receipt B)
+  pub receipt_tells : (before : List Entry) (session : Option ℕ) (command : AdminCommand)
+      (answer : Result (Receipt B) Refusal) (after : List Entry) (receipt : Receipt B)
       → AdminStep before session command answer after → answer ≡ Ok receipt → Tells before receipt after
   receipt_tells before session command answer after receipt step is =
-      let step' : AdminStep before session command (Ok receipt) after = subst (λ a. AdminStep before session command a after) is step in
+      let step' : AdminStep before session command (Ok receipt) after =
+      subst (λ a. AdminStep before session command a after) is step in
       replied_tells before receipt after step'.answer step'.replied
 
 -- a seat that knows a list, keeps an answer's receipt, and then knows the longer list that the answer leaves, is as
 -- the command leaves it
-pub seat_answered : {B : Type 0} (seat known kept new : SeatState) (l m : List Entry) (answer : Result (Receipt B) Refusal) → Begins l m → known ≡ seat_after seat l
+pub seat_answered : {B : Type 0} (seat known kept new : SeatState) (l m : List Entry)
+    (answer : Result (Receipt B) Refusal) → Begins l m → known ≡ seat_after seat l
     → KeepsAnswer known answer m kept → new ≡ seat_after kept m → SeatAfter seat answer m new
 seat_answered seat known kept new l m answer b first keeps last =
     let le : length l ≤ length m = begins_length b in
@@ -59,5 +69,6 @@ seat_answered seat known kept new l m answer b first keeps last =
       known = ap (λ (s : SeatState). s.known) last;
       seen = omega (arith, le, seen, now, keeps.seen);
       read = ap (λ (s : SeatState). s.read) last ∙ (keeps.read ∙ ap (λ (s : SeatState). s.read) first);
-      kept = ap (λ (s : SeatState). s.kept) last ∙ (keeps.kept ∙ ap (λ (ks : List Kept). ks ++ admin_receipt answer m) was);
+      kept = ap (λ (s : SeatState). s.kept) last
+          ∙ (keeps.kept ∙ ap (λ (ks : List Kept). ks ++ admin_receipt answer m) was);
     }

@@ -22,7 +22,8 @@ pub kept_opening : (p : Policy) → StandsFor p opening_entries → IsKept p ope
 kept_opening p st = record {
   is_list = opening_is_list;
   stands = st;
-  begins = λ place v e. subst (λ (l : List Entry). Begins l opening_entries) (single opening_entries v place e) (begins_self opening_entries);
+  begins = λ place v e. subst (λ (l : List Entry). Begins l opening_entries) (single opening_entries v place e)
+      (begins_self opening_entries);
 }
 
 module _ {T : Type 0} (book_of : T → Book) (b : Book) (policy : T → Policy) (front : T → List Entry) where
@@ -39,12 +40,16 @@ module _ {T : Type 0} (book_of : T → Book) (b : Book) (policy : T → Policy) 
     record {
       is_list = h.1.is_list;
       stands = h.1.stands;
-      begins = λ place v at. ⊎_elim (h.1.begins place v) (λ (e : opening_entries ≡ v). subst (λ (l : List Entry). Begins l (front x)) e h.1.is_list.opens) (at_snoc views opening_entries v place at);
+      begins =
+          λ place v at. ⊎_elim (h.1.begins place v)
+          (λ (e : opening_entries ≡ v). subst (λ (l : List Entry). Begins l (front x)) e h.1.is_list.opens)
+          (at_snoc views opening_entries v place at);
     },
   )
 
   -- a step that goes on to a longer list
-  pub turns : (place : ℕ) (v : List Entry) (x y : T) → book_of y ≡ b → Begins (front x) (front y) → IsPolicyList (front y) → StandsFor (policy y) (front y) → TurnsAt Holds place v x y Then
+  pub turns : (place : ℕ) (v : List Entry) (x y : T) → book_of y ≡ b → Begins (front x) (front y)
+      → IsPolicyList (front y) → StandsFor (policy y) (front y) → TurnsAt Holds place v x y Then
   turns place v x y book up is stands views h at = (
     front y,
     (
@@ -53,7 +58,8 @@ module _ {T : Type 0} (book_of : T → Book) (b : Book) (policy : T → Policy) 
         is_list = is;
         stands = stands;
         begins = λ j u e. ⊎_elim
-            (λ (t : (j ≡ place) × (front y ≡ u)). subst (λ (l : List Entry). Begins l (front y)) t.1 (begins_self (front y)))
+            (λ (t : (j ≡ place) × (front y ≡ u)). subst (λ (l : List Entry). Begins l (front y)) t.1
+            (begins_self (front y)))
             (λ (t : (j ≢ place) × (get_elem? views j ≡ some u)). begins_trans (h.1.begins j u t.1) up)
             (at_set views place j (front y) u e);
       },

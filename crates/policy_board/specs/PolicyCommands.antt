@@ -1,5 +1,6 @@
 -- What a policy command is answered, and the policy list and the seat afterwards (this project's own form).
-use Rattle.std.specs.Prelude.{◌≡◌, ℕ, ◌+◌, max, List, [], ◌∷◌, ◌++◌, length, Option, Some, None, if◌then◌else◌, Result, Ok, Err}
+use Rattle.std.specs.Prelude.{◌≡◌, ℕ, ◌+◌, max, List, [], ◌∷◌, ◌++◌, length, Option, Some, None, if◌then◌else◌, Result}
+use Rattle.std.specs.Prelude.{Ok, Err}
 use Rattle.rbac_policy.specs.declared.commands.AdminCommand.{AdminCommand}
 use Rattle.rbac_policy.specs.declared.commands.Entry.{Entry}
 use Rattle.rbac_policy.specs.Entries.{is_login, logins}
@@ -21,13 +22,15 @@ session_made before entry = if is_login entry then Some (logins before + 1) else
 
 module _ {B : Type 0} where
   -- the answer is this refusal, and the list stays
-  pub record IsRefused (refusal : Refusal) (before : List Entry) (answer : Result (Receipt B) Refusal) (after : List Entry) : Type 0 where
+  pub record IsRefused (refusal : Refusal) (before : List Entry) (answer : Result (Receipt B) Refusal)
+      (after : List Entry) : Type 0 where
     pub answered : answer ≡ Err refusal
     pub stays : after ≡ before
 
-  -- the entry, and no other, is put at the end of the list. The answer is its receipt, with the list that ends with it, and with the session
-  -- that it makes
-  pub record IsPublished (entry : Entry) (before : List Entry) (answer : Result (Receipt B) Refusal) (after : List Entry) : Type 0 where
+  -- the entry, and no other, is put at the end of the list. The answer is its receipt, with the list that ends with it,
+  -- and with the session that it makes
+  pub record IsPublished (entry : Entry) (before : List Entry) (answer : Result (Receipt B) Refusal)
+      (after : List Entry) : Type 0 where
     pub receipt : Receipt B
     pub answered : answer ≡ Ok receipt
     pub entry_is : receipt.entry ≡ entry
@@ -35,9 +38,10 @@ module _ {B : Type 0} where
     pub session_is : receipt.session ≡ session_made before entry
     pub appended : after ≡ before ++ entry ∷ []
 
-  -- what the policy step answers on the list: its refusal, which leaves the list; or its entry, which is published, unless the list is full
-  -- or memory is refused, which leave the list too
-  abbrev pub AdminStep : (before : List Entry) → Option ℕ → AdminCommand → (answer : Result (Receipt B) Refusal) → (after : List Entry) → Type 0
+  -- what the policy step answers on the list: its refusal, which leaves the list; or its entry, which is published,
+  -- unless the list is full or memory is refused, which leave the list too
+  abbrev pub AdminStep : (before : List Entry) → Option ℕ → AdminCommand → (answer : Result (Receipt B) Refusal)
+      → (after : List Entry) → Type 0
   AdminStep before session command answer after =
       StepsOnList list_refusals before session command (λ refusal. IsRefused refusal before answer after)
       (λ entry. IsPublished entry before answer after)
@@ -55,7 +59,8 @@ module _ {B : Type 0} where
 
   -- the seat knows the whole list as the policy command leaves it, whatever the answer. The receipt of an accepted
   -- one stands at the end of its receipts; a refused one leaves them. Its own reader has no part in it
-  pub record SeatAfter (old : SeatState) (answer : Result (Receipt B) Refusal) (after : List Entry) (new : SeatState) : Type 0 where
+  pub record SeatAfter (old : SeatState) (answer : Result (Receipt B) Refusal) (after : List Entry)
+      (new : SeatState) : Type 0 where
     pub known : new.known ≡ after
     pub seen : new.seen ≡ max old.seen (length after)
     pub read : new.read ≡ old.read

@@ -6,8 +6,8 @@ use Rattle.policy_board.specs.SeatState.{SeatState, KeepsReceipts}
 use Rattle.policy_board.specs.declared.refusal.Refusal.{Refusal}
 use Rattle.policy_board.specs.declared.refusal.Refusal.TheVariants.{Behind, Memory}
 
--- the seat's reader has read a policy list. It begins with all that this reader had read and all that the seat knew, and
--- is no shorter than the seat's seen number; the seat then knows it, and keeps its receipts
+-- the seat's reader has read a policy list. It begins with all that this reader had read and all that the seat knew,
+-- and is no shorter than the seat's seen number; the seat then knows it, and keeps its receipts
 pub record HasRead (old : SeatState) (list : List Entry) (new : SeatState) : Type 0 where
   pub is_list : IsPolicyList list
   pub further : Begins old.read list
@@ -18,8 +18,8 @@ pub record HasRead (old : SeatState) (list : List Entry) (new : SeatState) : Typ
   pub seen : new.seen ≡ length list
   pub receipts : KeepsReceipts old new
 
--- the policy list that the seat's reader then has, which begins with what it had, is shorter than the seat's seen number,
--- and the refusal tells both lengths. Nothing else of the seat changes
+-- the policy list that the seat's reader then has, which begins with what it had, is shorter than the seat's seen
+-- number, and the refusal tells both lengths. Nothing else of the seat changes
 pub record IsBehind (old : SeatState) (refusal : Refusal) (new : SeatState) : Type 0 where
   pub is_list : IsPolicyList new.read
   pub further : Begins old.read new.read
@@ -32,7 +32,7 @@ pub record IsUnreadable (old : SeatState) (refusal : Refusal) (new : SeatState) 
   pub answered : refusal ≡ Memory
   pub stays : new ≡ old
 
--- a read that is refused: what was read is behind, or nothing could be read
+-- a read that is refused: what was read is too old (Behind), or nothing could be read
 abbrev pub IsUnread : (old : SeatState) → Refusal → (new : SeatState) → Type 0
 IsUnread old refusal new = IsBehind old refusal new ⊎ IsUnreadable old refusal new
 

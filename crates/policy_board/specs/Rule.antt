@@ -1,5 +1,5 @@
--- The rule of the published policy: what holds, between any two steps of any threads, of the policy that readers are shown and of what each
--- reader, and the writer, has seen (this project's own form). Its kinds of step are
+-- The rule of the published policy: what holds, between any two steps of any threads, of the policy that readers are
+-- shown and of what each reader, and the writer, has seen (this project's own form). Its kinds of step are
 --
 --   open      all views begin, with the opening entries; a later reader's view is put beside them
 --   publish   the shown policy takes in one entry, once, and the writer's view is the list with it
@@ -25,8 +25,8 @@ pub record IsKept (policy : Policy) (list : List Entry) (views : List (List Entr
   pub stands : StandsFor policy list
   pub begins : (place : ℕ) (view : List Entry) → get_elem? views place ≡ some view → Begins view list
 
--- what a step tells of the view before it, of what is then shown and of the view after it: all that is shown is seen, and it begins with
--- what was seen before
+-- what a step tells of the view before it, of what is then shown and of the view after it: all that is shown is seen,
+-- and it begins with what was seen before
 pub record IsSeen (before : List Entry) (policy : Policy) (list after : List Entry) : Type 0 where
   pub all : after ≡ list
   pub later : Begins before list

@@ -21,8 +21,8 @@ use seat_receipts::mismatch::Mismatch;
 use seat_receipts::receipt::{Kept, SlotReceipt};
 use std::sync::{Mutex, MutexGuard, Wait};
 
-/// The policy of a server, which many threads share, and the tally of its slot commands. Commands take turns under
-/// the admin lock; reads wait for nobody.
+/// The policy of a server, which many threads share, and the tally of its slot commands. Commands
+/// take turns under the admin lock; reads wait for nobody.
 pub struct Board<B: BoardName> {
     desk: Mutex<LockedPolicy<B>>,
     // The number of the last slot command that was counted.
@@ -37,8 +37,9 @@ impl<B: BoardName> Board<B> {
         }
     }
 
-    /// Answers a policy command, which this session gives, on the list as it is under the admin lock: `before`. It waits for that lock, and
-    /// for reads that still have the older policy. The seat keeps the receipt of an accepted one.
+    /// Answers a policy command, which this session gives, on the list as it is under the admin
+    /// lock: `before`. It waits for that lock, and for reads that still have the older policy. The
+    /// seat keeps the receipt of an accepted one.
     ///
     /// # Errors
     ///
@@ -63,8 +64,8 @@ impl<B: BoardName> Board<B> {
         answer
     }
 
-    /// Gives the receipt of a slot command the next number of the tally, for which it waits, and has the seat keep
-    /// it. The first number is 1; the greatest would be given again.
+    /// Gives the receipt of a slot command the next number of the tally, for which it waits, and
+    /// has the seat keep it. The first number is 1; the greatest would be given again.
     pub fn count<R: Wait>(&self, rt: &R, seat: &mut Seat<B>, receipt: SlotReceipt)
         requires { HasRoom seat.old }
         ensures { IsCounted seat.old receipt seat.new }

@@ -1,5 +1,6 @@
 //! The one list of accepted entries, which exists in the proofs alone, and what was seen of it.
-ghost use Rattle.std.specs.Prelude.{◌≡◌, [], ◌<◌, ◌≤◌, ◌==◌, ◌^◌, ◌++◌, ◌∷◌, length, MatchBool, IfSome, IsTrue};
+ghost use Rattle.std.specs.Prelude.{◌≡◌, [], ◌<◌, ◌≤◌, ◌==◌, ◌^◌, ◌++◌, ◌∷◌, length, MatchBool};
+ghost use Rattle.std.specs.Prelude.{IfSome, IsTrue};
 ghost use Rattle.rbac_policy.specs.Opening.{opening_entries};
 ghost use Rattle.rbac_admin.specs.PolicyLists.{Begins, IsAccepted, IsPolicyList};
 ghost use Rattle.policy_board.specs.Inner.Book.{head_of};
@@ -33,7 +34,7 @@ impl Rule<Entry, u64> for Law {
     ghost moves = { λ ask before after answer. Unit {0} };
 }
 
-/// Callers trade nothing.
+/// What a caller has beside the answer when its update has run (`Gain` asks for it): here nothing.
 pub struct Nothing;
 
 impl Gain<Entry, u64> for Nothing {
@@ -77,7 +78,8 @@ impl Plain<(), Entry, u64> for Looking {
     ghost state = { λ about. None };
 }
 
-/// Which board it is. Each call of a program picks it.
+/// The name of a board, as a type: by it the board's parts know that they are of one list. It is
+/// never looked at when the program runs.
 pub trait BoardName {
     ghost use Rattle.logbook.specs.Pages.{Book};
 
@@ -230,7 +232,8 @@ impl<B: BoardName> Front<B> {
         }
     }
 
-    /// Of two fronts one begins the other. True where this one begins the other.
+    /// Whether this front begins the other. If it doesn't, the other begins this one, and is
+    /// shorter.
     pub fn begins(&self, other: &Front<B>) -> bool
         ensures { MatchBool result
             (Begins self.now other.now) (Begins other.now self.now
@@ -249,7 +252,8 @@ impl<B: BoardName> Front<B> {
         }
     }
 
-    /// Whether the list has no more entries than were seen. Then the other front begins this one. It waits for nobody.
+    /// Whether the list has no more entries than were seen. Then the other front begins this one.
+    /// It waits for nobody.
     pub(crate) fn is_whole(&self, head: &Head<B>, other: &Front<B>) -> bool
         ensures { IsTrue result → Begins other.now self.now }
     {
@@ -288,7 +292,8 @@ fn begins(one: &Trace, other: &Trace) -> bool
     true
 }
 
-// Looks at the list when both traces are known to begin it: where it has as many entries as the one, that is all of it.
+// Looks at the list when both traces are known to begin it: where it has as many entries as the
+// one, that is all of it.
 fn is_whole(one: &Trace, head: &Word<Entry, u64, Law>, other: &Trace) -> bool
     requires head { head.now ≡ head_of one.now.book }
     requires book { other.now.book ≡ one.now.book }

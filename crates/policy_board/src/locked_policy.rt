@@ -1,10 +1,12 @@
 //! What lies under the admin lock: the writer, and the journal of all accepted entries.
-ghost use Rattle.std.specs.Prelude.{◌≡◌, ◌++◌, ◌∷◌, [], ◌<◌, List, Some, IsNone, length, IfOk, MatchResult};
+ghost use Rattle.std.specs.Prelude.{◌≡◌, ◌++◌, ◌∷◌, [], ◌<◌, List, Some, IsNone, length, IfOk};
+ghost use Rattle.std.specs.Prelude.{MatchResult};
 ghost use Rattle.rbac_policy.specs.declared.commands.Entry.{Entry};
 ghost use Rattle.rbac_policy.specs.StandsFor.{StandsFor};
 ghost use Rattle.refusal_rules.specs.Rules.{accept, MayRefuse, ◌▸◌, Answers};
 ghost use Rattle.rbac_admin.specs.PolicyLists.{Begins, IsAccepted, IsPolicyList};
-ghost use Rattle.policy_board.specs.PolicyCommands.{AdminStep, IsPublished, IsRefused, SeatAfter, session_made};
+ghost use Rattle.policy_board.specs.PolicyCommands.{AdminStep, IsPublished, IsRefused, SeatAfter};
+ghost use Rattle.policy_board.specs.PolicyCommands.{session_made};
 ghost use Rattle.policy_board.specs.Inner.Keeping.{KeepsAnswer};
 ghost use Rattle.seat_receipts.specs.declared.mismatch.TheConstants.{POLICY_LIST};
 ghost use Rattle.seat_receipts.specs.declared.mismatch.Mismatch.TheVariants.{Count};
@@ -42,7 +44,7 @@ impl<B: BoardName> Model for LockedPolicy<B> {
     ghost invariant = { λ d. d.publisher ≡ Some d.journal };
 }
 
-// The place is empty.
+// Puts the value into the place, which is empty.
 fn put_back<T>(place: &mut Option<T>, value: T)
     requires { IsNone place.old }
     ensures { place.new ≡ Some value }
@@ -53,7 +55,8 @@ fn put_back<T>(place: &mut Option<T>, value: T)
     }
 }
 
-// Three copies of the entry: one is published, one goes into the answer, and one into the receipt that the seat keeps.
+// Three copies of the entry: one is published, one goes into the answer, and one into the receipt
+// that the seat keeps.
 fn copies(entry: &Entry) -> Result<(Entry, Entry, Entry), AllocError>
     ensures { IfOk result (λ all. (all.0 ≡ entry.now) × (all.1 ≡ entry.now) × (all.2 ≡ entry.now)) }
 {
@@ -76,7 +79,7 @@ fn session_made(policy: &Policy, entry: &Entry) -> Option<SessionId>
 }
 
 impl<B: BoardName> LockedPolicy<B> {
-    /// Of a writer that shows the list of the journal.
+    /// The writer and the journal. The writer shows the list of the journal.
     pub fn new(publisher: Publisher<B>, journal: PolicyJournal) -> LockedPolicy<B>
         requires { publisher ≡ journal }
         ensures { result ≡ journal }
@@ -87,8 +90,8 @@ impl<B: BoardName> LockedPolicy<B> {
         }
     }
 
-    // Publishes the entry, and has the seat keep its receipt. All that may be refused has been asked, but for memory,
-    // which is taken first.
+    // Publishes the entry, and has the seat keep its receipt. All that may be refused has been
+    // asked, but for memory, which is taken first.
     fn append<R: Wait>(
         &mut self,
         rt: &R,
@@ -96,7 +99,8 @@ impl<B: BoardName> LockedPolicy<B> {
         entry: Entry,
     ) -> Result<Receipt<B>, Refusal>
         requires { IsAccepted self.old entry }
-        ensures answer { Answers (MayRefuse Refusal.Memory ▸ accept) (λ refusal. IsRefused refusal self.old result
+        ensures answer { Answers (MayRefuse Refusal.Memory ▸ accept)
+            (λ refusal. IsRefused refusal self.old result
             self.new) (IsPublished entry self.old result self.new) }
         ensures seat { KeepsAnswer seat.old result self.new seat.new }
     {
@@ -121,7 +125,8 @@ impl<B: BoardName> LockedPolicy<B> {
         Ok(receipt)
     }
 
-    // The answer to a policy command: its entry is decided on the policy that is published, and appended where there is room.
+    // The answer to a policy command: its entry is decided on the policy that is published, and
+    // appended where there is room.
     fn answer<R: Wait>(
         &mut self,
         rt: &R,
@@ -143,8 +148,8 @@ impl<B: BoardName> LockedPolicy<B> {
         self.append(rt, seat, entry)
     }
 
-    /// Answers a policy command. An accepted one adds its entry at the end, and publishes it. The seat then knows the
-    /// list, and keeps the receipt of an accepted one.
+    /// Answers a policy command. An accepted one adds its entry at the end, and publishes it. The
+    /// seat then knows the list, and keeps the receipt of an accepted one.
     pub fn admin<R: Wait>(
         &mut self,
         rt: &R,

@@ -1,5 +1,6 @@
 //! A new board, with its seats and readers.
-ghost use Rattle.std.specs.Prelude.{◌≡◌, ◌≤◌, [], drop, replicate, vec_capacity, IfOk, IfErr, IfSome};
+ghost use Rattle.std.specs.Prelude.{◌≡◌, ◌≤◌, [], drop, replicate, vec_capacity, IfOk, IfErr};
+ghost use Rattle.std.specs.Prelude.{IfSome};
 ghost use Rattle.rbac_policy.specs.Opening.{opening_entries};
 ghost use Rattle.rbac_policy.specs.declared.objects.TheConstants.{SLOTS};
 ghost use Rattle.seat_receipts.specs.declared.receipts.TheConstants.{SEATS};
@@ -29,7 +30,7 @@ pub struct Opened<B: BoardName> {
     pub readers: Vec<SlotReader<B>>,
 }
 
-// A writer that shows the opening policy, with room for so many readers.
+// A writer that shows the opening policy, with room for n readers.
 fn open_writer<B: BoardName>(
     alloc: Global,
     opening: &Front<B>,
@@ -53,7 +54,7 @@ fn open_writer<B: BoardName>(
     Ok(writer)
 }
 
-// So many readers, in room that was made for them, where there is a place for each.
+// n readers, in room that was made for them; none if `left_right` has no place for one of them.
 fn fill_readers<B: BoardName>(
     room: Vec<SlotReader<B>>,
     publisher: &Publisher<B>,
@@ -74,7 +75,8 @@ fn fill_readers<B: BoardName>(
     Some(readers)
 }
 
-// So many seats, in room that was made for them, where there is a place for the reader of each.
+// n seats, in room that was made for them; none if `left_right` has no place for the reader of one
+// of them.
 fn fill_seats<B: BoardName>(
     alloc: Global,
     room: Vec<Seat<B>>,
@@ -135,8 +137,8 @@ fn open_parts<B: BoardName, R: Wait>(
 }
 
 impl<B: BoardName> Board<B> {
-    /// A board under the name of a fresh list, with so many seats, and a reader for each slot. Each can read, and none has seen more than the
-    /// opening entries.
+    /// A board under the name of a fresh list, with n seats, and a reader for each slot. Each can
+    /// read, and none has seen more than the opening entries.
     ///
     /// # Errors
     ///

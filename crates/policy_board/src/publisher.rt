@@ -34,7 +34,8 @@ impl<B: BoardName> Model for Publisher<B> {
         p.writer.desk.shown.value.trace (drop p.writer.behind p.writer.log.items) };
 }
 
-// Has the writer take the operation up. It would wait where memory is refused, but `Publisher::new` made the room.
+// Has the writer take up the operation. If memory is refused, it asks again. `Publisher::new` made
+// the room, so the first turn does it.
 fn append<B: BoardName, R: Wait>(
     rt: &R,
     writer: PolicyWriter<B>,
@@ -103,8 +104,8 @@ fn show<B: BoardName, R: Wait>(
 }
 
 impl<B: BoardName> Publisher<B> {
-    /// Of a writer that shows the opening policy. It makes the room for what will wait to be published: one operation, since
-    /// each is published before the next comes.
+    /// A publisher of this writer, which shows the opening policy. It makes the room for what will
+    /// wait to be published: one operation, since each is published before the next comes.
     ///
     /// # Errors
     ///
@@ -143,7 +144,9 @@ impl<B: BoardName> Publisher<B> {
         SlotReader::new(&self.writer, opening)
     }
 
-    /// Waits until all entries are published: at once, since entries are published where they are added. The other front then begins the list.
+    /// Waits until the published list is seen to be whole; then the other front begins it. Entries
+    /// are published when they are added, and no other thread adds any meanwhile, so the first turn
+    /// sees that.
     pub fn wait_whole<R: Wait>(&self, rt: &R, known: &Front<B>)
         ensures { Begins known.now self.now }
     {
@@ -156,7 +159,8 @@ impl<B: BoardName> Publisher<B> {
         unreachable!()
     }
 
-    /// Adds the entry to the list, and shows it to the readers. It waits for those that still read the other copy.
+    /// Adds the entry to the list, and shows it to the readers. It waits for those that still read
+    /// the other copy.
     pub fn publish<R: Wait>(self, rt: &R, entry: Entry) -> Publisher<B>
         requires { IsAccepted self entry }
         ensures { result ≡ self ++ entry ∷ [] }

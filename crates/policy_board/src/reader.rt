@@ -12,7 +12,8 @@ use rbac_policy::policy::Policy;
 use std::collections::LinkedList;
 use std::marker::Model;
 
-/// A reader that is not reading. Each can read: there is none that could not be asked to. A contract sees the policy list that it has seen.
+/// A reader that is not reading; it can always begin to. A contract sees the policy list that it
+/// has seen.
 #[derive(Drop)]
 pub struct SlotReader<B: BoardName> {
     reader: PolicyReader<B>,
@@ -31,7 +32,8 @@ impl<B: BoardName> Model for SlotReader<B> {
     ghost invariant = { λ s. seen_at s.reader.place ≡ s.front };
 }
 
-/// A read. A contract sees the policy list that the policy stands for. End it by `leave`: a publication waits for it.
+/// A read. A contract sees the policy list that the policy stands for. End it by `leave`: a
+/// publication waits for it.
 pub struct Reading<B: BoardName> {
     reading: reader::Reading<Shown, LinkedList<Entry>, Published<B>>,
     front: Front<B>,
@@ -66,7 +68,8 @@ impl<B: BoardName> SlotReader<B> {
         }
     }
 
-    /// Reads the policy that was published last. What is read begins with all that this reader has seen. It waits for nobody.
+    /// Reads the policy that was published last. What is read begins with all that this reader has
+    /// seen. It waits for nobody.
     ///
     /// # Errors
     ///

@@ -8,7 +8,8 @@ pub enum Refusal {
     Policy(PolicyRefusal),
     /// The policy list has as many entries as it may have.
     JournalFull,
-    /// The policy that was read is older than one seen before: its version, and the version that was seen.
+    /// The policy that was read is older than one seen before: its version, and the version that
+    /// was seen.
     Behind { found: u64, seen: u64 },
     /// Memory was refused, or the policy could not be read.
     Memory,

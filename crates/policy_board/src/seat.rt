@@ -20,7 +20,8 @@ use seat_receipts::receipts::Receipts;
 use std::alloc::Global;
 use std::marker::Model;
 
-/// What an accepted policy command leaves its caller: its entry, the list that ends with it, and the session that it made, if it is a login.
+/// What an accepted policy command leaves its caller: its entry, the list that ends with it, and
+/// the session that it made, if it is a login.
 #[derive(Drop)]
 pub struct Receipt<B: BoardName> {
     pub(crate) entry: Entry,
@@ -58,8 +59,8 @@ impl<B: BoardName> Receipt<B> {
     }
 }
 
-/// A caller's place. What it asks is answered for a policy that is no older than any that it has seen or was told of.
-/// It keeps the receipts of its calls that added an entry, in their order.
+/// A caller's place. What it asks is answered for a policy that is no older than any that it has
+/// seen or was told of. It keeps the receipts of its calls that added an entry, in their order.
 #[derive(Drop)]
 pub struct Seat<B: BoardName> {
     // It is away only while a call of the seat reads.
@@ -88,7 +89,8 @@ impl<B: BoardName> Model for Seat<B> {
         × (length s.known ≤ max s.seen (length opening_entries)) };
 }
 
-// Reads. What is read is then known, unless it is older than what was seen. A refused read hands the reader back.
+// Reads. What is read is then known, unless it is older than what was seen. A refused read hands
+// the reader back.
 fn read_newer<B: BoardName>(
     reader: SlotReader<B>,
     known: &mut Front<B>,
@@ -138,7 +140,7 @@ impl<B: BoardName> Seat<B> {
         self.seen
     }
 
-    /// It has seen this version.
+    /// Notes that it has seen this version.
     pub fn saw(&mut self, version: u64)
         ensures { self.new ≡ record self.old { seen = max self.old.seen version } }
     {
@@ -168,7 +170,7 @@ impl<B: BoardName> Seat<B> {
         }
     }
 
-    /// It keeps this receipt, at the end of the others.
+    /// Keeps this receipt, at the end of the others.
     pub(crate) fn keep(&mut self, kept: Kept)
         requires { HasRoom self.old }
         ensures { self.new ≡ seat_keeping self.old kept }
@@ -184,7 +186,8 @@ impl<B: BoardName> Seat<B> {
         Receipts::from_vec(kept)
     }
 
-    /// It has seen this list, which is no shorter than its seen number: so the list begins with all that it knew.
+    /// Notes that it has seen this list, which is no shorter than its seen number: so the list
+    /// begins with all that it knew.
     pub fn saw_list(&mut self, list: &Front<B>)
         requires { self.old.seen ≤ length list.now }
         ensures later { Begins self.old.known list.now }
@@ -204,7 +207,7 @@ impl<B: BoardName> Seat<B> {
         &self.known
     }
 
-    /// It knows this list, which begins with what it knew.
+    /// Notes that it knows this list, which begins with what it knew.
     pub(crate) fn know(&mut self, list: &Front<B>)
         requires { Begins self.old.known list.now }
         ensures { self.new ≡ seat_after self.old list.now }
@@ -213,7 +216,7 @@ impl<B: BoardName> Seat<B> {
         self.known = list.again();
     }
 
-    /// It is told of the receipt's list: from now on it is answered for no shorter one.
+    /// Learns of the receipt's list: from now on it is answered for no shorter one.
     pub fn learn(&mut self, receipt: Receipt<B>)
         ensures before { Begins self.old.known self.new.known }
         ensures told { Begins receipt.list self.new.known }

@@ -22,7 +22,7 @@ pub struct Shown {
 /// What the writer has both copies take in.
 #[derive(Drop)]
 pub enum Operation {
-    /// Changes nothing. Where it waits, there is room for what comes after it.
+    /// Does nothing. It is put before the first entry, to make room in the log for later ones.
     Room,
     /// An entry, with the list that ends with it.
     Add { entry: Entry, trace: Trace },

@@ -2,7 +2,8 @@
 use Rattle.std.proofs.Common.{refl, inl, inr, ◌≡◌, ◌∙◌, ◌⊎◌, ◌↔◌, sym, subst, ℕ, List, IsTrue, true, false, Bool, rules}
 use Rattle.std.specs.Prelude.{IsFalse, Option, Some, Result, Ok, Err}
 use Rattle.std.proofs.lemmas.Option.{same_Some}
-use Rattle.refusal_rules.specs.Rules.{Rule, Rules, accept, ◌▸◌, ◌▸▸◌, Says, Unless, Refuses, Passes, Answers, AllPass, Tests}
+use Rattle.refusal_rules.specs.Rules.{Rule, Rules, accept, ◌▸◌, ◌▸▸◌, Says, Unless, Refuses, Passes, Answers, AllPass}
+use Rattle.refusal_rules.specs.Rules.{Tests}
 use Rattle.refusal_rules.proofs.RuleLemmas.{refuse, pass, append, accepted, all_passed}
 use Rattle.rbac_policy.specs.declared.commands.AdminCommand.{AdminCommand}
 use Rattle.rbac_policy.specs.declared.commands.Entry.{Entry}
@@ -28,25 +29,33 @@ pub checked : (all : Rules Refusal) → Checks all (Ok (record {})) → AllPass 
 checked all h = (all_passed all _ _ (λ refusal is. absurd cc) h).0
 
 -- rules that let pass leave the answer to those after them
-pub skip : (first later : Rules Refusal) (Refused : Refusal → Type 0) (Accepted : Type 0) → AllPass first → Answers later Refused Accepted
+pub skip : (first later : Rules Refusal) (Refused : Refusal → Type 0) (Accepted : Type 0) → AllPass first
+    → Answers later Refused Accepted
     → Answers (first ▸▸ later) Refused Accepted
-skip first later Refused Accepted all next = append first later Refused Accepted (accepted first Refused (Answers later Refused Accepted) all next)
+skip first later Refused Accepted all next = append first later Refused Accepted
+    (accepted first Refused (Answers later Refused Accepted) all next)
 
 -- what is said of one answer by the rules is said of another
-pub mapped : (all : Rules Refusal) (Refused Other : Refusal → Type 0) (Next Accepted : Type 0) → ((refusal : Refusal) → Refused refusal → Other refusal)
+pub mapped : (all : Rules Refusal) (Refused Other : Refusal → Type 0) (Next Accepted : Type 0)
+    → ((refusal : Refusal) → Refused refusal → Other refusal)
     → (Next → Accepted) → Answers all Refused Next → Answers all Other Accepted
 mapped accept Refused Other Next Accepted refused next h = next h
-mapped (rule ▸ later) Refused Other Next Accepted refused next (inl r) = refuse r.refusal r.given (refused r.refusal r.answered)
-mapped (rule ▸ later) Refused Other Next Accepted refused next (inr p) = pass p.passed (mapped later Refused Other Next Accepted refused next p.next)
+mapped (rule ▸ later) Refused Other Next Accepted refused next (inl r) =
+    refuse r.refusal r.given (refused r.refusal r.answered)
+mapped (rule ▸ later) Refused Other Next Accepted refused next (inr p) =
+    pass p.passed (mapped later Refused Other Next Accepted refused next p.next)
 
 -- a refusal by the first rules is one by all
-pub stop : (first later : Rules Refusal) (Refused Other : Refusal → Type 0) (Next Accepted : Type 0) → ((refusal : Refusal) → Refused refusal → Other refusal)
+pub stop : (first later : Rules Refusal) (Refused Other : Refusal → Type 0) (Next Accepted : Type 0)
+    → ((refusal : Refusal) → Refused refusal → Other refusal)
     → (Next → ⊥) → Answers first Refused Next → Answers (first ▸▸ later) Other Accepted
 stop first later Refused Other Next Accepted refused none h =
-    append first later Other Accepted (mapped first Refused Other Next (Answers later Other Accepted) refused (λ n. absurd (none n)) h)
+    append first later Other Accepted
+    (mapped first Refused Other Next (Answers later Other Accepted) refused (λ n. absurd (none n)) h)
 
 -- a test of one rule
-pub tested : (rule : Rule Refusal) (answer : Result (Unit {0}) Refusal) → Tests rule answer → Checks (rule ▸ accept) answer
+pub tested : (rule : Rule Refusal) (answer : Result (Unit {0}) Refusal) → Tests rule answer
+    → Checks (rule ▸ accept) answer
 tested rule (Ok done) h = pass h refl
 tested rule (Err refusal) h = refuse refusal h refl
 
@@ -57,8 +66,10 @@ pub record IsGiver (entries : List Entry) (session named : Option ℕ) (command 
   pub given : IsGiven entries (record { session = named; command = command })
 
 pub giver_of : (entries : List Entry) (session named : Option ℕ) (command : AdminCommand)
-    → Answers (session_rules entries session command) (λ refusal. (let r : Result (Option ℕ) Refusal = Ok named in r) ≡ Err refusal)
-    (((let r : Result (Option ℕ) Refusal = Ok named in r) ≡ Ok (entry_of session command).session) × IsGiven entries (entry_of session command))
+    → Answers (session_rules entries session command)
+    (λ refusal. (let r : Result (Option ℕ) Refusal = Ok named in r) ≡ Err refusal)
+    (((let r : Result (Option ℕ) Refusal = Ok named in r) ≡ Ok (entry_of session command).session)
+    × IsGiven entries (entry_of session command))
     → IsGiver entries session named command
 giver_of entries session named command h =
     let all = all_passed (session_rules entries session command) _ _ (λ refusal is. absurd cc) h in
@@ -70,15 +81,18 @@ giver_of entries session named command h =
     }
 
 -- the command is answered by what is asked of its entry
-pub after_giver : (entries : List Entry) (session named : Option ℕ) (command : AdminCommand) (Refused : Refusal → Type 0) (Accepted : Type 0)
+pub after_giver : (entries : List Entry) (session named : Option ℕ) (command : AdminCommand)
+    (Refused : Refusal → Type 0) (Accepted : Type 0)
     → IsGiver entries session named command → Answers (entry_rules entries named command) Refused Accepted
     → Answers (policy_rules entries session command) Refused Accepted
 after_giver entries session named command Refused Accepted giver h =
-    skip (session_rules entries session command) (entry_rules entries (entry_of session command).session command) Refused Accepted giver.passed
+    skip (session_rules entries session command) (entry_rules entries (entry_of session command).session command)
+    Refused Accepted giver.passed
     (subst (λ by. Answers (entry_rules entries by command) Refused Accepted) giver.same h)
 
 -- the session of an entry that is no login's lives
-pub given_by : (entries : List Entry) (entry : Entry) (n : ℕ) → IsFalse (is_login entry) → entry.session ≡ Some n → IsGiven entries entry
+pub given_by : (entries : List Entry) (entry : Entry) (n : ℕ) → IsFalse (is_login entry) → entry.session ≡ Some n
+    → IsGiven entries entry
     → IsGivenBy entries entry.session n
 given_by entries entry n plain session given =
     let has = given plain in
@@ -89,28 +103,39 @@ given_by entries entry n plain session given =
     }
 
 module _ (entries : List Entry) (session : Option ℕ) (n : ℕ) (by : IsGivenBy entries session n) where
-  pub pass_inactive : (role : NameText) {Refused : Refusal → Type 0} {Next : Type 0} → (IsActive entries n role → ⊥) → Next
-      → Refuses (Says (AlreadyActive role) (HasActive entries session role)) Refused ⊎ Passes (Says (AlreadyActive role) (HasActive entries session role)) Next
-  pass_inactive role inactive then = pass (λ a. inactive (subst (λ k. IsActive entries k role) (same_Some a.number n (sym a.given ∙ by.given)) a.active)) then
+  pub pass_inactive : (role : NameText) {Refused : Refusal → Type 0} {Next : Type 0} → (IsActive entries n role → ⊥)
+      → Next
+      → Refuses (Says (AlreadyActive role) (HasActive entries session role)) Refused
+      ⊎ Passes (Says (AlreadyActive role) (HasActive entries session role)) Next
+  pass_inactive role inactive then =
+      pass (λ a. inactive
+      (subst (λ k. IsActive entries k role) (same_Some a.number n (sym a.given ∙ by.given)) a.active)) then
 
   pub refuse_inactive : (role : NameText) {Refused : Refusal → Type 0} {Next : Type 0} (refusal : Refusal)
       → (refusal ≡ AlreadyActive role) × IsActive entries n role → Refused refusal
-      → Refuses (Says (AlreadyActive role) (HasActive entries session role)) Refused ⊎ Passes (Says (AlreadyActive role) (HasActive entries session role)) Next
-  refuse_inactive role refusal given answered = refuse refusal (given.0, record { number = n; given = by.given; active = given.1 }) answered
+      → Refuses (Says (AlreadyActive role) (HasActive entries session role)) Refused
+      ⊎ Passes (Says (AlreadyActive role) (HasActive entries session role)) Next
+  refuse_inactive role refusal given answered = refuse refusal
+      (given.0, record { number = n; given = by.given; active = given.1 }) answered
 
-  pub tested_inactive : (role : NameText) (answer : Result (Unit {0}) Refusal) → Tests (Says (AlreadyActive role) (IsActive entries n role)) answer
+  pub tested_inactive : (role : NameText) (answer : Result (Unit {0}) Refusal)
+      → Tests (Says (AlreadyActive role) (IsActive entries n role)) answer
       → Checks (Says (AlreadyActive role) (HasActive entries session role) ▸ accept) answer
   tested_inactive role (Ok done) h = pass_inactive role h refl
   tested_inactive role (Err refusal) h = refuse_inactive role refusal h refl
 
-  pub pass_authorized : (role : NameText) {Refused : Refusal → Type 0} {Next : Type 0} → IsAuthorized entries by.user role → Next
-      → Refuses (Unless (HasAuthorized entries session role) (NotAuthorized role)) Refused ⊎ Passes (Unless (HasAuthorized entries session role) (NotAuthorized role)) Next
+  pub pass_authorized : (role : NameText) {Refused : Refusal → Type 0} {Next : Type 0}
+      → IsAuthorized entries by.user role → Next
+      → Refuses (Unless (HasAuthorized entries session role) (NotAuthorized role)) Refused
+      ⊎ Passes (Unless (HasAuthorized entries session role) (NotAuthorized role)) Next
   pass_authorized role authorized then = pass (record { number = n; by = by; authorized = authorized }) then
 
   -- whoever the user of the session is
   pub refuse_authorized : (role : NameText) {Refused : Refusal → Type 0} {Next : Type 0} (refusal : Refusal)
-      → ((user : NameText) → Lives entries n user → (refusal ≡ NotAuthorized role) × (IsAuthorized entries user role → ⊥)) → Refused refusal
-      → Refuses (Unless (HasAuthorized entries session role) (NotAuthorized role)) Refused ⊎ Passes (Unless (HasAuthorized entries session role) (NotAuthorized role)) Next
+      → ((user : NameText) → Lives entries n user → (refusal ≡ NotAuthorized role)
+      × (IsAuthorized entries user role → ⊥)) → Refused refusal
+      → Refuses (Unless (HasAuthorized entries session role) (NotAuthorized role)) Refused
+      ⊎ Passes (Unless (HasAuthorized entries session role) (NotAuthorized role)) Next
   refuse_authorized role refusal given answered =
       refuse refusal (
         (given by.user by.lives).0,

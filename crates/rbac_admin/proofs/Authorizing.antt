@@ -11,11 +11,14 @@ use Rattle.rbac_policy.proofs.Deciding.{authorized_decided}
 use Rattle.rbac_admin.specs.Conditions.{FirstListed}
 use Rattle.rbac_admin.proofs.Listing.{none_anywhere}
 
-pub all_authorized : (p : Policy) (L : List Entry) → StandsFor p L → (user : NameText) (roles : List NameText) → ((role : NameText) → FirstListed (λ before name. IsAuthorized L user name → ⊥) roles role → ⊥)
+pub all_authorized : (p : Policy) (L : List Entry) → StandsFor p L → (user : NameText) (roles : List NameText)
+    → ((role : NameText) → FirstListed (λ before name. IsAuthorized L user name → ⊥) roles role → ⊥)
     → (role : NameText) → Contains roles role → IsAuthorized L user role
 all_authorized p L st user roles none role listed =
     let before = none_anywhere (λ before name. IsAuthorized L user name → ⊥) roles none (suc listed.0) in
     elim (authorized_decided p L st user role) [
       | inl is ↦ is
-      | inr not ↦ absurd (before.none listed.0 role (omega arith) (slice_get-get_or roles listed.0 role listed.1 ∙ ap Some listed.2) not)
+      | inr not ↦
+          absurd (before.none listed.0 role (omega arith)
+          (slice_get-get_or roles listed.0 role listed.1 ∙ ap Some listed.2) not)
     ]

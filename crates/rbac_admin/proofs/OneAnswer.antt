@@ -9,12 +9,17 @@ use Rattle.refusal_rules.proofs.RuleLemmas.{says, unless, naming, one_answer as 
 use Rattle.rbac_policy.specs.Names.{NameText}
 use Rattle.rbac_policy.specs.Facts.{IsSet, Violates}
 use Rattle.rbac_policy.specs.declared.commands.AdminCommand.{AdminCommand}
-use Rattle.rbac_policy.specs.declared.commands.AdminCommand.TheVariants.{AddUser, AddRole, DeleteRole, AssignUser, DeassignUser, GrantPermission, RevokePermission, AddInheritance, DeleteInheritance, CreateDsdSet, CreateSession, DeleteSession, AddActiveRole, DropActiveRole}
+use Rattle.rbac_policy.specs.declared.commands.AdminCommand.TheVariants.{AddUser, AddRole, DeleteRole, AssignUser}
+use Rattle.rbac_policy.specs.declared.commands.AdminCommand.TheVariants.{DeassignUser, GrantPermission}
+use Rattle.rbac_policy.specs.declared.commands.AdminCommand.TheVariants.{RevokePermission, AddInheritance}
+use Rattle.rbac_policy.specs.declared.commands.AdminCommand.TheVariants.{DeleteInheritance, CreateDsdSet, CreateSession}
+use Rattle.rbac_policy.specs.declared.commands.AdminCommand.TheVariants.{DeleteSession, AddActiveRole, DropActiveRole}
 use Rattle.rbac_policy.specs.declared.commands.Entry.{Entry}
 use Rattle.rbac_admin.specs.declared.refusals.Refusal.{Refusal}
 use Rattle.rbac_policy.specs.Separation.{IsFirstViolated, IsFirstSetOf}
 use Rattle.rbac_admin.specs.Conditions.{FirstListed}
-use Rattle.rbac_admin.specs.PolicyStep.{PolicyStep, session_rules, right_rules, name_rules, condition_rules, separation_rules, table_rules, policy_rules, entry_of, violation}
+use Rattle.rbac_admin.specs.PolicyStep.{PolicyStep, session_rules, right_rules, name_rules, condition_rules}
+use Rattle.rbac_admin.specs.PolicyStep.{separation_rules, table_rules, policy_rules, entry_of, violation}
 
 -- one place at most, where none of those before a place with the property has it
 one_place : (a b : ℕ) → (a < b → ⊥) → (b < a → ⊥) → a ≡ b
@@ -23,35 +28,44 @@ one_place a b not_below not_above = elim (cases_order a b) [
   | inr other ↦ elim other [ inl low ↦ absurd (not_below low) | inr high ↦ absurd (not_above high) ]
 ]
 
-one_listed : (P : List NameText → NameText → Type 0) (names : List NameText) (a b : NameText) → FirstListed P names a → FirstListed P names b → a ≡ b
+one_listed : (P : List NameText → NameText → Type 0) (names : List NameText) (a b : NameText) → FirstListed P names a
+    → FirstListed P names b → a ≡ b
 one_listed P names a b x y =
     let at = one_place x.at y.at (λ low. y.first x.at a low x.there x.has) (λ low. x.first y.at b low y.there y.has) in
     same_Some a b (sym x.there ∙ ap (slice_get names) at ∙ y.there)
 
-listed : {refusal : NameText → Refusal} {P : List NameText → NameText → Type 0} {names : List NameText} → IsDefinite (Naming refusal (FirstListed P names))
+listed : {refusal : NameText → Refusal} {P : List NameText → NameText → Type 0} {names : List NameText}
+    → IsDefinite (Naming refusal (FirstListed P names))
 listed {P = P} {names = names} = naming (one_listed P names)
 
 module _ (entries : List Entry) where
   -- a separation set's place is that of its entry
-  set_there : (place : ℕ) (set : NameText) (count : ℕ) (roles : List NameText) (s : IsSet entries place set count roles) → slice_get entries place ≡ Some s.entry
+  set_there : (place : ℕ) (set : NameText) (count : ℕ) (roles : List NameText) (s : IsSet entries place set count roles)
+      → slice_get entries place ≡ Some s.entry
   set_there place set count roles s =
       let within = slice_get_within entries s.at s.entry s.there in
       let at : s.at ≡ place = sym (length-take-le s.at entries (omega arith)) ∙ s.made.0 in
       subst (λ k. slice_get entries k ≡ Some s.entry) at s.there
 
-  record SameSet (set : NameText) (count : ℕ) (roles : List NameText) (other : NameText) (number : ℕ) (members : List NameText) : Type 0 where
+  record SameSet (set : NameText) (count : ℕ) (roles : List NameText) (other : NameText) (number : ℕ)
+      (members : List NameText) : Type 0 where
     by_name : set ≡ other
     by_count : count ≡ number
     by_roles : roles ≡ members
 
-  one_set : (place : ℕ) (set : NameText) (count : ℕ) (roles : List NameText) (other : NameText) (number : ℕ) (members : List NameText)
-      → IsSet entries place set count roles → IsSet entries place other number members → SameSet set count roles other number members
+  one_set : (place : ℕ) (set : NameText) (count : ℕ) (roles : List NameText) (other : NameText) (number : ℕ)
+      (members : List NameText)
+      → IsSet entries place set count roles → IsSet entries place other number members
+      → SameSet set count roles other number members
   one_set place set count roles other number members s t =
-      let entry : s.entry ≡ t.entry = same_Some s.entry t.entry (sym (set_there place set count roles s) ∙ set_there place other number members t) in
-      let same : CreateDsdSet set count roles ≡ CreateDsdSet other number members = sym s.made.1 ∙ ap (λ e. e.command) entry ∙ t.made.1 in
+      let entry : s.entry ≡ t.entry = same_Some s.entry t.entry
+      (sym (set_there place set count roles s) ∙ set_there place other number members t) in
+      let same : CreateDsdSet set count roles ≡ CreateDsdSet other number members =
+      sym s.made.1 ∙ ap (λ e. e.command) entry ∙ t.made.1 in
       record { by_name = cc; by_count = cc; by_roles = cc }
 
-  one_violated : (set other : NameText) (session number : ℕ) → IsFirstViolated entries set session → IsFirstViolated entries other number → (set ≡ other) × (session ≡ number)
+  one_violated : (set other : NameText) (session number : ℕ) → IsFirstViolated entries set session
+      → IsFirstViolated entries other number → (set ≡ other) × (session ≡ number)
   one_violated set other session number x y =
       let place = one_place x.place y.place
       (λ low. y.first x.place set x.count x.roles low x.is_set session x.violates)
@@ -59,12 +73,17 @@ module _ (entries : List Entry) where
       let Here : ℕ → Type 0 = λ p. IsSet entries p set x.count x.roles in
       let same = one_set y.place set x.count x.roles other y.count y.roles (subst Here place x.is_set) y.is_set in
       let there = λ (s : ℕ) (v : Violates entries s y.count y.roles).
-      subst (Violates entries s x.count) (sym same.by_roles) (subst (λ n. Violates entries s n y.roles) (sym same.by_count) v) in
+      subst (Violates entries s x.count) (sym same.by_roles)
+      (subst (λ n. Violates entries s n y.roles) (sym same.by_count) v) in
       let back = λ (s : ℕ) (v : Violates entries s x.count x.roles).
-      subst (Violates entries s y.count) same.by_roles (subst (λ n. Violates entries s n x.roles) same.by_count v) in
-      (same.by_name, one_place session number (λ low. y.least session low (back session x.violates)) (λ low. x.least number low (there number y.violates)))
+      subst (Violates entries s y.count) same.by_roles (subst (λ n. Violates entries s n x.roles) same.by_count v) in (
+        same.by_name,
+        one_place session number (λ low. y.least session low (back session x.violates))
+            (λ low. x.least number low (there number y.violates)),
+      )
 
-  one_set_of : (role set other : NameText) → IsFirstSetOf entries role set → IsFirstSetOf entries role other → set ≡ other
+  one_set_of : (role set other : NameText) → IsFirstSetOf entries role set → IsFirstSetOf entries role other
+      → set ≡ other
   one_set_of role set other x y =
       let place = one_place x.place y.place
       (λ low. y.first x.place set x.count x.roles low x.is_set x.member)
@@ -72,25 +91,30 @@ module _ (entries : List Entry) where
       let Here : ℕ → Type 0 = λ p. IsSet entries p set x.count x.roles in
       (one_set y.place set x.count x.roles other y.count y.roles (subst Here place x.is_set) y.is_set).by_name
 
-violations : (entries : List Entry) (session : Option ℕ) (command : AdminCommand) → IsDefinite (violation entries session command)
+violations : (entries : List Entry) (session : Option ℕ) (command : AdminCommand)
+    → IsDefinite (violation entries session command)
 violations entries session command = naming same where
   after : List Entry
   after = entries ++ record { session = session; command = command } ∷ []
 
-  same : (one other : NameText × ℕ) → IsFirstViolated after one.0 one.1 → IsFirstViolated after other.0 other.1 → one ≡ other
+  same : (one other : NameText × ℕ) → IsFirstViolated after one.0 one.1 → IsFirstViolated after other.0 other.1
+      → one ≡ other
   same one other x y =
       let both = one_violated after one.0 other.0 one.1 other.1 x y in
       ap (λ set. (set, one.1)) both.0 ∙ ap (λ session. (other.0, session)) both.1
 
-members : {refusal : NameText → Refusal} (entries : List Entry) (role : NameText) → IsDefinite (Naming refusal (IsFirstSetOf entries role))
+members : {refusal : NameText → Refusal} (entries : List Entry) (role : NameText)
+    → IsDefinite (Naming refusal (IsFirstSetOf entries role))
 members entries role = naming (one_set_of entries role)
 
 -- the rules of each kind are definite
-session_definite : (entries : List Entry) (session : Option ℕ) (command : AdminCommand) → AllDefinite (session_rules entries session command)
+session_definite : (entries : List Entry) (session : Option ℕ) (command : AdminCommand)
+    → AllDefinite (session_rules entries session command)
 session_definite entries session (CreateSession user roles) = record {}
 session_definite entries session command = (unless, record {})
 
-right_definite : (entries : List Entry) (session : Option ℕ) (command : AdminCommand) → AllDefinite (right_rules entries session command)
+right_definite : (entries : List Entry) (session : Option ℕ) (command : AdminCommand)
+    → AllDefinite (right_rules entries session command)
 right_definite entries session (CreateSession user roles) = record {}
 right_definite entries session DeleteSession = record {}
 right_definite entries session (AddActiveRole role) = record {}
@@ -109,7 +133,8 @@ names_definite entries (CreateSession user roles) = (says, (unless, (listed, rec
 names_definite entries DeleteSession = record {}
 names_definite entries command = (unless, record {})
 
-conditions_definite : (entries : List Entry) (session : Option ℕ) (command : AdminCommand) → AllDefinite (condition_rules entries session command)
+conditions_definite : (entries : List Entry) (session : Option ℕ) (command : AdminCommand)
+    → AllDefinite (condition_rules entries session command)
 conditions_definite entries session (DeleteRole role) = (members entries role, record {})
 conditions_definite entries session (AssignUser user role) = (says, record {})
 conditions_definite entries session (DeassignUser user role) = (unless, record {})
@@ -123,10 +148,14 @@ conditions_definite entries session (AddActiveRole role) = (unless, (says, recor
 conditions_definite entries session (DropActiveRole role) = (unless, record {})
 conditions_definite entries session command = record {}
 
-separation_definite : (entries : List Entry) (session : Option ℕ) (command : AdminCommand) → AllDefinite (separation_rules entries session command)
-separation_definite entries session (AddInheritance senior junior) = (violations entries session (AddInheritance senior junior), record {})
-separation_definite entries session (CreateDsdSet set count roles) = (violations entries session (CreateDsdSet set count roles), record {})
-separation_definite entries session (CreateSession user roles) = (violations entries None (CreateSession user roles), record {})
+separation_definite : (entries : List Entry) (session : Option ℕ) (command : AdminCommand)
+    → AllDefinite (separation_rules entries session command)
+separation_definite entries session (AddInheritance senior junior) =
+    (violations entries session (AddInheritance senior junior), record {})
+separation_definite entries session (CreateDsdSet set count roles) =
+    (violations entries session (CreateDsdSet set count roles), record {})
+separation_definite entries session (CreateSession user roles) =
+    (violations entries None (CreateSession user roles), record {})
 separation_definite entries session (AddActiveRole role) = (violations entries session (AddActiveRole role), record {})
 separation_definite entries session command = record {}
 
@@ -143,16 +172,19 @@ both_definite accept other first second = second
 both_definite (rule ▸ later) other first second = (first.0, both_definite later other first.1 second)
 
 -- the rules of each command are definite
-pub all_definite : (entries : List Entry) (session : Option ℕ) (command : AdminCommand) → AllDefinite (policy_rules entries session command)
+pub all_definite : (entries : List Entry) (session : Option ℕ) (command : AdminCommand)
+    → AllDefinite (policy_rules entries session command)
 all_definite entries session command =
     let by = (entry_of session command).session in
     both_definite (session_rules entries session command) _ (session_definite entries session command)
     (both_definite (right_rules entries by command) _ (right_definite entries by command)
     (both_definite (name_rules entries command) _ (names_definite entries command)
     (both_definite (condition_rules entries by command) _ (conditions_definite entries by command)
-    (both_definite (separation_rules entries by command) _ (separation_definite entries by command) (tables_definite entries command)))))
+    (both_definite (separation_rules entries by command) _ (separation_definite entries by command)
+    (tables_definite entries command)))))
 
 -- two answers to one command are one
-pub one_answer : (entries : List Entry) (session : Option ℕ) (command : AdminCommand) (a b : Result Entry Refusal) → PolicyStep entries session command a → PolicyStep entries session command b → a ≡ b
+pub one_answer : (entries : List Entry) (session : Option ℕ) (command : AdminCommand) (a b : Result Entry Refusal)
+    → PolicyStep entries session command a → PolicyStep entries session command b → a ≡ b
 one_answer entries session command =
     same_answer (policy_rules entries session command) (all_definite entries session command) (entry_of session command)

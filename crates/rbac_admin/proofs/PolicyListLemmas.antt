@@ -1,5 +1,6 @@
 -- Policy lists grow by accepted entries, and each leaves room for the logouts.
-use Rattle.std.proofs.Common.{◌≡◌, ℕ, ◌<◌, ◌≤◌, List, [], ◌∷◌, ◌++◌, length, take, sym, ◌∙◌, ap, subst, arith, inl, inr, append_assoc, append-nil, length-append}
+use Rattle.std.proofs.Common.{◌≡◌, ℕ, ◌<◌, ◌≤◌, List, [], ◌∷◌, ◌++◌, length, take, sym, ◌∙◌, ap, subst, arith, inl, inr}
+use Rattle.std.proofs.Common.{append_assoc, append-nil, length-append}
 use Rattle.std.specs.Prelude.{Ok, Some}
 use Rattle.std.proofs.lemmas.List.{length_push}
 use Rattle.std.proofs.lemmas.Option.{slice_get_within}
@@ -26,7 +27,8 @@ opening_is_list = record {
 
 -- a policy list is no shorter than the opening entries
 pub opening_within : (L : List Entry) → IsPolicyList L → length opening_entries ≤ length L
-opening_within L list = let n = ap length list.opens.is in omega (arith, n, length-append opening_entries list.opens.rest)
+opening_within L list = let n = ap length list.opens.is in
+    omega (arith, n, length-append opening_entries list.opens.rest)
 
 -- with an accepted entry at its end a policy list is one
 pub list_grows : (L : List Entry) (e : Entry) → IsPolicyList L → IsAccepted L e → IsPolicyList (L ++ e ∷ [])
@@ -36,7 +38,8 @@ list_grows L e list accepted = record {
     is = sym (append_assoc opening_entries list.opens.rest (e ∷ [])) ∙ ap (λ xs. xs ++ e ∷ []) list.opens.is;
   };
   accepted = λ at x late there. elim (get_push L e x at there) [
-    | inl old ↦ subst (λ before. IsAccepted before x) (sym (take_front L e at (omega (arith, old.0)))) (list.accepted at x late old.1)
+    | inl old ↦ subst (λ before. IsAccepted before x) (sym (take_front L e at (omega (arith, old.0))))
+        (list.accepted at x late old.1)
     | inr new ↦
         let before : take at (L ++ e ∷ []) ≡ L = ap (λ k. take k (L ++ e ∷ [])) new.0 ∙ take_whole L e in
         subst (λ xs. IsAccepted xs x) (sym before) (subst (IsAccepted L) new.1 accepted)
@@ -44,9 +47,11 @@ list_grows L e list accepted = record {
 }
 
 -- an accepted logout is that of a session that lives
-ends_living : (L : List Entry) (e : Entry) → PolicyStep L e.session e.command (Ok e) → e.command ≡ DeleteSession → (session : ℕ) × (e.session ≡ Some session) × IsLive L session
+ends_living : (L : List Entry) (e : Entry) → PolicyStep L e.session e.command (Ok e) → e.command ≡ DeleteSession
+    → (session : ℕ) × (e.session ≡ Some session) × IsLive L session
 ends_living L e step logout =
-    let again : PolicyStep L e.session DeleteSession (Ok e) = subst (λ c. PolicyStep L e.session c (Ok e)) logout step in
+    let again : PolicyStep L e.session DeleteSession (Ok e) =
+    subst (λ c. PolicyStep L e.session c (Ok e)) logout step in
     let has = (passed L e.session DeleteSession e again).0 in
     (has.0, has.1.given, (has.1.user, has.1.lives))
 
@@ -58,9 +63,11 @@ few_entries L e leaves accepted = elim accepted.room [
 ]
 
 -- an accepted entry leaves room for each logout
-pub still_leaves : (policy : Policy) (L : List Entry) (e : Entry) → LeavesRoom most_entries L → StandsFor policy (L ++ e ∷ []) → IsAccepted L e
+pub still_leaves : (policy : Policy) (L : List Entry) (e : Entry) → LeavesRoom most_entries L
+    → StandsFor policy (L ++ e ∷ []) → IsAccepted L e
     → LeavesRoom most_entries (L ++ e ∷ [])
 still_leaves policy L e leaves stands accepted = elim accepted.room [
-  | inl logout ↦ let s = ends_living L e accepted.step logout in logout_leaves_room L e s.0 most_entries leaves logout s.1 s.2
+  | inl logout ↦ let s = ends_living L e accepted.step logout in
+      logout_leaves_room L e s.0 most_entries leaves logout s.1 s.2
   | inr room ↦ leaves_room policy (L ++ e ∷ []) most_entries stands (omega (arith, room, length_push L e))
 ]

@@ -1,4 +1,5 @@
--- The facts that decide a policy command, over the list of accepted entries (ANSI INCITS 359-2004, what its functions ask before they act).
+-- The facts that decide a policy command, over the list of accepted entries (ANSI INCITS 359-2004, what its functions
+-- ask before they act).
 use Rattle.std.specs.Prelude.{◌≡◌, ◌≢◌, ℕ, ◌<◌, ◌⊎◌, List, IsFalse, Option, Some, length, slice_get, take}
 use Rattle.std.specs.List.{AllPairs}
 use Rattle.rbac_policy.specs.declared.objects.Operation.{Operation}
@@ -48,7 +49,8 @@ pub record HasNoRoomFor (entries : List Entry) (operation : Operation) (object :
   pub new : IsPairGranted entries operation object → ⊥
   pub full : PermissionsFull entries
 
--- no separation set has this number and these roles: a role stands twice, or the number is under 2 or over that of the roles
+-- no separation set has this number and these roles: a role stands twice, or the number is under 2 or over that of the
+-- roles
 abbrev pub IsNoShape : ℕ → List NameText → Type 0
 IsNoShape count roles = (AllPairs (λ one other. one ≢ other) roles → ⊥) ⊎ (count < 2) ⊎ (length roles < count)
 
@@ -57,4 +59,5 @@ pub record FirstListed (P : List NameText → NameText → Type 0) (names : List
   pub at : ℕ
   pub there : slice_get names at ≡ Some name
   pub has : P (take at names) name
-  pub first : (place : ℕ) (earlier : NameText) → place < at → slice_get names place ≡ Some earlier → P (take place names) earlier → ⊥
+  pub first : (place : ℕ) (earlier : NameText) → place < at → slice_get names place ≡ Some earlier
+      → P (take place names) earlier → ⊥

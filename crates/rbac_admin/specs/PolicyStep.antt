@@ -4,7 +4,12 @@ use Rattle.refusal_rules.specs.Rules.{Rule, Rules, Says, Unless, Naming, accept,
 use Rattle.rbac_policy.specs.declared.objects.Operation.TheVariants.{Administer}
 use Rattle.rbac_policy.specs.declared.objects.Object.TheVariants.{Policy}
 use Rattle.rbac_policy.specs.declared.commands.AdminCommand.{AdminCommand}
-use Rattle.rbac_policy.specs.declared.commands.AdminCommand.TheVariants.{AddUser, DeleteUser, AddRole, DeleteRole, AssignUser, DeassignUser, GrantPermission, RevokePermission, AddInheritance, DeleteInheritance, CreateDsdSet, DeleteDsdSet, CreateSession, DeleteSession, AddActiveRole, DropActiveRole}
+use Rattle.rbac_policy.specs.declared.commands.AdminCommand.TheVariants.{AddUser, DeleteUser, AddRole, DeleteRole}
+use Rattle.rbac_policy.specs.declared.commands.AdminCommand.TheVariants.{AssignUser, DeassignUser, GrantPermission}
+use Rattle.rbac_policy.specs.declared.commands.AdminCommand.TheVariants.{RevokePermission, AddInheritance}
+use Rattle.rbac_policy.specs.declared.commands.AdminCommand.TheVariants.{DeleteInheritance, CreateDsdSet, DeleteDsdSet}
+use Rattle.rbac_policy.specs.declared.commands.AdminCommand.TheVariants.{CreateSession, DeleteSession, AddActiveRole}
+use Rattle.rbac_policy.specs.declared.commands.AdminCommand.TheVariants.{DropActiveRole}
 use Rattle.rbac_policy.specs.declared.commands.Table.TheVariants.{Users, Roles, Permissions, Sessions, Sets}
 use Rattle.rbac_policy.specs.declared.commands.Entry.{Entry}
 use Rattle.rbac_policy.specs.Names.{NameText}
@@ -12,8 +17,14 @@ use Rattle.rbac_policy.specs.Entries.{makes_session}
 use Rattle.rbac_policy.specs.Facts.{IsUser, IsRole, IsSetName, IsAssigned, IsGranted, IsEdge, IsAtOrBelow, IsAuthorized}
 use Rattle.rbac_policy.specs.Fits.{UsersFull, RolesFull, SetsFull, SessionsFull, NumbersExhausted}
 use Rattle.rbac_admin.specs.declared.refusals.Refusal.{Refusal}
-use Rattle.rbac_admin.specs.declared.refusals.Refusal.TheVariants.{NoSession, SessionsExhausted, Permission, DsdViolated, NotAuthorized, AlreadyActive, NotActive, Cycle, UnknownUser, UnknownRole, UserExists, RoleExists, AlreadyAssigned, NotAssigned, AlreadyGranted, NotGranted, EdgeExists, NoEdge, DsdExists, NoDsd, DsdShape, RoleInDsd, Full}
-use Rattle.rbac_admin.specs.Conditions.{HasSession, Administers, HasAuthorized, HasActive, HasNoRoomFor, IsNoShape, FirstListed}
+use Rattle.rbac_admin.specs.declared.refusals.Refusal.TheVariants.{NoSession, SessionsExhausted, Permission}
+use Rattle.rbac_admin.specs.declared.refusals.Refusal.TheVariants.{DsdViolated, NotAuthorized, AlreadyActive, NotActive}
+use Rattle.rbac_admin.specs.declared.refusals.Refusal.TheVariants.{Cycle, UnknownUser, UnknownRole, UserExists}
+use Rattle.rbac_admin.specs.declared.refusals.Refusal.TheVariants.{RoleExists, AlreadyAssigned, NotAssigned}
+use Rattle.rbac_admin.specs.declared.refusals.Refusal.TheVariants.{AlreadyGranted, NotGranted, EdgeExists, NoEdge}
+use Rattle.rbac_admin.specs.declared.refusals.Refusal.TheVariants.{DsdExists, NoDsd, DsdShape, RoleInDsd, Full}
+use Rattle.rbac_admin.specs.Conditions.{HasSession, Administers, HasAuthorized, HasActive, HasNoRoomFor, IsNoShape}
+use Rattle.rbac_admin.specs.Conditions.{FirstListed}
 use Rattle.rbac_policy.specs.Separation.{IsFirstViolated, IsFirstSetOf}
 
 -- refuses where no session gives the command, or it doesn't live; and hands on the session that does
@@ -32,23 +43,26 @@ unknown_user entries user = Unless (IsUser entries user) (UnknownUser user)
 abbrev pub unknown_role : List Entry → NameText → Rule Refusal
 unknown_role entries role = Unless (IsRole entries role) (UnknownRole role)
 
--- names the first listed role that is none
+-- names the first listed name that is no role's
 abbrev pub unknown_listed : List Entry → List NameText → Rule Refusal
 unknown_listed entries roles = Naming UnknownRole (FirstListed (λ before role. IsRole entries role → ⊥) roles)
 
 -- names the first listed role for which the user is not authorized
 abbrev pub unauthorized_listed : List Entry → NameText → List NameText → Rule Refusal
-unauthorized_listed entries user roles = Naming NotAuthorized (FirstListed (λ before role. IsAuthorized entries user role → ⊥) roles)
+unauthorized_listed entries user roles = Naming NotAuthorized
+    (FirstListed (λ before role. IsAuthorized entries user role → ⊥) roles)
 
 -- names the first listed role that stands a second time
 abbrev pub repeated_listed : List NameText → Rule Refusal
 repeated_listed roles = Naming AlreadyActive (FirstListed Contains roles)
 
--- names the first set that is violated with the entry appended, and the least session that would hold too many roles of it
+-- names the first set that is violated with the entry appended, and the least session that would hold too many roles of
+-- it
 abbrev pub violation : List Entry → Option ℕ → AdminCommand → Rule Refusal
 violation entries session command =
     Naming {Thing = NameText × ℕ} (λ violated. DsdViolated violated.0 violated.1)
-    (λ violated. IsFirstViolated (entries ++ record { session = session; command = command } ∷ []) violated.0 violated.1)
+    (λ violated. IsFirstViolated (entries ++ record { session = session; command = command } ∷ []) violated.0
+    violated.1)
 
 -- the entry of an accepted command: it has the session that gave the command, but for a login, which no session gives
 abbrev pub entry_of : Option ℕ → AdminCommand → Entry
@@ -67,7 +81,8 @@ right_rules entries s (AddActiveRole role) = accept
 right_rules entries s (DropActiveRole role) = accept
 right_rules entries s _ = no_permission entries s ▸ accept
 
--- what the command names: a user, role or set that it makes is new, and each other one is there; and a login has a number left
+-- what the command names: a user, role or set that it makes is new, and each other one is there; and a login has a
+-- number left
 abbrev pub name_rules : List Entry → AdminCommand → Rules Refusal
 name_rules entries (AddUser user) = Says (UserExists user) (IsUser entries user) ▸ accept
 name_rules entries (DeleteUser user) = unknown_user entries user ▸ accept
@@ -78,12 +93,14 @@ name_rules entries (DeassignUser user role) = unknown_user entries user ▸ unkn
 name_rules entries (GrantPermission role operation object) = unknown_role entries role ▸ accept
 name_rules entries (RevokePermission role operation object) = unknown_role entries role ▸ accept
 name_rules entries (AddInheritance senior junior) = unknown_role entries senior ▸ unknown_role entries junior ▸ accept
-name_rules entries (DeleteInheritance senior junior) = unknown_role entries senior ▸ unknown_role entries junior ▸ accept
+name_rules entries (DeleteInheritance senior junior) = unknown_role entries senior ▸ unknown_role entries junior
+    ▸ accept
 name_rules entries (CreateDsdSet set count roles) =
     Says (DsdExists set) (IsSetName entries set) ▸ unknown_listed entries roles ▸ accept
 name_rules entries (DeleteDsdSet set) = Unless (IsSetName entries set) (NoDsd set) ▸ accept
 name_rules entries (CreateSession user roles) =
-    Says SessionsExhausted (NumbersExhausted entries) ▸ unknown_user entries user ▸ unknown_listed entries roles ▸ accept
+    Says SessionsExhausted (NumbersExhausted entries) ▸ unknown_user entries user ▸ unknown_listed entries roles
+    ▸ accept
 name_rules entries DeleteSession = accept
 name_rules entries (AddActiveRole role) = unknown_role entries role ▸ accept
 name_rules entries (DropActiveRole role) = unknown_role entries role ▸ accept
@@ -101,9 +118,11 @@ condition_rules entries s (AddInheritance senior junior) =
     Says Cycle (IsAtOrBelow entries senior junior) ▸ Says EdgeExists (IsEdge entries senior junior) ▸ accept
 condition_rules entries s (DeleteInheritance senior junior) = Unless (IsEdge entries senior junior) NoEdge ▸ accept
 condition_rules entries s (CreateDsdSet set count roles) = Says DsdShape (IsNoShape count roles) ▸ accept
-condition_rules entries s (CreateSession user roles) = unauthorized_listed entries user roles ▸ repeated_listed roles ▸ accept
+condition_rules entries s (CreateSession user roles) = unauthorized_listed entries user roles ▸ repeated_listed roles
+    ▸ accept
 condition_rules entries s (AddActiveRole role) =
-    Unless (HasAuthorized entries s role) (NotAuthorized role) ▸ Says (AlreadyActive role) (HasActive entries s role) ▸ accept
+    Unless (HasAuthorized entries s role) (NotAuthorized role) ▸ Says (AlreadyActive role) (HasActive entries s role)
+    ▸ accept
 condition_rules entries s (DropActiveRole role) = Unless (HasActive entries s role) (NotActive role) ▸ accept
 condition_rules entries s _ = accept
 
@@ -143,4 +162,5 @@ Checks rules answer = Answers rules (λ refusal. answer ≡ Err refusal) (answer
 -- the answer to the command, which this session gives, after these entries: by its rules a refusal, or its entry
 abbrev pub PolicyStep : List Entry → Option ℕ → AdminCommand → Result Entry Refusal → Type 0
 PolicyStep entries session command answer =
-    Answers (policy_rules entries session command) (λ refusal. answer ≡ Err refusal) (answer ≡ Ok (entry_of session command))
+    Answers (policy_rules entries session command) (λ refusal. answer ≡ Err refusal)
+    (answer ≡ Ok (entry_of session command))

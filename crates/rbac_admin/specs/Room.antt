@@ -6,7 +6,8 @@ use Rattle.rbac_policy.specs.declared.commands.AdminCommand.TheVariants.{DeleteS
 use Rattle.rbac_policy.specs.declared.commands.Entry.{Entry}
 use Rattle.rbac_policy.specs.declared.sizes.TheConstants.{POLICY_ENTRIES, ENDING_ENTRIES}
 
--- the policy list has room for the command: a logout always has, since a place is kept for that of each session that may live
+-- the policy list has room for the command: a logout always has, since a place is kept for that of each session that
+-- may live
 abbrev pub HasRoomFor : AdminCommand → List Entry → Type 0
 HasRoomFor command entries = (command ≡ DeleteSession) ⊎ (length entries < POLICY_ENTRIES)
 

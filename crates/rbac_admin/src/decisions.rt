@@ -4,8 +4,9 @@ ghost use Rattle.rbac_policy.specs.declared.commands.Entry.{Entry};
 ghost use Rattle.rbac_policy.specs.StandsFor.{StandsFor};
 ghost use Rattle.refusal_rules.specs.Rules.{Answers, AllPass};
 ghost use Rattle.rbac_admin.specs.Conditions.{IsGiven};
-ghost use Rattle.rbac_admin.specs.PolicyStep.{Checks, PolicyStep, entry_of, session_rules, right_rules};
-ghost use Rattle.rbac_admin.specs.PolicyStep.{name_rules, condition_rules, separation_rules, table_rules};
+ghost use Rattle.rbac_admin.specs.PolicyStep.{Checks, PolicyStep, entry_of, session_rules};
+ghost use Rattle.rbac_admin.specs.PolicyStep.{right_rules, name_rules, condition_rules};
+ghost use Rattle.rbac_admin.specs.PolicyStep.{separation_rules, table_rules};
 
 use crate::refusals::Refusal;
 use crate::rules::{
@@ -18,7 +19,8 @@ use crate::rules::{
 use rbac_policy::commands::{AdminCommand, Entry, SessionId};
 use rbac_policy::policy::Policy;
 
-/// The session that the command's entry names: the one that gives it, which lives; a login has none.
+/// The session that the command's entry names: the one that gives it, which lives; a login has
+/// none.
 fn find_giver(
     policy: &Policy,
     session: Option<SessionId>,
@@ -202,8 +204,9 @@ fn check_tables(policy: &Policy, command: &AdminCommand) -> Result<(), Refusal>
 /// The first refusal, in the order of the policy step:
 ///
 /// - of GrantPermission: NoSession, Permission, UnknownRole, AlreadyGranted, Full of permissions;
-/// - of CreateSession: SessionsExhausted, UnknownUser, UnknownRole (the first listed), NotAuthorized (the first listed), AlreadyActive (the
-///   first that stands a second time), DsdViolated, Full of sessions;
+/// - of CreateSession: SessionsExhausted, UnknownUser, UnknownRole (the first listed),
+///   NotAuthorized (the first listed), AlreadyActive (the first that stands a second time),
+///   DsdViolated, Full of sessions;
 /// - of DeleteSession: NoSession;
 /// - of AddUser: NoSession, Permission, UserExists, Full of users;
 /// - of DeleteUser: NoSession, Permission, UnknownUser;
@@ -211,12 +214,15 @@ fn check_tables(policy: &Policy, command: &AdminCommand) -> Result<(), Refusal>
 /// - of AssignUser: NoSession, Permission, UnknownUser, UnknownRole, AlreadyAssigned;
 /// - of DeassignUser: NoSession, Permission, UnknownUser, UnknownRole, NotAssigned;
 /// - of RevokePermission: NoSession, Permission, UnknownRole, NotGranted;
-/// - of DeleteInheritance: NoSession, Permission, UnknownRole (the senior, then the junior), NoEdge;
+/// - of DeleteInheritance: NoSession, Permission, UnknownRole (the senior, then the junior),
+///   NoEdge;
 /// - of AddActiveRole: NoSession, UnknownRole, NotAuthorized, AlreadyActive, DsdViolated;
 /// - of DropActiveRole: NoSession, UnknownRole, NotActive;
 /// - of DeleteRole: NoSession, Permission, UnknownRole, RoleInDsd (the set that was made first);
-/// - of AddInheritance: NoSession, Permission, UnknownRole (the senior, then the junior), Cycle, EdgeExists, DsdViolated;
-/// - of CreateDsdSet: NoSession, Permission, DsdExists, UnknownRole (the first listed), DsdShape, DsdViolated, Full of sets;
+/// - of AddInheritance: NoSession, Permission, UnknownRole (the senior, then the junior), Cycle,
+///   EdgeExists, DsdViolated;
+/// - of CreateDsdSet: NoSession, Permission, DsdExists, UnknownRole (the first listed), DsdShape,
+///   DsdViolated, Full of sets;
 /// - of DeleteDsdSet: NoSession, Permission, NoDsd.
 pub fn decide(
     policy: &Policy,

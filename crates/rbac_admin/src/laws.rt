@@ -1,5 +1,6 @@
 //! Laws of the policy step, for callers that reason about lists of entries. Nothing here runs.
-ghost use Rattle.std.specs.Prelude.{◌≡◌, ◌↔◌, ℕ, ◌<◌, List, [], ◌∷◌, ◌++◌, length, Option, Result, Ok, Err, IsTrue};
+ghost use Rattle.std.specs.Prelude.{◌≡◌, ◌↔◌, ℕ, ◌<◌, List, [], ◌∷◌, ◌++◌, length, Option, Result};
+ghost use Rattle.std.specs.Prelude.{Ok, Err, IsTrue};
 ghost use Rattle.refusal_rules.specs.Rules.{FirstRefuses, AllPass, PassBefore, RefusesAt};
 ghost use Rattle.rbac_policy.specs.declared.commands.AdminCommand.{AdminCommand};
 ghost use Rattle.rbac_policy.specs.declared.commands.Entry.{Entry};
@@ -45,8 +46,8 @@ pub fn accepted_administers()
         → Administers entries session }
 {}
 
-/// The answer is a refusal exactly where a rule of the command gives it and all before that one let pass, and those then give none;
-/// it is the command's entry exactly where all let pass.
+/// The answer is a refusal exactly when a rule of the command gives it and all before that one let
+/// pass, and those then give none; it is the command's entry exactly when all let pass.
 pub fn first_refusal()
     ensures refused { (entries : List Entry) (session : Option ℕ) (command : AdminCommand)
         (refusal : Refusal)
@@ -61,7 +62,8 @@ pub fn first_refusal()
         → RefusesAt (policy_rules entries session command) earlier refusal → ⊥ }
 {}
 
-/// A policy that stands for a list, and then takes in an accepted entry, stands for the longer list.
+/// A policy that stands for a list, and then takes in an accepted entry, stands for the longer
+/// list.
 pub fn accepted_stands()
     ensures { (policy : Policy) (entries : List Entry) (session : Option ℕ) (command : AdminCommand)
         (entry : Entry)
@@ -70,7 +72,8 @@ pub fn accepted_stands()
         → StandsFor (absorbed policy entry) (entries ++ entry ∷ []) }
 {}
 
-/// The opening entries are a policy list, and with an accepted entry at its end a policy list is one.
+/// The opening entries are a policy list, and with an accepted entry at its end a policy list is
+/// one.
 pub fn policy_lists_grow()
     ensures opening { IsPolicyList opening_entries }
     ensures grows { (entries : List Entry) (entry : Entry) → IsPolicyList entries
@@ -78,7 +81,8 @@ pub fn policy_lists_grow()
         → IsPolicyList (entries ++ entry ∷ []) }
 {}
 
-/// Where each living session has room for its logout, an accepted entry has room, and leaves it to the others.
+/// Where each living session has room for its logout, an accepted entry has room, and leaves it to
+/// the others.
 pub fn accepted_leaves_room()
     ensures few { (entries : List Entry) (entry : Entry) → LeavesRoom most_entries entries
         → IsAccepted entries entry

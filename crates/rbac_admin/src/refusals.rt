@@ -18,7 +18,8 @@ pub enum Refusal {
         operation: Operation,
         object: Object,
     },
-    /// The session would have too many roles of the set: the set that was made first, and its least session.
+    /// The session would have too many roles of the set: the set that was made first, and its least
+    /// session.
     DsdViolated {
         set: Name,
         session: SessionId,

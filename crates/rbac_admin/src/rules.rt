@@ -1,17 +1,22 @@
-//! The rules of refusal, each asked of a policy: a test passes where the rule gives no refusal, and else answers the one that it gives.
-ghost use Rattle.std.specs.Prelude.{◌≡◌, ◌↔◌, ℕ, List, Option, Some, None, IsTrue, MatchOption, Contains, take};
+//! The rules of refusal, each asked of a policy: a test passes if its rule gives no refusal, and
+//! else answers the rule's refusal.
+ghost use Rattle.std.specs.Prelude.{◌≡◌, ◌↔◌, ℕ, List, Option, Some, None, IsTrue, MatchOption};
+ghost use Rattle.std.specs.Prelude.{Contains, take};
 ghost use Rattle.std.specs.Result.{MatchResult};
 ghost use Rattle.rbac_policy.specs.declared.commands.Entry.{Entry};
 ghost use Rattle.rbac_policy.specs.StandsFor.{StandsFor};
 ghost use Rattle.rbac_policy.specs.Names.{NameText};
-ghost use Rattle.rbac_policy.specs.Facts.{IsUser, IsRole, IsSetName, IsAssigned, IsAuthorized, IsGranted, IsEdge};
-ghost use Rattle.rbac_policy.specs.Facts.{IsAtOrBelow, IsActive, Lives, IsLive, May};
-ghost use Rattle.rbac_policy.specs.Fits.{NumbersExhausted, UsersFull, RolesFull, SetsFull, SessionsFull};
+ghost use Rattle.rbac_policy.specs.Facts.{IsUser, IsRole, IsSetName, IsAssigned, IsAuthorized};
+ghost use Rattle.rbac_policy.specs.Facts.{IsGranted, IsEdge, IsAtOrBelow, IsActive, Lives, IsLive};
+ghost use Rattle.rbac_policy.specs.Facts.{May};
+ghost use Rattle.rbac_policy.specs.Fits.{NumbersExhausted, UsersFull, RolesFull, SetsFull};
+ghost use Rattle.rbac_policy.specs.Fits.{SessionsFull};
 ghost use Rattle.rbac_policy.specs.Separation.{IsFirstSetOf};
 ghost use Rattle.refusal_rules.specs.Rules.{Says, Unless, Naming, Tests};
 ghost use Rattle.rbac_admin.specs.Conditions.{IsGivenBy, HasNoRoomFor, IsNoShape, FirstListed};
-ghost use Rattle.rbac_admin.specs.PolicyStep.{no_session, unknown_user, unknown_role, unknown_listed};
-ghost use Rattle.rbac_admin.specs.PolicyStep.{unauthorized_listed, repeated_listed, violation};
+ghost use Rattle.rbac_admin.specs.PolicyStep.{no_session, unknown_user, unknown_role};
+ghost use Rattle.rbac_admin.specs.PolicyStep.{unknown_listed, unauthorized_listed, repeated_listed};
+ghost use Rattle.rbac_admin.specs.PolicyStep.{violation};
 
 use crate::refusals::Refusal;
 use rbac_policy::commands::{AdminCommand, SessionId, Table};
@@ -19,7 +24,7 @@ use rbac_policy::names::{Name, RoleNames};
 use rbac_policy::objects::{Object, Operation};
 use rbac_policy::policy::Policy;
 
-/// The session that gives the command, where one does and it lives.
+/// The session that gives the command. Refuses if none gives it, or it doesn't live.
 pub fn living(policy: &Policy, session: Option<SessionId>) -> Result<SessionId, Refusal>
     ensures { (entries : List Entry) → StandsFor policy.now entries
         → MatchResult result (IsGivenBy entries session) (no_session entries session).refuses }
@@ -34,7 +39,7 @@ pub fn living(policy: &Policy, session: Option<SessionId>) -> Result<SessionId, 
     }
 }
 
-/// The session may change the policy.
+/// Refuses a session that may not change the policy.
 pub fn administers(policy: &Policy, session: SessionId) -> Result<(), Refusal>
     ensures { (entries : List Entry) → StandsFor policy.now entries
         → Tests (Unless (May entries session Operation.Administer Object.Policy)
@@ -50,7 +55,7 @@ pub fn administers(policy: &Policy, session: SessionId) -> Result<(), Refusal>
     }
 }
 
-/// There is such a role.
+/// Refuses if there is no such role.
 pub fn known_role(policy: &Policy, role: &Name) -> Result<(), Refusal>
     ensures { (entries : List Entry) → StandsFor policy.now entries
         → Tests (unknown_role entries role.now) result }
@@ -62,7 +67,7 @@ pub fn known_role(policy: &Policy, role: &Name) -> Result<(), Refusal>
     }
 }
 
-/// The role itself doesn't have the permission.
+/// Refuses if the role itself has the permission.
 pub fn new_grant(
     policy: &Policy,
     role: &Name,
@@ -80,7 +85,7 @@ pub fn new_grant(
     }
 }
 
-/// The pair is granted to some role, or there is room for it.
+/// Refuses if the pair is granted to no role and there is no room for it.
 pub fn room_for_grant(
     policy: &Policy,
     operation: &Operation,
@@ -101,7 +106,7 @@ pub fn room_for_grant(
     Ok(())
 }
 
-/// There is no such user yet.
+/// Refuses if there is such a user.
 pub fn new_user(policy: &Policy, user: &Name) -> Result<(), Refusal>
     ensures { (entries : List Entry) → StandsFor policy.now entries
         → Tests (Says (Refusal.UserExists user.now) (IsUser entries user.now)) result }
@@ -113,7 +118,7 @@ pub fn new_user(policy: &Policy, user: &Name) -> Result<(), Refusal>
     }
 }
 
-/// There is room for another user.
+/// Refuses if there is no room for another user.
 pub fn room_for_user(policy: &Policy) -> Result<(), Refusal>
     ensures { (entries : List Entry) → StandsFor policy.now entries
         → Tests (Says (Refusal.Full Table.Users) (UsersFull entries)) result }
@@ -127,7 +132,7 @@ pub fn room_for_user(policy: &Policy) -> Result<(), Refusal>
     }
 }
 
-/// There is no such role yet.
+/// Refuses if there is such a role.
 pub fn new_role(policy: &Policy, role: &Name) -> Result<(), Refusal>
     ensures { (entries : List Entry) → StandsFor policy.now entries
         → Tests (Says (Refusal.RoleExists role.now) (IsRole entries role.now)) result }
@@ -139,7 +144,7 @@ pub fn new_role(policy: &Policy, role: &Name) -> Result<(), Refusal>
     }
 }
 
-/// There is room for another role.
+/// Refuses if there is no room for another role.
 pub fn room_for_role(policy: &Policy) -> Result<(), Refusal>
     ensures { (entries : List Entry) → StandsFor policy.now entries
         → Tests (Says (Refusal.Full Table.Roles) (RolesFull entries)) result }
@@ -153,7 +158,7 @@ pub fn room_for_role(policy: &Policy) -> Result<(), Refusal>
     }
 }
 
-/// The role is not assigned to the user yet.
+/// Refuses if the role is assigned to the user.
 pub fn new_assignment(policy: &Policy, user: &Name, role: &Name) -> Result<(), Refusal>
     ensures { (entries : List Entry) → StandsFor policy.now entries
         → Tests (Says Refusal.AlreadyAssigned (IsAssigned entries user.now role.now)) result }
@@ -165,7 +170,7 @@ pub fn new_assignment(policy: &Policy, user: &Name, role: &Name) -> Result<(), R
     }
 }
 
-/// The role is assigned to the user.
+/// Refuses if the role is not assigned to the user.
 pub fn is_assigned(policy: &Policy, user: &Name, role: &Name) -> Result<(), Refusal>
     ensures { (entries : List Entry) → StandsFor policy.now entries
         → Tests (Unless (IsAssigned entries user.now role.now) Refusal.NotAssigned) result }
@@ -177,7 +182,7 @@ pub fn is_assigned(policy: &Policy, user: &Name, role: &Name) -> Result<(), Refu
     }
 }
 
-/// The role itself has the permission.
+/// Refuses if the role itself doesn't have the permission.
 pub fn is_granted(
     policy: &Policy,
     role: &Name,
@@ -195,7 +200,7 @@ pub fn is_granted(
     }
 }
 
-/// The edge itself is there.
+/// Refuses if the edge itself isn't there.
 pub fn known_edge(policy: &Policy, senior: &Name, junior: &Name) -> Result<(), Refusal>
     ensures { (entries : List Entry) → StandsFor policy.now entries
         → Tests (Unless (IsEdge entries senior.now junior.now) Refusal.NoEdge) result }
@@ -207,7 +212,7 @@ pub fn known_edge(policy: &Policy, senior: &Name, junior: &Name) -> Result<(), R
     }
 }
 
-/// The role is active in the session, which lives.
+/// Refuses if the role is not active in the session, which lives.
 pub fn active_role(policy: &Policy, session: SessionId, role: &Name) -> Result<(), Refusal>
     ensures { (entries : List Entry) → StandsFor policy.now entries → IsLive entries session
         → Tests (Unless (IsActive entries session role.now) (Refusal.NotActive role.now)) result }
@@ -219,7 +224,7 @@ pub fn active_role(policy: &Policy, session: SessionId, role: &Name) -> Result<(
     }
 }
 
-/// The role is not active in the session yet, which lives.
+/// Refuses if the role is active in the session, which lives.
 pub fn inactive_role(policy: &Policy, session: SessionId, role: &Name) -> Result<(), Refusal>
     ensures { (entries : List Entry) → StandsFor policy.now entries → IsLive entries session
         → Tests (Says (Refusal.AlreadyActive role.now) (IsActive entries session role.now)) result }
@@ -231,7 +236,7 @@ pub fn inactive_role(policy: &Policy, session: SessionId, role: &Name) -> Result
     }
 }
 
-/// The user of the session, which lives, is authorized for the role.
+/// Refuses if the user of the session, which lives, is not authorized for the role.
 pub fn authorized_role(policy: &Policy, session: SessionId, role: &Name) -> Result<(), Refusal>
     ensures { (entries : List Entry) (user : NameText) → StandsFor policy.now entries
         → Lives entries session user
@@ -244,7 +249,7 @@ pub fn authorized_role(policy: &Policy, session: SessionId, role: &Name) -> Resu
     }
 }
 
-/// There is no such separation set yet.
+/// Refuses if there is such a separation set.
 pub fn new_set(policy: &Policy, set: &Name) -> Result<(), Refusal>
     ensures { (entries : List Entry) → StandsFor policy.now entries
         → Tests (Says (Refusal.DsdExists set.now) (IsSetName entries set.now)) result }
@@ -256,7 +261,7 @@ pub fn new_set(policy: &Policy, set: &Name) -> Result<(), Refusal>
     }
 }
 
-/// There is such a separation set.
+/// Refuses if there is no such separation set.
 pub fn known_set(policy: &Policy, set: &Name) -> Result<(), Refusal>
     ensures { (entries : List Entry) → StandsFor policy.now entries
         → Tests (Unless (IsSetName entries set.now) (Refusal.NoDsd set.now)) result }
@@ -268,7 +273,7 @@ pub fn known_set(policy: &Policy, set: &Name) -> Result<(), Refusal>
     }
 }
 
-/// There is room for another separation set.
+/// Refuses if there is no room for another separation set.
 pub fn room_for_set(policy: &Policy) -> Result<(), Refusal>
     ensures { (entries : List Entry) → StandsFor policy.now entries
         → Tests (Says (Refusal.Full Table.Sets) (SetsFull entries)) result }
@@ -280,7 +285,7 @@ pub fn room_for_set(policy: &Policy) -> Result<(), Refusal>
     }
 }
 
-/// The senior is not the junior, and doesn't lie below it.
+/// Refuses if the senior is the junior, or lies below it.
 pub fn no_cycle(policy: &Policy, senior: &Name, junior: &Name) -> Result<(), Refusal>
     ensures { (entries : List Entry) → StandsFor policy.now entries
         → Tests (Says Refusal.Cycle (IsAtOrBelow entries senior.now junior.now)) result }
@@ -292,7 +297,7 @@ pub fn no_cycle(policy: &Policy, senior: &Name, junior: &Name) -> Result<(), Ref
     }
 }
 
-/// The edge itself isn't there yet.
+/// Refuses if the edge itself is there.
 pub fn new_edge(policy: &Policy, senior: &Name, junior: &Name) -> Result<(), Refusal>
     ensures { (entries : List Entry) → StandsFor policy.now entries
         → Tests (Says Refusal.EdgeExists (IsEdge entries senior.now junior.now)) result }
@@ -304,7 +309,7 @@ pub fn new_edge(policy: &Policy, senior: &Name, junior: &Name) -> Result<(), Ref
     }
 }
 
-/// The role is a member of no separation set.
+/// Refuses if the role is a member of a separation set, and names the first.
 pub fn in_no_set(policy: &Policy, role: &Name) -> Result<(), Refusal>
     ensures { (entries : List Entry) → StandsFor policy.now entries
         → Tests (Naming Refusal.RoleInDsd (IsFirstSetOf entries role.now)) result }
@@ -315,7 +320,7 @@ pub fn in_no_set(policy: &Policy, role: &Name) -> Result<(), Refusal>
     }
 }
 
-/// No session violates a separation set once an edge leads from the senior to the junior.
+/// Refuses if a session violates a separation set once an edge leads from the senior to the junior.
 pub fn separated_edge(policy: &Policy, senior: &Name, junior: &Name) -> Result<(), Refusal>
     ensures { (entries : List Entry) (session : Option ℕ) → StandsFor policy.now entries
         → IsRole entries senior.now → IsRole entries junior.now
@@ -331,7 +336,8 @@ pub fn separated_edge(policy: &Policy, senior: &Name, junior: &Name) -> Result<(
     }
 }
 
-/// No session violates a separation set once there is one more of this name, number and roles.
+/// Refuses if a session violates a separation set once there is one more of this name, number and
+/// roles.
 pub fn separated_set(
     policy: &Policy,
     set: &Name,
@@ -352,7 +358,8 @@ pub fn separated_set(
     }
 }
 
-/// No session violates a separation set once the role, for which its user is authorized, is active in this one too.
+/// Refuses if a session violates a separation set once the role, for which its user is authorized,
+/// is active in this one too.
 pub fn separated_role(policy: &Policy, session: SessionId, role: &Name) -> Result<(), Refusal>
     ensures { (entries : List Entry) (user : NameText) → StandsFor policy.now entries
         → Lives entries session user → IsAuthorized entries user role.now
@@ -367,7 +374,7 @@ pub fn separated_role(policy: &Policy, session: SessionId, role: &Name) -> Resul
     }
 }
 
-/// The number is two or more and no more than that of the roles, and no role is listed twice.
+/// Refuses if the number is under two or over that of the roles, or a role is listed twice.
 pub fn is_shape(count: u64, roles: &RoleNames) -> Result<(), Refusal>
     ensures { Tests (Says Refusal.DsdShape (IsNoShape count roles.now)) result }
 {
@@ -380,7 +387,7 @@ pub fn is_shape(count: u64, roles: &RoleNames) -> Result<(), Refusal>
     }
 }
 
-/// A session number is left.
+/// Refuses if no session number is left.
 pub fn number_left(policy: &Policy) -> Result<(), Refusal>
     ensures { (entries : List Entry) → StandsFor policy.now entries
         → Tests (Says Refusal.SessionsExhausted (NumbersExhausted entries)) result }
@@ -392,7 +399,7 @@ pub fn number_left(policy: &Policy) -> Result<(), Refusal>
     }
 }
 
-/// There is such a user.
+/// Refuses if there is no such user.
 pub fn known_user(policy: &Policy, user: &Name) -> Result<(), Refusal>
     ensures { (entries : List Entry) → StandsFor policy.now entries
         → Tests (unknown_user entries user.now) result }
@@ -404,7 +411,7 @@ pub fn known_user(policy: &Policy, user: &Name) -> Result<(), Refusal>
     }
 }
 
-/// The first listed role that is none.
+/// The first listed name that is no role's.
 fn first_unknown(policy: &Policy, roles: &RoleNames) -> Option<Name>
     ensures { (entries : List Entry) → StandsFor policy.now entries
         → MatchOption result
@@ -469,7 +476,7 @@ fn first_repeated(roles: &RoleNames) -> Option<Name>
     None
 }
 
-/// Each listed role is one.
+/// Refuses if a listed name is no role's, and names the first.
 pub fn known_roles(policy: &Policy, roles: &RoleNames) -> Result<(), Refusal>
     ensures { (entries : List Entry) → StandsFor policy.now entries
         → Tests (unknown_listed entries roles.now) result }
@@ -480,7 +487,8 @@ pub fn known_roles(policy: &Policy, roles: &RoleNames) -> Result<(), Refusal>
     }
 }
 
-/// No session violates a separation set once the user has logged in with these roles, for which it is authorized.
+/// Refuses if a session violates a separation set once the user has logged in with these roles, for
+/// which it is authorized.
 pub fn separated_login(policy: &Policy, user: &Name, roles: &RoleNames) -> Result<(), Refusal>
     ensures { (entries : List Entry) → StandsFor policy.now entries → ¬ (NumbersExhausted entries)
         → ((role : NameText) → Contains roles.now role → IsAuthorized entries user.now role)
@@ -495,7 +503,7 @@ pub fn separated_login(policy: &Policy, user: &Name, roles: &RoleNames) -> Resul
     }
 }
 
-/// The user is authorized for each listed role.
+/// Refuses if the user is not authorized for a listed role, and names the first.
 pub fn authorized_roles(policy: &Policy, user: &Name, roles: &RoleNames) -> Result<(), Refusal>
     ensures { (entries : List Entry) → StandsFor policy.now entries
         → Tests (unauthorized_listed entries user.now roles.now) result }
@@ -506,7 +514,7 @@ pub fn authorized_roles(policy: &Policy, user: &Name, roles: &RoleNames) -> Resu
     }
 }
 
-/// No listed role stands a second time.
+/// Refuses if a listed role stands a second time, and names the first.
 pub fn single_roles(roles: &RoleNames) -> Result<(), Refusal>
     ensures { Tests (repeated_listed roles.now) result }
 {
@@ -516,7 +524,7 @@ pub fn single_roles(roles: &RoleNames) -> Result<(), Refusal>
     }
 }
 
-/// There is room for another session.
+/// Refuses if there is no room for another session.
 pub fn room_for_session(policy: &Policy) -> Result<(), Refusal>
     ensures { (entries : List Entry) → StandsFor policy.now entries
         → Tests (Says (Refusal.Full Table.Sessions) (SessionsFull entries)) result }

@@ -1,5 +1,7 @@
--- A set has as many places as its number has bits that are set, and the first from a place on is that of its lowest bit from there on.
-use Rattle.std.proofs.Common.{◌≡◌, ℕ, zero, suc, ◌+◌, ◌-◌, ◌/◌, ◌%◌, ◌^◌, ◌<◌, ◌≤◌, length, cond, true, false, Bool, inl, inr, arith, sym, ◌∙◌, ◌∷◌, ap, ap₂, subst, refl}
+-- A set has as many places as its number has bits that are set, and the first from a place on is that of its lowest bit
+-- from there on.
+use Rattle.std.proofs.Common.{◌≡◌, ℕ, zero, suc, ◌+◌, ◌-◌, ◌/◌, ◌%◌, ◌^◌, ◌<◌, ◌≤◌, length, cond, true, false, Bool}
+use Rattle.std.proofs.Common.{inl, inr, arith, sym, ◌∙◌, ◌∷◌, ap, ap₂, subst, refl}
 use Rattle.std.specs.Prelude.{◌==◌, count_ones}
 use Rattle.std.specs.Int.{bit_at, w32, trailing_zeros}
 use Rattle.std.specs.Int.Count.{ones-ones}
@@ -19,12 +21,14 @@ no_places set = refl
 
 one_more : (n set : ℕ) → Has set n → places_before (suc n) set ≡ n ∷ places_before n set
 unfolding places_before
-one_more n set has = ap (λ b. cond b (n ∷ places_before n set) (places_before n set)) ((Decides-eqb (bit_at set n) 1).1 has)
+one_more n set has = ap (λ b. cond b (n ∷ places_before n set) (places_before n set))
+    ((Decides-eqb (bit_at set n) 1).1 has)
 
 no_more : (n set : ℕ) → (Has set n → ⊥) → places_before (suc n) set ≡ places_before n set
 unfolding places_before
 no_more n set none = by_test (bit_at set n == 1) refl where
-  by_test : (b : Bool) → (bit_at set n == 1) ≡ b → cond (bit_at set n == 1) (n ∷ places_before n set) (places_before n set) ≡ places_before n set
+  by_test : (b : Bool) → (bit_at set n == 1) ≡ b → cond (bit_at set n == 1) (n ∷ places_before n set)
+      (places_before n set) ≡ places_before n set
   by_test true e = absurd (none ((Decides-eqb (bit_at set n) 1).0 e))
   by_test false e = ap (λ b. cond b (n ∷ places_before n set) (places_before n set)) e
 
@@ -59,7 +63,8 @@ ones_are_places set fits = ap count_ones (sym (mod-eq_of_lt fits)) ∙ ones_belo
 shifted_bit : (n start i : ℕ) → bit_at (n / 2 ^ start) i ≡ bit_at n (start + i)
 shifted_bit n start i = ap (λ x. x % 2) (shr-shr n start i)
 
-pub lowest_is_first : (n start : ℕ) → 0 < n / 2 ^ start → n / 2 ^ start < 2 ^ 32 → IsFirstFrom n start (start + trailing_zeros w32 (n / 2 ^ start))
+pub lowest_is_first : (n start : ℕ) → 0 < n / 2 ^ start → n / 2 ^ start < 2 ^ 32
+    → IsFirstFrom n start (start + trailing_zeros w32 (n / 2 ^ start))
 lowest_is_first n start some fits =
     let lowest = bit_at-trailing_zeros w32 (n / 2 ^ start) some fits in
     record {
@@ -68,7 +73,8 @@ lowest_is_first n start some fits =
       first = λ other from before has.
           let i = other - start in
           let same : start + i ≡ other = omega (arith, from) in
-          let none : bit_at n (start + i) ≡ 0 = sym (shifted_bit n start i) ∙ lowest.2 i (omega (arith, from, before)) in
+          let none : bit_at n (start + i) ≡ 0 = sym (shifted_bit n start i)
+          ∙ lowest.2 i (omega (arith, from, before)) in
           omega (arith, sym (subst (λ p. Has n p) (sym same) has) ∙ none);
     }
 
@@ -81,4 +87,5 @@ none_is_left n start none place from has =
 
 -- the places of a set of the table are places of the table
 pub in_table : (set place : ℕ) → set < 2 ^ ROLES → Has set place → place < ROLES
-in_table set place fits has = elim (cases_lt place ROLES) [ inl l ↦ l | inr g ↦ absurd (omega (arith, has, bit_at_above set ROLES place fits g)) ]
+in_table set place fits has = elim (cases_lt place ROLES)
+    [ inl l ↦ l | inr g ↦ absurd (omega (arith, has, bit_at_above set ROLES place fits g)) ]

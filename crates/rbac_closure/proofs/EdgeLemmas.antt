@@ -1,5 +1,6 @@
 -- The edges and the rows, where an edge is added or taken away.
-use Rattle.std.proofs.Common.{◌≡◌, ℕ, ◌<◌, ◌≤◌, ◌^◌, ◌+◌, ◌⊎◌, ◌↔◌, List, length, map, replicate, inl, inr, arith, sym, ◌∙◌, ap, subst, refl, get_or-set_same, get_or-set_other, length-set}
+use Rattle.std.proofs.Common.{◌≡◌, ℕ, ◌<◌, ◌≤◌, ◌^◌, ◌+◌, ◌⊎◌, ◌↔◌, List, length, map, replicate, inl, inr, arith, sym}
+use Rattle.std.proofs.Common.{◌∙◌, ap, subst, refl, get_or-set_same, get_or-set_other, length-set}
 use Rattle.std.specs.Prelude.{slice_index, slice_set}
 use Rattle.std.proofs.lemmas.Bool.{cases_lt, cases_eq}
 use Rattle.std.proofs.lemmas.List.{get_or_past, get_or-map, length-map, get_or-replicate, length-replicate}
@@ -25,7 +26,8 @@ pub added_edges : (senior junior : ℕ) (edges : List ℕ) → senior < length e
 added_edges senior junior edges within a b = elim (cases_eq a senior) [
   | inl e ↦
       let row = with_place (slice_index edges senior) junior in
-      let same : slice_index (slice_set edges senior row) a ≡ row = ap (slice_index (slice_set edges senior row)) e ∙ get_or-set_same edges senior row 0 within in (
+      let same : slice_index (slice_set edges senior row) a ≡ row =
+      ap (slice_index (slice_set edges senior row)) e ∙ get_or-set_same edges senior row 0 within in (
         λ x. elim ((has_with (slice_index edges senior) junior b).0 (subst (λ n. Has n b) same x)) [
           | inl y ↦ inl (subst (λ k. Has (slice_index edges k) b) (sym e) y)
           | inr y ↦ inr (e, y)
@@ -37,7 +39,8 @@ added_edges senior junior edges within a b = elim (cases_eq a senior) [
       )
   | inr d ↦
       let row = with_place (slice_index edges senior) junior in
-      let same : slice_index (slice_set edges senior row) a ≡ slice_index edges a = get_or-set_other edges senior a row 0 d in (
+      let same : slice_index (slice_set edges senior row) a ≡ slice_index edges a =
+      get_or-set_other edges senior a row 0 d in (
         λ x. inl (subst (λ n. Has n b) same x),
         λ x. elim x [ inl y ↦ subst (λ n. Has n b) (sym same) y | inr y ↦ absurd (d y.0) ],
       )
@@ -49,16 +52,19 @@ pub removed_edges : (senior junior : ℕ) (edges : List ℕ) → senior < length
 removed_edges senior junior edges within a b = elim (cases_eq a senior) [
   | inl e ↦
       let row = without_place (slice_index edges senior) junior in
-      let same : slice_index (slice_set edges senior row) a ≡ row = ap (slice_index (slice_set edges senior row)) e ∙ get_or-set_same edges senior row 0 within in (
+      let same : slice_index (slice_set edges senior row) a ≡ row =
+      ap (slice_index (slice_set edges senior row)) e ∙ get_or-set_same edges senior row 0 within in (
         λ x.
             let y = (has_without (slice_index edges senior) junior b).0 (subst (λ n. Has n b) same x) in
             (subst (λ k. Has (slice_index edges k) b) (sym e) y.0, λ it. y.1 it.1),
         λ x. subst (λ n. Has n b) (sym same)
-            ((has_without (slice_index edges senior) junior b).1 (subst (λ k. Has (slice_index edges k) b) e x.0, λ it. x.1 (e, it))),
+            ((has_without (slice_index edges senior) junior b).1
+            (subst (λ k. Has (slice_index edges k) b) e x.0, λ it. x.1 (e, it))),
       )
   | inr d ↦
       let row = without_place (slice_index edges senior) junior in
-      let same : slice_index (slice_set edges senior row) a ≡ slice_index edges a = get_or-set_other edges senior a row 0 d in (
+      let same : slice_index (slice_set edges senior row) a ≡ slice_index edges a =
+      get_or-set_other edges senior a row 0 d in (
         λ x. (subst (λ n. Has n b) same x, λ it. d it.0),
         λ x. subst (λ n. Has n b) (sym same) x.0,
       )
@@ -69,25 +75,32 @@ pub same_edges : (xs ys : List ℕ) → length xs ≡ length ys → ((a b : ℕ)
 same_edges xs ys e h = same_number_lists xs ys e (λ k within. same_set (slice_index xs k) (slice_index ys k) (h k))
 
 -- an edge that is there, added again
-pub edge_again : (senior junior : ℕ) (edges : List ℕ) → IsEdge edges senior junior → edge_added senior junior edges ≡ edges
+pub edge_again : (senior junior : ℕ) (edges : List ℕ) → IsEdge edges senior junior
+    → edge_added senior junior edges ≡ edges
 edge_again senior junior edges it =
-    same_edges (edge_added senior junior edges) edges (length-set edges senior (with_place (slice_index edges senior) junior)) (λ a b.
+    same_edges (edge_added senior junior edges) edges
+    (length-set edges senior (with_place (slice_index edges senior) junior)) (λ a b.
     let more = added_edges senior junior edges (from_table edges senior junior it) a b in (
-      λ e. elim (more.0 e) [ inl x ↦ x | inr x ↦ subst (λ k. IsEdge edges k b) (sym x.0) (subst (IsEdge edges senior) (sym x.1) it) ],
+      λ e. elim
+          (more.0 e)
+          [ inl x ↦ x | inr x ↦ subst (λ k. IsEdge edges k b) (sym x.0) (subst (IsEdge edges senior) (sym x.1) it) ],
       λ e. more.1 (inl e),
     ))
 
 -- an edge that is not there, removed
-pub edge_absent : (senior junior : ℕ) (edges : List ℕ) → senior < length edges → (IsEdge edges senior junior → ⊥) → edge_removed senior junior edges ≡ edges
+pub edge_absent : (senior junior : ℕ) (edges : List ℕ) → senior < length edges → (IsEdge edges senior junior → ⊥)
+    → edge_removed senior junior edges ≡ edges
 edge_absent senior junior edges within none =
-    same_edges (edge_removed senior junior edges) edges (length-set edges senior (without_place (slice_index edges senior) junior)) (λ a b.
+    same_edges (edge_removed senior junior edges) edges
+    (length-set edges senior (without_place (slice_index edges senior) junior)) (λ a b.
     let fewer = removed_edges senior junior edges within a b in (
       λ e. (fewer.0 e).0,
       λ e. fewer.1 (e, λ it. none (subst (λ k. IsEdge edges k junior) it.0 (subst (IsEdge edges a) it.1 e))),
     ))
 
 -- what lies below, with one edge more
-pub below_added : (senior junior : ℕ) (edges more : List ℕ) → ((a b : ℕ) → IsEdge more a b ↔ (IsEdge edges a b ⊎ ((a ≡ senior) × (b ≡ junior))))
+pub below_added : (senior junior : ℕ) (edges more : List ℕ)
+    → ((a b : ℕ) → IsEdge more a b ↔ (IsEdge edges a b ⊎ ((a ≡ senior) × (b ≡ junior))))
     → (a b : ℕ) → IsAbove more a b ↔ (IsAbove edges a b ⊎ (IsAbove edges a senior × IsAbove edges junior b))
 below_added senior junior edges more h a b = (
   λ q. with_edge senior junior (λ x y. (h x y).0) q,
@@ -101,17 +114,22 @@ below_added senior junior edges more h a b = (
 
 -- the rows of some places take in a set
 abbrev pub TakesIn : List ℕ → List ℕ → ℕ → ℕ → Type 0
-TakesIn old new places more = (role : ℕ) → role < ROLES → (place : ℕ) → Has (slice_index new role) place ↔ (Has (slice_index old role) place ⊎ (Has places role × Has more place))
+TakesIn old new places more = (role : ℕ) → role < ROLES → (place : ℕ)
+    → Has (slice_index new role) place ↔ (Has (slice_index old role) place ⊎ (Has places role × Has more place))
 
--- the rows are those of one edge more, where the seniors' take in all below the junior, and the juniors' all above the senior
-module _ (senior junior : ℕ) (edges lower upper lower_after upper_after : List ℕ) (few : senior < ROLES) (fewer : junior < ROLES)
+-- the rows are those of one edge more, where the seniors' take in all below the junior, and the juniors' all above the
+-- senior
+module _ (senior junior : ℕ) (edges lower upper lower_after upper_after : List ℕ) (few : senior < ROLES)
+    (fewer : junior < ROLES)
     (closed : IsClosed edges lower upper)
     (down : TakesIn lower lower_after (slice_index upper senior) (slice_index lower junior))
     (up : TakesIn upper upper_after (slice_index lower junior) (slice_index upper senior)) where
-  edges_after : (a b : ℕ) → IsEdge (edge_added senior junior edges) a b ↔ (IsEdge edges a b ⊎ ((a ≡ senior) × (b ≡ junior)))
+  edges_after : (a b : ℕ) → IsEdge (edge_added senior junior edges) a b
+      ↔ (IsEdge edges a b ⊎ ((a ≡ senior) × (b ≡ junior)))
   edges_after = added_edges senior junior edges (omega (arith, closed.full, few))
 
-  chains_after : (a b : ℕ) → IsAbove (edge_added senior junior edges) a b ↔ (IsAbove edges a b ⊎ (IsAbove edges a senior × IsAbove edges junior b))
+  chains_after : (a b : ℕ) → IsAbove (edge_added senior junior edges) a b
+      ↔ (IsAbove edges a b ⊎ (IsAbove edges a senior × IsAbove edges junior b))
   chains_after = below_added senior junior edges (edge_added senior junior edges) edges_after
 
   in_table_after : IsInTable (edge_added senior junior edges)
@@ -153,56 +171,70 @@ module _ (senior junior : ℕ) (edges lower upper lower_after upper_after : List
 no_edge : (n a b : ℕ) → IsEdge (replicate n 0) a b → ⊥
 no_edge n a b e = elim (cases_lt a n) [
   | inl l ↦ none_in_empty b (subst (λ k. Has k b) (get_or-replicate n a 0 0 l) e)
-  | inr g ↦ none_in_empty b (subst (λ k. Has k b) (get_or_past (replicate n 0) a 0 (omega (arith, length-replicate {A = ℕ} n 0))) e)
+  | inr g ↦
+      none_in_empty b
+      (subst (λ k. Has k b) (get_or_past (replicate n 0) a 0 (omega (arith, length-replicate {A = ℕ} n 0))) e)
 ]
 
 -- without edges, what lies below and above a place is the place
-pub closed_alone : (n : ℕ) (lower upper : List ℕ) → ((role : ℕ) → role < ROLES → slice_index lower role ≡ 2 ^ role) → ((role : ℕ) → role < ROLES → slice_index upper role ≡ 2 ^ role)
+pub closed_alone : (n : ℕ) (lower upper : List ℕ) → ((role : ℕ) → role < ROLES → slice_index lower role ≡ 2 ^ role)
+    → ((role : ℕ) → role < ROLES → slice_index upper role ≡ 2 ^ role)
     → n ≡ ROLES → IsClosed (replicate n 0) lower upper
 closed_alone n lower upper low high all = record {
   full = length-replicate {A = ℕ} n 0 ∙ all;
   in_table = λ a b e. absurd (no_edge n a b e);
   below = λ role within place. (
-    λ h. subst (λ p. IsAbove (replicate n 0) role p) (sym ((has_single role place).0 (subst (λ k. Has k place) (low role within) h))) stay,
+    λ h. subst (λ p. IsAbove (replicate n 0) role p)
+        (sym ((has_single role place).0 (subst (λ k. Has k place) (low role within) h))) stay,
     λ q. subst (λ k. Has k place) (sym (low role within)) ((has_single role place).1 (stays (no_edge n) q)),
   );
   above = λ role within place. (
-    λ h. subst (λ p. IsAbove (replicate n 0) p role) (sym ((has_single role place).0 (subst (λ k. Has k place) (high role within) h))) stay,
+    λ h. subst (λ p. IsAbove (replicate n 0) p role)
+        (sym ((has_single role place).0 (subst (λ k. Has k place) (high role within) h))) stay,
     λ q. subst (λ k. Has k place) (sym (high role within)) ((has_single role place).1 (sym (stays (no_edge n) q))),
   );
 }
 
 -- the rows before this one have taken in the set, where their place is one of those, and the others are as they were
 pub record TakenUpTo (old rows : List ℕ) (places more many : ℕ) : Type 0 where
-  pub done : (k : ℕ) → k < many → (p : ℕ) → Has (slice_index rows k) p ↔ (Has (slice_index old k) p ⊎ (Has places k × Has more p))
+  pub done : (k : ℕ) → k < many → (p : ℕ) → Has (slice_index rows k) p
+      ↔ (Has (slice_index old k) p ⊎ (Has places k × Has more p))
   pub left : (k : ℕ) → many ≤ k → slice_index rows k ≡ slice_index old k
   pub same : length rows ≡ length old
 
-pub taken_in : (old rows : List ℕ) (places more i : ℕ) → i < length old → TakenUpTo old rows places more i → Has places i
+pub taken_in : (old rows : List ℕ) (places more i : ℕ) → i < length old → TakenUpTo old rows places more i
+    → Has places i
     → TakenUpTo old (slice_set rows i (either (slice_index rows i) more)) places more (i + 1)
 taken_in old rows places more i within before it =
     let next = slice_set rows i (either (slice_index rows i) more) in
-    let other : (k : ℕ) → (k ≡ i → ⊥) → slice_index next k ≡ slice_index rows k = λ k d. get_or-set_other rows i k (either (slice_index rows i) more) 0 d in
+    let other : (k : ℕ) → (k ≡ i → ⊥) → slice_index next k ≡ slice_index rows k =
+    λ k d. get_or-set_other rows i k (either (slice_index rows i) more) 0 d in
     let own : slice_index next i ≡ either (slice_index old i) more =
-    get_or-set_same rows i (either (slice_index rows i) more) 0 (omega (arith, within, before.same)) ∙ ap (λ n. either n more) (before.left i (omega arith)) in
+    get_or-set_same rows i (either (slice_index rows i) more) 0 (omega (arith, within, before.same))
+    ∙ ap (λ n. either n more) (before.left i (omega arith)) in
     record {
       done = λ k few p. elim (cases_eq k i) [
-        | inl e ↦ subst (λ x. Has (slice_index next x) p ↔ (Has (slice_index old x) p ⊎ (Has places x × Has more p))) (sym e)
+        | inl e ↦ subst (λ x. Has (slice_index next x) p ↔ (Has (slice_index old x) p ⊎ (Has places x × Has more p)))
+            (sym e)
             (subst (λ n. Has n p ↔ (Has (slice_index old i) p ⊎ (Has places i × Has more p))) (sym own) (
               λ h. elim ((has_either (slice_index old i) more p).0 h) [ inl x ↦ inl x | inr x ↦ inr (it, x) ],
               λ h. (has_either (slice_index old i) more p).1 (elim h [ inl x ↦ inl x | inr x ↦ inr x.1 ]),
             ))
-        | inr d ↦ subst (λ n. Has n p ↔ (Has (slice_index old k) p ⊎ (Has places k × Has more p))) (sym (other k d)) (before.done k (omega arith) p)
+        | inr d ↦ subst (λ n. Has n p ↔ (Has (slice_index old k) p ⊎ (Has places k × Has more p))) (sym (other k d))
+            (before.done k (omega arith) p)
       ];
       left = λ k many. other k (omega arith) ∙ before.left k (omega arith);
       same = omega (arith, length-set rows i (either (slice_index rows i) more), before.same);
     }
 
-pub passed_over : (old rows : List ℕ) (places more i : ℕ) → TakenUpTo old rows places more i → (Has places i → ⊥) → TakenUpTo old rows places more (i + 1)
+pub passed_over : (old rows : List ℕ) (places more i : ℕ) → TakenUpTo old rows places more i → (Has places i → ⊥)
+    → TakenUpTo old rows places more (i + 1)
 passed_over old rows places more i before none = record {
   done = λ k few p. elim (cases_eq k i) [
-    | inl e ↦ subst (λ x. Has (slice_index rows x) p ↔ (Has (slice_index old x) p ⊎ (Has places x × Has more p))) (sym e)
-        (subst (λ n. Has n p ↔ (Has (slice_index old i) p ⊎ (Has places i × Has more p))) (sym (before.left i (omega arith))) (
+    | inl e ↦ subst (λ x. Has (slice_index rows x) p ↔ (Has (slice_index old x) p ⊎ (Has places x × Has more p)))
+        (sym e)
+        (subst (λ n. Has n p ↔ (Has (slice_index old i) p ⊎ (Has places i × Has more p)))
+        (sym (before.left i (omega arith))) (
           λ h. inl h,
           λ h. elim h [ inl x ↦ x | inr x ↦ absurd (none x.0) ],
         ))
@@ -214,9 +246,11 @@ passed_over old rows places more i before none = record {
 
 -- edges from one senior, added in turn
 pub juniors_begin : (old : List ℕ) (senior juniors : ℕ) → HasJuniors old old senior juniors 0
-juniors_begin old senior juniors = record { edges = λ a b. (λ e. inl e, λ h. elim h [ inl e ↦ e | inr x ↦ absurd (omega (arith, x.2)) ]); same = refl }
+juniors_begin old senior juniors =
+    record { edges = λ a b. (λ e. inl e, λ h. elim h [ inl e ↦ e | inr x ↦ absurd (omega (arith, x.2)) ]); same = refl }
 
-pub junior_added : (old new : List ℕ) (senior juniors i : ℕ) → HasJuniors old new senior juniors i → Has juniors i → senior < length new
+pub junior_added : (old new : List ℕ) (senior juniors i : ℕ) → HasJuniors old new senior juniors i → Has juniors i
+    → senior < length new
     → HasJuniors old (edge_added senior i new) senior juniors (i + 1)
 junior_added old new senior juniors i before it within = record {
   edges = λ a b. (
@@ -235,7 +269,8 @@ junior_added old new senior juniors i before it within = record {
   same = omega (arith, length-set new senior (with_place (slice_index new senior) i), before.same);
 }
 
-pub junior_passed : (old new : List ℕ) (senior juniors i : ℕ) → HasJuniors old new senior juniors i → (Has juniors i → ⊥) → HasJuniors old new senior juniors (i + 1)
+pub junior_passed : (old new : List ℕ) (senior juniors i : ℕ) → HasJuniors old new senior juniors i
+    → (Has juniors i → ⊥) → HasJuniors old new senior juniors (i + 1)
 junior_passed old new senior juniors i before none = record {
   edges = λ a b. (
     λ e. elim ((before.edges a b).0 e) [ inl y ↦ inl y | inr y ↦ inr (y.0, y.1, omega (arith, y.2)) ],
@@ -261,13 +296,15 @@ seniors_begin edges = record {
   full = length-replicate {A = ℕ} ROLES 0;
 }
 
-pub senior_added : (edges rows next : List ℕ) (senior juniors : ℕ) → IsInTable edges → HasSeniors edges rows senior → slice_index edges senior ≡ juniors
+pub senior_added : (edges rows next : List ℕ) (senior juniors : ℕ) → IsInTable edges → HasSeniors edges rows senior
+    → slice_index edges senior ≡ juniors
     → HasJuniors rows next senior juniors ROLES → HasSeniors edges next (senior + 1)
 senior_added edges rows next senior juniors table before row more = record {
   from = λ a b. (
     λ e. elim ((more.edges a b).0 e) [
       | inl x ↦ let y = (before.from a b).0 x in (y.0, omega (arith, y.1))
-      | inr x ↦ (subst (λ k. Has (slice_index edges k) b) (sym x.0) (subst (λ n. Has n b) (sym row) x.1), omega (arith, x.0))
+      | inr x ↦
+          (subst (λ k. Has (slice_index edges k) b) (sym x.0) (subst (λ n. Has n b) (sym row) x.1), omega (arith, x.0))
     ],
     λ h. (more.edges a b).1 (elim (cases_eq a senior) [
       | inl e ↦ inr (e, subst (λ n. Has n b) row (subst (λ k. Has (slice_index edges k) b) e h.0), table a b h.0)
@@ -284,8 +321,10 @@ seniors_end edges rows full all = same_edges rows edges (all.full ∙ sym full) 
 ))
 
 -- with fewer edges, those that are left lead to places of the table
-pub removed_in_table : (senior junior : ℕ) (edges : List ℕ) → senior < length edges → IsInTable edges → IsInTable (edge_removed senior junior edges)
-removed_in_table senior junior edges within table a b e = table a b ((removed_edges senior junior edges within a b).0 e).0
+pub removed_in_table : (senior junior : ℕ) (edges : List ℕ) → senior < length edges → IsInTable edges
+    → IsInTable (edge_removed senior junior edges)
+removed_in_table senior junior edges within table a b e =
+    table a b ((removed_edges senior junior edges within a b).0 e).0
 
 -- the edges without those at a place
 pub cleared_edges : (place : ℕ) (edges : List ℕ) → place < length edges
@@ -295,17 +334,21 @@ cleared_edges place edges within a b =
     let same_length : length out ≡ length edges = length-map edges (λ (juniors : ℕ). without_place juniors place) in
     elim (cases_eq a place) [
       | inl e ↦
-          let none : slice_index (slice_set out place 0) a ≡ 0 = ap (slice_index (slice_set out place 0)) e ∙ get_or-set_same out place 0 0 (omega (arith, within, same_length)) in
+          let none : slice_index (slice_set out place 0) a ≡ 0 =
+          ap (slice_index (slice_set out place 0)) e ∙ get_or-set_same out place 0 0
+          (omega (arith, within, same_length)) in
           (λ h. absurd (none_in_empty b (subst (λ n. Has n b) none h)), λ h. absurd (h.1 e))
       | inr d ↦
           let other : slice_index (slice_set out place 0) a ≡ slice_index out a = get_or-set_other out place a 0 0 d in
           elim (cases_lt a (length edges)) [
             | inl l ↦
-                let row : slice_index out a ≡ without_place (slice_index edges a) place = get_or-map (λ (juniors : ℕ). without_place juniors place) edges a 0 0 l in (
+                let row : slice_index out a ≡ without_place (slice_index edges a) place =
+                get_or-map (λ (juniors : ℕ). without_place juniors place) edges a 0 0 l in (
                   λ h.
                       let x = (has_without (slice_index edges a) place b).0 (subst (λ n. Has n b) (other ∙ row) h) in
                       (x.0, d, x.1),
-                  λ h. subst (λ n. Has n b) (sym (other ∙ row)) ((has_without (slice_index edges a) place b).1 (h.0, h.2)),
+                  λ h. subst (λ n. Has n b) (sym (other ∙ row))
+                      ((has_without (slice_index edges a) place b).1 (h.0, h.2)),
                 )
             | inr g ↦
                 let row : slice_index out a ≡ 0 = get_or_past out a 0 (omega (arith, g, same_length)) in (
@@ -315,7 +358,8 @@ cleared_edges place edges within a b =
           ]
     ]
 
-pub cleared_in_table : (place : ℕ) (edges : List ℕ) → place < length edges → IsInTable edges → IsInTable (role_cleared place edges)
+pub cleared_in_table : (place : ℕ) (edges : List ℕ) → place < length edges → IsInTable edges
+    → IsInTable (role_cleared place edges)
 cleared_in_table place edges within table a b e = table a b ((cleared_edges place edges within a b).0 e).0
 
 -- what lies below some place of a set, of those that stand before `many`, or is in the set
@@ -331,27 +375,43 @@ found_begins edges set place = (
   λ f. elim f.before [ inl l ↦ absurd (omega (arith, l)) | inr e ↦ subst (Has set) e f.within ],
 )
 
-pub found_more : (edges : List ℕ) (set found row i place : ℕ) → Has set i → (Has row place ↔ IsAbove edges i place) → (Has found place ↔ IsFound edges set i place)
+pub found_more : (edges : List ℕ) (set found row i place : ℕ) → Has set i → (Has row place ↔ IsAbove edges i place)
+    → (Has found place ↔ IsFound edges set i place)
     → Has (either found row) place ↔ IsFound edges set (i + 1) place
 found_more edges set found row i place it down before = (
   λ h. elim ((has_either found row place).0 h) [
-    | inl x ↦ let f = before.0 x in record { top = f.top; within = f.within; chain = f.chain; before = elim f.before [ inl l ↦ inl (omega (arith, l)) | inr e ↦ inr e ] }
+    | inl x ↦ let f = before.0 x in
+        record {
+          top = f.top;
+          within = f.within;
+          chain = f.chain;
+          before = elim f.before [ inl l ↦ inl (omega (arith, l)) | inr e ↦ inr e ];
+        }
     | inr x ↦ record { top = i; within = it; chain = down.0 x; before = inl (omega arith) }
   ],
   λ f. (has_either found row place).1 (elim f.before [
     | inl l ↦ elim (cases_eq f.top i) [
       | inl e ↦ inr (down.1 (subst (λ t. IsAbove edges t place) e f.chain))
-      | inr d ↦ inl (before.1 (record { top = f.top; within = f.within; chain = f.chain; before = inl (omega (arith, l, d)) }))
+      | inr d ↦
+          inl (before.1
+          (record { top = f.top; within = f.within; chain = f.chain; before = inl (omega (arith, l, d)) }))
     ]
     | inr e ↦ inl (before.1 (record { top = f.top; within = f.within; chain = f.chain; before = inr e }))
   ]),
 )
 
 -- the same up to a later place, where the set has none between
-pub found_past : (edges : List ℕ) (set found next more place : ℕ) → next ≤ more → ((other : ℕ) → next ≤ other → other < more → Has set other → ⊥)
+pub found_past : (edges : List ℕ) (set found next more place : ℕ) → next ≤ more
+    → ((other : ℕ) → next ≤ other → other < more → Has set other → ⊥)
     → (Has found place ↔ IsFound edges set next place) → Has found place ↔ IsFound edges set more place
 found_past edges set found next more place later none before = (
-  λ h. let f = before.0 h in record { top = f.top; within = f.within; chain = f.chain; before = elim f.before [ inl l ↦ inl (omega (arith, l, later)) | inr e ↦ inr e ] },
+  λ h. let f = before.0 h in
+      record {
+        top = f.top;
+        within = f.within;
+        chain = f.chain;
+        before = elim f.before [ inl l ↦ inl (omega (arith, l, later)) | inr e ↦ inr e ];
+      },
   λ f. elim f.before [
     | inl l ↦ elim (cases_lt f.top next) [
       | inl low ↦ before.1 (record { top = f.top; within = f.within; chain = f.chain; before = inl low })
@@ -380,7 +440,8 @@ ends_in_table edges table stay low = low
 ends_in_table edges table (step e rest) low = ends_in_table edges table rest (table _ _ e)
 
 -- below places of the table lie places of the table
-pub below_in_table : (edges : List ℕ) (set place : ℕ) → IsInTable edges → set < 2 ^ ROLES → IsBelowSome edges set place → place < ROLES
+pub below_in_table : (edges : List ℕ) (set place : ℕ) → IsInTable edges → set < 2 ^ ROLES → IsBelowSome edges set place
+    → place < ROLES
 below_in_table edges set place table fits b = ends_in_table edges table b.chain (elim (cases_lt b.top ROLES) [
   | inl l ↦ l
   | inr g ↦ absurd (omega (arith, b.within, bit_at_above set ROLES b.top fits g))

@@ -3,12 +3,14 @@ use Rattle.std.proofs.Common.{◌≡◌, ℕ, zero, suc, ◌≤◌, ◌/◌, ◌
 use Rattle.std.specs.Int.{bit_at}
 use Rattle.std.specs.Int.Bits.{bit_or}
 use Rattle.std.proofs.lemmas.Bool.{cases_lt, cases_eq}
-use Rattle.std.proofs.lemmas.Nat.Bits.{bit_at_or, bit_at_and, bit_at_xor, bit_at-lt, bit_at-zero, bit_at_lowest, bit_at-suc, bit_at-pow_same, bit_at-pow_other, same_from_bits}
+use Rattle.std.proofs.lemmas.Nat.Bits.{bit_at_or, bit_at_and, bit_at_xor, bit_at-lt, bit_at-zero, bit_at_lowest}
+use Rattle.std.proofs.lemmas.Nat.Bits.{bit_at-suc, bit_at-pow_same, bit_at-pow_other, same_from_bits}
 use Rattle.rbac_closure.specs.Sets.{Has, Meets, IsWithin, either, common, with_place, without_place}
 
 -- a place is in a set or not
 pub has_cases : (set place : ℕ) → Has set place ⊎ (bit_at set place ≡ 0)
-has_cases set place = elim (cases_lt (bit_at set place) 1) [ inl l ↦ inr (omega arith) | inr g ↦ inl (omega (arith, bit_at-lt set place)) ]
+has_cases set place = elim (cases_lt (bit_at set place) 1)
+    [ inl l ↦ inr (omega arith) | inr g ↦ inl (omega (arith, bit_at-lt set place)) ]
 
 -- sets of the same places are the same
 pub same_set : (a b : ℕ) → ((place : ℕ) → Has a place ↔ Has b place) → a ≡ b
@@ -22,7 +24,9 @@ none_in_empty p h = omega (arith, h, bit_at-zero p)
 
 pub has_either : (a b p : ℕ) → Has (either a b) p ↔ (Has a p ⊎ Has b p)
 has_either a b p = (
-  λ h. elim (has_cases a p) [ inl x ↦ inl x | inr x ↦ inr (omega (arith, h, x, bit_at_or a b p, bit_at-lt a p, bit_at-lt b p)) ],
+  λ h. elim
+      (has_cases a p)
+      [ inl x ↦ inl x | inr x ↦ inr (omega (arith, h, x, bit_at_or a b p, bit_at-lt a p, bit_at-lt b p)) ],
   λ h. elim h [
     | inl x ↦ omega (arith, x, bit_at_or a b p, bit_at-lt a p, bit_at-lt b p)
     | inr x ↦ omega (arith, x, bit_at_or a b p, bit_at-lt a p, bit_at-lt b p)
@@ -31,7 +35,10 @@ has_either a b p = (
 
 pub has_common : (a b p : ℕ) → Has (common a b) p ↔ (Has a p × Has b p)
 has_common a b p = (
-  λ h. (omega (arith, h, bit_at_and a b p, bit_at-lt a p, bit_at-lt b p), omega (arith, h, bit_at_and a b p, bit_at-lt a p, bit_at-lt b p)),
+  λ h. (
+    omega (arith, h, bit_at_and a b p, bit_at-lt a p, bit_at-lt b p),
+    omega (arith, h, bit_at_and a b p, bit_at-lt a p, bit_at-lt b p),
+  ),
   λ h. omega (arith, h.0, h.1, bit_at_and a b p, bit_at-lt a p, bit_at-lt b p),
 )
 
@@ -44,7 +51,11 @@ has_single k p = (
 pub has_with : (set k p : ℕ) → Has (with_place set k) p ↔ (Has set p ⊎ (p ≡ k))
 has_with set k p = (
   λ h. elim ((has_either set (2 ^ k) p).0 h) [ inl x ↦ inl x | inr x ↦ inr ((has_single k p).0 x) ],
-  λ h. elim h [ inl x ↦ (has_either set (2 ^ k) p).1 (inl x) | inr e ↦ (has_either set (2 ^ k) p).1 (inr ((has_single k p).1 e)) ],
+  λ h. elim h [
+    | inl x ↦ (has_either set (2 ^ k) p).1 (inl x)
+    | inr e ↦
+        (has_either set (2 ^ k) p).1 (inr ((has_single k p).1 e))
+  ],
 )
 
 pub with_same : (set k : ℕ) → Has (with_place set k) k
@@ -57,12 +68,30 @@ pub has_without : (set k p : ℕ) → Has (without_place set k) p ↔ (Has set p
 has_without set k p = elim (cases_eq p k) [
   | inl e ↦
       let own : bit_at (2 ^ k) p ≡ 1 = (has_single k p).1 e in (
-        λ h. absurd (omega (arith, h, own, bit_at_xor (bit_or set (2 ^ k)) (2 ^ k) p, bit_at_or set (2 ^ k) p, bit_at-lt set p)),
+        λ h. absurd
+            (omega (
+              arith,
+              h,
+              own,
+              bit_at_xor (bit_or set (2 ^ k)) (2 ^ k) p,
+              bit_at_or set (2 ^ k) p,
+              bit_at-lt set p,
+            )),
         λ h. absurd (h.1 e),
       )
   | inr d ↦
       let other : bit_at (2 ^ k) p ≡ 0 = bit_at-pow_other k p d in (
-        λ h. (omega (arith, h, other, bit_at_xor (bit_or set (2 ^ k)) (2 ^ k) p, bit_at_or set (2 ^ k) p, bit_at-lt set p), d),
+        λ h. (
+          omega (
+            arith,
+            h,
+            other,
+            bit_at_xor (bit_or set (2 ^ k)) (2 ^ k) p,
+            bit_at_or set (2 ^ k) p,
+            bit_at-lt set p,
+          ),
+          d,
+        ),
         λ h. omega (arith, h.0, other, bit_at_xor (bit_or set (2 ^ k)) (2 ^ k) p, bit_at_or set (2 ^ k) p),
       )
 ]

@@ -1,5 +1,6 @@
--- The edges between roles that are named by their places in a table, and the order that they make: a list has, for each place, the set of the
--- juniors to which an edge leads from it (RH of ANSI INCITS 359-2004, general role hierarchies, on places: this project's own form).
+-- The edges between roles that are named by their places in a table, and the order that they make: a list has, for each
+-- place, the set of the juniors to which an edge leads from it (RH of ANSI INCITS 359-2004, general role hierarchies,
+-- on places: this project's own form).
 use Rattle.std.specs.Prelude.{ℕ, ◌↔◌, List, map, slice_index, slice_set}
 use Rattle.rbac_closure.specs.Sets.{Has, with_place, without_place}
 

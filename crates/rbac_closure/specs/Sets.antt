@@ -41,7 +41,8 @@ without_place set place = bit_xor (bit_or set (2 ^ place)) (2 ^ place)
 -- the places of the set that stand before this one, the last of them first
 unfoldable pub places_before : ℕ → ℕ → List ℕ
 places_before zero set = []
-places_before (suc place) set = if bit_at set place == 1 then place ∷ places_before place set else places_before place set
+places_before (suc place) set = if bit_at set place == 1 then place
+    ∷ places_before place set else places_before place set
 
 -- the places of the set, the last of them first
 abbrev pub places_of : ℕ → List ℕ

@@ -1,6 +1,8 @@
-//! The order of roles: sets of roles, and the edges between roles with all that lies below and above each.
+//! The order of roles: sets of roles, and the edges between roles with all that lies below and
+//! above each.
 //!
-//! A role is named by its place in a table. How many places there are, and the word that a set of them fits in, stand in `sets` alone.
+//! A role is named by its place in a table. How many places there are, and the word that a set of
+//! them fits in, stand in `sets` alone.
 #![tactic(auto)]
 
 pub mod rows;

@@ -1,17 +1,20 @@
 //! The edges between roles, and what they make: all that lies below each role and above it.
-ghost use Rattle.std.specs.Prelude.{◌≡◌, ◌↔◌, ◌⊎◌, ◌<◌, ◌^◌, ℕ, IsTrue, length, replicate, slice_index, slice_set, map};
+ghost use Rattle.std.specs.Prelude.{◌≡◌, ◌↔◌, ◌⊎◌, ◌<◌, ◌^◌, ℕ, IsTrue, length, replicate};
+ghost use Rattle.std.specs.Prelude.{slice_index, slice_set, map};
 ghost use Rattle.std.specs.Cmp.{partial_equiv_from_equiv};
 ghost use Rattle.std.specs.Cmp.Lexicographic.{nat_list_eq_equiv};
 ghost use Rattle.std.specs.Str.{bytes_eq};
 ghost use Rattle.rbac_closure.specs.Sets.{Has, either, without_place};
-ghost use Rattle.rbac_closure.specs.Edges.{IsEdge, IsAbove, IsBelowSome, edge_added, edge_removed, role_cleared};
+ghost use Rattle.rbac_closure.specs.Edges.{IsEdge, IsAbove, IsBelowSome, edge_added, edge_removed};
+ghost use Rattle.rbac_closure.specs.Edges.{role_cleared};
 ghost use Rattle.rbac_closure.specs.Inner.Rows.{HasJuniors, IsInTable};
 
 use crate::sets::{ROLES, RoleSet};
 use std::marker::Model;
 
-/// Edges from senior roles to junior ones, and what lies below and above each role, itself included. A contract sees the edges alone: for
-/// each place, the set of the juniors to which an edge leads from it.
+/// Edges from senior roles to junior ones, and what lies below and above each role, itself
+/// included. A contract sees the edges alone: for each place, the set of the juniors to which an
+/// edge leads from it.
 #[derive(Clone, Drop)]
 pub struct Rows {
     juniors: [RoleSet; ROLES],
@@ -133,7 +136,8 @@ impl Rows {
         found
     }
 
-    /// Adds the edge. Whether it makes a cycle is the caller's to ask: it does where the senior is at or below the junior.
+    /// Adds the edge. Whether it makes a cycle is the caller's to ask: it does where the senior is
+    /// at or below the junior.
     pub fn add_edge(&mut self, senior: usize, junior: usize)
         requires senior_is { senior < ROLES }
         requires junior_is { junior < ROLES }

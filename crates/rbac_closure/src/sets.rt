@@ -1,7 +1,8 @@
 //! Sets of roles, each role being named by its place in a table.
-ghost use Rattle.std.specs.Prelude.{◌≡◌, ◌↔◌, ◌<◌, ◌≤◌, ◌^◌, ℕ, IsTrue, IfSome, MatchOption, length};
-ghost use Rattle.rbac_closure.specs.Sets.{Has, Meets, IsFirstFrom, IsWithin, with_place, without_place, either};
-ghost use Rattle.rbac_closure.specs.Sets.{common, places_of};
+ghost use Rattle.std.specs.Prelude.{◌≡◌, ◌↔◌, ◌<◌, ◌≤◌, ◌^◌, ℕ, IsTrue, IfSome, MatchOption};
+ghost use Rattle.std.specs.Prelude.{length};
+ghost use Rattle.rbac_closure.specs.Sets.{Has, Meets, IsFirstFrom, IsWithin, with_place};
+ghost use Rattle.rbac_closure.specs.Sets.{without_place, either, common, places_of};
 
 use std::marker::Model;
 

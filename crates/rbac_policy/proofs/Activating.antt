@@ -1,5 +1,6 @@
 -- The table of sessions after a role was taken up or laid down, before the sweep.
-use Rattle.std.proofs.Common.{◌≡◌, ℕ, ◌<◌, ◌≤◌, ◌⊎◌, ◌↔◌, List, [], ◌∷◌, ◌++◌, length, map, cond, inl, inr, sym, ◌∙◌, ap, refl, subst, true, false, Bool}
+use Rattle.std.proofs.Common.{◌≡◌, ℕ, ◌<◌, ◌≤◌, ◌⊎◌, ◌↔◌, List, [], ◌∷◌, ◌++◌, length, map, cond, inl, inr, sym, ◌∙◌}
+use Rattle.std.proofs.Common.{ap, refl, subst, true, false, Bool}
 use Rattle.std.specs.Prelude.{Option, Some, ◌==◌}
 use Rattle.std.proofs.lemmas.Bool.{false≢true}
 use Rattle.std.proofs.lemmas.Bool.Decides.{Decides-eqb}
@@ -21,8 +22,10 @@ use Rattle.rbac_policy.proofs.Granting.{flip, sums}
 use Rattle.rbac_policy.proofs.Mapping.{SessionSlot, SessionBecomes, sessions_mapped}
 use Rattle.rbac_policy.proofs.Slots.{in_with_bit, named_with_bit, in_without_bit, named_without_bit}
 
-module _ (roles : List (Option NameText)) (unique : (p q : ℕ) (r : NameText) → At roles p r → At roles q r → p ≡ q) (many : length roles ≡ ROLES)
-    (p0 : ℕ) (r0 : NameText) (there0 : At roles p0 r0) (low : p0 < ROLES) (sessions : List (Option Session)) (L : List Entry) (k : ℕ) (ss : SessionsStand roles sessions L) where
+module _ (roles : List (Option NameText)) (unique : (p q : ℕ) (r : NameText) → At roles p r → At roles q r → p ≡ q)
+    (many : length roles ≡ ROLES)
+    (p0 : ℕ) (r0 : NameText) (there0 : At roles p0 r0) (low : p0 < ROLES) (sessions : List (Option Session))
+    (L : List Entry) (k : ℕ) (ss : SessionsStand roles sessions L) where
   abbrev pub the_drop : Entry
   the_drop = record { session = Some k; command = DropActiveRole r0 }
 
@@ -78,7 +81,8 @@ module _ (roles : List (Option NameText)) (unique : (p q : ℕ) (r : NameText) �
     )
 
   pub drop_unswept : Unswept roles (map (session_relieved k p0) sessions) L the_drop
-  drop_unswept = sessions_mapped roles sessions L the_drop (session_relieved k p0) refl ss drop_slot refl unique many (λ n r a. ss.made n r ((dropped n r).0 a).0)
+  drop_unswept = sessions_mapped roles sessions L the_drop (session_relieved k p0) refl ss drop_slot refl unique many
+      (λ n r a. ss.made n r ((dropped n r).0 a).0)
 
   abbrev pub the_take : Entry
   the_take = record { session = Some k; command = AddActiveRole r0 }
@@ -88,7 +92,8 @@ module _ (roles : List (Option NameText)) (unique : (p q : ℕ) (r : NameText) �
       let M : List Entry → Entry → Type 0 = λ before e. CreatesWith n r before e ⊎ TakesUp n r e in
       let U : Entry → Type 0 = LaysDown n r in (
         λ s. elim ((in_force_push M U L the_take).0 s) [
-          | inl m ↦ elim m [ inl a ↦ (let h = a.creates.login in cc) | inr b ↦ inl (same_Some k n b.0, (let x = b.1 in cc)) ]
+          | inl m ↦
+              elim m [ inl a ↦ (let h = a.creates.login in cc) | inr b ↦ inl (same_Some k n b.0, (let x = b.1 in cc)) ]
           | inr h ↦ inr h.0
         ],
         λ h. (in_force_push M U L the_take).1 (elim h [
@@ -104,7 +109,8 @@ module _ (roles : List (Option NameText)) (unique : (p q : ℕ) (r : NameText) �
   abbrev pub with_role : Session → Session
   with_role x = record { number = x.number; user = x.user; active = with_bit x.active p0 }
 
-  pub taken_here : (at : ℕ) (x : Session) → At sessions at x → x.number ≡ k → SessionBecomes roles L the_take x (with_role x)
+  pub taken_here : (at : ℕ) (x : Session) → At sessions at x → x.number ≡ k
+      → SessionBecomes roles L the_take x (with_role x)
   taken_here at x there same = record {
     number = refl;
     user = refl;
@@ -118,7 +124,12 @@ module _ (roles : List (Option NameText)) (unique : (p q : ℕ) (r : NameText) �
   take_slot : (at : ℕ) (x : Session) → At sessions at x → SessionSlot roles L the_take (session_given k p0) x
   take_slot at x there = by_test (x.number == k) refl where
     by_test : (b : Bool) → (x.number == k) ≡ b → SessionSlot roles L the_take (session_given k p0) x
-    by_test true e = inr (with_role x, ap (λ b. cond b (Some (with_role x)) (Some x)) e, taken_here at x there ((Decides-eqb x.number k).0 e))
+    by_test true e =
+        inr (
+          with_role x,
+          ap (λ b. cond b (Some (with_role x)) (Some x)) e,
+          taken_here at x there ((Decides-eqb x.number k).0 e),
+        )
     by_test false e = inr (
       x,
       ap (λ b. cond b (Some (with_role x)) (Some x)) e,
@@ -127,7 +138,11 @@ module _ (roles : List (Option NameText)) (unique : (p q : ℕ) (r : NameText) �
         user = refl;
         stays = take_stays x.number x.user;
         active = λ r. through (taken x.number r) (
-          λ h. elim h [ inl s ↦ absurd (false≢true (sym e ∙ (Decides-eqb x.number k).1 (sym s.0))) | inr a ↦ (ss.active at x there r).0 a ],
+          λ h. elim h [
+            | inl s ↦ absurd (false≢true (sym e ∙ (Decides-eqb x.number k).1 (sym s.0)))
+            | inr a ↦
+                (ss.active at x there r).0 a
+          ],
           λ m. inr ((ss.active at x there r).1 m),
         );
         named = ss.named at x there;

@@ -16,4 +16,5 @@ pub name_is_text : (bs : List ℕ) → is_name bs ≡ true → IsUtf8 bs
 name_is_text [] h = cc
 name_is_text (b ∷ bs) h =
     let each = AllPass-from_list_all is_name_byte (b ∷ bs) (grind (arith, nat_tests, common_steps)) in
-    IsUtf8-from_ascii (b ∷ bs) (IsAscii-from_all (b ∷ bs) (All-weaker (λ c. is_name_byte c ≡ true) (λ c. c < 128) small (b ∷ bs) each))
+    IsUtf8-from_ascii (b ∷ bs)
+    (IsAscii-from_all (b ∷ bs) (All-weaker (λ c. is_name_byte c ≡ true) (λ c. c < 128) small (b ∷ bs) each))

@@ -1,5 +1,6 @@
 -- The table of users after an assignment.
-use Rattle.std.proofs.Common.{◌≡◌, ℕ, ◌<◌, ◌⊎◌, ◌↔◌, List, [], ◌∷◌, ◌++◌, map, cond, inl, inr, sym, ◌∙◌, ap, refl, subst, true, false, Bool}
+use Rattle.std.proofs.Common.{◌≡◌, ℕ, ◌<◌, ◌⊎◌, ◌↔◌, List, [], ◌∷◌, ◌++◌, map, cond, inl, inr, sym, ◌∙◌, ap, refl}
+use Rattle.std.proofs.Common.{subst, true, false, Bool}
 use Rattle.std.specs.Prelude.{Option, Some}
 use Rattle.std.specs.Str.{bytes_eq}
 use Rattle.std.proofs.lemmas.Slice.Eq.{bytes_eq-Decides}
@@ -7,7 +8,8 @@ use Rattle.std.proofs.lemmas.Bool.{false≢true}
 use Rattle.std.proofs.lemmas.Option.{same_Some}
 use Rattle.std.proofs.lemmas.List.{length-map}
 use Rattle.rbac_policy.specs.declared.sizes.TheConstants.{ROLES}
-use Rattle.rbac_policy.specs.declared.commands.AdminCommand.TheVariants.{AddUser, DeleteUser, DeleteRole, AssignUser, DeassignUser}
+use Rattle.rbac_policy.specs.declared.commands.AdminCommand.TheVariants.{AddUser, DeleteUser, DeleteRole, AssignUser}
+use Rattle.rbac_policy.specs.declared.commands.AdminCommand.TheVariants.{DeassignUser}
 use Rattle.rbac_policy.specs.declared.commands.Entry.{Entry}
 use Rattle.rbac_policy.specs.declared.rows.User.{User}
 use Rattle.rbac_policy.specs.Names.{NameText}
@@ -19,18 +21,22 @@ use Rattle.rbac_policy.proofs.Untouched.{through, untouched}
 use Rattle.rbac_policy.proofs.Granting.{flip, sums}
 use Rattle.rbac_policy.proofs.Slots.{mapped, map_at, in_with_bit, named_with_bit}
 
-module _ (roles : List (Option NameText)) (unique : (p q : ℕ) (r : NameText) → At roles p r → At roles q r → p ≡ q) (p0 : ℕ) (r0 : NameText) (there0 : At roles p0 r0) (low : p0 < ROLES)
-    (users : List (Option User)) (L : List Entry) (s : Option ℕ) (u0 : NameText) (us : UsersStand roles users L) (exists : IsUser L u0) where
+module _ (roles : List (Option NameText)) (unique : (p q : ℕ) (r : NameText) → At roles p r → At roles q r → p ≡ q)
+    (p0 : ℕ) (r0 : NameText) (there0 : At roles p0 r0) (low : p0 < ROLES)
+    (users : List (Option User)) (L : List Entry) (s : Option ℕ) (u0 : NameText) (us : UsersStand roles users L)
+    (exists : IsUser L u0) where
   abbrev pub the_assignment : Entry
   the_assignment = record { session = s; command = AssignUser u0 r0 }
 
   user_same : (u : NameText) → IsUser (L ++ the_assignment ∷ []) u ↔ IsUser L u
-  user_same u = untouched (λ before x. x.command ≡ AddUser u) (λ x. x.command ≡ DeleteUser u) L the_assignment (λ h. cc) (λ h. cc)
+  user_same u = untouched (λ before x. x.command ≡ AddUser u) (λ x. x.command ≡ DeleteUser u) L the_assignment (λ h. cc)
+      (λ h. cc)
 
   given_push : (u r : NameText) → IsAssigned (L ++ the_assignment ∷ []) u r ↔ (((u0 ≡ u) × (r0 ≡ r)) ⊎ IsAssigned L u r)
   given_push u r =
       let M : List Entry → Entry → Type 0 = λ before x. x.command ≡ AssignUser u r in
-      let U : Entry → Type 0 = λ x. (x.command ≡ DeassignUser u r) ⊎ (x.command ≡ DeleteUser u) ⊎ (x.command ≡ DeleteRole r) in (
+      let U : Entry → Type 0 = λ x. (x.command ≡ DeassignUser u r) ⊎ (x.command ≡ DeleteUser u)
+      ⊎ (x.command ≡ DeleteRole r) in (
         λ h. elim ((in_force_push M U L the_assignment).0 h) [ inl m ↦ inl (cc, cc) | inr k ↦ inr k.0 ],
         λ h. (in_force_push M U L the_assignment).1 (elim h [
           | inl e ↦ let a : u0 ≡ u = e.0 in let b : r0 ≡ r = e.1 in inl cc
@@ -55,7 +61,8 @@ module _ (roles : List (Option NameText)) (unique : (p q : ℕ) (r : NameText) �
         subst (Given x) is (record {
           name = refl;
           assigned = λ r. through (given_push x.name r) (through
-              (sums {A = (u0 ≡ x.name) × (r0 ≡ r)} {C = r0 ≡ r} (λ p. p.1, λ q. (sym same, q)) (us.assigned at x there r))
+              (sums {A = (u0 ≡ x.name) × (r0 ≡ r)} {C = r0 ≡ r} (λ p. p.1, λ q. (sym same, q))
+              (us.assigned at x there r))
               (flip (in_with_bit roles unique p0 r0 there0 low x.roles r)));
           named = named_with_bit roles unique p0 r0 there0 low x.roles (us.named at x there);
         })
@@ -64,7 +71,11 @@ module _ (roles : List (Option NameText)) (unique : (p q : ℕ) (r : NameText) �
         subst (Given x) is (record {
           name = refl;
           assigned = λ r. through (given_push x.name r) (
-            λ h. elim h [ inl p ↦ absurd (false≢true (sym e ∙ (bytes_eq-Decides x.name u0).1 (sym p.0))) | inr k ↦ (us.assigned at x there r).0 k ],
+            λ h. elim h [
+              | inl p ↦ absurd (false≢true (sym e ∙ (bytes_eq-Decides x.name u0).1 (sym p.0)))
+              | inr k ↦
+                  (us.assigned at x there r).0 k
+            ],
             λ m. inr ((us.assigned at x there r).1 m),
           );
           named = us.named at x there;
@@ -82,15 +93,32 @@ module _ (roles : List (Option NameText)) (unique : (p q : ℕ) (r : NameText) �
   pub assigning : UsersStand roles (map (user_given u0 p0) users) (L ++ the_assignment ∷ [])
   assigning = record {
     exist = λ u. through (user_same u) (through (us.exist u) (
-      λ h. let y = given_value h.value in record { at = h.at; value = y.0; there = map_at (user_given u0 p0) users h.at h.value y.0 h.there y.1; fact = sym (slot h.at h.value y.0 h.there y.1).name ∙ h.fact },
-      λ h. let m = mapped (user_given u0 p0) users h.at h.value refl h.there in record { at = h.at; value = m.value; there = m.there; fact = (slot h.at m.value h.value m.there m.gives).name ∙ h.fact },
+      λ h. let y = given_value h.value in
+          record {
+            at = h.at;
+            value = y.0;
+            there = map_at (user_given u0 p0) users h.at h.value y.0 h.there y.1;
+            fact = sym (slot h.at h.value y.0 h.there y.1).name ∙ h.fact;
+          },
+      λ h. let m = mapped (user_given u0 p0) users h.at h.value refl h.there in
+          record {
+            at = h.at;
+            value = m.value;
+            there = m.there;
+            fact = (slot h.at m.value h.value m.there m.gives).name ∙ h.fact;
+          },
     ));
-    assigned = λ at y there r. let m = mapped (user_given u0 p0) users at y refl there in (slot at m.value y m.there m.gives).assigned r;
-    only_users = λ u r a. (user_same u).1 (elim ((given_push u r).0 a) [ inl p ↦ subst (IsUser L) p.0 exists | inr k ↦ us.only_users u r k ]);
-    named = λ at y there. let m = mapped (user_given u0 p0) users at y refl there in (slot at m.value y m.there m.gives).named;
+    assigned = λ at y there r. let m = mapped (user_given u0 p0) users at y refl there in
+        (slot at m.value y m.there m.gives).assigned r;
+    only_users =
+        λ u r a. (user_same u).1
+        (elim ((given_push u r).0 a) [ inl p ↦ subst (IsUser L) p.0 exists | inr k ↦ us.only_users u r k ]);
+    named = λ at y there. let m = mapped (user_given u0 p0) users at y refl there in
+        (slot at m.value y m.there m.gives).named;
     unique = λ p q y z a b same.
         let m = mapped (user_given u0 p0) users p y refl a in
         let n = mapped (user_given u0 p0) users q z refl b in
-        us.unique p q m.value n.value m.there n.there ((slot p m.value y m.there m.gives).name ∙ same ∙ sym (slot q n.value z n.there n.gives).name);
+        us.unique p q m.value n.value m.there n.there
+        ((slot p m.value y m.there m.gives).name ∙ same ∙ sym (slot q n.value z n.there n.gives).name);
     places = length-map users (user_given u0 p0) ∙ us.places;
   }

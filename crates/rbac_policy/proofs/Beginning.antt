@@ -20,7 +20,8 @@ use Rattle.rbac_policy.specs.declared.objects.Operation.{Operation}
 use Rattle.rbac_policy.specs.declared.objects.Operation.TheVariants.{Administer}
 use Rattle.rbac_policy.specs.declared.objects.Object.{Object}
 use Rattle.rbac_policy.specs.declared.objects.Object.TheVariants.{Policy}
-use Rattle.rbac_policy.specs.declared.commands.AdminCommand.TheVariants.{AddUser, DeleteUser, AddRole, DeleteRole, AssignUser, GrantPermission}
+use Rattle.rbac_policy.specs.declared.commands.AdminCommand.TheVariants.{AddUser, DeleteUser, AddRole, DeleteRole}
+use Rattle.rbac_policy.specs.declared.commands.AdminCommand.TheVariants.{AssignUser, GrantPermission}
 use Rattle.rbac_policy.specs.Facts.{IsUser, IsRole, IsGranted, IsPairGranted, Revokes}
 use Rattle.rbac_policy.specs.Tables.{At}
 use Rattle.rbac_policy.specs.StandsFor.{StandsFor}
@@ -37,9 +38,20 @@ zeros (suc n) zero = refl
 zeros (suc n) (suc at) = zeros n at
 
 abbrev pub blank : (u r j g s d : ℕ) → tables.Policy
-blank u r j g s d = record { version = 0; logins = 0; users = replicate u None; roles = replicate r None; juniors = replicate j 0; grants = replicate g None; sessions = replicate s None; sets = replicate d None }
+blank u r j g s d =
+    record {
+      version = 0;
+      logins = 0;
+      users = replicate u None;
+      roles = replicate r None;
+      juniors = replicate j 0;
+      grants = replicate g None;
+      sessions = replicate s None;
+      sets = replicate d None;
+    }
 
-pub blank_stands : (u r j g s d : ℕ) → u ≡ USERS → r ≡ ROLES → j ≡ ROLES → g ≡ GRANTS → s ≡ SESSIONS → d ≡ SETS → StandsFor (blank u r j g s d) []
+pub blank_stands : (u r j g s d : ℕ) → u ≡ USERS → r ≡ ROLES → j ≡ ROLES → g ≡ GRANTS → s ≡ SESSIONS → d ≡ SETS
+    → StandsFor (blank u r j g s d) []
 blank_stands u r j g s d many_users many_roles many_rows many_grants many_sessions many_sets = record {
   version = refl;
   logins = refl;
@@ -70,7 +82,10 @@ blank_stands u r j g s d many_users many_roles many_rows many_grants many_sessio
     places = length-replicate {A = Option Grant} g None ∙ many_grants;
   };
   sessions = record {
-    exist = λ n u'. (λ h. absurd (omega (arith, slice_get_within [] h.at h.entry h.there)), λ h. absurd (none_at s h.at h.value h.there));
+    exist = λ n u'. (
+      λ h. absurd (omega (arith, slice_get_within [] h.at h.entry h.there)),
+      λ h. absurd (none_at s h.at h.value h.there),
+    );
     active = λ at x there. absurd (none_at s at x there);
     named = λ at x there. absurd (none_at s at x there);
     numbers = λ at x there. absurd (none_at s at x there);
@@ -108,10 +123,11 @@ few {A = A} n P none h = by_values h.values h.have h.enough where
   by_values (x ∷ xs) have e = none x (have 0 x (omega arith))
 
 no_role : (r : NameText) → IsRole (adds_user ∷ []) r → ⊥
-no_role r h = elim ((in_force_push (λ before e. e.command ≡ AddRole r) (λ e. e.command ≡ DeleteRole r) [] adds_user).0 h) [
-  | inl m ↦ cc
-  | inr k ↦ none_in_force _ _ k.0
-]
+no_role r h =
+    elim ((in_force_push (λ before e. e.command ≡ AddRole r) (λ e. e.command ≡ DeleteRole r) [] adds_user).0 h) [
+      | inl m ↦ cc
+      | inr k ↦ none_in_force _ _ k.0
+    ]
 
 is_user : IsUser (adds_user ∷ adds_role ∷ []) root
 is_user =
@@ -131,7 +147,8 @@ is_role_still =
     let U : Entry → Type 0 = λ e. e.command ≡ DeleteRole root in
     (in_force_push M U (adds_user ∷ adds_role ∷ []) assigns).1 (inr (is_role, λ u. cc))
 
-none_granted : (r : NameText) (op : Operation) (ob : Object) → IsGranted (adds_user ∷ adds_role ∷ assigns ∷ []) r op ob → ⊥
+none_granted : (r : NameText) (op : Operation) (ob : Object) → IsGranted (adds_user ∷ adds_role ∷ assigns ∷ []) r op ob
+    → ⊥
 none_granted r op ob h =
     let M : List Entry → Entry → Type 0 = λ before e. e.command ≡ GrantPermission r op ob in
     let U : Entry → Type 0 = Revokes r op ob in
@@ -164,6 +181,8 @@ fits_permission = record {
   few = omega arith;
   command = record {
     is_role = is_role_still;
-    room = λ _. few {A = Operation × Object} 255 (λ pair. IsPairGranted (adds_user ∷ adds_role ∷ assigns ∷ []) pair.0 pair.1) (λ pair h. none_granted h.0 pair.0 pair.1 h.1);
+    room = λ _. few {A = Operation × Object} 255
+        (λ pair. IsPairGranted (adds_user ∷ adds_role ∷ assigns ∷ []) pair.0 pair.1)
+        (λ pair h. none_granted h.0 pair.0 pair.1 h.1);
   };
 }

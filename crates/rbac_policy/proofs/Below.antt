@@ -15,7 +15,8 @@ unfolding below
 below_all edges set p b = ((all_below edges set).is p).1 b
 
 -- no other set has just that
-pub found_below : (edges : List ℕ) (set found : ℕ) → ((p : ℕ) → Has found p ↔ IsBelowSome edges set p) → found ≡ below edges set
+pub found_below : (edges : List ℕ) (set found : ℕ) → ((p : ℕ) → Has found p ↔ IsBelowSome edges set p)
+    → found ≡ below edges set
 found_below edges set found is = same_set found (below edges set) (λ p. (
   λ h. below_all edges set p ((is p).0 h),
   λ h. (is p).1 (below_sound edges set p h),

@@ -1,5 +1,6 @@
--- So many roles are in a set exactly where it has so many places.
-use Rattle.std.proofs.Common.{◌≡◌, ◌≢◌, ℕ, zero, suc, ◌+◌, ◌-◌, ◌<◌, ◌≤◌, List, [], ◌∷◌, length, cond, true, false, Bool, arith, sym, ◌∙◌, ap, refl, subst, inl, inr}
+-- At least n roles are in a set exactly when it has at least n places.
+use Rattle.std.proofs.Common.{◌≡◌, ◌≢◌, ℕ, zero, suc, ◌+◌, ◌-◌, ◌<◌, ◌≤◌, List, [], ◌∷◌, length, cond, true, false}
+use Rattle.std.proofs.Common.{Bool, arith, sym, ◌∙◌, ap, refl, subst, inl, inr}
 use Rattle.std.specs.Prelude.{slice_get, Option, Some, ◌==◌}
 use Rattle.std.specs.Int.{bit_at}
 use Rattle.std.specs.List.{All, AllPairs}
@@ -19,12 +20,14 @@ use Rattle.rbac_policy.proofs.Room.{pigeons}
 -- the places before one more, where that is one of them or not
 more_places : (n set : ℕ) → Has set n → places_before (suc n) set ≡ n ∷ places_before n set
 unfolding places_before
-more_places n set has = ap (λ b. cond b (n ∷ places_before n set) (places_before n set)) ((Decides-eqb (bit_at set n) 1).1 has)
+more_places n set has = ap (λ b. cond b (n ∷ places_before n set) (places_before n set))
+    ((Decides-eqb (bit_at set n) 1).1 has)
 
 no_more_places : (n set : ℕ) → (Has set n → ⊥) → places_before (suc n) set ≡ places_before n set
 unfolding places_before
 no_more_places n set none = by_test (bit_at set n == 1) refl where
-  by_test : (b : Bool) → (bit_at set n == 1) ≡ b → cond (bit_at set n == 1) (n ∷ places_before n set) (places_before n set) ≡ places_before n set
+  by_test : (b : Bool) → (bit_at set n == 1) ≡ b → cond (bit_at set n == 1) (n ∷ places_before n set)
+      (places_before n set) ≡ places_before n set
   by_test true e = absurd (none ((Decides-eqb (bit_at set n) 1).0 e))
   by_test false e = ap (λ b. cond b (n ∷ places_before n set) (places_before n set)) e
 
@@ -57,7 +60,8 @@ fewer {A = A} P n (suc k) h = fewer P n k (by_values h.values h.distinct h.have 
     enough = omega (arith, e);
   }
 
-module _ (roles : List (Option NameText)) (unique : (p q : ℕ) (r : NameText) → At roles p r → At roles q r → p ≡ q) (many : length roles ≡ ROLES) (set : ℕ) where
+module _ (roles : List (Option NameText)) (unique : (p q : ℕ) (r : NameText) → At roles p r → At roles q r → p ≡ q)
+    (many : length roles ≡ ROLES) (set : ℕ) where
   -- the role is at a place of the set before this one
   record IsBefore (n : ℕ) (r : NameText) : Type 0 where
     place : ℕ
@@ -73,7 +77,8 @@ module _ (roles : List (Option NameText)) (unique : (p q : ℕ) (r : NameText) �
     enough : length values ≡ length (places_before n set)
 
   wider : (n : ℕ) (xs : List NameText) → All (IsBefore n) xs → All (IsBefore (suc n)) xs
-  wider n xs have = λ p d within. let b = have p d within in record { place = b.place; there = b.there; bit = b.bit; low = omega (arith, b.low) }
+  wider n xs have = λ p d within. let b = have p d within in
+      record { place = b.place; there = b.there; bit = b.bit; low = omega (arith, b.low) }
 
   roles_of_places : (named : IsNamed roles set) (n : ℕ) → Roles n
   roles_of_places named zero = record {
@@ -91,8 +96,10 @@ module _ (roles : List (Option NameText)) (unique : (p q : ℕ) (r : NameText) �
               values = r.0 ∷ rest.values;
               distinct = AllPairs-cons (λ x y. x ≢ y) r.0 rest.values (λ p d within same.
                   let b = rest.have p d within in
-                  absurd (omega (arith, b.low, unique b.place n r.0 (subst (At roles b.place) (sym same) b.there) r.1))) rest.distinct;
-              have = first n r.0 rest.values (record { place = n; there = r.1; bit = here; low = omega arith }) (wider n rest.values rest.have);
+                  absurd (omega (arith, b.low, unique b.place n r.0 (subst (At roles b.place) (sym same) b.there) r.1)))
+                  rest.distinct;
+              have = first n r.0 rest.values (record { place = n; there = r.1; bit = here; low = omega arith })
+                  (wider n rest.values rest.have);
               enough = ap suc rest.enough ∙ sym (ap length (more_places n set here));
             }
         | inr none ↦ record {
@@ -102,7 +109,8 @@ module _ (roles : List (Option NameText)) (unique : (p q : ℕ) (r : NameText) �
           enough = rest.enough ∙ sym (ap length (no_more_places n set none));
         }
       ] where
-        first : (n : ℕ) (x : NameText) (xs : List NameText) → IsBefore (suc n) x → All (IsBefore (suc n)) xs → All (IsBefore (suc n)) (x ∷ xs)
+        first : (n : ℕ) (x : NameText) (xs : List NameText) → IsBefore (suc n) x → All (IsBefore (suc n)) xs
+            → All (IsBefore (suc n)) (x ∷ xs)
         first n x xs b have zero d within = b
         first n x xs b have (suc p) d within = have p d (omega arith)
 
@@ -120,8 +128,11 @@ module _ (roles : List (Option NameText)) (unique : (p q : ℕ) (r : NameText) �
 
   pub as_many_places : (n : ℕ) → HasAtLeast n (InMask roles set) → n ≤ length (places_of set)
   as_many_places n h =
-      let kept = pigeons (λ (r : NameText) (p : ℕ). At roles p r) (λ x y p a b. one_role roles p x y a b) h.values (places_of set) h.distinct (λ p r there.
-      let i = subst (InMask roles set) (get_or_from_slice_get h.values p r r there) (h.have p r (slice_get_within h.values p r there)) in
-      let l = listed_place ROLES set i.place (omega (arith, slice_get_within roles i.place (Some r) i.there, many)) i.bit in
+      let kept = pigeons (λ (r : NameText) (p : ℕ). At roles p r) (λ x y p a b. one_role roles p x y a b) h.values
+      (places_of set) h.distinct (λ p r there.
+      let i = subst (InMask roles set) (get_or_from_slice_get h.values p r r there)
+      (h.have p r (slice_get_within h.values p r there)) in
+      let l = listed_place ROLES set i.place (omega (arith, slice_get_within roles i.place (Some r) i.there, many))
+      i.bit in
       record { at = l.0; value = i.place; there = l.1; by = i.there }) in
       omega (arith, kept, h.enough)

@@ -23,14 +23,16 @@ use Rattle.rbac_closure.proofs.SetLemmas.{common_place, no_common_place, has_cas
 
 module _ (p : Policy) (L : List Entry) (st : StandsFor p L) where
   pub live_decided : (n : ℕ) → Decided (IsLive L n)
-  live_decided n = by_test (is_some (session_of n p.sessions)) (session_test p L st n (is_some (session_of n p.sessions)) refl) where
-    by_test : (b : Bool) → (IsTrue b ↔ IsLive L n) → Decided (IsLive L n)
-    by_test true test = inl (test.0 (search rules))
-    by_test false test = inr (λ h. absurd (search (rules, test.1 h)))
+  live_decided n = by_test (is_some (session_of n p.sessions))
+      (session_test p L st n (is_some (session_of n p.sessions)) refl) where
+        by_test : (b : Bool) → (IsTrue b ↔ IsLive L n) → Decided (IsLive L n)
+        by_test true test = inl (test.0 (search rules))
+        by_test false test = inr (λ h. absurd (search (rules, test.1 h)))
 
   pub may_decided : (n : ℕ) (op : Operation) (object : Object) → Decided (May L n op object)
   may_decided n op object = by_session (session_of n p.sessions) refl where
-    by_grant : (x : Session) → session_of n p.sessions ≡ Some x → (o : Option Grant) → grant_of op object p.grants ≡ o → Decided (May L n op object)
+    by_grant : (x : Session) → session_of n p.sessions ≡ Some x → (o : Option Grant) → grant_of op object p.grants ≡ o
+        → Decided (May L n op object)
     by_grant x sx None none = inr (may_no_grant p L st n op object none)
     by_grant x sx (Some g) sg =
         let found = may_found p L st n op object x g sx sg in
@@ -55,7 +57,9 @@ module _ (p : Policy) (L : List Entry) (st : StandsFor p L) where
     by_place (Some q) e =
         let there = role_at p L st r q e in
         elim (has_cases all q) [
-          | inl has ↦ inl (below_authorized p.roles p.juniors p.users L st.roles st.users u r q there (below_sound p.juniors (roles_of u p.users) q has))
+          | inl has ↦
+              inl (below_authorized p.roles p.juniors p.users L st.roles st.users u r q there
+              (below_sound p.juniors (roles_of u p.users) q has))
           | inr none ↦ inr (λ a.
               let h = authorized_below p.roles p.juniors p.users L st.roles st.users u r a in
               let same = st.roles.unique h.0 q r h.1 there in

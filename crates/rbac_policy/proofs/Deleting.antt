@@ -1,5 +1,6 @@
 -- The tables after a role was deleted: its place is free, and nothing has it.
-use Rattle.std.proofs.Common.{◌≡◌, ℕ, ◌<◌, ◌⊎◌, ◌↔◌, List, [], ◌∷◌, ◌++◌, length, map, set, inl, inr, arith, sym, ◌∙◌, ap, refl, subst}
+use Rattle.std.proofs.Common.{◌≡◌, ℕ, ◌<◌, ◌⊎◌, ◌↔◌, List, [], ◌∷◌, ◌++◌, length, map, set, inl, inr, arith, sym, ◌∙◌}
+use Rattle.std.proofs.Common.{ap, refl, subst}
 use Rattle.std.specs.Prelude.{slice_get, Option, Some, None, Contains}
 use Rattle.std.proofs.lemmas.Bool.{cases_eq}
 use Rattle.std.proofs.lemmas.Option.{slice_get_within}
@@ -10,7 +11,10 @@ use Rattle.rbac_closure.proofs.SetLemmas.{has_without}
 use Rattle.rbac_closure.proofs.EdgeLemmas.{cleared_edges}
 use Rattle.rbac_policy.specs.declared.objects.Operation.{Operation}
 use Rattle.rbac_policy.specs.declared.objects.Object.{Object}
-use Rattle.rbac_policy.specs.declared.commands.AdminCommand.TheVariants.{AddUser, DeleteUser, AddRole, DeleteRole, AssignUser, DeassignUser, GrantPermission, RevokePermission, AddInheritance, DeleteInheritance}
+use Rattle.rbac_policy.specs.declared.commands.AdminCommand.TheVariants.{AddUser, DeleteUser, AddRole, DeleteRole}
+use Rattle.rbac_policy.specs.declared.commands.AdminCommand.TheVariants.{AssignUser, DeassignUser, GrantPermission}
+use Rattle.rbac_policy.specs.declared.commands.AdminCommand.TheVariants.{RevokePermission, AddInheritance}
+use Rattle.rbac_policy.specs.declared.commands.AdminCommand.TheVariants.{DeleteInheritance}
 use Rattle.rbac_policy.specs.declared.commands.Entry.{Entry}
 use Rattle.rbac_policy.specs.declared.rows.User.{User}
 use Rattle.rbac_policy.specs.declared.rows.Grant.{Grant}
@@ -27,7 +31,8 @@ use Rattle.rbac_policy.proofs.Slots.{get_set_same, get_set_other}
 use Rattle.rbac_policy.proofs.Mapping.{UserSlot, users_mapped, GrantSlot, grants_mapped}
 use Rattle.rbac_policy.proofs.Revoking.{narrowed}
 
-module _ (roles : List (Option NameText)) (juniors : List ℕ) (L : List Entry) (s : Option ℕ) (p0 : ℕ) (r0 : NameText) (there0 : At roles p0 r0) (rs : RolesStand roles juniors L) where
+module _ (roles : List (Option NameText)) (juniors : List ℕ) (L : List Entry) (s : Option ℕ) (p0 : ℕ) (r0 : NameText)
+    (there0 : At roles p0 r0) (rs : RolesStand roles juniors L) where
   abbrev pub the_deletion : Entry
   the_deletion = record { session = s; command = DeleteRole r0 }
 
@@ -61,10 +66,16 @@ module _ (roles : List (Option NameText)) (juniors : List ℕ) (L : List Entry) 
   cleared_mask m r = (
     λ h.
         let d = another h.0.place r h.0.there h.1 in
-        record { place = h.0.place; there = stays_there h.0.place r h.0.there d; bit = (has_without m p0 h.0.place).1 (h.0.bit, d) },
+        record {
+          place = h.0.place;
+          there = stays_there h.0.place r h.0.there d;
+          bit = (has_without m p0 h.0.place).1 (h.0.bit, d);
+        },
     λ i.
-        let old = before_deletion i.place r i.there in
-        (record { place = i.place; there = old.0; bit = ((has_without m p0 i.place).0 i.bit).0 }, elsewhere i.place r old.0 old.1),
+        let old = before_deletion i.place r i.there in (
+          record { place = i.place; there = old.0; bit = ((has_without m p0 i.place).0 i.bit).0 },
+          elsewhere i.place r old.0 old.1,
+        ),
   )
 
   cleared_named : (m : ℕ) → IsNamed roles m → IsNamed after (without_place m p0)
@@ -74,21 +85,33 @@ module _ (roles : List (Option NameText)) (juniors : List ℕ) (L : List Entry) 
       (n.0, stays_there p n.0 n.1 h.1)
 
   user_same : (u : NameText) → IsUser (L ++ the_deletion ∷ []) u ↔ IsUser L u
-  user_same u = untouched (λ before x. x.command ≡ AddUser u) (λ x. x.command ≡ DeleteUser u) L the_deletion (λ h. cc) (λ h. cc)
+  user_same u = untouched (λ before x. x.command ≡ AddUser u) (λ x. x.command ≡ DeleteUser u) L the_deletion (λ h. cc)
+      (λ h. cc)
 
   assigned_push : (u r : NameText) → IsAssigned (L ++ the_deletion ∷ []) u r ↔ (IsAssigned L u r × (r0 ≡ r → ⊥))
   assigned_push u r =
       let M : List Entry → Entry → Type 0 = λ before x. x.command ≡ AssignUser u r in
-      let U : Entry → Type 0 = λ x. (x.command ≡ DeassignUser u r) ⊎ (x.command ≡ DeleteUser u) ⊎ (x.command ≡ DeleteRole r) in (
-        λ h. elim ((in_force_push M U L the_deletion).0 h) [ inl m ↦ cc | inr k ↦ (k.0, λ same. k.1 (inr (inr (ap DeleteRole same)))) ],
-        λ h. (in_force_push M U L the_deletion).1 (inr (h.0, λ x. elim x [ inl y ↦ cc | inr z ↦ elim z [ inl y ↦ cc | inr w ↦ h.1 cc ] ])),
+      let U : Entry → Type 0 = λ x. (x.command ≡ DeassignUser u r) ⊎ (x.command ≡ DeleteUser u)
+      ⊎ (x.command ≡ DeleteRole r) in (
+        λ h. elim ((in_force_push M U L the_deletion).0 h) [
+          | inl m ↦ cc
+          | inr k ↦
+              (k.0, λ same. k.1 (inr (inr (ap DeleteRole same))))
+        ],
+        λ h. (in_force_push M U L the_deletion).1
+            (inr (h.0, λ x. elim x [ inl y ↦ cc | inr z ↦ elim z [ inl y ↦ cc | inr w ↦ h.1 cc ] ])),
       )
 
-  granted_push : (r : NameText) (op : Operation) (ob : Object) → IsGranted (L ++ the_deletion ∷ []) r op ob ↔ (IsGranted L r op ob × (r0 ≡ r → ⊥))
+  granted_push : (r : NameText) (op : Operation) (ob : Object)
+      → IsGranted (L ++ the_deletion ∷ []) r op ob ↔ (IsGranted L r op ob × (r0 ≡ r → ⊥))
   granted_push r op ob =
       let M : List Entry → Entry → Type 0 = λ before x. x.command ≡ GrantPermission r op ob in
       let U : Entry → Type 0 = λ x. (x.command ≡ RevokePermission r op ob) ⊎ (x.command ≡ DeleteRole r) in (
-        λ h. elim ((in_force_push M U L the_deletion).0 h) [ inl m ↦ cc | inr k ↦ (k.0, λ same. k.1 (inr (ap DeleteRole same))) ],
+        λ h. elim ((in_force_push M U L the_deletion).0 h) [
+          | inl m ↦ cc
+          | inr k ↦
+              (k.0, λ same. k.1 (inr (ap DeleteRole same)))
+        ],
         λ h. (in_force_push M U L the_deletion).1 (inr (h.0, λ x. elim x [ inl y ↦ cc | inr w ↦ h.1 cc ])),
       )
 
@@ -96,19 +119,25 @@ module _ (roles : List (Option NameText)) (juniors : List ℕ) (L : List Entry) 
   role_push r =
       let M : List Entry → Entry → Type 0 = λ before x. x.command ≡ AddRole r in
       let U : Entry → Type 0 = λ x. x.command ≡ DeleteRole r in (
-        λ h. elim ((in_force_push M U L the_deletion).0 h) [ inl m ↦ cc | inr k ↦ (k.0, λ same. k.1 (ap DeleteRole same)) ],
+        λ h. elim ((in_force_push M U L the_deletion).0 h) [
+          | inl m ↦ cc
+          | inr k ↦
+              (k.0, λ same. k.1 (ap DeleteRole same))
+        ],
         λ h. (in_force_push M U L the_deletion).1 (inr (h.0, λ x. h.1 cc)),
       )
 
   edge_push : (a b : NameText) → IsEdge (L ++ the_deletion ∷ []) a b ↔ (IsEdge L a b × (r0 ≡ a → ⊥) × (r0 ≡ b → ⊥))
   edge_push a b =
       let M : List Entry → Entry → Type 0 = λ before x. x.command ≡ AddInheritance a b in
-      let U : Entry → Type 0 = λ x. (x.command ≡ DeleteInheritance a b) ⊎ (x.command ≡ DeleteRole a) ⊎ (x.command ≡ DeleteRole b) in (
+      let U : Entry → Type 0 = λ x. (x.command ≡ DeleteInheritance a b) ⊎ (x.command ≡ DeleteRole a)
+      ⊎ (x.command ≡ DeleteRole b) in (
         λ h. elim ((in_force_push M U L the_deletion).0 h) [
           | inl m ↦ cc
           | inr k ↦ (k.0, λ same. k.1 (inr (inl (ap DeleteRole same))), λ same. k.1 (inr (inr (ap DeleteRole same))))
         ],
-        λ h. (in_force_push M U L the_deletion).1 (inr (h.0, λ x. elim x [ inl y ↦ cc | inr z ↦ elim z [ inl y ↦ h.1 cc | inr w ↦ h.2 cc ] ])),
+        λ h. (in_force_push M U L the_deletion).1
+            (inr (h.0, λ x. elim x [ inl y ↦ cc | inr z ↦ elim z [ inl y ↦ h.1 cc | inr w ↦ h.2 cc ] ])),
       )
 
   pub roles_deleted : RolesStand after (role_cleared p0 juniors) (L ++ the_deletion ∷ [])
@@ -130,11 +159,18 @@ module _ (roles : List (Option NameText)) (juniors : List ℕ) (L : List Entry) 
           λ h.
               let m = (rs.edges p r old.0 j).0 h.0 in
               let d = another m.place j m.there h.2 in
-              record { place = m.place; there = stays_there m.place j m.there d; bit = (cleared_edges p0 juniors within p m.place).1 (m.bit, old.1, d) },
+              record {
+                place = m.place;
+                there = stays_there m.place j m.there d;
+                bit = (cleared_edges p0 juniors within p m.place).1 (m.bit, old.1, d);
+              },
           λ m.
               let x = (cleared_edges p0 juniors within p m.place).0 m.bit in
-              let mine = before_deletion m.place j m.there in
-              ((rs.edges p r old.0 j).1 (record { place = m.place; there = mine.0; bit = x.0 }), elsewhere p r old.0 old.1, elsewhere m.place j mine.0 mine.1),
+              let mine = before_deletion m.place j m.there in (
+                (rs.edges p r old.0 j).1 (record { place = m.place; there = mine.0; bit = x.0 }),
+                elsewhere p r old.0 old.1,
+                elsewhere m.place j mine.0 mine.1,
+              ),
         );
     only_roles = λ a b e. let h = (edge_push a b).0 e in (role_push a).1 (rs.only_roles a b h.0, h.1);
     named = λ p place bit.
@@ -145,7 +181,8 @@ module _ (roles : List (Option NameText)) (juniors : List ℕ) (L : List Entry) 
         let x = (cleared_edges p0 juniors within p j).0 bit in
         rs.empty p (sym (get_set_other roles p0 p None x.1) ∙ none) j x.0;
     places = length-set roles p0 None ∙ rs.places;
-    rows = length-set (map (λ (row : ℕ). without_place row p0) juniors) p0 0 ∙ length-map juniors (λ (row : ℕ). without_place row p0) ∙ rs.rows;
+    rows = length-set (map (λ (row : ℕ). without_place row p0) juniors) p0 0
+        ∙ length-map juniors (λ (row : ℕ). without_place row p0) ∙ rs.rows;
   }
 
   module _ (users : List (Option User)) (us : UsersStand roles users L) where
@@ -165,7 +202,8 @@ module _ (roles : List (Option NameText)) (juniors : List ℕ) (L : List Entry) 
     )
 
     pub users_deleted : UsersStand after (map (user_cleared p0) users) (L ++ the_deletion ∷ [])
-    users_deleted = users_mapped roles after users L (L ++ the_deletion ∷ []) (user_cleared p0) refl us user_slot (λ u h. (user_same u).0 h)
+    users_deleted = users_mapped roles after users L (L ++ the_deletion ∷ []) (user_cleared p0) refl us user_slot
+        (λ u h. (user_same u).0 h)
         (λ u r a. (user_same u).1 (us.only_users u r ((assigned_push u r).0 a).0))
 
   module _ (grants : List (Option Grant)) (gs : GrantsStand roles grants L) where
@@ -178,19 +216,29 @@ module _ (roles : List (Option NameText)) (juniors : List ℕ) (L : List Entry) 
         (cleared_named x.roles (gs.named at x there)) (grant_cleared p0 (Some x)) refl
 
     pub grants_deleted : GrantsStand after (map (grant_cleared p0) grants) (L ++ the_deletion ∷ [])
-    grants_deleted = grants_mapped roles after grants L (L ++ the_deletion ∷ []) (grant_cleared p0) refl gs grant_slot (λ r op ob h. ((granted_push r op ob).0 h).0)
+    grants_deleted = grants_mapped roles after grants L (L ++ the_deletion ∷ []) (grant_cleared p0) refl gs grant_slot
+        (λ r op ob h. ((granted_push r op ob).0 h).0)
 
   -- a set that doesn't have the role keeps its mask
-  module _ (sets : List (Option DsdSet)) (ss : SetsStand roles sets L) (in_no_set : (place : ℕ) (name : NameText) (count : ℕ) (members : List NameText) → IsSet L place name count members → Contains members r0 → ⊥) where
+  module _ (sets : List (Option DsdSet)) (ss : SetsStand roles sets L)
+      (in_no_set : (place : ℕ) (name : NameText) (count : ℕ) (members : List NameText)
+      → IsSet L place name count members → Contains members r0 → ⊥) where
     not_its : (at : ℕ) (x : DsdSet) → At sets at x → InMask roles x.roles r0 → ⊥
-    not_its at x there mine = let m = ss.made at x there in in_no_set x.place x.name x.count m.0 m.1 ((m.2.members r0).1 mine)
+    not_its at x there mine = let m = ss.made at x there in
+        in_no_set x.place x.name x.count m.0 m.1 ((m.2.members r0).1 mine)
 
     other_place : (at : ℕ) (x : DsdSet) → At sets at x → (p : ℕ) → Has x.roles p → p ≡ p0 → ⊥
-    other_place at x there p bit same = not_its at x there (record { place = p0; there = there0; bit = subst (Has x.roles) same bit })
+    other_place at x there p bit same = not_its at x there
+        (record { place = p0; there = there0; bit = subst (Has x.roles) same bit })
 
     pub sets_deleted : SetsStand after sets (L ++ the_deletion ∷ [])
     sets_deleted = renamed_sets roles after sets (L ++ the_deletion ∷ []) (λ at x there r. (
-      λ i. record { place = i.place; there = stays_there i.place r i.there (other_place at x there i.place i.bit); bit = i.bit },
+      λ i. record {
+        place = i.place;
+        there = stays_there i.place r i.there (other_place at x there i.place i.bit);
+        bit = i.bit;
+      },
       λ i. record { place = i.place; there = (before_deletion i.place r i.there).0; bit = i.bit },
-    )) (λ at x there p bit. let n = ss.named at x there p bit in (n.0, stays_there p n.0 n.1 (other_place at x there p bit)))
+    )) (λ at x there p bit. let n = ss.named at x there p bit in
+        (n.0, stays_there p n.0 n.1 (other_place at x there p bit)))
         (untouched_sets roles sets L the_deletion refl ss)

@@ -16,10 +16,14 @@ use Rattle.rbac_policy.proofs.Order.{one_role, authorized_below, below_authorize
 use Rattle.rbac_policy.proofs.Lives.{Remains, lives_after, lives_before}
 use Rattle.rbac_policy.proofs.Sweep.{IsSwept, HasOnlyBelow, swept_sessions}
 
--- before the sweep the slots have the sessions that remain, with the roles that are active in them by the names of `before`
-pub record Unswept (before : List (Option NameText)) (sessions : List (Option Session)) (L : List Entry) (e : Entry) : Type 0 where
-  pub exist : (number : ℕ) (user : NameText) → Remains L e number user ↔ Holds (λ x. (x.number ≡ number) × (x.user ≡ user)) sessions
-  pub active : (at : ℕ) (x : Session) → At sessions at x → (role : NameText) → IsActive (L ++ e ∷ []) x.number role ↔ InMask before x.active role
+-- before the sweep the slots have the sessions that remain, with the roles that are active in them by the names of
+-- `before`
+pub record Unswept (before : List (Option NameText)) (sessions : List (Option Session)) (L : List Entry)
+    (e : Entry) : Type 0 where
+  pub exist : (number : ℕ) (user : NameText) → Remains L e number user
+      ↔ Holds (λ x. (x.number ≡ number) × (x.user ≡ user)) sessions
+  pub active : (at : ℕ) (x : Session) → At sessions at x → (role : NameText)
+      → IsActive (L ++ e ∷ []) x.number role ↔ InMask before x.active role
   pub named : (at : ℕ) (x : Session) → At sessions at x → IsNamed before x.active
   pub numbers : (at : ℕ) (x : Session) → At sessions at x → x.number ≤ logins (L ++ e ∷ [])
   pub made : (number : ℕ) (role : NameText) → IsActive (L ++ e ∷ []) number role → number ≤ logins (L ++ e ∷ [])
@@ -28,8 +32,10 @@ pub record Unswept (before : List (Option NameText)) (sessions : List (Option Se
   pub once : IsKeyed (λ (x : Session). x.number) sessions
   pub places : length sessions ≡ SESSIONS
 
-module _ (before roles : List (Option NameText)) (keeps : (p : ℕ) (r : NameText) → At roles p r → At before p r) (juniors : List ℕ) (users : List (Option User)) (mid : List (Option Session)) (L : List Entry) (e : Entry)
-    (rs : RolesStand roles juniors (L ++ e ∷ [])) (us : UsersStand roles users (L ++ e ∷ [])) (un : Unswept before mid L e) where
+module _ (before roles : List (Option NameText)) (keeps : (p : ℕ) (r : NameText) → At roles p r → At before p r)
+    (juniors : List ℕ) (users : List (Option User)) (mid : List (Option Session)) (L : List Entry) (e : Entry)
+    (rs : RolesStand roles juniors (L ++ e ∷ [])) (us : UsersStand roles users (L ++ e ∷ []))
+    (un : Unswept before mid L e) where
   abbrev new : List (Option Session)
   new = map (session_kept users juniors) mid
 
@@ -54,7 +60,8 @@ module _ (before roles : List (Option NameText)) (keeps : (p : ℕ) (r : NameTex
           let a = after.1 r (subst (λ n. IsActive (L ++ e ∷ []) n r) h.fact.0 active) in
           let b = authorized_below roles juniors users (L ++ e ∷ []) rs us u r a in
           let same : b.0 ≡ p = un.unique b.0 p r (keeps b.0 r b.1) named.1 in
-          subst (λ n. IsBelowSome juniors (roles_of n users) p) (sym h.fact.1) (subst (IsBelowSome juniors (roles_of u users)) same b.2)
+          subst (λ n. IsBelowSome juniors (roles_of n users) p) (sym h.fact.1)
+          (subst (IsBelowSome juniors (roles_of u users)) same b.2)
           in record { at = h.at; value = x; there = sw.stays h.at x h.there only; fact = h.fact },
       λ h.
           let x = h.value in
@@ -64,7 +71,8 @@ module _ (before roles : List (Option NameText)) (keeps : (p : ℕ) (r : NameTex
           let m = (un.active h.at x l.0 r).0 (subst (λ n. IsActive (L ++ e ∷ []) n r) (sym h.fact.0) active) in
           let named = still h.at x h.there m.place m.bit in
           let same = one_role before m.place named.0 r (keeps m.place named.0 named.1) m.there in
-          let a = below_authorized roles juniors users (L ++ e ∷ []) rs us x.user named.0 m.place named.1 (l.1 m.place m.bit) in
+          let a = below_authorized roles juniors users (L ++ e ∷ []) rs us x.user named.0 m.place named.1
+          (l.1 m.place m.bit) in
           subst (λ n. IsAuthorized (L ++ e ∷ []) n r) h.fact.1 (subst (IsAuthorized (L ++ e ∷ []) x.user) same a)),
     );
     active = λ at x there r.

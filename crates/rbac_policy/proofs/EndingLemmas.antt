@@ -1,5 +1,6 @@
 -- How many sessions live before and after a logout.
-use Rattle.std.proofs.Common.{◌≡◌, ◌≢◌, ℕ, zero, suc, ◌+◌, ◌<◌, ◌≤◌, List, [], ◌∷◌, ◌++◌, length, inl, inr, arith, sym, ◌∙◌, ap, refl}
+use Rattle.std.proofs.Common.{◌≡◌, ◌≢◌, ℕ, zero, suc, ◌+◌, ◌<◌, ◌≤◌, List, [], ◌∷◌, ◌++◌, length, inl, inr, arith, sym}
+use Rattle.std.proofs.Common.{◌∙◌, ap, refl}
 use Rattle.std.specs.Prelude.{Some}
 use Rattle.std.specs.List.{All, AllPairs}
 use Rattle.std.proofs.lemmas.List.{length_push}
@@ -15,7 +16,8 @@ use Rattle.rbac_policy.proofs.Lives.{Made, lives_after}
 use Rattle.rbac_policy.proofs.Room.{few, keeps_sessions}
 
 -- who lives after a logout lived before it, and is another session than the one that logged out
-lived : (L : List Entry) (e : Entry) (s n : ℕ) → e.command ≡ DeleteSession → e.session ≡ Some s → IsLive (L ++ e ∷ []) n → IsLive L n × (n ≡ s → ⊥)
+lived : (L : List Entry) (e : Entry) (s n : ℕ) → e.command ≡ DeleteSession → e.session ≡ Some s → IsLive (L ++ e ∷ []) n
+    → IsLive L n × (n ≡ s → ⊥)
 lived L e s n command given l = elim (lives_after L e n l.0 l.1).0 [
   | inl m ↦ absurd (not_made m)
   | inr k ↦ ((l.0, k.0), λ same. k.1 (inl (given ∙ ap Some (sym same), command)))
@@ -24,7 +26,8 @@ lived L e s n command given l = elim (lives_after L e n l.0 l.1).0 [
   not_made m = cc (command, m.creates.login)
 
 -- with the session that logs out there was one more
-one_more : (L : List Entry) (e : Entry) (s k : ℕ) → e.command ≡ DeleteSession → e.session ≡ Some s → IsLive L s → HasAtLeast k (IsLive (L ++ e ∷ [])) → HasAtLeast (k + 1) (IsLive L)
+one_more : (L : List Entry) (e : Entry) (s k : ℕ) → e.command ≡ DeleteSession → e.session ≡ Some s → IsLive L s
+    → HasAtLeast k (IsLive (L ++ e ∷ [])) → HasAtLeast (k + 1) (IsLive L)
 one_more L e s k command given live h = record {
   values = s ∷ h.values;
   distinct = apart;
@@ -33,7 +36,8 @@ one_more L e s k command given live h = record {
 } where
   apart : AllPairs (λ x y. x ≢ y) (s ∷ h.values)
   apart zero zero d low within = absurd (omega (arith, low))
-  apart zero (suc q) d low within = λ same. (lived L e s _ command given (h.have q d (omega (arith, within)))).1 (sym same)
+  apart zero (suc q) d low within = λ same. (lived L e s _ command given (h.have q d (omega (arith, within)))).1
+      (sym same)
   apart (suc p) zero d low within = absurd (omega (arith, low))
   apart (suc p) (suc q) d low within = h.distinct p q d (omega (arith, low)) (omega (arith, within))
 
@@ -42,13 +46,20 @@ one_more L e s k command given live h = record {
   all (suc p) d within = (lived L e s _ command given (h.have p d (omega (arith, within)))).0
 
 -- room for as many entries as sessions may live is enough
-pub leaves_room : (policy : Policy) (L : List Entry) (most : ℕ) → StandsFor policy L → length L + SESSIONS ≤ most → LeavesRoom most L
+pub leaves_room : (policy : Policy) (L : List Entry) (most : ℕ) → StandsFor policy L → length L + SESSIONS ≤ most
+    → LeavesRoom most L
 leaves_room policy L most st room = record {
-  each = λ count h. omega (arith, room, few _ policy.sessions (IsLive L) SESSIONS count (keeps_sessions policy.roles policy.sessions L st.sessions) st.sessions.places h);
+  each = λ count h. omega (
+    arith,
+    room,
+    few _ policy.sessions (IsLive L) SESSIONS count
+        (keeps_sessions policy.roles policy.sessions L st.sessions) st.sessions.places h,
+  );
 }
 
 -- a logout leaves as much room as there was
-pub logout_leaves_room : (L : List Entry) (e : Entry) (s most : ℕ) → LeavesRoom most L → e.command ≡ DeleteSession → e.session ≡ Some s → IsLive L s → LeavesRoom most (L ++ e ∷ [])
+pub logout_leaves_room : (L : List Entry) (e : Entry) (s most : ℕ) → LeavesRoom most L → e.command ≡ DeleteSession
+    → e.session ≡ Some s → IsLive L s → LeavesRoom most (L ++ e ∷ [])
 logout_leaves_room L e s most r command given live = record {
   each = λ count h. omega (arith, r.each (count + 1) (one_more L e s count command given live h), length_push L e);
 }

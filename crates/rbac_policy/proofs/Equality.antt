@@ -24,6 +24,7 @@ numbered-number Audit = refl
 
 pub operations : (a b : Operation) → Decides (same_operation a b) (a ≡ b)
 operations a b = (
-  λ t. sym (numbered-number a) ∙ ap numbered ((Decides-eqb (operation_number a) (operation_number b)).0 t) ∙ numbered-number b,
+  λ t. sym (numbered-number a) ∙ ap numbered ((Decides-eqb (operation_number a) (operation_number b)).0 t)
+      ∙ numbered-number b,
   λ e. (Decides-eqb (operation_number a) (operation_number b)).1 (ap operation_number e),
 )

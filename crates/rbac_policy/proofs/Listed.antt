@@ -1,5 +1,6 @@
 -- The mask of listed roles.
-use Rattle.std.proofs.Common.{◌≡◌, ℕ, zero, suc, ◌<◌, ◌⊎◌, ◌↔◌, List, [], ◌∷◌, length, fold, cond, inl, inr, arith, sym, ◌∙◌, ap, refl, subst, true, false, Bool}
+use Rattle.std.proofs.Common.{◌≡◌, ℕ, zero, suc, ◌<◌, ◌⊎◌, ◌↔◌, List, [], ◌∷◌, length, fold, cond, inl, inr, arith, sym}
+use Rattle.std.proofs.Common.{◌∙◌, ap, refl, subst, true, false, Bool}
 use Rattle.std.specs.Prelude.{slice_get, Option, Some, None, Contains, slice_index_or}
 use Rattle.std.specs.List.{position_or_len}
 use Rattle.std.proofs.lemmas.Slice.Eq.{bytes_eq-Decides}
@@ -13,7 +14,8 @@ use Rattle.rbac_policy.specs.Tables.{At, with_place, place_of, role_is, mask_of}
 use Rattle.rbac_policy.specs.StandsFor.{InMask, IsNamed}
 use Rattle.rbac_policy.proofs.Slots.{in_with_bit, named_with_bit, none_in_zero, zero_named}
 
-pub position_within : {X : Type 0} (p : X → Bool) (xs : List X) (at : ℕ) (x : X) → slice_get xs at ≡ Some x → p x ≡ true → position_or_len p xs < length xs
+pub position_within : {X : Type 0} (p : X → Bool) (xs : List X) (at : ℕ) (x : X) → slice_get xs at ≡ Some x → p x ≡ true
+    → position_or_len p xs < length xs
 position_within p [] at x there t = cc
 position_within p (y ∷ ys) zero x there t = rw (ap p (same_Some y x there) ∙ t) (omega arith)
 position_within {X = X} p (y ∷ ys) (suc at) x there t = by_test (position_within p ys at x there t) (p y) refl where
@@ -33,10 +35,11 @@ placed roles p r there =
     let q = position_or_len (role_is r) roles in
     let found : place_of r roles ≡ Some q = ap (λ b. cond b (Some q) None) ((Decides-ltb q (length roles)).1 within) in
     let passes = position-Some (role_is r) roles q None found in
-    record { place = q; found = found; there = slice_get-get_or roles q None within ∙ ap Some (named_r _ passes.1) } where
-      named_r : (o : Option NameText) → role_is r o ≡ true → o ≡ Some r
-      named_r None t = absurd (false≢true t)
-      named_r (Some x) t = ap Some ((bytes_eq-Decides x r).0 t)
+    record { place = q; found = found; there = slice_get-get_or roles q None within ∙ ap Some (named_r _ passes.1) }
+  where
+    named_r : (o : Option NameText) → role_is r o ≡ true → o ≡ Some r
+    named_r None t = absurd (false≢true t)
+    named_r (Some x) t = ap Some ((bytes_eq-Decides x r).0 t)
 
 contains_cases : (y : NameText) (ys : List NameText) (x : NameText) → Contains (y ∷ ys) x → (y ≡ x) ⊎ Contains ys x
 contains_cases y ys x h = go h.0 h.1 h.2 where
@@ -50,20 +53,26 @@ contains_head y ys = (0, omega arith, refl)
 contains_tail : (y : NameText) (ys : List NameText) (x : NameText) → Contains ys x → Contains (y ∷ ys) x
 contains_tail y ys x h = (suc h.0, omega (arith, h.1), h.2)
 
-module _ (roles : List (Option NameText)) (unique : (p q : ℕ) (r : NameText) → At roles p r → At roles q r → p ≡ q) (many : length roles ≡ ROLES) where
-  in_step : (m : ℕ) (y r : NameText) (p : ℕ) → At roles p y → InMask roles (with_place m (place_of y roles)) r ↔ ((y ≡ r) ⊎ InMask roles m r)
+module _ (roles : List (Option NameText)) (unique : (p q : ℕ) (r : NameText) → At roles p r → At roles q r → p ≡ q)
+    (many : length roles ≡ ROLES) where
+  in_step : (m : ℕ) (y r : NameText) (p : ℕ) → At roles p y
+      → InMask roles (with_place m (place_of y roles)) r ↔ ((y ≡ r) ⊎ InMask roles m r)
   in_step m y r p there =
       let q = placed roles p y there in
       let low : q.place < ROLES = omega (arith, slice_get_within roles q.place (Some y) q.there) in
-      subst (λ o. InMask roles (with_place m o) r ↔ ((y ≡ r) ⊎ InMask roles m r)) (sym q.found) (in_with_bit roles unique q.place y q.there low m r)
+      subst (λ o. InMask roles (with_place m o) r ↔ ((y ≡ r) ⊎ InMask roles m r)) (sym q.found)
+      (in_with_bit roles unique q.place y q.there low m r)
 
-  named_step : (m : ℕ) (y : NameText) (p : ℕ) → At roles p y → IsNamed roles m → IsNamed roles (with_place m (place_of y roles))
+  named_step : (m : ℕ) (y : NameText) (p : ℕ) → At roles p y → IsNamed roles m
+      → IsNamed roles (with_place m (place_of y roles))
   named_step m y p there n =
       let q = placed roles p y there in
       let low : q.place < ROLES = omega (arith, slice_get_within roles q.place (Some y) q.there) in
       subst (λ o. IsNamed roles (with_place m o)) (sym q.found) (named_with_bit roles unique q.place y q.there low m n)
 
-  in_fold : (names : List NameText) (m : ℕ) → ((r : NameText) → Contains names r → (p : ℕ) × At roles p r) → (r : NameText) → InMask roles (fold (λ mask name. with_place mask (place_of name roles)) m names) r ↔ (Contains names r ⊎ InMask roles m r)
+  in_fold : (names : List NameText) (m : ℕ) → ((r : NameText) → Contains names r → (p : ℕ) × At roles p r)
+      → (r : NameText) → InMask roles (fold (λ mask name. with_place mask (place_of name roles)) m names) r
+      ↔ (Contains names r ⊎ InMask roles m r)
   in_fold [] m known r = (λ i. inr i, λ h. elim h [ inl c ↦ absurd (omega (arith, c.1)) | inr i ↦ i ])
   in_fold (y ∷ ys) m known r =
       let here = known y (contains_head y ys) in
@@ -79,16 +88,20 @@ module _ (roles : List (Option NameText)) (unique : (p q : ℕ) (r : NameText) �
         ]),
       )
 
-  named_fold : (names : List NameText) (m : ℕ) → ((r : NameText) → Contains names r → (p : ℕ) × At roles p r) → IsNamed roles m → IsNamed roles (fold (λ mask name. with_place mask (place_of name roles)) m names)
+  named_fold : (names : List NameText) (m : ℕ) → ((r : NameText) → Contains names r → (p : ℕ) × At roles p r)
+      → IsNamed roles m → IsNamed roles (fold (λ mask name. with_place mask (place_of name roles)) m names)
   named_fold [] m known n = n
   named_fold (y ∷ ys) m known n =
       let here = known y (contains_head y ys) in
-      named_fold ys (with_place m (place_of y roles)) (λ x c. known x (contains_tail y ys x c)) (named_step m y here.0 here.1 n)
+      named_fold ys (with_place m (place_of y roles)) (λ x c. known x (contains_tail y ys x c))
+      (named_step m y here.0 here.1 n)
 
-  pub in_mask_of : (names : List NameText) → ((r : NameText) → Contains names r → (p : ℕ) × At roles p r) → (r : NameText) → InMask roles (mask_of roles names) r ↔ Contains names r
+  pub in_mask_of : (names : List NameText) → ((r : NameText) → Contains names r → (p : ℕ) × At roles p r)
+      → (r : NameText) → InMask roles (mask_of roles names) r ↔ Contains names r
   in_mask_of names known r =
       let f = in_fold names 0 known r in
       (λ i. elim (f.0 i) [ inl c ↦ c | inr z ↦ absurd (none_in_zero roles r z) ], λ c. f.1 (inl c))
 
-  pub named_mask_of : (names : List NameText) → ((r : NameText) → Contains names r → (p : ℕ) × At roles p r) → IsNamed roles (mask_of roles names)
+  pub named_mask_of : (names : List NameText) → ((r : NameText) → Contains names r → (p : ℕ) × At roles p r)
+      → IsNamed roles (mask_of roles names)
   named_mask_of names known = named_fold names 0 known (zero_named roles)

@@ -1,5 +1,6 @@
 -- Which sessions live after one more entry.
-use Rattle.std.proofs.Common.{◌≡◌, ℕ, ◌<◌, ◌≤◌, ◌⊎◌, List, [], ◌∷◌, ◌++◌, length, take, inl, inr, arith, sym, ◌∙◌, ap, subst}
+use Rattle.std.proofs.Common.{◌≡◌, ℕ, ◌<◌, ◌≤◌, ◌⊎◌, List, [], ◌∷◌, ◌++◌, length, take, inl, inr, arith, sym, ◌∙◌, ap}
+use Rattle.std.proofs.Common.{subst}
 use Rattle.std.proofs.lemmas.Bool.{cases_lt}
 use Rattle.std.proofs.lemmas.Option.{slice_get_within}
 use Rattle.std.proofs.lemmas.List.{length_push}
@@ -22,13 +23,15 @@ take_past : {X : Type 0} (xs : List X) (y : X) (n : ℕ) → length xs < n → t
 take_past xs y n h = grind (arith, common_steps)
 
 -- of the lists up to one past the end, the last is the whole list
-upto : (L : List Entry) (e : Entry) (P : List Entry → Type 0) (n : ℕ) → n ≤ length (L ++ e ∷ []) → (n ≤ length L → P (take n L)) → P (L ++ e ∷ []) → P (take n (L ++ e ∷ []))
+upto : (L : List Entry) (e : Entry) (P : List Entry → Type 0) (n : ℕ) → n ≤ length (L ++ e ∷ [])
+    → (n ≤ length L → P (take n L)) → P (L ++ e ∷ []) → P (take n (L ++ e ∷ []))
 upto L e P n h small whole = elim (cases_lt (length L) n) [
   | inl past ↦ subst P (sym (take_past L e n past)) whole
   | inr within ↦ subst P (sym (take_front L e n within)) (small within)
 ]
 
-pub lives_after : (L : List Entry) (e : Entry) (s : ℕ) (u : NameText) → Lives (L ++ e ∷ []) s u → Remains L e s u × HasOnlyAuthorized (L ++ e ∷ []) s u
+pub lives_after : (L : List Entry) (e : Entry) (s : ℕ) (u : NameText) → Lives (L ++ e ∷ []) s u
+    → Remains L e s u × HasOnlyAuthorized (L ++ e ∷ []) s u
 lives_after L e s u l =
     let past : length L < length (L ++ e ∷ []) = omega (arith, length_push L e) in
     let at_end = subst (λ k. HasOnlyAuthorized k s u) (take_past L e (length (L ++ e ∷ [])) past)
@@ -41,20 +44,25 @@ lives_after L e s u l =
             roles = l.roles;
             there = p.1;
             made = subst (λ b. Creates s u l.roles b l.entry) (take_front L e l.at (omega (arith, p.0))) l.made;
-            kept = λ later x after there. l.kept later x after (get_front L e later (slice_get_within L later x there) ∙ there);
-            authorized = λ n after within. subst (λ k. HasOnlyAuthorized k s u) (take_front L e n within) (l.authorized n after (omega arith));
+            kept = λ later x after there. l.kept later x after
+                (get_front L e later (slice_get_within L later x there) ∙ there);
+            authorized = λ n after within. subst (λ k. HasOnlyAuthorized k s u) (take_front L e n within)
+                (l.authorized n after (omega arith));
           },
           λ ends. l.kept (length L) e p.0 (get_last L e) ends,
         )
         | inr p ↦ inl (record {
           roles = l.roles;
-          creates = subst (Creates s u l.roles L) (sym p.1) (subst (λ b. Creates s u l.roles b l.entry) (ap (λ k. take k (L ++ e ∷ [])) p.0 ∙ take_whole L e) l.made);
+          creates =
+              subst (Creates s u l.roles L) (sym p.1)
+              (subst (λ b. Creates s u l.roles b l.entry) (ap (λ k. take k (L ++ e ∷ [])) p.0 ∙ take_whole L e) l.made);
         })
       ],
       at_end,
     )
 
-pub lives_before : (L : List Entry) (e : Entry) (s : ℕ) (u : NameText) → Remains L e s u → HasOnlyAuthorized (L ++ e ∷ []) s u → Lives (L ++ e ∷ []) s u
+pub lives_before : (L : List Entry) (e : Entry) (s : ℕ) (u : NameText) → Remains L e s u
+    → HasOnlyAuthorized (L ++ e ∷ []) s u → Lives (L ++ e ∷ []) s u
 lives_before L e s u h all = elim h [
   | inl m ↦ record {
     at = length L;
@@ -78,6 +86,7 @@ lives_before L e s u h all = elim h [
           | inl q ↦ l.kept later x after q.1
           | inr q ↦ λ ends. p.1 (subst (Ends s u) (sym q.1) ends)
         ];
-        authorized = λ n after within. upto L e (λ k. HasOnlyAuthorized k s u) n within (λ small. l.authorized n after small) all;
+        authorized = λ n after within. upto L e (λ k. HasOnlyAuthorized k s u) n within
+            (λ small. l.authorized n after small) all;
       }
 ]

@@ -23,7 +23,8 @@ use Rattle.rbac_policy.proofs.Asking.{reflects, first_cases, role_at, granted_sl
 use Rattle.rbac_policy.proofs.Room.{Keeps, full_without_room, not_full_with_room}
 
 module _ (p : Policy) (L : List Entry) (st : StandsFor p L) where
-  pub authorized_test : (u r : NameText) (place all : ℕ) (b : Bool) → place_of r p.roles ≡ Some place → all ≡ below p.juniors (roles_of u p.users)
+  pub authorized_test : (u r : NameText) (place all : ℕ) (b : Bool) → place_of r p.roles ≡ Some place
+      → all ≡ below p.juniors (roles_of u p.users)
       → IsTrue b ↔ Has all place → IsTrue b ↔ IsAuthorized L u r
   authorized_test u r place all b found walked test =
       let there = role_at p L st r place found in (
@@ -36,7 +37,8 @@ module _ (p : Policy) (L : List Entry) (st : StandsFor p L) where
             (below_all p.juniors (roles_of u p.users) h.0 h.2))),
       )
 
-  pub granted_test : (r : NameText) (op : Operation) (ob : Object) (g : Grant) (place : ℕ) (b : Bool) → grant_of op ob p.grants ≡ Some g → place_of r p.roles ≡ Some place
+  pub granted_test : (r : NameText) (op : Operation) (ob : Object) (g : Grant) (place : ℕ) (b : Bool)
+      → grant_of op ob p.grants ≡ Some g → place_of r p.roles ≡ Some place
       → IsTrue b ↔ Has g.roles place → IsTrue b ↔ IsGranted L r op ob
   granted_test r op ob g place b row found test =
       let there = role_at p L st r place found in
@@ -47,17 +49,22 @@ module _ (p : Policy) (L : List Entry) (st : StandsFor p L) where
 
   -- a row is there for pairs that are granted alone
   row_granted : (op : Operation) (ob : Object) → is_some (grant_of op ob p.grants) ≡ true → IsPairGranted L op ob
-  row_granted op ob some = elim (first_cases (λ (x : Grant). same_operation x.operation op && same_object x.object ob) p.grants) [
-    | inl f ↦
-        let pair = (both _ _ _ _ (operations f.value.operation op) (objects f.value.object ob)).0 f.passes in
-        let used = st.grants.used f.at f.value f.there in
-        let named = st.grants.named f.at f.value f.there used.0 used.1 in
-        let held = (st.grants.granted f.at f.value f.there named.0).1 (record { place = used.0; there = named.1; bit = used.1 }) in
-        (named.0, subst (IsGranted L named.0 op) pair.1 (subst (λ o. IsGranted L named.0 o f.value.object) pair.0 held))
-    | inr a ↦ absurd (false≢true (sym (ap is_some a.is) ∙ some))
-  ]
+  row_granted op ob some =
+      elim (first_cases (λ (x : Grant). same_operation x.operation op && same_object x.object ob) p.grants) [
+        | inl f ↦
+            let pair = (both _ _ _ _ (operations f.value.operation op) (objects f.value.object ob)).0 f.passes in
+            let used = st.grants.used f.at f.value f.there in
+            let named = st.grants.named f.at f.value f.there used.0 used.1 in
+            let held = (st.grants.granted f.at f.value f.there named.0).1
+            (record { place = used.0; there = named.1; bit = used.1 }) in (
+              named.0,
+              subst (IsGranted L named.0 op) pair.1 (subst (λ o. IsGranted L named.0 o f.value.object) pair.0 held),
+            )
+        | inr a ↦ absurd (false≢true (sym (ap is_some a.is) ∙ some))
+      ]
 
-  pub pair_test : (op : Operation) (ob : Object) (b : Bool) → b ≡ is_some (grant_of op ob p.grants) → IsTrue b ↔ IsPairGranted L op ob
+  pub pair_test : (op : Operation) (ob : Object) (b : Bool) → b ≡ is_some (grant_of op ob p.grants)
+      → IsTrue b ↔ IsPairGranted L op ob
   pair_test op ob b is = reflects b (IsPairGranted L op ob)
       (λ t. row_granted op ob (sym is ∙ t))
       (λ f h. not_granted_pair p L st h.0 op ob (no_row (grant_of op ob p.grants) (sym is ∙ f)) h.1) where
@@ -66,10 +73,14 @@ module _ (p : Policy) (L : List Entry) (st : StandsFor p L) where
         no_row (Some g) e = absurd (false≢true (sym e))
 
 -- no free slot as a test
-pub full_test : {X A : Type 0} (key : X → A) (slots : List (Option X)) (P : A → Type 0) (n : ℕ) (b : Bool) → Keeps key slots P → length slots ≡ n → is_some (position is_none slots) ≡ not b → IsTrue b ↔ HasAtLeast n P
+pub full_test : {X A : Type 0} (key : X → A) (slots : List (Option X)) (P : A → Type 0) (n : ℕ) (b : Bool)
+    → Keeps key slots P → length slots ≡ n → is_some (position is_none slots) ≡ not b → IsTrue b ↔ HasAtLeast n P
 full_test key slots P n b keeps many is = by_position (position is_none slots) refl b (sym is) where
-  by_position : (o : Option ℕ) → position is_none slots ≡ o → (b : Bool) → not b ≡ is_some (position is_none slots) → IsTrue b ↔ HasAtLeast n P
-  by_position None e true is = reflects true (HasAtLeast n P) (λ t. full_without_room key slots P n keeps many e) (λ f h. false≢true (sym f))
+  by_position : (o : Option ℕ) → position is_none slots ≡ o → (b : Bool) → not b ≡ is_some (position is_none slots)
+      → IsTrue b ↔ HasAtLeast n P
+  by_position None e true is = reflects true (HasAtLeast n P) (λ t. full_without_room key slots P n keeps many e)
+      (λ f h. false≢true (sym f))
   by_position None e false is = absurd (false≢true (sym (is ∙ ap is_some e)))
   by_position (Some i) e true is = absurd (false≢true (is ∙ ap is_some e))
-  by_position (Some i) e false is = reflects false (HasAtLeast n P) (λ t. absurd (false≢true t)) (λ f h. not_full_with_room key slots P n keeps many i e h)
+  by_position (Some i) e false is = reflects false (HasAtLeast n P) (λ t. absurd (false≢true t))
+      (λ f h. not_full_with_room key slots P n keeps many i e h)

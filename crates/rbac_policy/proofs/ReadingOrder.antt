@@ -21,7 +21,8 @@ module _ (p : Policy) (L : List Entry) (st : StandsFor p L) where
       let h = (st.roles.exist a).0 (st.roles.only_roles a b e) in
       mask_role p L st b _ ((st.roles.edges h.at a (subst (At p.roles h.at) h.fact h.there) b).0 e)
 
-  pub edge_test : (a b : NameText) (above place : ℕ) (t : Bool) → place_of a p.roles ≡ Some above → place_of b p.roles ≡ Some place
+  pub edge_test : (a b : NameText) (above place : ℕ) (t : Bool) → place_of a p.roles ≡ Some above
+      → place_of b p.roles ≡ Some place
       → IsTrue t ↔ edge.IsEdge p.juniors above place → IsTrue t ↔ IsEdge L a b
   edge_test a b above place t found_a found_b test =
       let slot = st.roles.edges above a (role_at p L st a above found_a) b in
@@ -30,8 +31,10 @@ module _ (p : Policy) (L : List Entry) (st : StandsFor p L) where
         λ h. test.1 (bit.0 (slot.0 h)),
       )
 
-  pub below_test : (junior senior : NameText) (above place all : ℕ) (t : Bool) → place_of senior p.roles ≡ Some above → place_of junior p.roles ≡ Some place
-      → ((q : ℕ) → Has all q ↔ edge.IsAbove p.juniors above q) → IsTrue t ↔ Has all place → IsTrue t ↔ IsAtOrBelow L junior senior
+  pub below_test : (junior senior : NameText) (above place all : ℕ) (t : Bool) → place_of senior p.roles ≡ Some above
+      → place_of junior p.roles ≡ Some place
+      → ((q : ℕ) → Has all q ↔ edge.IsAbove p.juniors above q) → IsTrue t ↔ Has all place
+      → IsTrue t ↔ IsAtOrBelow L junior senior
   below_test junior senior above place all t found_s found_j walked test =
       let here = role_at p L st senior above found_s in
       let there = role_at p L st junior place found_j in (
@@ -50,6 +53,7 @@ module _ (p : Policy) (L : List Entry) (st : StandsFor p L) where
   below_role junior senior exists (step e more) = below_role junior _ (edge_junior senior _ e) more
 
   -- what is no role has itself below it, and nothing else
-  pub below_none : (junior senior : NameText) → place_of senior p.roles ≡ None → IsAtOrBelow L junior senior → senior ≡ junior
+  pub below_none : (junior senior : NameText) → place_of senior p.roles ≡ None → IsAtOrBelow L junior senior
+      → senior ≡ junior
   below_none junior senior none stay = refl
   below_none junior senior none (step e more) = absurd (no_role p L st senior none (st.roles.only_roles senior _ e))

@@ -28,20 +28,23 @@ record Member (sets : List (Option DsdSet)) (place : ℕ) (row : DsdSet) : Type 
   there : At sets at row
   bit : Has row.roles place
 
-slot_member : (sets : List (Option DsdSet)) (place at : ℕ) (slot : Option DsdSet) (row : DsdSet) → slice_get sets at ≡ Some slot → set_with place slot ≡ Some row → Member sets place row
+slot_member : (sets : List (Option DsdSet)) (place at : ℕ) (slot : Option DsdSet) (row : DsdSet)
+    → slice_get sets at ≡ Some slot → set_with place slot ≡ Some row → Member sets place row
 slot_member sets place at None row there gives = cc
 slot_member sets place at (Some x) row there gives = by_test (bit_at x.roles place == 1) refl where
   by_test : (b : Bool) → (bit_at x.roles place == 1) ≡ b → Member sets place row
   by_test true e =
       let same : x ≡ row = same_Some x row (sym (ap (λ b. cond b (Some x) None) e) ∙ gives) in
-      subst (Member sets place) same (record { at = at; there = there; bit = (Decides-eqb (bit_at x.roles place) 1).0 e })
+      subst (Member sets place) same
+      (record { at = at; there = there; bit = (Decides-eqb (bit_at x.roles place) 1).0 e })
   by_test false e = cc (sym (ap (λ b. cond b (Some x) None) e) ∙ gives)
 
 member_slot : (place : ℕ) (row : DsdSet) → Has row.roles place → set_with place (Some row) ≡ Some row
 member_slot place row bit = ap (λ b. cond b (Some row) None) ((Decides-eqb (bit_at row.roles place) 1).1 bit)
 
 -- the first of them
-least_row : (sets : List (Option DsdSet)) (place : ℕ) → Judged {Y = Option DsdSet} {R = DsdSet} place_of_row (set_with place) (Stands place_of_row (set_with place) sets) (first_set_with place sets)
+least_row : (sets : List (Option DsdSet)) (place : ℕ) → Judged {Y = Option DsdSet} {R = DsdSet} place_of_row
+    (set_with place) (Stands place_of_row (set_with place) sets) (first_set_with place sets)
 unfolding first_set_with
 least_row sets place = judged place_of_row (set_with place) sets
 
@@ -50,24 +53,36 @@ module _ (p : Policy) (L : List Entry) (st : StandsFor p L) where
   set_test s b is = reflects b (IsSetName L s)
       (λ t. let f = some_passes (set_is s) p.sets (sym is ∙ t) in made f.at f.value f.there f.test)
       (λ t h. let k = st.sets.listed h.place s h.count h.roles h.is_set in
-      false≢true (sym t ∙ is ∙ passes_any (set_is s) p.sets k.at (Some k.value) k.there ((bytes_eq-Decides k.value.name s).1 k.fact.name))) where
+      false≢true
+      (sym t ∙ is ∙ passes_any (set_is s) p.sets k.at (Some k.value) k.there
+      ((bytes_eq-Decides k.value.name s).1 k.fact.name))) where
         made : (at : ℕ) (o : Option DsdSet) → slice_get p.sets at ≡ Some o → set_is s o ≡ true → IsSetName L s
         made at None there t = absurd (false≢true t)
         made at (Some x) there t =
             let m = st.sets.made at x there in
-            subst (IsSetName L) ((bytes_eq-Decides x.name s).0 t) (record { place = x.place; count = x.count; roles = m.0; is_set = m.1 })
+            subst (IsSetName L) ((bytes_eq-Decides x.name s).0 t)
+            (record { place = x.place; count = x.count; roles = m.0; is_set = m.1 })
 
   module _ (r : NameText) (place : ℕ) (found : place_of r p.roles ≡ Some place) where
     -- a set of which the role is a member has a row with its bit
-    row_of_set : (at : ℕ) (set : NameText) (count : ℕ) (members : List NameText) → IsSet L at set count members → Contains members r
+    row_of_set : (at : ℕ) (set : NameText) (count : ℕ) (members : List NameText) → IsSet L at set count members
+        → Contains members r
         → (k : ℕ) × (row : DsdSet) × At p.sets k row × (row.place ≡ at) × Has row.roles place
     row_of_set at set count members is member =
-        let h = st.sets.listed at set count members is in
-        (h.at, h.value, h.there, h.fact.made, (in_mask p L st r h.value.roles place found).0 ((h.fact.members r).0 member))
+        let h = st.sets.listed at set count members is in (
+          h.at,
+          h.value,
+          h.there,
+          h.fact.made,
+          (in_mask p L st r h.value.roles place found).0
+              ((h.fact.members r).0 member),
+        )
 
     pub first_row : (row : DsdSet) → first_set_with place p.sets ≡ Some row → IsFirstSetOf L r row.name
     first_row row is =
-        let least = subst (Judged {Y = Option DsdSet} {R = DsdSet} place_of_row (set_with place) (Stands place_of_row (set_with place) p.sets)) is (least_row p.sets place) in
+        let least =
+        subst (Judged {Y = Option DsdSet} {R = DsdSet} place_of_row (set_with place)
+        (Stands place_of_row (set_with place) p.sets)) is (least_row p.sets place) in
         let mine = slot_member p.sets place least.is_seen.0 least.from row least.is_seen.1 least.gives in
         let m = st.sets.made mine.at row mine.there in
         record {
@@ -84,7 +99,9 @@ module _ (p : Policy) (L : List Entry) (st : StandsFor p L) where
 
     pub no_row : first_set_with place p.sets ≡ None → (set : NameText) → IsFirstSetOf L r set → ⊥
     no_row is set f =
-        let none = subst (Judged {Y = Option DsdSet} {R = DsdSet} place_of_row (set_with place) (Stands place_of_row (set_with place) p.sets)) is (least_row p.sets place) in
+        let none =
+        subst (Judged {Y = Option DsdSet} {R = DsdSet} place_of_row (set_with place)
+        (Stands place_of_row (set_with place) p.sets)) is (least_row p.sets place) in
         let k = row_of_set f.place set f.count f.roles f.is_set f.member in
         none (Some k.1) k.1 (k.0, k.2) (member_slot place k.1 k.4)
 

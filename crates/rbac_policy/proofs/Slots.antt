@@ -1,5 +1,6 @@
 -- Slots after a map or a write, free slots, and masks with one more place.
-use Rattle.std.proofs.Common.{◌≡◌, ℕ, zero, suc, ◌<◌, ◌⊎◌, ◌↔◌, List, [], ◌∷◌, length, map, set, inl, inr, arith, sym, ◌∙◌, ap, refl, subst, true}
+use Rattle.std.proofs.Common.{◌≡◌, ℕ, zero, suc, ◌<◌, ◌⊎◌, ◌↔◌, List, [], ◌∷◌, length, map, set, inl, inr, arith, sym}
+use Rattle.std.proofs.Common.{◌∙◌, ap, refl, subst, true}
 use Rattle.std.specs.Prelude.{slice_get, Option, Some, None, option_map, position, is_none}
 use Rattle.std.proofs.lemmas.Bool.{cases_eq, false≢true}
 use Rattle.std.proofs.lemmas.Nat.Bits.{bit_at-zero}
@@ -18,7 +19,8 @@ get_set_same [] i y h = absurd (omega arith)
 get_set_same (x ∷ xs) zero y h = refl
 get_set_same (x ∷ xs) (suc i) y h = get_set_same xs i y (omega arith)
 
-pub get_set_other : {X : Type 0} (xs : List X) (i k : ℕ) (y : X) → (k ≡ i → ⊥) → slice_get (set xs i y) k ≡ slice_get xs k
+pub get_set_other : {X : Type 0} (xs : List X) (i k : ℕ) (y : X) → (k ≡ i → ⊥)
+    → slice_get (set xs i y) k ≡ slice_get xs k
 get_set_other [] i k y h = refl
 get_set_other (x ∷ xs) zero zero y h = absurd (h refl)
 get_set_other (x ∷ xs) zero (suc k) y h = refl
@@ -31,20 +33,37 @@ pub record Mapped {X : Type 0} (f : Option X → Option X) (slots : List (Option
   pub there : At slots at value
   pub gives : f (Some value) ≡ Some y
 
-pub mapped : {X : Type 0} (f : Option X → Option X) (slots : List (Option X)) (at : ℕ) (y : X) → f None ≡ None → At (map f slots) at y → Mapped f slots at y
+pub mapped : {X : Type 0} (f : Option X → Option X) (slots : List (Option X)) (at : ℕ) (y : X) → f None ≡ None
+    → At (map f slots) at y → Mapped f slots at y
 mapped {X = X} f slots at y none there = by_slot (slice_get slots at) refl where
   by_slot : (o : Option (Option X)) → slice_get slots at ≡ o → Mapped f slots at y
   by_slot None e = absurd (cc (slice_get-map f slots at, ap (option_map f) e, there))
   by_slot (Some None) e = absurd (cc (slice_get-map f slots at, ap (option_map f) e, there, none))
-  by_slot (Some (Some x)) e = record { value = x; there = e; gives = same_Some (f (Some x)) (Some y) (sym (slice_get-map f slots at ∙ ap (option_map f) e) ∙ there) }
+  by_slot (Some (Some x)) e =
+      record {
+        value = x;
+        there = e;
+        gives = same_Some (f (Some x)) (Some y)
+            (sym (slice_get-map f slots at ∙ ap (option_map f) e) ∙ there);
+      }
 
-pub map_at : {X : Type 0} (f : Option X → Option X) (slots : List (Option X)) (at : ℕ) (x y : X) → At slots at x → f (Some x) ≡ Some y → At (map f slots) at y
+pub map_at : {X : Type 0} (f : Option X → Option X) (slots : List (Option X)) (at : ℕ) (x y : X) → At slots at x
+    → f (Some x) ≡ Some y → At (map f slots) at y
 map_at f slots at x y there gives = slice_get-map f slots at ∙ ap (option_map f) there ∙ ap Some gives
 
 -- a filled slot after a write is the new value, or was there
-pub written : {X : Type 0} (slots : List (Option X)) (i at : ℕ) (new y : X) → i < length slots → At (set slots i (Some new)) at y → ((at ≡ i) × (new ≡ y)) ⊎ At slots at y
+pub written : {X : Type 0} (slots : List (Option X)) (i at : ℕ) (new y : X) → i < length slots
+    → At (set slots i (Some new)) at y → ((at ≡ i) × (new ≡ y)) ⊎ At slots at y
 written slots i at new y within there = elim (cases_eq at i) [
-  | inl e ↦ inl (e, cc (get_set_same slots i (Some new) within, subst (λ k. slice_get (set slots i (Some new)) k ≡ Some (Some y)) e there))
+  | inl e ↦
+      inl (
+        e,
+        cc (
+          get_set_same slots i (Some new) within,
+          subst (λ k. slice_get (set slots i (Some new)) k ≡ Some (Some y)) e
+              there,
+        ),
+      )
   | inr ne ↦ inr (sym (get_set_other slots i at (Some new) ne) ∙ there)
 ]
 
@@ -62,7 +81,8 @@ free slots i h =
     let p = position-Some is_none slots i None h in
     record { within = p.0; empty = slice_get-get_or slots i None p.0 ∙ ap Some (is_nothing _ p.1) }
 
-module _ (roles : List (Option NameText)) (unique : (p q : ℕ) (r : NameText) → At roles p r → At roles q r → p ≡ q) (p0 : ℕ) (r0 : NameText) (there : At roles p0 r0) (low : p0 < ROLES) where
+module _ (roles : List (Option NameText)) (unique : (p q : ℕ) (r : NameText) → At roles p r → At roles q r → p ≡ q)
+    (p0 : ℕ) (r0 : NameText) (there : At roles p0 r0) (low : p0 < ROLES) where
   pub in_with_bit : (m : ℕ) (r : NameText) → InMask roles (with_bit m p0) r ↔ ((r0 ≡ r) ⊎ InMask roles m r)
   in_with_bit m r = (
     λ i. elim (cases_eq i.place p0) [
@@ -86,12 +106,15 @@ module _ (roles : List (Option NameText)) (unique : (p q : ℕ) (r : NameText) �
 
   pub in_without_bit : (m : ℕ) (r : NameText) → InMask roles (without_place m p0) r ↔ (InMask roles m r × (r0 ≡ r → ⊥))
   in_without_bit m r = (
-    λ i. let h = (has_without m p0 i.place).0 i.bit in
-        (record { place = i.place; there = i.there; bit = h.0 }, λ same. h.1 (unique i.place p0 r i.there (subst (At roles p0) same there))),
+    λ i. let h = (has_without m p0 i.place).0 i.bit in (
+      record { place = i.place; there = i.there; bit = h.0 },
+      λ same. h.1 (unique i.place p0 r i.there (subst (At roles p0) same there)),
+    ),
     λ h. record {
       place = h.0.place;
       there = h.0.there;
-      bit = (has_without m p0 h.0.place).1 (h.0.bit, λ e. h.1 (one_role roles p0 r0 r there (subst (λ k. At roles k r) e h.0.there)));
+      bit = (has_without m p0 h.0.place).1
+          (h.0.bit, λ e. h.1 (one_role roles p0 r0 r there (subst (λ k. At roles k r) e h.0.there)));
     },
   )
 

@@ -1,5 +1,6 @@
 -- The first violation after one role more is active in a session.
-use Rattle.std.proofs.Common.{◌≡◌, ℕ, ◌<◌, ◌⊎◌, ◌↔◌, List, [], ◌∷◌, ◌++◌, length, arith, sym, ◌∙◌, refl, subst, inl, inr}
+use Rattle.std.proofs.Common.{◌≡◌, ℕ, ◌<◌, ◌⊎◌, ◌↔◌, List, [], ◌∷◌, ◌++◌, length, arith, sym, ◌∙◌, refl, subst, inl}
+use Rattle.std.proofs.Common.{inr}
 use Rattle.std.specs.Prelude.{Option, Some}
 use Rattle.std.proofs.Math.Seq.{take-length}
 use Rattle.std.proofs.lemmas.Bool.{cases_eq}
@@ -26,8 +27,10 @@ use Rattle.rbac_policy.proofs.Violating.{SessionParts}
 use Rattle.rbac_policy.proofs.Separated.{front_slot, shown_in_parts}
 use Rattle.rbac_policy.proofs.Prospects.{Tells, Lossless, still_authorized, sets_of}
 
-module _ (p : Policy) (L : List Entry) (st : StandsFor p L) (k : ℕ) (role user : NameText) (lives : Lives L k user) (authorized : IsAuthorized L user role)
-    (x : Session) (row : session_of k p.sessions ≡ Some x) (place : ℕ) (found : place_of role p.roles ≡ Some place) where
+module _ (p : Policy) (L : List Entry) (st : StandsFor p L) (k : ℕ) (role user : NameText) (lives : Lives L k user)
+    (authorized : IsAuthorized L user role)
+    (x : Session) (row : session_of k p.sessions ≡ Some x) (place : ℕ)
+    (found : place_of role p.roles ≡ Some place) where
   abbrev e : Entry
   e = record { session = Some k; command = AddActiveRole role }
 
@@ -44,7 +47,8 @@ module _ (p : Policy) (L : List Entry) (st : StandsFor p L) (k : ℕ) (role user
   slot = live_slot p L st k x row
 
   becomes : SessionBecomes p.roles L e x coming
-  becomes = activating.taken_here p.roles st.roles.unique st.roles.places place role there low p.sessions L k st.sessions slot.at x slot.there slot.number
+  becomes = activating.taken_here p.roles st.roles.unique st.roles.places place role there low p.sessions L k
+      st.sessions slot.at x slot.there slot.number
 
   taken : (n : ℕ) (r : NameText) → IsActive (L ++ e ∷ []) n r ↔ (((k ≡ n) × (role ≡ r)) ⊎ IsActive L n r)
   taken = activating.taken p.roles st.roles.unique st.roles.places place role there low p.sessions L k st.sessions
@@ -67,8 +71,10 @@ module _ (p : Policy) (L : List Entry) (st : StandsFor p L) (k : ℕ) (role user
 
   still_lives : (n : ℕ) (u : NameText) → Lives L n u → Lives (L ++ e ∷ []) n u
   still_lives n u l = lives_before L e n u (inr (l, stays n u)) (λ r a.
-      let whole : HasOnlyAuthorized L n u = subst (λ xs. HasOnlyAuthorized xs n u) (take-length L) (l.authorized (length L) (slice_get_within L l.at l.entry l.there) (omega arith)) in
-      still_authorized p L st e keeps u r (elim ((taken n r).0 a) [ inl new ↦ allowed n u r l new.0 new.1 | inr old ↦ whole r old ]))
+      let whole : HasOnlyAuthorized L n u = subst (λ xs. HasOnlyAuthorized xs n u) (take-length L)
+      (l.authorized (length L) (slice_get_within L l.at l.entry l.there) (omega arith)) in
+      still_authorized p L st e keeps u r
+      (elim ((taken n r).0 a) [ inl new ↦ allowed n u r l new.0 new.1 | inr old ↦ whole r old ]))
 
   -- the old row of the session has a part of its roles, and the coming one has all
   parts_after : SessionParts p.roles (p.sessions ++ Some coming ∷ []) (L ++ e ∷ [])
@@ -80,7 +86,11 @@ module _ (p : Policy) (L : List Entry) (st : StandsFor p L) (k : ℕ) (role user
           at = length p.sessions;
           value = coming;
           there = get_last p.sessions (Some coming);
-          fact = (slot.number ∙ sym same, λ r a. (becomes.active r).0 (subst (λ i. IsActive (L ++ e ∷ []) i r) (same ∙ sym slot.number) a));
+          fact = (
+            slot.number ∙ sym same,
+            λ r a. (becomes.active r).0
+                (subst (λ i. IsActive (L ++ e ∷ []) i r) (same ∙ sym slot.number) a),
+          );
         }
         | inr other ↦
             let h = (st.sessions.exist n live.0).0 l.0 in
@@ -97,13 +107,22 @@ module _ (p : Policy) (L : List Entry) (st : StandsFor p L) (k : ℕ) (role user
       ]
     ];
     lives = λ at y there. elim (get_push p.sessions (Some coming) (Some y) at there) [
-      | inl old ↦ (y.user, still_lives y.number y.user ((st.sessions.exist y.number y.user).1 (record { at = at; value = y; there = old.1; fact = (refl, refl) })))
-      | inr new ↦ subst (λ (z : Session). IsLive (L ++ e ∷ []) z.number) (same_Some coming y new.1)
-          (x.user, still_lives x.number x.user ((st.sessions.exist x.number x.user).1 (record { at = slot.at; value = x; there = slot.there; fact = (refl, refl) })))
+      | inl old ↦ (
+        y.user,
+        still_lives y.number y.user
+            ((st.sessions.exist y.number y.user).1 (record { at = at; value = y; there = old.1; fact = (refl, refl) })),
+      )
+      | inr new ↦ subst (λ (z : Session). IsLive (L ++ e ∷ []) z.number) (same_Some coming y new.1) (
+        x.user,
+        still_lives x.number x.user
+            ((st.sessions.exist x.number x.user).1
+            (record { at = slot.at; value = x; there = slot.there; fact = (refl, refl) })),
+      )
     ];
     active = λ at y there r. elim (get_push p.sessions (Some coming) (Some y) at there) [
       | inl old ↦ λ m. (taken y.number r).1 (inr ((st.sessions.active at y old.1 r).1 m))
-      | inr new ↦ subst (λ (z : Session). InMask p.roles z.active r → IsActive (L ++ e ∷ []) z.number r) (same_Some coming y new.1) (becomes.active r).1
+      | inr new ↦ subst (λ (z : Session). InMask p.roles z.active r → IsActive (L ++ e ∷ []) z.number r)
+          (same_Some coming y new.1) (becomes.active r).1
     ];
     named = λ at y there. elim (get_push p.sessions (Some coming) (Some y) at there) [
       | inl old ↦ st.sessions.named at y old.1
@@ -111,6 +130,8 @@ module _ (p : Policy) (L : List Entry) (st : StandsFor p L) (k : ℕ) (role user
     ];
   }
 
-  pub after_role : (o : Option Violation) → o ≡ first_violation p.juniors (p.sessions ++ Some coming ∷ []) p.sets → Tells (L ++ e ∷ []) o
-  after_role o is = shown_in_parts p.roles p.juniors p.sets (p.sessions ++ Some coming ∷ []) (L ++ e ∷ []) (untouched_roles p.roles p.juniors L e refl st.roles) parts_after
+  pub after_role : (o : Option Violation) → o ≡ first_violation p.juniors (p.sessions ++ Some coming ∷ []) p.sets
+      → Tells (L ++ e ∷ []) o
+  after_role o is = shown_in_parts p.roles p.juniors p.sets (p.sessions ++ Some coming ∷ []) (L ++ e ∷ [])
+      (untouched_roles p.roles p.juniors L e refl st.roles) parts_after
       (sets_of p.roles p.sets (L ++ e ∷ []) (untouched_sets p.roles p.sets L e refl st.sets)) o is

@@ -1,5 +1,6 @@
 -- What a command leaves alone.
-use Rattle.std.proofs.Common.{◌≡◌, ℕ, ◌+◌, ◌≤◌, ◌⊎◌, ◌↔◌, Bool, true, false, List, [], ◌∷◌, ◌++◌, length, inl, inr, sym, ◌∙◌, ap, subst, refl, cond, add-zero}
+use Rattle.std.proofs.Common.{◌≡◌, ℕ, ◌+◌, ◌≤◌, ◌⊎◌, ◌↔◌, Bool, true, false, List, [], ◌∷◌, ◌++◌, length, inl, inr, sym}
+use Rattle.std.proofs.Common.{◌∙◌, ap, subst, refl, cond, add-zero}
 use Rattle.std.specs.Prelude.{Option}
 use Rattle.std.proofs.lemmas.Bool.{false≢true}
 use Rattle.std.proofs.lemmas.List.Sums.{fold_push}
@@ -7,7 +8,12 @@ use Rattle.rbac_policy.specs.declared.sizes.TheConstants.{ROLES}
 use Rattle.rbac_policy.specs.declared.objects.Operation.{Operation}
 use Rattle.rbac_policy.specs.declared.objects.Object.{Object}
 use Rattle.rbac_policy.specs.declared.commands.AdminCommand.{AdminCommand}
-use Rattle.rbac_policy.specs.declared.commands.AdminCommand.TheVariants.{AddUser, DeleteUser, AddRole, DeleteRole, AssignUser, DeassignUser, GrantPermission, RevokePermission, AddInheritance, DeleteInheritance, CreateDsdSet, DeleteDsdSet, CreateSession, DeleteSession, AddActiveRole, DropActiveRole}
+use Rattle.rbac_policy.specs.declared.commands.AdminCommand.TheVariants.{AddUser, DeleteUser, AddRole, DeleteRole}
+use Rattle.rbac_policy.specs.declared.commands.AdminCommand.TheVariants.{AssignUser, DeassignUser, GrantPermission}
+use Rattle.rbac_policy.specs.declared.commands.AdminCommand.TheVariants.{RevokePermission, AddInheritance}
+use Rattle.rbac_policy.specs.declared.commands.AdminCommand.TheVariants.{DeleteInheritance, CreateDsdSet, DeleteDsdSet}
+use Rattle.rbac_policy.specs.declared.commands.AdminCommand.TheVariants.{CreateSession, DeleteSession, AddActiveRole}
+use Rattle.rbac_policy.specs.declared.commands.AdminCommand.TheVariants.{DropActiveRole}
 use Rattle.rbac_policy.specs.declared.commands.Entry.{Entry}
 use Rattle.rbac_policy.specs.declared.rows.User.{User}
 use Rattle.rbac_policy.specs.declared.rows.Grant.{Grant}
@@ -26,7 +32,8 @@ pub through : {A B C : Type 0} → A ↔ B → B ↔ C → A ↔ C
 through f g = (λ a. g.0 (f.0 a), λ c. f.1 (g.1 c))
 
 -- an entry that neither makes nor undoes a fact leaves it
-pub untouched : (M : List Entry → Entry → Type 0) (U : Entry → Type 0) (L : List Entry) (e : Entry) → (M L e → ⊥) → (U e → ⊥) → InForce M U (L ++ e ∷ []) ↔ InForce M U L
+pub untouched : (M : List Entry → Entry → Type 0) (U : Entry → Type 0) (L : List Entry) (e : Entry) → (M L e → ⊥)
+    → (U e → ⊥) → InForce M U (L ++ e ∷ []) ↔ InForce M U L
 untouched M U L e m u = (
   λ s. elim ((in_force_push M U L e).0 s) [ inl h ↦ absurd (m h) | inr h ↦ h.0 ],
   λ s. (in_force_push M U L e).1 (inr (s, u)),
@@ -69,12 +76,20 @@ touches_sets _ = false
 pub not_by : (test : AdminCommand → Bool) (a b : AdminCommand) → test a ≡ false → test b ≡ true → a ≡ b → ⊥
 not_by test a b no_a yes_b same = false≢true (sym no_a ∙ ap test same ∙ yes_b)
 
-pub untouched_users : (roles : List (Option NameText)) (users : List (Option User)) (L : List Entry) (e : Entry) → touches_users e.command ≡ false → UsersStand roles users L → UsersStand roles users (L ++ e ∷ [])
+pub untouched_users : (roles : List (Option NameText)) (users : List (Option User)) (L : List Entry) (e : Entry)
+    → touches_users e.command ≡ false → UsersStand roles users L → UsersStand roles users (L ++ e ∷ [])
 untouched_users roles users L e no_touch s =
-    let out = λ (c : AdminCommand) (t : touches_users c ≡ true) (h : e.command ≡ c). not_by touches_users e.command c no_touch t h in
-    let user : (u : NameText) → IsUser (L ++ e ∷ []) u ↔ IsUser L u = λ u. untouched _ _ L e (λ h. out (AddUser u) refl h) (λ h. out (DeleteUser u) refl h) in
-    let given : (u r : NameText) → IsAssigned (L ++ e ∷ []) u r ↔ IsAssigned L u r = λ u r. untouched _ _ L e (λ h. out (AssignUser u r) refl h)
-    (λ h. elim h [ inl a ↦ out (DeassignUser u r) refl a | inr b ↦ elim b [ inl x ↦ out (DeleteUser u) refl x | inr y ↦ out (DeleteRole r) refl y ] ]) in
+    let out = λ (c : AdminCommand) (t : touches_users c ≡ true)
+    (h : e.command ≡ c). not_by touches_users e.command c no_touch t h in
+    let user : (u : NameText) → IsUser (L ++ e ∷ []) u ↔ IsUser L u =
+    λ u. untouched _ _ L e (λ h. out (AddUser u) refl h) (λ h. out (DeleteUser u) refl h) in
+    let given : (u r : NameText) → IsAssigned (L ++ e ∷ []) u r ↔ IsAssigned L u r =
+    λ u r. untouched _ _ L e (λ h. out (AssignUser u r) refl h)
+    (λ h. elim h [
+      | inl a ↦ out (DeassignUser u r) refl a
+      | inr b ↦
+          elim b [ inl x ↦ out (DeleteUser u) refl x | inr y ↦ out (DeleteRole r) refl y ]
+    ]) in
     record {
       exist = λ u. through (user u) (s.exist u);
       assigned = λ at x there r. through (given x.name r) (s.assigned at x there r);
@@ -84,12 +99,20 @@ untouched_users roles users L e no_touch s =
       places = s.places;
     }
 
-pub untouched_roles : (roles : List (Option NameText)) (juniors : List ℕ) (L : List Entry) (e : Entry) → touches_roles e.command ≡ false → RolesStand roles juniors L → RolesStand roles juniors (L ++ e ∷ [])
+pub untouched_roles : (roles : List (Option NameText)) (juniors : List ℕ) (L : List Entry) (e : Entry)
+    → touches_roles e.command ≡ false → RolesStand roles juniors L → RolesStand roles juniors (L ++ e ∷ [])
 untouched_roles roles juniors L e no_touch s =
-    let out = λ (c : AdminCommand) (t : touches_roles c ≡ true) (h : e.command ≡ c). not_by touches_roles e.command c no_touch t h in
-    let role : (r : NameText) → IsRole (L ++ e ∷ []) r ↔ IsRole L r = λ r. untouched _ _ L e (λ h. out (AddRole r) refl h) (λ h. out (DeleteRole r) refl h) in
-    let edge : (a b : NameText) → IsEdge (L ++ e ∷ []) a b ↔ IsEdge L a b = λ a b. untouched _ _ L e (λ h. out (AddInheritance a b) refl h)
-    (λ h. elim h [ inl x ↦ out (DeleteInheritance a b) refl x | inr y ↦ elim y [ inl x ↦ out (DeleteRole a) refl x | inr z ↦ out (DeleteRole b) refl z ] ]) in
+    let out = λ (c : AdminCommand) (t : touches_roles c ≡ true)
+    (h : e.command ≡ c). not_by touches_roles e.command c no_touch t h in
+    let role : (r : NameText) → IsRole (L ++ e ∷ []) r ↔ IsRole L r =
+    λ r. untouched _ _ L e (λ h. out (AddRole r) refl h) (λ h. out (DeleteRole r) refl h) in
+    let edge : (a b : NameText) → IsEdge (L ++ e ∷ []) a b ↔ IsEdge L a b =
+    λ a b. untouched _ _ L e (λ h. out (AddInheritance a b) refl h)
+    (λ h. elim h [
+      | inl x ↦ out (DeleteInheritance a b) refl x
+      | inr y ↦
+          elim y [ inl x ↦ out (DeleteRole a) refl x | inr z ↦ out (DeleteRole b) refl z ]
+    ]) in
     record {
       exist = λ r. through (role r) (s.exist r);
       unique = s.unique;
@@ -101,10 +124,16 @@ untouched_roles roles juniors L e no_touch s =
       rows = s.rows;
     }
 
-pub untouched_grants : (roles : List (Option NameText)) (grants : List (Option Grant)) (L : List Entry) (e : Entry) → touches_grants e.command ≡ false → GrantsStand roles grants L → GrantsStand roles grants (L ++ e ∷ [])
+pub untouched_grants : (roles : List (Option NameText)) (grants : List (Option Grant)) (L : List Entry) (e : Entry)
+    → touches_grants e.command ≡ false → GrantsStand roles grants L → GrantsStand roles grants (L ++ e ∷ [])
 untouched_grants roles grants L e no_touch s =
-    let out = λ (c : AdminCommand) (t : touches_grants c ≡ true) (h : e.command ≡ c). not_by touches_grants e.command c no_touch t h in
-    let given : (r : NameText) (op : Operation) (ob : Object) → IsGranted (L ++ e ∷ []) r op ob ↔ IsGranted L r op ob = λ r op ob. untouched (λ before x. x.command ≡ GrantPermission r op ob) (λ x. (x.command ≡ RevokePermission r op ob) ⊎ (x.command ≡ DeleteRole r)) L e (λ h. out (GrantPermission r op ob) refl h)
+    let out = λ (c : AdminCommand) (t : touches_grants c ≡ true)
+    (h : e.command ≡ c). not_by touches_grants e.command c no_touch t h in
+    let given : (r : NameText) (op : Operation) (ob : Object)
+    → IsGranted (L ++ e ∷ []) r op ob ↔ IsGranted L r op ob =
+    λ r op ob. untouched (λ before x. x.command ≡ GrantPermission r op ob)
+    (λ x. (x.command ≡ RevokePermission r op ob) ⊎ (x.command ≡ DeleteRole r)) L e
+    (λ h. out (GrantPermission r op ob) refl h)
     (λ h. elim h [ inl x ↦ out (RevokePermission r op ob) refl x | inr y ↦ out (DeleteRole r) refl y ]) in
     record {
       granted = λ at x there r. through (given r x.operation x.object) (s.granted at x there r);
@@ -115,10 +144,13 @@ untouched_grants roles grants L e no_touch s =
       places = s.places;
     }
 
-pub untouched_sets : (roles : List (Option NameText)) (sets : List (Option DsdSet)) (L : List Entry) (e : Entry) → touches_sets e.command ≡ false → SetsStand roles sets L → SetsStand roles sets (L ++ e ∷ [])
+pub untouched_sets : (roles : List (Option NameText)) (sets : List (Option DsdSet)) (L : List Entry) (e : Entry)
+    → touches_sets e.command ≡ false → SetsStand roles sets L → SetsStand roles sets (L ++ e ∷ [])
 untouched_sets roles sets L e no_touch s =
-    let still : (place : ℕ) (name : NameText) (count : ℕ) (members : List NameText) → IsSet (L ++ e ∷ []) place name count members ↔ IsSet L place name count members = λ place name count members.
-    untouched _ _ L e (λ h. not_by touches_sets e.command (CreateDsdSet name count members) no_touch refl h.1) (λ h. not_by touches_sets e.command (DeleteDsdSet name) no_touch refl h) in
+    let still : (place : ℕ) (name : NameText) (count : ℕ) (members : List NameText)
+    → IsSet (L ++ e ∷ []) place name count members ↔ IsSet L place name count members = λ place name count members.
+    untouched _ _ L e (λ h. not_by touches_sets e.command (CreateDsdSet name count members) no_touch refl h.1)
+    (λ h. not_by touches_sets e.command (DeleteDsdSet name) no_touch refl h) in
     record {
       listed = λ place name count members h. s.listed place name count members ((still place name count members).0 h);
       made = λ at x there. let m = s.made at x there in (m.0, (still x.place x.name x.count m.0).1 m.1, m.2);
@@ -133,16 +165,26 @@ logins_push L e = fold_push (λ (a : ℕ) (x : Entry). a + cond (is_login x) 1 0
 pub logins_other : (L : List Entry) (e : Entry) → is_login e ≡ false → logins (L ++ e ∷ []) ≡ logins L
 logins_other L e h = logins_push L e ∙ ap (λ b. logins L + cond b 1 0) h ∙ add-zero (logins L)
 
-pub not_by_login : (e : Entry) (u : NameText) (roles : List NameText) → is_login e ≡ false → e.command ≡ CreateSession u roles → ⊥
+pub not_by_login : (e : Entry) (u : NameText) (roles : List NameText) → is_login e ≡ false
+    → e.command ≡ CreateSession u roles → ⊥
 not_by_login e u roles quiet same =
-    let login : is_login e ≡ true = subst (λ c. is_login (record { session = e.session; command = c }) ≡ true) (sym same) refl in
+    let login : is_login e ≡ true = subst (λ c. is_login (record { session = e.session; command = c }) ≡ true)
+    (sym same) refl in
     false≢true (sym quiet ∙ login)
 
-pub untouched_sessions : (roles : List (Option NameText)) (sessions : List (Option Session)) (L : List Entry) (e : Entry) → touches_sessions e.command ≡ false → logins (L ++ e ∷ []) ≡ logins L → ((p q : ℕ) (role : NameText) → At roles p role → At roles q role → p ≡ q) → length roles ≡ ROLES → SessionsStand roles sessions L → Unswept roles sessions L e
+pub untouched_sessions : (roles : List (Option NameText)) (sessions : List (Option Session)) (L : List Entry)
+    (e : Entry) → touches_sessions e.command ≡ false → logins (L ++ e ∷ []) ≡ logins L
+    → ((p q : ℕ) (role : NameText) → At roles p role → At roles q role → p ≡ q) → length roles ≡ ROLES
+    → SessionsStand roles sessions L → Unswept roles sessions L e
 untouched_sessions roles sessions L e no_touch count unique many s =
-    let out = λ (c : AdminCommand) (t : touches_sessions c ≡ true) (h : e.command ≡ c). not_by touches_sessions e.command c no_touch t h in
+    let out = λ (c : AdminCommand) (t : touches_sessions c ≡ true)
+    (h : e.command ≡ c). not_by touches_sessions e.command c no_touch t h in
     let active : (n : ℕ) (r : NameText) → IsActive (L ++ e ∷ []) n r ↔ IsActive L n r = λ n r. untouched _ _ L e
-    (λ h. elim h [ inl x ↦ out (CreateSession x.user x.roles) refl x.creates.login | inr y ↦ out (AddActiveRole r) refl y.1 ])
+    (λ h. elim h [
+      | inl x ↦ out (CreateSession x.user x.roles) refl x.creates.login
+      | inr y ↦
+          out (AddActiveRole r) refl y.1
+    ])
     (λ h. out (DropActiveRole r) refl h.1) in
     let lives : (n : ℕ) (u : NameText) → Remains L e n u ↔ Lives L n u = λ n u. (
       λ h. elim h [ inl m ↦ absurd (out (CreateSession u m.roles) refl m.creates.login) | inr l ↦ l.0 ],

@@ -3,12 +3,20 @@ use Rattle.std.specs.Prelude.{ℕ, ◌+◌, ◌%◌, List, Option, Some, None, m
 use Rattle.rbac_policy.specs.declared.objects.Operation.{Operation}
 use Rattle.rbac_policy.specs.declared.objects.Object.{Object}
 use Rattle.rbac_policy.specs.declared.commands.AdminCommand.{AdminCommand}
-use Rattle.rbac_policy.specs.declared.commands.AdminCommand.TheVariants.{AddUser, DeleteUser, AddRole, DeleteRole, AssignUser, DeassignUser, GrantPermission, RevokePermission, AddInheritance, DeleteInheritance, CreateDsdSet, DeleteDsdSet, CreateSession, DeleteSession, AddActiveRole, DropActiveRole}
+use Rattle.rbac_policy.specs.declared.commands.AdminCommand.TheVariants.{AddUser, DeleteUser, AddRole, DeleteRole}
+use Rattle.rbac_policy.specs.declared.commands.AdminCommand.TheVariants.{AssignUser, DeassignUser, GrantPermission}
+use Rattle.rbac_policy.specs.declared.commands.AdminCommand.TheVariants.{RevokePermission, AddInheritance}
+use Rattle.rbac_policy.specs.declared.commands.AdminCommand.TheVariants.{DeleteInheritance, CreateDsdSet, DeleteDsdSet}
+use Rattle.rbac_policy.specs.declared.commands.AdminCommand.TheVariants.{CreateSession, DeleteSession, AddActiveRole}
+use Rattle.rbac_policy.specs.declared.commands.AdminCommand.TheVariants.{DropActiveRole}
 use Rattle.rbac_policy.specs.declared.commands.Entry.{Entry}
 use Rattle.rbac_policy.specs.declared.policy.Policy.{Policy}
-use Rattle.rbac_policy.specs.declared.sizes.TheConstants.{USERS, ROLES, GRANTS, SESSIONS, SETS, LAST_SESSION, LAST_VERSION}
+use Rattle.rbac_policy.specs.declared.sizes.TheConstants.{USERS, ROLES, GRANTS, SESSIONS, SETS, LAST_SESSION}
+use Rattle.rbac_policy.specs.declared.sizes.TheConstants.{LAST_VERSION}
 use Rattle.rbac_policy.specs.Names.{NameText}
-use Rattle.rbac_policy.specs.Tables.{place_of, grants_given, put_free, mask_of, session_without, session_kept, user_given, user_relieved, user_cleared, user_without, grant_revoked, grant_cleared, session_of_other, session_given, session_relieved, set_without}
+use Rattle.rbac_policy.specs.Tables.{place_of, grants_given, put_free, mask_of, session_without, session_kept}
+use Rattle.rbac_policy.specs.Tables.{user_given, user_relieved, user_cleared, user_without, grant_revoked}
+use Rattle.rbac_policy.specs.Tables.{grant_cleared, session_of_other, session_given, session_relieved, set_without}
 use Rattle.rbac_closure.specs.Edges.{edge_added, edge_removed, role_cleared}
 
 -- the pair is granted to the role at this place, if there is one
@@ -24,7 +32,11 @@ granted role operation object p = granted_at (place_of role p.roles) operation o
 abbrev pub logged_in : NameText → List NameText → Policy → Policy
 logged_in user roles p =
     let number = (p.logins + 1) % (LAST_SESSION + 1) in
-    record p { logins = number; sessions = put_free (record { number = number; user = user; active = mask_of p.roles roles }) p.sessions }
+    record p {
+      logins = number;
+      sessions = put_free (record { number = number; user = user; active = mask_of p.roles roles })
+          p.sessions;
+    }
 
 -- the session of this number ends, if a session gives the command
 abbrev pub logged_out : Option ℕ → Policy → Policy
@@ -60,9 +72,11 @@ revoked role operation object p = revoked_at (place_of role p.roles) operation o
 
 -- the user goes, and its sessions end
 abbrev pub user_deleted : NameText → Policy → Policy
-user_deleted user p = record p { users = map (user_without user) p.users; sessions = map (session_of_other user) p.sessions }
+user_deleted user p =
+    record p { users = map (user_without user) p.users; sessions = map (session_of_other user) p.sessions }
 
--- the role at this place goes, with its assignments, permissions and edges, if there is one; the sweep ends the sessions in which it is active
+-- the role at this place goes, with its assignments, permissions and edges, if there is one; the sweep ends the
+-- sessions in which it is active
 abbrev pub role_deleted_at : Option ℕ → Policy → Policy
 role_deleted_at None p = p
 role_deleted_at (Some place) p = record p {
@@ -96,7 +110,9 @@ disinherited senior junior p = disinherited_at (place_of senior p.roles) (place_
 
 -- a separation set of this name, number and roles, made by the entry at this place
 abbrev pub set_created : NameText → ℕ → List NameText → Policy → Policy
-set_created set count roles p = record p { sets = put_free (record { name = set; count = count; roles = mask_of p.roles roles; place = p.version }) p.sets }
+set_created set count roles p =
+    record p
+    { sets = put_free (record { name = set; count = count; roles = mask_of p.roles roles; place = p.version }) p.sets }
 
 -- the separation set of this name goes
 abbrev pub set_deleted : NameText → Policy → Policy
@@ -145,7 +161,11 @@ changed p entry = changed_by entry.command entry.session p
 
 -- one more entry is counted, and each session ends that has a role for which its user is not authorized
 abbrev pub swept : Policy → Policy
-swept p = record p { version = (p.version + 1) % (LAST_VERSION + 1); sessions = map (session_kept p.users p.juniors) p.sessions }
+swept p =
+    record p {
+      version = (p.version + 1) % (LAST_VERSION + 1);
+      sessions = map (session_kept p.users p.juniors) p.sessions;
+    }
 
 -- the policy after the entry
 unfoldable pub absorbed : Policy → Entry → Policy

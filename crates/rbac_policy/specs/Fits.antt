@@ -1,12 +1,18 @@
--- What an entry asks of the entries before it, so that a policy that stands for them can take it in (this project's own form). Each accepted
--- entry fits.
+-- What an entry asks of the entries before it, so that a policy that stands for them can take it in (this project's own
+-- form). Each accepted entry fits.
 use Rattle.std.specs.Prelude.{◌≡◌, ℕ, ◌<◌, ◌≤◌, List, Option, Some, None, Contains, length, slice_get, take}
 use Rattle.rbac_policy.specs.declared.objects.Operation.{Operation}
 use Rattle.rbac_policy.specs.declared.objects.Object.{Object}
 use Rattle.rbac_policy.specs.declared.commands.AdminCommand.{AdminCommand}
-use Rattle.rbac_policy.specs.declared.commands.AdminCommand.TheVariants.{AddUser, DeleteUser, AssignUser, DeassignUser, AddRole, DeleteRole, GrantPermission, RevokePermission, AddInheritance, DeleteInheritance, CreateDsdSet, DeleteDsdSet, CreateSession, DeleteSession, AddActiveRole, DropActiveRole}
+use Rattle.rbac_policy.specs.declared.commands.AdminCommand.TheVariants.{AddUser, DeleteUser, AssignUser, DeassignUser}
+use Rattle.rbac_policy.specs.declared.commands.AdminCommand.TheVariants.{AddRole, DeleteRole, GrantPermission}
+use Rattle.rbac_policy.specs.declared.commands.AdminCommand.TheVariants.{RevokePermission, AddInheritance}
+use Rattle.rbac_policy.specs.declared.commands.AdminCommand.TheVariants.{DeleteInheritance, CreateDsdSet, DeleteDsdSet}
+use Rattle.rbac_policy.specs.declared.commands.AdminCommand.TheVariants.{CreateSession, DeleteSession, AddActiveRole}
+use Rattle.rbac_policy.specs.declared.commands.AdminCommand.TheVariants.{DropActiveRole}
 use Rattle.rbac_policy.specs.declared.commands.Entry.{Entry}
-use Rattle.rbac_policy.specs.declared.sizes.TheConstants.{USERS, ROLES, GRANTS, SESSIONS, SETS, LAST_SESSION, LAST_VERSION}
+use Rattle.rbac_policy.specs.declared.sizes.TheConstants.{USERS, ROLES, GRANTS, SESSIONS, SETS, LAST_SESSION}
+use Rattle.rbac_policy.specs.declared.sizes.TheConstants.{LAST_VERSION}
 use Rattle.rbac_policy.specs.Names.{NameText}
 use Rattle.rbac_policy.specs.Entries.{logins}
 use Rattle.rbac_policy.specs.Facts.{IsUser, IsRole, IsSet, IsSetName, IsLive, IsPairGranted}
@@ -52,7 +58,8 @@ pub record FitsAssignUser (entries : List Entry) (user role : NameText) : Type 0
   pub is_role : IsRole entries role
 
 -- the role is there, and there is room where the pair is new
-pub record FitsGrantPermission (entries : List Entry) (role : NameText) (op : Operation) (object : Object) : Type 0 where
+pub record FitsGrantPermission (entries : List Entry) (role : NameText) (op : Operation)
+    (object : Object) : Type 0 where
   pub is_role : IsRole entries role
   pub room : ¬ (IsPairGranted entries op object) → ¬ (PermissionsFull entries)
 
@@ -76,7 +83,8 @@ pub record FitsInheritance (entries : List Entry) (senior junior : NameText) : T
 -- the role is there, and in no separation set
 pub record FitsDeleteRole (entries : List Entry) (role : NameText) : Type 0 where
   pub is_role : IsRole entries role
-  pub in_no_set : (place : ℕ) (set : NameText) (count : ℕ) (members : List NameText) → IsSet entries place set count members → ¬ (Contains members role)
+  pub in_no_set : (place : ℕ) (set : NameText) (count : ℕ) (members : List NameText)
+      → IsSet entries place set count members → ¬ (Contains members role)
 
 -- the separation set is new, its roles are there, and there is room
 pub record FitsCreateDsdSet (entries : List Entry) (set : NameText) (roles : List NameText) : Type 0 where

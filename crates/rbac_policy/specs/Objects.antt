@@ -1,4 +1,5 @@
--- When two operations, and two objects, are one (OPS and OBS of ANSI INCITS 359-2004; which there are is this project's own form).
+-- When two operations, and two objects, are equal (OPS and OBS of ANSI INCITS 359-2004; which there are is this
+-- project's own form).
 use Rattle.std.specs.Prelude.{ℕ, Bool, true, false, ◌&&◌, ◌==◌}
 use Rattle.std.specs.Str.{bytes_eq}
 use Rattle.rbac_policy.specs.declared.objects.Operation.{Operation}
@@ -15,11 +16,11 @@ operation_number Load = 3
 operation_number Administer = 4
 operation_number Audit = 5
 
--- whether the two operations are one
+-- whether the two operations are equal
 abbrev pub same_operation : Operation → Operation → Bool
 same_operation a b = operation_number a == operation_number b
 
--- whether the two objects are one: the policy, one slot, or one signal name in one slot
+-- whether the two objects are equal: the policy, the same slot, or the same signal name in the same slot
 abbrev pub same_object : Object → Object → Bool
 same_object Policy Policy = true
 same_object (Slot a) (Slot b) = a == b

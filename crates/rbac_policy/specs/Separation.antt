@@ -1,4 +1,5 @@
--- Dynamic separation of duty over the list of accepted entries (ANSI INCITS 359-2004; the order of sets and sessions is this project's own form).
+-- Dynamic separation of duty over the list of accepted entries (ANSI INCITS 359-2004; the order of sets and sessions is
+-- this project's own form).
 use Rattle.std.specs.Prelude.{ℕ, ◌<◌, List, Option, None, MatchOption, Contains}
 use Rattle.rbac_policy.specs.declared.commands.AdminCommand.{AdminCommand}
 use Rattle.rbac_policy.specs.declared.commands.AdminCommand.TheVariants.{CreateSession}
@@ -22,7 +23,8 @@ pub record IsFirstViolated (entries : List Entry) (set : NameText) (session : �
   pub roles : List NameText
   pub is_set : IsSet entries place set count roles
   pub violates : Violates entries session count roles
-  pub first : (earlier : ℕ) (other : NameText) (number : ℕ) (members : List NameText) → earlier < place → IsSet entries earlier other number members → (any : ℕ) → Violates entries any number members → ⊥
+  pub first : (earlier : ℕ) (other : NameText) (number : ℕ) (members : List NameText) → earlier < place
+      → IsSet entries earlier other number members → (any : ℕ) → Violates entries any number members → ⊥
   pub least : (lesser : ℕ) → lesser < session → Violates entries lesser count roles → ⊥
 
 -- the answer is the first set that some session violates, with the least session that does; or there is none
@@ -38,4 +40,5 @@ pub record IsFirstSetOf (entries : List Entry) (role : NameText) (set : NameText
   pub roles : List NameText
   pub is_set : IsSet entries place set count roles
   pub member : Contains roles role
-  pub first : (earlier : ℕ) (other : NameText) (number : ℕ) (members : List NameText) → earlier < place → IsSet entries earlier other number members → Contains members role → ⊥
+  pub first : (earlier : ℕ) (other : NameText) (number : ℕ) (members : List NameText) → earlier < place
+      → IsSet entries earlier other number members → Contains members role → ⊥

@@ -1,5 +1,6 @@
 -- What each step on a table leaves, as it is computed (this project's own form).
-use Rattle.std.specs.Prelude.{◌≡◌, ℕ, ◌^◌, Bool, false, List, [], ◌∷◌, Option, Some, None, if◌then◌else◌, position, slice_set, slice_get, is_none, map, fold, ◌==◌, ◌&&◌}
+use Rattle.std.specs.Prelude.{◌≡◌, ℕ, ◌^◌, Bool, false, List, [], ◌∷◌, Option, Some, None, if◌then◌else◌, position}
+use Rattle.std.specs.Prelude.{slice_set, slice_get, is_none, map, fold, ◌==◌, ◌&&◌}
 use Rattle.std.specs.Int.RustNames.{bit_or}
 use Rattle.std.specs.Str.{bytes_eq}
 use Rattle.std.specs.List.{list_any}
@@ -48,12 +49,14 @@ put_free x slots = put_at x slots (position is_none slots)
 -- the user of this name has the role at this place, too
 abbrev pub user_given : NameText → ℕ → Option User → Option User
 user_given name place None = None
-user_given name place (Some user) = if bytes_eq user.name name then Some (record { name = user.name; roles = with_bit user.roles place }) else Some user
+user_given name place (Some user) = if bytes_eq user.name name then Some
+    (record { name = user.name; roles = with_bit user.roles place }) else Some user
 
 -- the user of this name has the role at this place no more
 abbrev pub user_relieved : NameText → ℕ → Option User → Option User
 user_relieved name place None = None
-user_relieved name place (Some user) = if bytes_eq user.name name then Some (record { name = user.name; roles = without_place user.roles place }) else Some user
+user_relieved name place (Some user) = if bytes_eq user.name name then Some
+    (record { name = user.name; roles = without_place user.roles place }) else Some user
 
 -- the user has the role at this place no more
 abbrev pub user_cleared : ℕ → Option User → Option User
@@ -93,13 +96,15 @@ grants_given operation object place grants =
 
 -- the row with these roles, if there are any
 abbrev pub grant_with : Grant → ℕ → Option Grant
-grant_with grant roles = if roles == 0 then None else Some (record { operation = grant.operation; object = grant.object; roles = roles })
+grant_with grant roles = if roles == 0 then None else Some
+    (record { operation = grant.operation; object = grant.object; roles = roles })
 
 -- the row of this pair has the role at this place no more, and is there no more where that was its last
 abbrev pub grant_revoked : Operation → Object → ℕ → Option Grant → Option Grant
 grant_revoked operation object place None = None
 grant_revoked operation object place (Some grant) =
-    if same_operation grant.operation operation && same_object grant.object object then grant_with grant (without_place grant.roles place) else Some grant
+    if same_operation grant.operation operation && same_object grant.object object then grant_with grant
+    (without_place grant.roles place) else Some grant
 
 -- the row has the role at this place no more, and is there no more where that was its last
 abbrev pub grant_cleared : ℕ → Option Grant → Option Grant
@@ -130,13 +135,17 @@ session_of_other user (Some session) = if bytes_eq session.user user then None e
 abbrev pub session_given : ℕ → ℕ → Option Session → Option Session
 session_given number place None = None
 session_given number place (Some session) =
-    if session.number == number then Some (record { number = session.number; user = session.user; active = with_bit session.active place }) else Some session
+    if session.number == number then Some
+    (record { number = session.number; user = session.user; active = with_bit session.active place }) else Some
+    session
 
 -- the role at this place is active in the session of this number no more
 abbrev pub session_relieved : ℕ → ℕ → Option Session → Option Session
 session_relieved number place None = None
 session_relieved number place (Some session) =
-    if session.number == number then Some (record { number = session.number; user = session.user; active = without_place session.active place }) else Some session
+    if session.number == number then Some
+    (record { number = session.number; user = session.user; active = without_place session.active place }) else Some
+    session
 
 -- the separation set, if it has another name
 abbrev pub set_without : NameText → Option DsdSet → Option DsdSet
@@ -164,4 +173,5 @@ session_of number sessions = first_of (λ x. x.number == number) sessions
 
 -- the row of this pair
 abbrev pub grant_of : Operation → Object → List (Option Grant) → Option Grant
-grant_of operation object grants = first_of (λ x. same_operation x.operation operation && same_object x.object object) grants
+grant_of operation object grants = first_of (λ x. same_operation x.operation operation && same_object x.object object)
+    grants

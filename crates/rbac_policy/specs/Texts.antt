@@ -1,5 +1,6 @@
 -- Operations and objects as text (this project's own form).
-use Rattle.std.specs.Prelude.{ℕ, ◌+◌, ◌-◌, ◌<◌, ◌*◌, ◌&&◌, ◌==◌, nat_le, nat_lt, IsTrue, List, [], ◌∷◌, ◌++◌, codes, decimal, Option, Some, None, option_and_then, if◌then◌else◌}
+use Rattle.std.specs.Prelude.{ℕ, ◌+◌, ◌-◌, ◌<◌, ◌*◌, ◌&&◌, ◌==◌, nat_le, nat_lt, IsTrue, List, [], ◌∷◌, ◌++◌, codes}
+use Rattle.std.specs.Prelude.{decimal, Option, Some, None, option_and_then, if◌then◌else◌}
 use Rattle.std.specs.Str.{bytes_eq}
 use Rattle.est_text.specs.Identifiers.{is_identifier}
 use Rattle.rbac_policy.specs.declared.objects.Operation.{Operation}
@@ -54,7 +55,8 @@ unfoldable pub slot_at : List ℕ → Option (ℕ × List ℕ)
 slot_at [] = None
 slot_at (ten ∷ []) = units_slot_at (ten ∷ [])
 slot_at (ten ∷ unit ∷ rest) =
-    if (nat_le 49 ten && nat_le ten 57) && (nat_le 48 unit && nat_le unit 57) then slot_before (10 * (ten - 48) + (unit - 48)) rest
+    if (nat_le 49 ten && nat_le ten 57) && (nat_le 48 unit && nat_le unit 57) then slot_before
+    (10 * (ten - 48) + (unit - 48)) rest
     else units_slot_at (ten ∷ unit ∷ rest)
 
 -- the object of a slot, and of what follows it
@@ -64,4 +66,5 @@ object_in k (stop ∷ signal) = if (stop == 46) && is_identifier signal then Som
 
 -- the object of a text
 unfoldable pub object_of : List ℕ → Option Object
-object_of text = if bytes_eq text (codes "policy") then Some object.Policy else option_and_then (λ found. object_in found.0 found.1) (slot_at text)
+object_of text = if bytes_eq text (codes "policy") then Some object.Policy else option_and_then
+    (λ found. object_in found.0 found.1) (slot_at text)

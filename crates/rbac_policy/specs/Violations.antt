@@ -6,7 +6,7 @@ use Rattle.rbac_policy.specs.declared.rows.DsdSet.{DsdSet}
 use Rattle.rbac_policy.specs.declared.separation.Violation.{Violation}
 use Rattle.rbac_policy.specs.Order.{below}
 
--- so many of the set's roles are active in the session, or lie below one that is
+-- at least `count` of the set's roles are active in the session, or lie below one that is
 abbrev pub holds_many : List ℕ → DsdSet → Session → Bool
 holds_many juniors set session = nat_le set.count (length (places_of (common (below juniors session.active) set.roles)))
 
@@ -23,7 +23,8 @@ lesser key (Some known) (Some found) = if nat_lt (key found) (key known) then So
 
 -- the least session that holds too many roles of the set
 unfoldable pub least_violator : List ℕ → List (Option Session) → DsdSet → Option ℕ
-least_violator juniors sessions set = fold (λ least slot. lesser (λ n. n) least (violator juniors set slot)) None sessions
+least_violator juniors sessions set = fold (λ least slot. lesser (λ n. n) least (violator juniors set slot)) None
+    sessions
 
 -- the set, which this session violates, if one does
 abbrev pub violated_by : DsdSet → Option ℕ → Option Violation
@@ -41,4 +42,5 @@ place_of_set v = v.place
 
 -- the first set in order of creation that is violated, with the least session that violates it
 unfoldable pub first_violation : List ℕ → List (Option Session) → List (Option DsdSet) → Option Violation
-first_violation juniors sessions sets = fold (λ first slot. lesser place_of_set first (violation_of juniors sessions slot)) None sets
+first_violation juniors sessions sets =
+    fold (λ first slot. lesser place_of_set first (violation_of juniors sessions slot)) None sets

@@ -41,8 +41,9 @@ impl SessionId {
     }
 }
 
-/// What a policy command asks for. The sixteen are those of ANSI INCITS 359-2004 that change users, roles, assignments, permissions, the
-/// order of roles, sets of dynamic separation of duty, and sessions.
+/// What a policy command asks for. The sixteen are those of ANSI INCITS 359-2004 that change users,
+/// roles, assignments, permissions, the order of roles, sets of dynamic separation of duty, and
+/// sessions.
 #[derive(Clone, PartialEq, Eq, Debug, Drop)]
 pub enum AdminCommand {
     /// Makes the name one of a user.
@@ -167,7 +168,8 @@ impl AdminCommand {
     }
 }
 
-/// An accepted command, with the session that gave it. A CreateSession has none. It is small, and its clone takes no memory.
+/// An accepted command, with the session that gave it. A CreateSession has none. It is small, and
+/// its clone takes no memory.
 #[derive(PartialEq, Eq, Debug, Drop)]
 pub struct Entry {
     /// The session that gave the command.

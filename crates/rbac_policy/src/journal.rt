@@ -1,5 +1,6 @@
 //! The list of the accepted policy commands.
-ghost use Rattle.std.specs.Prelude.{◌≡◌, ◌++◌, ◌∷◌, [], IfOk, MatchResult, length, option_map, slice_get};
+ghost use Rattle.std.specs.Prelude.{◌≡◌, ◌++◌, ◌∷◌, [], IfOk, MatchResult, length, option_map};
+ghost use Rattle.std.specs.Prelude.{slice_get};
 ghost use Rattle.rbac_policy.specs.Opening.{opening_entries};
 
 use crate::commands::Entry;
@@ -7,7 +8,8 @@ use crate::opening::opening_entries;
 use std::alloc::{AllocError, Global};
 use std::marker::Model;
 
-/// The entries of the accepted policy commands, the oldest first. A contract sees the list of the entries.
+/// The entries of the accepted policy commands, the oldest first. A contract sees the list of the
+/// entries.
 #[derive(Drop)]
 pub struct PolicyJournal {
     entries: Vec<Entry>,

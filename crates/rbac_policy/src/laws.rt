@@ -1,4 +1,5 @@
-//! Laws of the policy, for callers that reason about lists of entries. Each function does nothing: its contract is the law.
+//! Laws of the policy, for callers that reason about lists of entries. Each function does nothing:
+//! its contract is the law.
 ghost use Rattle.std.specs.Prelude.{ℕ, ◌≡◌, ◌+◌, ◌<◌, ◌≤◌, ◌++◌, ◌∷◌, [], List, Some, length, take};
 ghost use Rattle.rbac_policy.specs.declared.commands.AdminCommand.TheVariants.{DeleteSession};
 ghost use Rattle.rbac_policy.specs.declared.commands.Entry.{Entry};
@@ -14,7 +15,8 @@ ghost use Rattle.rbac_policy.specs.Fits.{AllFit};
 ghost use Rattle.rbac_policy.specs.Leaving.{LeavesRoom};
 ghost use Rattle.rbac_policy.specs.StandsFor.{StandsFor};
 
-/// Over a list for which some policy stands, each session lives or doesn't, and may do an operation on an object or may not.
+/// Over a list for which some policy stands, each session lives or doesn't, and may do an operation
+/// on an object or may not.
 pub fn facts_are_decided()
     ensures lives { (policy : Policy) (entries : List Entry) → StandsFor policy entries
         → (session : ℕ) → Decided (IsLive entries session) }
@@ -23,7 +25,8 @@ pub fn facts_are_decided()
         → Decided (May entries session operation object) }
 {}
 
-/// Where each entry fits those before it, a policy stands for the list, and for each front of it: the one that took in its entries.
+/// Where each entry fits those before it, a policy stands for the list, and for each front of it:
+/// the one that took in its entries.
 pub fn policies_stand()
     ensures whole { (entries : List Entry) → AllFit entries
         → StandsFor (policy_of entries) entries }

@@ -1,5 +1,6 @@
 //! Names of users, roles and separation sets, and lists of role names, in fixed space.
-ghost use Rattle.std.specs.Prelude.{◌≡◌, ◌≤◌, codes, length, slice_get, IsTrue, IfOk, Some, None, if◌then◌else◌};
+ghost use Rattle.std.specs.Prelude.{◌≡◌, ◌≤◌, codes, length, slice_get, IsTrue, IfOk, Some, None};
+ghost use Rattle.std.specs.Prelude.{if◌then◌else◌};
 ghost use Rattle.std.specs.Cmp.{partial_equiv_from_equiv};
 ghost use Rattle.std.specs.Cmp.Lexicographic.{pointwise, lists_equiv, nat_list_eq_equiv};
 ghost use Rattle.std.specs.List.{list_all};
@@ -16,7 +17,8 @@ pub const NAME_BYTES: usize = 24;
 /// The most roles that one command may list.
 pub const LISTED_ROLES: usize = 32;
 
-/// A name of a user, a role or a separation set: letters, digits, `_` and `-`, at least one and at most `NAME_BYTES`. A contract sees the list of its bytes.
+/// A name of a user, a role or a separation set: letters, digits, `_` and `-`, at least one and at
+/// most `NAME_BYTES`. A contract sees the list of its bytes.
 #[derive(Clone, Copy, Debug)]
 pub struct Name {
     bytes: [u8; NAME_BYTES],
@@ -33,9 +35,13 @@ impl Model for Name {
 
     ghost view = { λ n. take n.count n.bytes };
 
-    ghost invariant = { λ n. IsFilled NAME_BYTES n.bytes n.count × IsTrue (is_name (take n.count n.bytes)) };
+    ghost invariant = { λ n. IsFilled NAME_BYTES n.bytes n.count
+        × IsTrue (is_name (take n.count n.bytes)) };
 
-    ghost inverse = { λ s. record { bytes = s ++ replicate (NAME_BYTES - length s) 0; count = length s } };
+    ghost inverse = { λ s. record {
+      bytes = s ++ replicate (NAME_BYTES - length s) 0;
+      count = length s;
+    } };
 }
 
 fn is_name_byte(byte: u8) -> bool
@@ -117,8 +123,8 @@ impl Eq for Name {
     ghost laws = { nat_list_eq_equiv };
 }
 
-/// The roles that a command lists, at most `LISTED_ROLES`, in the order of the command. A clone shares the list and takes no memory. A
-/// contract sees the list of their names.
+/// The roles that a command lists, at most `LISTED_ROLES`, in the order of the command. A clone
+/// shares the list and takes no memory. A contract sees the list of their names.
 #[derive(Debug, Drop)]
 pub struct RoleNames {
     names: ArcSlice<Name, Global>,

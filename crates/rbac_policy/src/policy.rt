@@ -8,9 +8,10 @@ ghost use Rattle.rbac_closure.specs.Sets.{Meets};
 ghost use Rattle.rbac_policy.specs.Order.{below};
 ghost use Rattle.rbac_policy.specs.Opening.{opening_entries};
 ghost use Rattle.rbac_policy.specs.StandsFor.{StandsFor};
-ghost use Rattle.rbac_policy.specs.Change.{absorbed, assigned, changed, deassigned, disinherited, granted, inherited};
-ghost use Rattle.rbac_policy.specs.Change.{laid_down, logged_in, logged_out, policy_of, revoked, role_deleted};
-ghost use Rattle.rbac_policy.specs.Change.{set_created, taken_up, user_deleted};
+ghost use Rattle.rbac_policy.specs.Change.{absorbed, assigned, changed, deassigned, disinherited};
+ghost use Rattle.rbac_policy.specs.Change.{granted, inherited, laid_down, logged_in, logged_out};
+ghost use Rattle.rbac_policy.specs.Change.{policy_of, revoked, role_deleted, set_created, taken_up};
+ghost use Rattle.rbac_policy.specs.Change.{user_deleted};
 
 use crate::closure::below;
 use crate::commands::{AdminCommand, Entry, SessionId};
@@ -27,7 +28,8 @@ use crate::tables::{
 use rbac_closure::rows::Rows;
 use rbac_closure::sets::RoleSet;
 
-/// What a list of accepted entries says, in tables of fixed size. It takes no memory. Two are equal where their tables are, place by place.
+/// What a list of accepted entries says, in tables of fixed size. It takes no memory. Two are equal
+/// where their tables are, place by place.
 #[derive(PartialEq, Eq, Drop)]
 pub struct Policy {
     pub(crate) version: u64,
@@ -235,7 +237,8 @@ impl Policy {
         end_unauthorized(&mut self.sessions, &self.users, &self.juniors);
     }
 
-    /// Takes the entry in, whether it was accepted or not: what it leaves depends on the tables and the entry alone.
+    /// Takes the entry in, whether it was accepted or not: what it leaves depends on the tables and
+    /// the entry alone.
     pub fn absorb(&mut self, entry: &Entry)
         ensures exact { self.new ≡ absorbed self.old entry.now }
         ensures stands { (entries : List Entry) → StandsFor self.old entries

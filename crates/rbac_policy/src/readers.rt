@@ -1,12 +1,19 @@
-//! What a policy says of users, roles, permissions and sessions: what it is asked before a policy command is accepted.
-ghost use Rattle.std.specs.Prelude.{ℕ, Option, Some, ◌↔◌, ◌++◌, ◌∷◌, [], List, IsTrue, MatchOption, Contains};
+//! What a policy says of users, roles, permissions and sessions: what it is asked before a policy
+//! command is accepted.
+ghost use Rattle.std.specs.Prelude.{ℕ, Option, Some, ◌↔◌, ◌++◌, ◌∷◌, [], List, IsTrue, MatchOption};
+ghost use Rattle.std.specs.Prelude.{Contains};
 ghost use Rattle.rbac_policy.specs.Names.{NameText};
-ghost use Rattle.rbac_policy.specs.Separation.{AnswersFirstViolated, IsFirstSetOf, entry_of, login_entry};
-ghost use Rattle.rbac_policy.specs.declared.commands.AdminCommand.TheVariants.{AddActiveRole, AddInheritance, CreateDsdSet};
+ghost use Rattle.rbac_policy.specs.Separation.{AnswersFirstViolated, IsFirstSetOf, entry_of};
+ghost use Rattle.rbac_policy.specs.Separation.{login_entry};
+ghost use Rattle.rbac_policy.specs.declared.commands.AdminCommand.TheVariants.{AddActiveRole};
+ghost use Rattle.rbac_policy.specs.declared.commands.AdminCommand.TheVariants.{AddInheritance};
+ghost use Rattle.rbac_policy.specs.declared.commands.AdminCommand.TheVariants.{CreateDsdSet};
 ghost use Rattle.rbac_policy.specs.declared.commands.Entry.{Entry};
-ghost use Rattle.rbac_policy.specs.Facts.{IsUser, IsRole, IsSetName, IsAssigned, IsGranted, IsPairGranted, IsEdge};
-ghost use Rattle.rbac_policy.specs.Facts.{IsAtOrBelow, IsAuthorized, IsActive, Lives, IsLive};
-ghost use Rattle.rbac_policy.specs.Fits.{NumbersExhausted, UsersFull, RolesFull, SetsFull, SessionsFull, PermissionsFull};
+ghost use Rattle.rbac_policy.specs.Facts.{IsUser, IsRole, IsSetName, IsAssigned, IsGranted};
+ghost use Rattle.rbac_policy.specs.Facts.{IsPairGranted, IsEdge, IsAtOrBelow, IsAuthorized};
+ghost use Rattle.rbac_policy.specs.Facts.{IsActive, Lives, IsLive};
+ghost use Rattle.rbac_policy.specs.Fits.{NumbersExhausted, UsersFull, RolesFull, SetsFull};
+ghost use Rattle.rbac_policy.specs.Fits.{SessionsFull, PermissionsFull};
 ghost use Rattle.rbac_policy.specs.StandsFor.{StandsFor};
 
 use crate::closure::below;
@@ -142,7 +149,8 @@ impl Policy {
         }
     }
 
-    /// The first separation set, in order of creation, that some living session violates, and the least session that does.
+    /// The first separation set, in order of creation, that some living session violates, and the
+    /// least session that does.
     pub fn first_violated(&self) -> Option<Violation>
         ensures { (entries : List Entry) → StandsFor self.now entries
             → AnswersFirstViolated entries result }
@@ -150,8 +158,9 @@ impl Policy {
         first_violation(&self.sets, &self.sessions, &None, &self.juniors)
     }
 
-    /// The first separation set, in order of creation, that some session violates once the user has logged in with these roles, for which
-    /// it is authorized, and the least session that does. The new session has the next number.
+    /// The first separation set, in order of creation, that some session violates once the user has
+    /// logged in with these roles, for which it is authorized, and the least session that does. The
+    /// new session has the next number.
     pub fn first_violated_by_login(&self, user: &Name, roles: &RoleNames) -> Option<Violation>
         ensures { (entries : List Entry) → StandsFor self.now entries → ¬ (NumbersExhausted entries)
             → ((role : NameText) → Contains roles.now role → IsAuthorized entries user.now role)
@@ -165,8 +174,8 @@ impl Policy {
         first_violation(&self.sets, &self.sessions, &coming, &self.juniors)
     }
 
-    /// The first separation set, in order of creation, that some session violates once an edge leads from the senior to the junior, and
-    /// the least session that does.
+    /// The first separation set, in order of creation, that some session violates once an edge
+    /// leads from the senior to the junior, and the least session that does.
     pub fn first_violated_by_edge(&self, senior: &Name, junior: &Name) -> Option<Violation>
         ensures { (entries : List Entry) (by : Option ℕ) → StandsFor self.now entries
             → IsRole entries senior.now → IsRole entries junior.now
@@ -185,8 +194,9 @@ impl Policy {
         }
     }
 
-    /// The first separation set, in order of creation, that some session violates once the role, for which its user is authorized, is
-    /// active in this one too, and the least session that does.
+    /// The first separation set, in order of creation, that some session violates once the role,
+    /// for which its user is authorized, is active in this one too, and the least session that
+    /// does.
     pub fn first_violated_by_role(&self, session: SessionId, role: &Name) -> Option<Violation>
         ensures { (entries : List Entry) (user : NameText) → StandsFor self.now entries
             → Lives entries session user → IsAuthorized entries user role.now
@@ -196,7 +206,8 @@ impl Policy {
         match session_of(&self.sessions, session) {
             Some(found) => match place_of(&self.roles, role) {
                 Some(place) => {
-                    // The session's row in the table violates no set that this one, with a role more, doesn't.
+                    // The session with the role added is judged beside its own row: whatever set
+                    // the row violates, the session with one role more violates too.
                     let coming = Some(Session {
                         number: found.number,
                         user: found.user,
@@ -210,8 +221,8 @@ impl Policy {
         }
     }
 
-    /// The first separation set, in order of creation, that some session violates once there is one more of this name, number and roles,
-    /// and the least session that does.
+    /// The first separation set, in order of creation, that some session violates once there is one
+    /// more of this name, number and roles, and the least session that does.
     pub fn first_violated_by_set(
         &self,
         set: &Name,
@@ -296,7 +307,8 @@ impl Policy {
         free(&self.sessions).is_none()
     }
 
-    /// Whether as many pairs of an operation and an object as there is room for are granted to some role.
+    /// Whether as many pairs of an operation and an object as there is room for are granted to some
+    /// role.
     pub fn are_permissions_full(&self) -> bool
         ensures { (entries : List Entry) → StandsFor self.now entries
             → (IsTrue result ↔ PermissionsFull entries) }

@@ -1,4 +1,5 @@
-//! The rows of the policy's tables. A set of roles names them by their places in the table of roles.
+//! The rows of the policy's tables. A set of roles names them by their places in the table of
+//! roles.
 use crate::commands::SessionId;
 use crate::names::Name;
 use crate::objects::{Object, Operation};
@@ -35,7 +36,8 @@ pub struct Session {
     pub active: RoleSet,
 }
 
-/// A separation set: its name, its number, its roles, and the place of its entry in the list, which orders the sets.
+/// A separation set: its name, its number, its roles, and the place of its entry in the list, which
+/// orders the sets.
 #[derive(Clone, Copy, PartialEq, Eq, Debug)]
 pub struct DsdSet {
     /// Its name.

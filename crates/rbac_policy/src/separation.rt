@@ -1,7 +1,7 @@
 //! Dynamic separation of duty: which set is violated first, and by which session.
 ghost use Rattle.std.specs.Prelude.{◌≡◌, ◌++◌, ◌∷◌, [], None};
-ghost use Rattle.rbac_policy.specs.Violations.{first_violation, holds_many, least_violator, lesser, place_of_set};
-ghost use Rattle.rbac_policy.specs.Violations.{violated_by, violation_of, violator};
+ghost use Rattle.rbac_policy.specs.Violations.{first_violation, holds_many, least_violator, lesser};
+ghost use Rattle.rbac_policy.specs.Violations.{place_of_set, violated_by, violation_of, violator};
 
 use crate::closure::below;
 use crate::commands::SessionId;
@@ -20,7 +20,7 @@ pub struct Violation {
     pub session: SessionId,
 }
 
-// Whether so many of the set's roles are active in the session, or lie below one that is.
+// Whether at least `count` of the set's roles are active in the session, or lie below one that is.
 fn holds_many(set: &DsdSet, session: &Session, juniors: &Rows) -> bool
     ensures { result ≡ holds_many juniors.now set.now session.now }
 {
@@ -114,7 +114,8 @@ fn earlier(known: Option<Violation>, found: Option<Violation>) -> Option<Violati
     }
 }
 
-/// The first of the sets, in order of creation, that one of the sessions or the coming one violates, and the least session that does.
+/// The first of the sets, in order of creation, that one of the sessions or the coming one
+/// violates, and the least session that does.
 #[tactic(auto, unfolding(crate::specs::Violations::first_violation))]
 pub(crate) fn first_violation(
     sets: &[Option<DsdSet>],

@@ -24,7 +24,8 @@ pub const OPENING_ENTRIES: usize = 4;
 /// The most entries that the policy list takes, but for DeleteSession.
 pub const POLICY_ENTRIES: usize = 262_080;
 
-/// The further places of the policy list, which are for DeleteSession alone: one for each session that may live.
+/// The further places of the policy list, which are for DeleteSession alone: one for each session
+/// that may live.
 pub const ENDING_ENTRIES: usize = SESSIONS;
 
 /// The number of the last session that can be made.

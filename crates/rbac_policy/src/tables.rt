@@ -3,11 +3,12 @@ ghost use Rattle.std.specs.Prelude.{◌≡◌, ◌<◌, ◌==◌, ◌&&◌, IfSo
 ghost use Rattle.std.specs.List.{list_any};
 ghost use Rattle.std.specs.Option.{ForSome};
 ghost use Rattle.rbac_policy.specs.Tables.{first_of, grant_given, grant_is, grant_of, grants_given};
-ghost use Rattle.rbac_policy.specs.Tables.{has_only_authorized, mask_of, place_of, put_free, role_is, roles_of};
-ghost use Rattle.rbac_policy.specs.Tables.{session_of, session_kept, session_without, user_given, user_is};
-ghost use Rattle.rbac_policy.specs.Tables.{with_place, grant_cleared, grant_revoked, grant_with, session_given};
-ghost use Rattle.rbac_policy.specs.Tables.{session_of_other, session_relieved, set_without, user_cleared};
-ghost use Rattle.rbac_policy.specs.Tables.{user_relieved, user_without};
+ghost use Rattle.rbac_policy.specs.Tables.{has_only_authorized, mask_of, place_of, put_free};
+ghost use Rattle.rbac_policy.specs.Tables.{role_is, roles_of, session_of, session_kept};
+ghost use Rattle.rbac_policy.specs.Tables.{session_without, user_given, user_is, with_place};
+ghost use Rattle.rbac_policy.specs.Tables.{grant_cleared, grant_revoked, grant_with, session_given};
+ghost use Rattle.rbac_policy.specs.Tables.{session_of_other, session_relieved, set_without};
+ghost use Rattle.rbac_policy.specs.Tables.{user_cleared, user_relieved, user_without};
 
 use crate::closure::below;
 use crate::commands::SessionId;
@@ -217,7 +218,8 @@ fn widen_grants(
     }
 }
 
-/// Grants the pair to the role at this place: in the row of the pair, or else in the first free place, if there is one.
+/// Grants the pair to the role at this place: in the row of the pair, or else in the first free
+/// place, if there is one.
 pub fn give_grant(
     grants: &mut [Option<Grant>; GRANTS],
     operation: &Operation,
@@ -323,7 +325,8 @@ pub fn grant_of(
     None
 }
 
-/// Whether each role that is active in the session is assigned to its user, or lies below one that is.
+/// Whether each role that is active in the session is assigned to its user, or lies below one that
+/// is.
 fn has_only_authorized(session: &Session, users: &[Option<User>; USERS], juniors: &Rows) -> bool
     ensures { result ≡ has_only_authorized users.now juniors.now session.now }
 {

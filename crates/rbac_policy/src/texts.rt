@@ -1,7 +1,9 @@
 //! Names, operations and objects as text, and back.
-ghost use Rattle.std.specs.Prelude.{◌≡◌, ◌↔◌, option_map, Some, None, if◌then◌else◌, IfOk, string_bytes};
+ghost use Rattle.std.specs.Prelude.{◌≡◌, ◌↔◌, option_map, Some, None, if◌then◌else◌, IfOk};
+ghost use Rattle.std.specs.Prelude.{string_bytes};
 ghost use Rattle.rbac_policy.specs.Names.{is_name};
-ghost use Rattle.rbac_policy.specs.Texts.{operation_text, object_text, IsObject, operation_of, object_of, slot_at};
+ghost use Rattle.rbac_policy.specs.Texts.{operation_text, object_text, IsObject, operation_of};
+ghost use Rattle.rbac_policy.specs.Texts.{object_of, slot_at};
 ghost use Rattle.rbac_policy.specs.declared.objects.Operation.{Operation};
 ghost use Rattle.rbac_policy.specs.declared.objects.Object.{Object};
 
@@ -94,8 +96,8 @@ fn object_of(text: &str) -> Option<Object>
 }
 
 impl Object {
-    /// The object of this text, if there is one: `policy`, the number of a slot without leading zeros, or that number, a full stop and an
-    /// identifier.
+    /// The object of this text, if there is one: `policy`, the number of a slot without leading
+    /// zeros, or that number, a full stop and an identifier.
     pub fn from_text(text: &str) -> Option<Object>
         ensures value { result ≡ object_of text.now }
         ensures exact { (object : Object)

@@ -14,7 +14,8 @@ use Rattle.reactor_core.specs.declared.entry.SlotEntry.{SlotEntry}
 use Rattle.reactor_core.specs.declared.loaded.Module.{Module}
 use Rattle.reactor_core.specs.declared.refusal.Refusal.{Refusal}
 use Rattle.reactor_core.specs.declared.refusal.Refusal.TheVariants.{Module as OfModule, JournalFull, Memory}
-use Rattle.reactor_core.specs.Answers.{HasRoom, IsFull, RefusesEntry, entry_rules, offer_rules, load_rules, OfferAnswer, LoadAnswer}
+use Rattle.reactor_core.specs.Answers.{HasRoom, IsFull, RefusesEntry, entry_rules, offer_rules, load_rules, OfferAnswer}
+use Rattle.reactor_core.specs.Answers.{LoadAnswer}
 use Rattle.reactor_core.specs.Converting.{all_converted}
 use Rattle.reactor_core.specs.Faults.{refusal_of_pending}
 use Rattle.reactor_core.specs.Instants.{SettledInstant, AddsInstant, CommitAnswer, OpenAnswer}
@@ -34,11 +35,13 @@ entry_refused journal Memory room told = pass room (refuse Memory refl told)
 entry_refused journal (OfModule refusal) h told = absurd h
 
 -- an entry that is added
-pub entry_passes : {Refused : Refusal → Type 0} {Accepted : Type 0} (journal : List SlotEntry) → HasRoom journal → Accepted
+pub entry_passes : {Refused : Refusal → Type 0} {Accepted : Type 0} (journal : List SlotEntry) → HasRoom journal
+    → Accepted
     → Answers (entry_rules journal) Refused Accepted
 entry_passes journal room h = pass room (pass (record {}) h)
 
-module _ (journal : List SlotEntry) (m : Module) (r : Running) (runs : Runs journal r) (is : pending_of r ≡ pending_inputs m r.pending) where
+module _ (journal : List SlotEntry) (m : Module) (r : Running) (runs : Runs journal r)
+    (is : pending_of r ≡ pending_inputs m r.pending) where
   -- what is answered to an offer, and the journal afterwards
   abbrev Told : Result (Unit {0}) Refusal → List SlotEntry → Refusal → Type 0
   Told answer w refusal = (answer ≡ Err refusal) × (w ≡ journal)
@@ -54,7 +57,8 @@ module _ (journal : List SlotEntry) (m : Module) (r : Running) (runs : Runs jour
   Accepted name answer after = (answer ≡ Ok (record {})) × Adds (pending_inputs m r.pending) name after
 
   -- the rules of an offer to them
-  same_rules : (name : List ℕ) (Known : Rules PendingRefusal → Type 0) → Known (pending_rules (pending_inputs m r.pending) name) → Known (pending_rules (pending_of r) name)
+  same_rules : (name : List ℕ) (Known : Rules PendingRefusal → Type 0)
+      → Known (pending_rules (pending_inputs m r.pending) name) → Known (pending_rules (pending_of r) name)
   same_rules name Known h = subst (λ (p : PendingInputs). Known (pending_rules p name)) (sym is) h
 
   -- an offer that the pending inputs refuse
@@ -63,30 +67,49 @@ module _ (journal : List SlotEntry) (m : Module) (r : Running) (runs : Runs jour
   offer_refused stamp name e w h same = record {
     running = r;
     runs = runs;
-    given = same_rules name (λ rules. Answers (all_converted refusal_of_pending rules ▸▸ entry_rules journal) (Told (Err e) w) (Done stamp name (Err e) w))
+    given = same_rules name
+        (λ rules. Answers (all_converted refusal_of_pending rules ▸▸ entry_rules journal) (Told (Err e) w)
+        (Done stamp name (Err e) w))
         (convert refusal_of_pending (pending_rules (pending_inputs m r.pending) name) (entry_rules journal)
-        (Refused (Err h.given) (pending_inputs m r.pending)) (Accepted name (Err h.given) (pending_inputs m r.pending)) (Told (Err e) w) (Done stamp name (Err e) w)
+        (Refused (Err h.given) (pending_inputs m r.pending)) (Accepted name (Err h.given) (pending_inputs m r.pending))
+        (Told (Err e) w) (Done stamp name (Err e) w)
         (λ refusal told. (ap Err (h.told ∙ ap refusal_of_pending (same_err h.given refusal told.0)), same))
         (λ accepted. absurd (no_ok (record {}) h.given accepted.0)) h.answer);
   }
 
   -- an offer that joins the pending inputs, by what its entry is answered
-  pub offer_joins : (stamp : Stamp) (name : List ℕ) (after : ℕ) (answer : Result (Unit {0}) Refusal) (w : List SlotEntry) → JoinsAs m r.pending name after
-      → Answers (entry_rules journal) (λ refusal. (answer ≡ Err refusal) × (w ≡ journal)) ((answer ≡ Ok (record {})) × (w ≡ journal ++ entry stamp (Offer name) ∷ []))
+  pub offer_joins : (stamp : Stamp) (name : List ℕ) (after : ℕ) (answer : Result (Unit {0}) Refusal)
+      (w : List SlotEntry) → JoinsAs m r.pending name after
+      → Answers (entry_rules journal) (λ refusal. (answer ≡ Err refusal) × (w ≡ journal))
+      ((answer ≡ Ok (record {})) × (w ≡ journal ++ entry stamp (Offer name) ∷ []))
       → OfferAnswer journal stamp name answer w
   offer_joins stamp name after answer w h goes = record {
     running = r;
     runs = runs;
-    given = same_rules name (λ rules. Answers (all_converted refusal_of_pending rules ▸▸ entry_rules journal) (Told answer w) (Done stamp name answer w))
+    given = same_rules name
+        (λ rules. Answers (all_converted refusal_of_pending rules ▸▸ entry_rules journal) (Told answer w)
+        (Done stamp name answer w))
         (convert refusal_of_pending (pending_rules (pending_inputs m r.pending) name) (entry_rules journal)
-        (Refused (Ok (record {})) (pending_inputs m after)) (Accepted name (Ok (record {})) (pending_inputs m after)) (Told answer w) (Done stamp name answer w)
+        (Refused (Ok (record {})) (pending_inputs m after)) (Accepted name (Ok (record {})) (pending_inputs m after))
+        (Told answer w) (Done stamp name answer w)
         (λ refusal told. absurd (no_err (record {}) refusal told.0))
         (λ accepted. goes) h.answer);
   }
 
   -- an instant may not take the pending inputs
   pub open_refused : (e : Refusal) → RefusesInstant m r.pending e → OpenAnswer journal (Err (e, journal))
-  open_refused e h = refuse e (h.number, h.missing, h.told, record { running = r; runs = runs; first = subst (λ (p : PendingInputs). IsFirstImplied p h.number h.missing) (sym is) h.first }) refl
+  open_refused e h =
+      refuse e (
+        h.number,
+        h.missing,
+        h.told,
+        record {
+          running = r;
+          runs = runs;
+          first = subst (λ (p : PendingInputs). IsFirstImplied p h.number h.missing)
+              (sym is) h.first;
+        },
+      ) refl
 
   -- an instant may take them
   pub open_passes : AreLawful r.relations (bits r.pending) → OpenAnswer journal (Ok journal)
@@ -96,7 +119,8 @@ module _ (journal : List SlotEntry) (m : Module) (r : Running) (runs : Runs jour
 pub offer_stays : (before : List SlotEntry) (stamp : Stamp) (name : List ℕ) (e : Refusal) (after : List SlotEntry)
     → OfferAnswer before stamp name (Err e) after → after ≡ before
 offer_stays before stamp name e after h =
-    answered (offer_rules before h.running name) _ _ (after ≡ before) (λ refusal told. told.1) (λ added. let no = added.0 in absurd cc) h.given
+    answered (offer_rules before h.running name) _ _ (after ≡ before) (λ refusal told. told.1)
+    (λ added. let no = added.0 in absurd cc) h.given
 
 -- a refused load gives the journal back
 pub load_stays : (before : List SlotEntry) (stamp : Stamp) (main text : List ℕ) (refused : Refusal × List SlotEntry)
@@ -108,14 +132,19 @@ load_stays before stamp main text refused h =
 
 -- a commit that is accepted adds the instant
 pub commit_adds : (settled : SettledInstant) (stamp : Stamp) (after : List SlotEntry)
-    → CommitAnswer settled stamp (Ok after) → (next : Term) × AddsInstant settled.journal settled.outputs next stamp after
+    → CommitAnswer settled stamp (Ok after) → (next : Term)
+    × AddsInstant settled.journal settled.outputs next stamp after
 commit_adds settled stamp after h =
-    answered (entry_rules settled.journal) _ _ ((next : Term) × AddsInstant settled.journal settled.outputs next stamp after)
+    answered (entry_rules settled.journal) _ _
+    ((next : Term) × AddsInstant settled.journal settled.outputs next stamp after)
     (λ refusal no. absurd cc)
     (λ added.
     let e = added.1 in
-    let same : added.0 ≡ after = cc in
-    (added.2.0, subst (λ (journal : List SlotEntry). AddsInstant settled.journal settled.outputs added.2.0 stamp journal) same added.2.1))
+    let same : added.0 ≡ after = cc in (
+      added.2.0,
+      subst (λ (journal : List SlotEntry). AddsInstant settled.journal settled.outputs added.2.0 stamp journal) same
+          added.2.1,
+    ))
     h
 
 -- a refused commit gives the reactor back
@@ -123,5 +152,6 @@ pub commit_stays : (settled : SettledInstant) (stamp : Stamp) (refused : Refusal
     → CommitAnswer settled stamp (Err refused) → refused.1 ≡ settled.journal
 commit_stays settled stamp refused h =
     answered (entry_rules settled.journal) _ _ (refused.1 ≡ settled.journal)
-    (λ refusal told. let same : refused ≡ (refusal, settled.journal) = cc in ap (λ (r : Refusal × List SlotEntry). r.1) same)
+    (λ refusal told. let same : refused ≡ (refusal, settled.journal) = cc in
+    ap (λ (r : Refusal × List SlotEntry). r.1) same)
     (λ added. let no = added.1 in absurd cc) h

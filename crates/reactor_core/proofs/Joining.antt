@@ -3,7 +3,8 @@ use Rattle.std.proofs.Common.{◌≡◌, ◌∙◌, ℕ, List, inl, inr, refl, a
 use Rattle.std.specs.Prelude.{Result, Ok, Err}
 use Rattle.est_kernel.specs.Bits.{bits}
 use Rattle.est_relations.specs.Keeping.{AreLawful}
-use Rattle.est_relations.specs.Offers.{PendingInputs, KeepsExclusions, Adds, OfferAnswer as PendingAnswer, ReadyAnswer, offer_rules as pending_rules}
+use Rattle.est_relations.specs.Offers.{PendingInputs, KeepsExclusions, Adds, OfferAnswer as PendingAnswer, ReadyAnswer}
+use Rattle.est_relations.specs.Offers.{offer_rules as pending_rules}
 use Rattle.est_relations.specs.declared.refusal.Refusal.{Refusal as PendingRefusal}
 use Rattle.refusal_rules.proofs.RuleLemmas.{all_passed, answered}
 use Rattle.reactor_core.specs.declared.loaded.Module.{Module}
@@ -20,36 +21,46 @@ pub same_err : {A E : Type 0} (a b : E) → ◌≡◌ {A = Result A E} (Err a) (
 same_err a b h = cc
 
 -- an accepted offer adds its signal
-pub adds_where : (p : PendingInputs) (name : List ℕ) (after : PendingInputs) → PendingAnswer p name (Ok (record {})) after → Adds p name after
+pub adds_where : (p : PendingInputs) (name : List ℕ) (after : PendingInputs)
+    → PendingAnswer p name (Ok (record {})) after → Adds p name after
 adds_where p name after h =
-    (all_passed (pending_rules p name) (λ refusal. (Ok (record {}) ≡ Err refusal) × (after ≡ p)) ((Ok (record {}) ≡ Ok (record {})) × Adds p name after)
+    (all_passed (pending_rules p name) (λ refusal. (Ok (record {}) ≡ Err refusal) × (after ≡ p))
+    ((Ok (record {}) ≡ Ok (record {})) × Adds p name after)
     (λ refusal told. no_err (record {}) refusal told.0) h).1.1
 
 -- a refused one leaves what is pending
-stays_where : (p : PendingInputs) (name : List ℕ) (e : PendingRefusal) (after : PendingInputs) → PendingAnswer p name (Err e) after → after ≡ p
+stays_where : (p : PendingInputs) (name : List ℕ) (e : PendingRefusal) (after : PendingInputs)
+    → PendingAnswer p name (Err e) after → after ≡ p
 stays_where p name e after h =
-    answered (pending_rules p name) (λ refusal. (Err e ≡ Err refusal) × (after ≡ p)) ((Err e ≡ Ok (record {})) × Adds p name after) (after ≡ p)
+    answered (pending_rules p name) (λ refusal. (Err e ≡ Err refusal) × (after ≡ p))
+    ((Err e ≡ Ok (record {})) × Adds p name after) (after ≡ p)
     (λ refusal told. told.1) (λ accepted. absurd (no_ok (record {}) e accepted.0)) h
 
 -- the pending inputs with the signal of an accepted offer
-pub joins : (m : Module) (pending : ℕ) (name : List ℕ) (before after : PendingInputs) (mask : ℕ) → before ≡ pending_inputs m pending → mask ≡ after.mask
-    → KeepsExclusions after.interface after.relations after.mask → PendingAnswer before name (Ok (record {})) after → JoinsAs m pending name mask
+pub joins : (m : Module) (pending : ℕ) (name : List ℕ) (before after : PendingInputs) (mask : ℕ)
+    → before ≡ pending_inputs m pending → mask ≡ after.mask
+    → KeepsExclusions after.interface after.relations after.mask → PendingAnswer before name (Ok (record {})) after
+    → JoinsAs m pending name mask
 joins m pending name before after mask is read kept h =
-    let answer : PendingAnswer (pending_inputs m pending) name (Ok (record {})) after = subst (λ (p : PendingInputs). PendingAnswer p name (Ok (record {})) after) is h in
+    let answer : PendingAnswer (pending_inputs m pending) name (Ok (record {})) after =
+    subst (λ (p : PendingInputs). PendingAnswer p name (Ok (record {})) after) is h in
     let adds = adds_where (pending_inputs m pending) name after answer in
     let its : mask ≡ _ = read ∙ ap (λ (p : PendingInputs). p.mask) adds.added in
     let same : after ≡ pending_inputs m mask = adds.added ∙ ap (λ (n : ℕ). pending_inputs m n) (sym its) in
     record {
-      answer = subst (λ (p : PendingInputs). PendingAnswer (pending_inputs m pending) name (Ok (record {})) p) same answer;
+      answer = subst (λ (p : PendingInputs). PendingAnswer (pending_inputs m pending) name (Ok (record {})) p) same
+          answer;
       kept = subst (λ (p : PendingInputs). KeepsExclusions p.interface p.relations p.mask) same kept;
     }
 
 -- why the name of a refused offer may not join them
-pub refuses : (m : Module) (pending : ℕ) (name : List ℕ) (before after : PendingInputs) (e : PendingRefusal) → before ≡ pending_inputs m pending
+pub refuses : (m : Module) (pending : ℕ) (name : List ℕ) (before after : PendingInputs) (e : PendingRefusal)
+    → before ≡ pending_inputs m pending
     → PendingAnswer before name (Err e) after → RefusesName m pending name (refusal_of_pending e)
 refuses m pending name before after e is h =
     let same : after ≡ pending_inputs m pending = stays_where before name e after h ∙ is in
-    let answer : PendingAnswer (pending_inputs m pending) name (Err e) after = subst (λ (p : PendingInputs). PendingAnswer p name (Err e) after) is h in
+    let answer : PendingAnswer (pending_inputs m pending) name (Err e) after =
+    subst (λ (p : PendingInputs). PendingAnswer p name (Err e) after) is h in
     record {
       given = e;
       told = refl;
@@ -61,12 +72,15 @@ lawful_where : (p : PendingInputs) → ReadyAnswer p (Ok (record {})) → AreLaw
 lawful_where p (inl refused) = absurd (no_err (record {}) refused.refusal refused.answered)
 lawful_where p (inr passes) = passes.next.1
 
-pub takes : (m : Module) (pending : ℕ) (before : PendingInputs) → before ≡ pending_inputs m pending → ReadyAnswer before (Ok (record {}))
+pub takes : (m : Module) (pending : ℕ) (before : PendingInputs) → before ≡ pending_inputs m pending
+    → ReadyAnswer before (Ok (record {}))
     → AreLawful m.relations (bits pending)
-takes m pending before is h = lawful_where (pending_inputs m pending) (subst (λ (p : PendingInputs). ReadyAnswer p (Ok (record {}))) is h)
+takes m pending before is h = lawful_where (pending_inputs m pending)
+    (subst (λ (p : PendingInputs). ReadyAnswer p (Ok (record {}))) is h)
 
 -- why it may not
-lacks_where : (m : Module) (pending : ℕ) (e : PendingRefusal) → ReadyAnswer (pending_inputs m pending) (Err e) → RefusesInstant m pending (refusal_of_pending e)
+lacks_where : (m : Module) (pending : ℕ) (e : PendingRefusal) → ReadyAnswer (pending_inputs m pending) (Err e)
+    → RefusesInstant m pending (refusal_of_pending e)
 lacks_where m pending e (inl refused) = record {
   number = refused.given.0.0;
   missing = refused.given.0.1;
@@ -75,6 +89,7 @@ lacks_where m pending e (inl refused) = record {
 }
 lacks_where m pending e (inr passes) = absurd (no_ok (record {}) e passes.next.0)
 
-pub lacks : (m : Module) (pending : ℕ) (before : PendingInputs) (e : PendingRefusal) → before ≡ pending_inputs m pending → ReadyAnswer before (Err e)
+pub lacks : (m : Module) (pending : ℕ) (before : PendingInputs) (e : PendingRefusal) → before ≡ pending_inputs m pending
+    → ReadyAnswer before (Err e)
     → RefusesInstant m pending (refusal_of_pending e)
 lacks m pending before e is h = lacks_where m pending e (subst (λ (p : PendingInputs). ReadyAnswer p (Err e)) is h)

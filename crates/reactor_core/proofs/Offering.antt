@@ -1,5 +1,6 @@
 -- What is pending is what was offered and not taken away since.
-use Rattle.std.proofs.Common.{◌≡◌, ◌⊎◌, ◌↔◌, ◌∙◌, ℕ, ◌^◌, Bool, true, false, List, [], ◌∷◌, ◌++◌, Option, Some, None, refl, ap, sym, subst, inl, inr, ◌||◌}
+use Rattle.std.proofs.Common.{◌≡◌, ◌⊎◌, ◌↔◌, ◌∙◌, ℕ, ◌^◌, Bool, true, false, List, [], ◌∷◌, ◌++◌, Option, Some, None}
+use Rattle.std.proofs.Common.{refl, ap, sym, subst, inl, inr, ◌||◌}
 use Rattle.std.specs.List.{AllByRecursion}
 use Rattle.std.proofs.lemmas.Bool.{eq-eqb}
 use Rattle.est_kernel.specs.Bits.{bits}
@@ -28,7 +29,8 @@ AreOffers entries = AllByRecursion (λ e. KeepsOffers e.action) entries
 -- ---- the names
 
 -- what was offered in the later entries was offered in all of them
-one_earlier : (e : SlotEntry) (later : List SlotEntry) (name : List ℕ) → IsOffered later name → IsOffered (e ∷ later) name
+one_earlier : (e : SlotEntry) (later : List SlotEntry) (name : List ℕ) → IsOffered later name
+    → IsOffered (e ∷ later) name
 one_earlier e later name o = record {
   before = e ∷ o.before;
   stamp = o.stamp;
@@ -42,12 +44,14 @@ abbrev Came : List (List ℕ) → List SlotEntry → List ℕ → Type 0
 Came names entries name = (Among name names × AreOffers entries) ⊎ IsOffered entries name
 
 -- the same after an entry that takes all offers away
-came_anew : (e : SlotEntry) (names : List (List ℕ)) (later : List SlotEntry) (name : List ℕ) → Came [] later name → Came names (e ∷ later) name
+came_anew : (e : SlotEntry) (names : List (List ℕ)) (later : List SlotEntry) (name : List ℕ) → Came [] later name
+    → Came names (e ∷ later) name
 came_anew e names later name (inl kept) = absurd kept.0
 came_anew e names later name (inr o) = inr (one_earlier e later name o)
 
 -- the same after an offer
-came_offered : (e : SlotEntry) (m : List ℕ) (names : List (List ℕ)) (later : List SlotEntry) (name : List ℕ) → e.action ≡ Offer m
+came_offered : (e : SlotEntry) (m : List ℕ) (names : List (List ℕ)) (later : List SlotEntry) (name : List ℕ)
+    → e.action ≡ Offer m
     → Came (m ∷ names) later name → Came names (e ∷ later) name
 came_offered e m names later name is (inr o) = inr (one_earlier e later name o)
 came_offered e m names later name is (inl kept) = elim kept.0 [
@@ -61,7 +65,8 @@ came_offered e m names later name is (inl kept) = elim kept.0 [
   | inr among ↦ inl (among, (subst KeepsOffers (sym is) tt, kept.1))
 ]
 
-came_after : (e : SlotEntry) (action : Action) (names : List (List ℕ)) (later : List SlotEntry) (name : List ℕ) → e.action ≡ action
+came_after : (e : SlotEntry) (action : Action) (names : List (List ℕ)) (later : List SlotEntry) (name : List ℕ)
+    → e.action ≡ action
     → Came (offers_after names action) later name → Came names (e ∷ later) name
 came_after e (Load l) names later name is h = came_anew e names later name h
 came_after e (Offer m) names later name is h = came_offered e m names later name is h
@@ -69,9 +74,11 @@ came_after e Discard names later name is h = came_anew e names later name h
 came_after e (Step i) names later name is h = came_anew e names later name h
 came_after e Unload names later name is h = came_anew e names later name h
 
-came : (names : List (List ℕ)) (entries : List SlotEntry) (name : List ℕ) → Among name (after_all offers_after names entries) → Came names entries name
+came : (names : List (List ℕ)) (entries : List SlotEntry) (name : List ℕ)
+    → Among name (after_all offers_after names entries) → Came names entries name
 came names [] name h = inl (h, tt)
-came names (e ∷ later) name h = came_after e e.action names later name refl (came (offers_after names e.action) later name h)
+came names (e ∷ later) name h = came_after e e.action names later name refl
+    (came (offers_after names e.action) later name h)
 
 -- what is offered was offered
 was_offered : (journal : List SlotEntry) (name : List ℕ) → Among name (offers_of journal) → IsOffered journal name
@@ -80,7 +87,8 @@ was_offered journal name h = elim (came [] journal name h) [
   | inr o ↦ o
 ]
 
-kept_by : (action : Action) (names : List (List ℕ)) (name : List ℕ) → KeepsOffers action → Among name names → Among name (offers_after names action)
+kept_by : (action : Action) (names : List (List ℕ)) (name : List ℕ) → KeepsOffers action → Among name names
+    → Among name (offers_after names action)
 kept_by (Load l) names name keeps h = absurd keeps
 kept_by (Offer m) names name keeps h = inr h
 kept_by Discard names name keeps h = absurd keeps
@@ -91,7 +99,8 @@ kept_by Unload names name keeps h = absurd keeps
 kept : (names : List (List ℕ)) (entries : List SlotEntry) (name : List ℕ) → AreOffers entries → Among name names
     → Among name (after_all offers_after names entries)
 kept names [] name all h = h
-kept names (e ∷ later) name all h = kept (offers_after names e.action) later name all.1 (kept_by e.action names name all.0 h)
+kept names (e ∷ later) name all h = kept (offers_after names e.action) later name all.1
+    (kept_by e.action names name all.0 h)
 
 after_append : (names : List (List ℕ)) (first later : List SlotEntry)
     → after_all offers_after names (first ++ later) ≡ after_all offers_after (after_all offers_after names first) later
@@ -114,10 +123,12 @@ record IsNamed (interface : List Declaration) (names : List (List ℕ)) (place :
   signal : place_of interface name ≡ Some place
   among : Among name names
 
-one_more : (interface : List Declaration) (n : List ℕ) (names : List (List ℕ)) (place : ℕ) → IsNamed interface names place → IsNamed interface (n ∷ names) place
+one_more : (interface : List Declaration) (n : List ℕ) (names : List (List ℕ)) (place : ℕ)
+    → IsNamed interface names place → IsNamed interface (n ∷ names) place
 one_more interface n names place h = record { name = h.name; signal = h.signal; among = inr h.among }
 
-named_by : (interface : List Declaration) (n : List ℕ) (names : List (List ℕ)) (place : ℕ) (at : Option ℕ) → place_of interface n ≡ at
+named_by : (interface : List Declaration) (n : List ℕ) (names : List (List ℕ)) (place : ℕ) (at : Option ℕ)
+    → place_of interface n ≡ at
     → (bits (mask_of interface names) place ≡ true → IsNamed interface names place)
     → bits (with_signal (mask_of interface names) at) place ≡ true → IsNamed interface (n ∷ names) place
 named_by interface n names place None is later h = one_more interface n names place (later h)
@@ -126,9 +137,11 @@ named_by interface n names place (Some k) is later h = elim (with_bits (mask_of 
   | inr same ↦ record { name = n; signal = is ∙ ap Some same; among = inl refl }
 ]
 
-named : (interface : List Declaration) (names : List (List ℕ)) (place : ℕ) → bits (mask_of interface names) place ≡ true → IsNamed interface names place
+named : (interface : List Declaration) (names : List (List ℕ)) (place : ℕ) → bits (mask_of interface names) place ≡ true
+    → IsNamed interface names place
 named interface [] place h = no_bits place h
-named interface (n ∷ names) place h = named_by interface n names place (place_of interface n) refl (named interface names place) h
+named interface (n ∷ names) place h = named_by interface n names place (place_of interface n) refl
+    (named interface names place) h
 
 still_there : (mask place : ℕ) (at : Option ℕ) → bits mask place ≡ true → bits (with_signal mask at) place ≡ true
 still_there mask place None h = h
@@ -139,9 +152,11 @@ or_true true b h = refl
 or_true false b h = h
 
 now_there : (mask place : ℕ) → bits (with_signal mask (Some place)) place ≡ true
-now_there mask place = bits_or mask (2 ^ place) place ∙ or_true (bits mask place) _ (bits_pow place place ∙ eq-eqb place place refl)
+now_there mask place = bits_or mask (2 ^ place) place ∙ or_true (bits mask place) _
+    (bits_pow place place ∙ eq-eqb place place refl)
 
-in_mask : (interface : List Declaration) (names : List (List ℕ)) (place : ℕ) (name : List ℕ) → place_of interface name ≡ Some place
+in_mask : (interface : List Declaration) (names : List (List ℕ)) (place : ℕ) (name : List ℕ)
+    → place_of interface name ≡ Some place
     → Among name names → bits (mask_of interface names) place ≡ true
 in_mask interface [] place name signal h = absurd h
 in_mask interface (n ∷ names) place name signal (inl same) =

@@ -19,31 +19,38 @@ use Rattle.reactor_core.specs.Loading.{Spells, LinksTo, GivenModule, Gives}
 
 -- a text is cut in one way (a law of est_text)
 abbrev pub CutsAreOne : Type 0
-CutsAreOne = (text : List ℕ) (tokens others : List Located) → AreTokens text tokens → AreTokens text others → tokens ≡ others
+CutsAreOne = (text : List ℕ) (tokens others : List Located) → AreTokens text tokens → AreTokens text others
+    → tokens ≡ others
 
 -- a library without a fault is linked to one flat module (a law of est_link)
 abbrev pub LinksAreOne : Type 0
-LinksAreOne = (ps : List Program) (main : List ℕ) → IsFirstFault ps main None → (a b : Flat) → IsFlatOf ps main a → IsFlatOf ps main b → AreAlike a b
+LinksAreOne = (ps : List Program) (main : List ℕ) → IsFirstFault ps main None → (a b : Flat) → IsFlatOf ps main a
+    → IsFlatOf ps main b → AreAlike a b
 
 -- modules of the same parts are the same
 same_parts : (m n : GivenModule) → m.interface ≡ n.interface → m.relations ≡ n.relations → m.term ≡ n.term → m ≡ n
 same_parts m n interface relations term =
-    ap (λ (i : List Declaration). let x : GivenModule = record { interface = i; relations = m.relations; term = m.term } in x) interface
-    ∙ ap (λ (r : List Relation). let x : GivenModule = record { interface = n.interface; relations = r; term = m.term } in x) relations
-    ∙ ap (λ (t : Term). let x : GivenModule = record { interface = n.interface; relations = n.relations; term = t } in x) term
+    ap (λ (i : List Declaration). let x : GivenModule = record
+    { interface = i; relations = m.relations; term = m.term } in x) interface
+    ∙ ap (λ (r : List Relation). let x : GivenModule = record
+    { interface = n.interface; relations = r; term = m.term } in x) relations
+    ∙ ap (λ (t : Term). let x : GivenModule = record { interface = n.interface; relations = n.relations; term = t } in
+    x) term
 
 module _ (cuts : CutsAreOne) where
   -- a text spells one library
   pub same_library : (text : List ℕ) (k l : LibraryTree) → Spells text k → Spells text l → k ≡ l
   same_library text k l one other =
-      let located : one.tokens.located ≡ other.tokens.located = cuts text one.tokens.located other.tokens.located one.cut.cut other.cut.cut in
+      let located : one.tokens.located ≡ other.tokens.located =
+      cuts text one.tokens.located other.tokens.located one.cut.cut other.cut.cut in
       one_library k l (sym one.spelt ∙ ap tokens_of located ∙ other.spelt)
 
   module _ (links : LinksAreOne) where
     -- a text and a main module's name link to one flat module
     pub same_flat : (main text : List ℕ) (f g : Flat) → LinksTo main text f → LinksTo main text g → AreAlike f g
     same_flat main text f g one other =
-        let library : other.library ≡ one.library = same_library text other.library one.library other.spells one.spells in
+        let library : other.library ≡ one.library = same_library text other.library one.library other.spells
+        one.spells in
         links (programs_of one.library) main one.sound f g one.is
         (subst (λ (l : LibraryTree). IsFlatOf (programs_of l) main g) library other.is)
 

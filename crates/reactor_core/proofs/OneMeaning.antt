@@ -18,7 +18,8 @@ use Rattle.reactor_core.specs.declared.entry.Action.TheVariants.{Load, Offer, Di
 use Rattle.reactor_core.specs.declared.entry.SlotEntry.{SlotEntry}
 use Rattle.reactor_core.specs.Loading.{GivenModule}
 use Rattle.reactor_core.specs.Reacting.{ReactsWith}
-use Rattle.reactor_core.specs.Meaning.{entry, instant, ModuleOf, Running, Runs, Leaves, loaded, offered, discarded, stepped, is_loaded, mask_of, offers_of, pending_of}
+use Rattle.reactor_core.specs.Meaning.{entry, instant, ModuleOf, Running, Runs, Leaves, loaded, offered, discarded}
+use Rattle.reactor_core.specs.Meaning.{stepped, is_loaded, mask_of, offers_of, pending_of}
 use Rattle.reactor_core.specs.Instants.{IsOutcome, HasNoOutcome, LacksImplied, KeepsRelations}
 
 -- a load entry is of one module at most (the law one_module)
@@ -26,12 +27,21 @@ abbrev pub OneModule : Type 0
 OneModule = (load : LoadEntry) (m n : GivenModule) → ModuleOf load m → ModuleOf load n → m ≡ n
 
 -- what runs with the same parts is the same
-same_parts : (r s : Running) → r.interface ≡ s.interface → r.relations ≡ s.relations → r.pending ≡ s.pending → r.instants ≡ s.instants → r ≡ s
+same_parts : (r s : Running) → r.interface ≡ s.interface → r.relations ≡ s.relations → r.pending ≡ s.pending
+    → r.instants ≡ s.instants → r ≡ s
 same_parts r s interface relations pending instants =
-    ap (λ (i : List Declaration). let x : Running = record { interface = i; relations = r.relations; pending = r.pending; instants = r.instants } in x) interface
-    ∙ ap (λ (i : List Relation). let x : Running = record { interface = s.interface; relations = i; pending = r.pending; instants = r.instants } in x) relations
-    ∙ ap (λ (p : ℕ). let x : Running = record { interface = s.interface; relations = s.relations; pending = p; instants = r.instants } in x) pending
-    ∙ ap (λ (past : List PastInstant). let x : Running = record { interface = s.interface; relations = s.relations; pending = s.pending; instants = past } in x) instants
+    ap (λ (i : List Declaration). let x : Running = record
+    { interface = i; relations = r.relations; pending = r.pending; instants = r.instants } in x) interface
+    ∙ ap (λ (i : List Relation). let x : Running = record
+    { interface = s.interface; relations = i; pending = r.pending; instants = r.instants } in x) relations
+    ∙ ap (λ (p : ℕ). let x : Running = record {
+      interface = s.interface;
+      relations = s.relations;
+      pending = p;
+      instants = r.instants;
+    } in x) pending
+    ∙ ap (λ (past : List PastInstant). let x : Running = record
+    { interface = s.interface; relations = s.relations; pending = s.pending; instants = past } in x) instants
 
 -- the module that runs
 abbrev module_of : (r : Running) → Term → GivenModule
@@ -41,12 +51,15 @@ module_of r term = record { interface = r.interface; relations = r.relations; te
 pub same_running : OneModule → (journal : List SlotEntry) (r s : Running) → Runs journal r → Runs journal s → r ≡ s
 same_running modules journal r s one other =
     let load : one.load ≡ other.load = same_Some one.load other.load (sym one.last ∙ other.last) in
-    let is : ModuleOf other.load (module_of r one.term) = subst (λ (l : LoadEntry). ModuleOf l (module_of r one.term)) load one.is in
-    let same : module_of r one.term ≡ module_of s other.term = modules other.load (module_of r one.term) (module_of s other.term) is other.is in
+    let is : ModuleOf other.load (module_of r one.term) =
+    subst (λ (l : LoadEntry). ModuleOf l (module_of r one.term)) load one.is in
+    let same : module_of r one.term ≡ module_of s other.term =
+    modules other.load (module_of r one.term) (module_of s other.term) is other.is in
     let interface : r.interface ≡ s.interface = ap (λ (m : GivenModule). m.interface) same in
     let offers : mask_of r.interface (offers_of journal) ≡ mask_of s.interface (offers_of journal) =
     ap (λ (i : List Declaration). mask_of i (offers_of journal)) interface in
-    same_parts r s interface (ap (λ (m : GivenModule). m.relations) same) (one.offered ∙ offers ∙ sym other.offered) (one.past ∙ sym other.past)
+    same_parts r s interface (ap (λ (m : GivenModule). m.relations) same) (one.offered ∙ offers ∙ sym other.offered)
+    (one.past ∙ sym other.past)
 
 -- what runs is loaded
 pub is_loaded_where : (journal : List SlotEntry) (r : Running) → Runs journal r → is_loaded journal ≡ true
@@ -87,9 +100,12 @@ record IsLast (journal : List SlotEntry) (t : Term) : Type 0 where
   leaves : LeavesAfter before last.action t
 
 last_of : (journal : List SlotEntry) (t : Term) → Leaves journal t → IsLast journal t
-last_of _ _ (loaded before stamp l m is) = record { before = before; last = entry stamp (Load l); whole = refl; leaves = (m, refl, is) }
-last_of _ _ (offered before term h stamp name) = record { before = before; last = entry stamp (Offer name); whole = refl; leaves = h }
-last_of _ _ (discarded before term h stamp) = record { before = before; last = entry stamp Discard; whole = refl; leaves = h }
+last_of _ _ (loaded before stamp l m is) =
+    record { before = before; last = entry stamp (Load l); whole = refl; leaves = (m, refl, is) }
+last_of _ _ (offered before term h stamp name) = record
+    { before = before; last = entry stamp (Offer name); whole = refl; leaves = h }
+last_of _ _ (discarded before term h stamp) =
+    record { before = before; last = entry stamp Discard; whole = refl; leaves = h }
 last_of _ _ (stepped before term h r running outputs next reacts stamp) =
     record {
       before = before;
@@ -131,12 +147,15 @@ one_term modules _ _ u (stepped before term k r running outputs next reacts stam
     let g = last_of _ u h in
     let s = snoc_same before g.before (entry stamp (Step (instant r.pending outputs))) g.last g.whole in
     let x = subst (λ (e : SlotEntry). LeavesAfter g.before e.action u) (sym s.1) g.leaves in
-    let terms : term ≡ x.term = one_term modules before term x.term k (subst (λ (b : List SlotEntry). Leaves b x.term) (sym s.0) x.leaves) in
-    let runs : r ≡ x.r = same_running modules before r x.r running (subst (λ (b : List SlotEntry). Runs b x.r) (sym s.0) x.running) in
+    let terms : term ≡ x.term = one_term modules before term x.term k
+    (subst (λ (b : List SlotEntry). Leaves b x.term) (sym s.0) x.leaves) in
+    let runs : r ≡ x.r = same_running modules before r x.r running
+    (subst (λ (b : List SlotEntry). Runs b x.r) (sym s.0) x.running) in
     (same_reaction r x.r term x.term next u outputs x.outputs runs terms reacts x.reacts).1
 
 -- the next instant has one outcome at most
-pub same_outcome : OneModule → (journal : List SlotEntry) (a b : ℕ) (t u : Term) → IsOutcome journal a t → IsOutcome journal b u
+pub same_outcome : OneModule → (journal : List SlotEntry) (a b : ℕ) (t u : Term) → IsOutcome journal a t
+    → IsOutcome journal b u
     → ((n : ℕ) → bits a n ≡ bits b n) × (t ≡ u)
 same_outcome modules journal a b t u one other =
     same_reaction one.running other.running one.term other.term t u a b
@@ -155,14 +174,17 @@ not_both modules journal outputs next undecided h k =
     k.stuck.cannot same.signals same.code next same.gives
 
 -- where an instant may take what is pending, no implication lacks a signal
-none_lacking : (p : PendingInputs) (number : ℕ) (missing : List ℕ) → ReadyAnswer p (Ok (record {})) → IsFirstImplied p number missing → ⊥
+none_lacking : (p : PendingInputs) (number : ℕ) (missing : List ℕ) → ReadyAnswer p (Ok (record {}))
+    → IsFirstImplied p number missing → ⊥
 none_lacking p number missing (inl refused) first = let no = refused.answered in absurd cc
 none_lacking p number missing (inr passes) first = passes.passed (number, missing) first
 
 -- the pending inputs don't both keep each relation and lack an implied one
-pub ready_or_lacking : OneModule → (journal : List SlotEntry) (number : ℕ) (missing : List ℕ) → LacksImplied journal number missing → KeepsRelations journal → ⊥
+pub ready_or_lacking : OneModule → (journal : List SlotEntry) (number : ℕ) (missing : List ℕ)
+    → LacksImplied journal number missing → KeepsRelations journal → ⊥
 ready_or_lacking modules journal number missing lacks keeps =
-    let same : keeps.running ≡ lacks.running = same_running modules journal keeps.running lacks.running keeps.runs lacks.runs in
+    let same : keeps.running ≡ lacks.running = same_running modules journal keeps.running lacks.running keeps.runs
+    lacks.runs in
     let lawful : AreLawful lacks.running.relations (bits lacks.running.pending) =
     subst (λ (r : Running). AreLawful r.relations (bits r.pending)) same keeps.lawful in
     none_lacking (pending_of lacks.running) number missing (all_hold (pending_of lacks.running) lawful) lacks.first

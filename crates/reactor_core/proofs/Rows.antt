@@ -4,12 +4,17 @@ use Rattle.std.specs.Prelude.{◌==◌, codes, Option, Some, None, if◌then◌e
 use Rattle.std.specs.Str.{bytes_eq}
 use Rattle.refusal_tables.specs.Rows.{Fields, TellsApart}
 use Rattle.refusal_tables.proofs.TellingApart.{first, second, text_in, number_in, read_back}
-use Rattle.est_relations.specs.declared.refusal.Refusal.TheVariants.{UnknownSignal, NotInput, AlreadyOffered, Excluded, Implied}
+use Rattle.est_relations.specs.declared.refusal.Refusal.TheVariants.{UnknownSignal, NotInput, AlreadyOffered, Excluded}
+use Rattle.est_relations.specs.declared.refusal.Refusal.TheVariants.{Implied}
 use Rattle.est_text.specs.declared.place.Place.{Place}
 use Rattle.reactor_core.specs.declared.refusal.Limit.{Limit}
-use Rattle.reactor_core.specs.declared.refusal.Limit.TheVariants.{Nesting, Signals, Relations, Statements, Loops, Traps, Locals}
+use Rattle.reactor_core.specs.declared.refusal.Limit.TheVariants.{Nesting, Signals, Relations, Statements, Loops, Traps}
+use Rattle.reactor_core.specs.declared.refusal.Limit.TheVariants.{Locals}
 use Rattle.reactor_core.specs.declared.refusal.ModuleRefusal.{ModuleRefusal}
-use Rattle.reactor_core.specs.declared.refusal.ModuleRefusal.TheVariants.{Pending, NoInstant, Lexical, Syntax, UnknownModule, RecursiveRun, UnknownName, DuplicateName, EmitInput, BadRename, InstantLoop, TooLarge, Semantics}
+use Rattle.reactor_core.specs.declared.refusal.ModuleRefusal.TheVariants.{Pending, NoInstant, Lexical, Syntax}
+use Rattle.reactor_core.specs.declared.refusal.ModuleRefusal.TheVariants.{UnknownModule, RecursiveRun, UnknownName}
+use Rattle.reactor_core.specs.declared.refusal.ModuleRefusal.TheVariants.{DuplicateName, EmitInput, BadRename}
+use Rattle.reactor_core.specs.declared.refusal.ModuleRefusal.TheVariants.{InstantLoop, TooLarge, Semantics}
 use Rattle.reactor_core.specs.Refusals.{row_of, limit_text}
 
 -- the limit of this word

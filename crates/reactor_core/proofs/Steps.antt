@@ -1,5 +1,6 @@
 -- What an entry makes of a running module.
-use Rattle.std.proofs.Common.{◌≡◌, ℕ, ◌<◌, ◌^◌, List, [], ◌∷◌, ◌++◌, length, true, false, refl, ap, sym, ◌∙◌, subst, inl, inr, ◌⊎◌, Bool, ◌||◌, arith}
+use Rattle.std.proofs.Common.{◌≡◌, ℕ, ◌<◌, ◌^◌, List, [], ◌∷◌, ◌++◌, length, true, false, refl, ap, sym, ◌∙◌, subst}
+use Rattle.std.proofs.Common.{inl, inr, ◌⊎◌, Bool, ◌||◌, arith}
 use Rattle.std.proofs.lemmas.Bool.Decides.{nat_tests}
 use Rattle.est_kernel.proofs.Masks.{bits_zero, bits_or, bits_pow}
 use Rattle.std.specs.Prelude.{slice_get, Some, None, is_some, Ok, Err, bit_or, nat_eq, ◌-◌}
@@ -24,7 +25,9 @@ use Rattle.reactor_core.specs.declared.entry.SlotEntry.{SlotEntry}
 use Rattle.reactor_core.specs.declared.loaded.Module.{Module}
 use Rattle.reactor_core.specs.declared.refusal.Refusal.TheVariants.{Module as OfModule}
 use Rattle.reactor_core.specs.declared.refusal.ModuleRefusal.TheVariants.{NoInstant}
-use Rattle.reactor_core.specs.Meaning.{entry, instant, after_all, load_after, instants_after, offers_after, offers_of, with_signal, mask_of, ModuleOf, Running, Runs, Leaves, loaded, offered, discarded, stepped, is_loaded}
+use Rattle.reactor_core.specs.Meaning.{entry, instant, after_all, load_after, instants_after, offers_after, offers_of}
+use Rattle.reactor_core.specs.Meaning.{with_signal, mask_of, ModuleOf, Running, Runs, Leaves, loaded, offered}
+use Rattle.reactor_core.specs.Meaning.{discarded, stepped, is_loaded}
 use Rattle.reactor_core.specs.Standing.{IsRunning, IsNext, AreKept, JoinsAs, given_by, pending_inputs}
 use Rattle.reactor_core.specs.Instants.{IsOutcome, HasNoOutcome, AddsInstant}
 use Rattle.reactor_core.specs.Answers.{HasRoom, ShownAnswer, within_mask}
@@ -37,7 +40,8 @@ after_snoc after value [] e = refl
 after_snoc after value (d ∷ before) e = after_snoc after (after value d.action) before e
 
 -- what an entry that takes all offers away leaves pending
-pub none_offered : (interface : List Declaration) (before : List SlotEntry) (e : SlotEntry) → offers_after (offers_of before) e.action ≡ []
+pub none_offered : (interface : List Declaration) (before : List SlotEntry) (e : SlotEntry)
+    → offers_after (offers_of before) e.action ≡ []
     → 0 ≡ mask_of interface (offers_of (before ++ e ∷ []))
 none_offered interface before e none = sym (ap (mask_of interface) (after_snoc offers_after [] before e ∙ none))
 
@@ -54,7 +58,8 @@ no_bits n h = absurd (no (sym (bits_zero n) ∙ h))
 
 -- the mask with the signal at a place has that one and those of before
 pub with_bits : (pending n k : ℕ) → bits (bit_or pending (2 ^ n)) k ≡ true → (bits pending k ≡ true) ⊎ (n ≡ k)
-with_bits pending n k h = split (bits pending k) (nat_eq n k) refl refl (sym (bits_or pending (2 ^ n) k ∙ ap (λ b. bits pending k || b) (bits_pow n k)) ∙ h)
+with_bits pending n k h = split (bits pending k) (nat_eq n k) refl refl
+    (sym (bits_or pending (2 ^ n) k ∙ ap (λ b. bits pending k || b) (bits_pow n k)) ∙ h)
   where
     split : (a b : Bool) → bits pending k ≡ a → nat_eq n k ≡ b → (a || b) ≡ true → (a ≡ true) ⊎ (n ≡ k)
     split true b p q e = inl refl
@@ -63,7 +68,8 @@ with_bits pending n k h = split (bits pending k) (nat_eq n k) refl refl (sym (bi
 
 -- what a reactor's parts run as
 abbrev pub running : Module → (pending : ℕ) → List PastInstant → Running
-running m pending instants = record { interface = m.kernel.interface; relations = m.relations; pending = pending; instants = instants }
+running m pending instants =
+    record { interface = m.kernel.interface; relations = m.relations; pending = pending; instants = instants }
 
 module _ {journal : List SlotEntry} {m : Module} {state : State} {pending : ℕ} {instants : List PastInstant} where
   -- the module of a reactor's parts runs
@@ -78,14 +84,18 @@ module _ {journal : List SlotEntry} {m : Module} {state : State} {pending : ℕ}
   }
 
   -- an outcome's entry leaves its term
-  leaves_next : (i : IsRunning journal m state pending instants) (stamp : Stamp) (outputs : ℕ) (next : State) → IsNext m state pending outputs next
+  leaves_next : (i : IsRunning journal m state pending instants) (stamp : Stamp) (outputs : ℕ) (next : State)
+      → IsNext m state pending outputs next
       → Leaves (journal ++ entry stamp (Step (instant pending outputs)) ∷ []) (state_term m.kernel.root next)
   leaves_next i stamp outputs next h =
-      stepped journal (state_term m.kernel.root state) i.leaves (running m pending instants) (runs_here i) outputs (state_term m.kernel.root next) h.reacts stamp
+      stepped journal (state_term m.kernel.root state) i.leaves (running m pending instants) (runs_here i) outputs
+      (state_term m.kernel.root next) h.reacts stamp
 
   -- an outcome's entry keeps what a reactor is, with the outcome's state
-  pub advances : (i : IsRunning journal m state pending instants) (stamp : Stamp) (outputs : ℕ) (next : State) → IsNext m state pending outputs next
-      → IsRunning (journal ++ entry stamp (Step (instant pending outputs)) ∷ []) m next 0 (instants ++ instant pending outputs ∷ [])
+  pub advances : (i : IsRunning journal m state pending instants) (stamp : Stamp) (outputs : ℕ) (next : State)
+      → IsNext m state pending outputs next
+      → IsRunning (journal ++ entry stamp (Step (instant pending outputs)) ∷ []) m next 0
+      (instants ++ instant pending outputs ∷ [])
   advances i stamp outputs next h =
       let e : SlotEntry = entry stamp (Step (instant pending outputs)) in
       record {
@@ -94,13 +104,15 @@ module _ {journal : List SlotEntry} {m : Module} {state : State} {pending : ℕ}
         is = i.is;
         offered = none_offered m.kernel.interface journal e refl;
         kept = none_kept m pending i.kept;
-        past = ap (λ (xs : List PastInstant). xs ++ instant pending outputs ∷ []) i.past ∙ sym (after_snoc instants_after [] journal e);
+        past = ap (λ (xs : List PastInstant). xs ++ instant pending outputs ∷ []) i.past
+            ∙ sym (after_snoc instants_after [] journal e);
         leaves = leaves_next i stamp outputs next h;
         fits = h.fits;
       }
 
   -- the outcome of what a reactor has left to run
-  abbrev pub outcome : (i : IsRunning journal m state pending instants) (outputs : ℕ) (next : State) → IsNext m state pending outputs next
+  abbrev pub outcome : (i : IsRunning journal m state pending instants) (outputs : ℕ) (next : State)
+      → IsNext m state pending outputs next
       → IsOutcome journal outputs (state_term m.kernel.root next)
   outcome i outputs next h = record {
     running = running m pending instants;
@@ -111,7 +123,8 @@ module _ {journal : List SlotEntry} {m : Module} {state : State} {pending : ℕ}
   }
 
   -- what is added with an outcome's entry
-  pub added : (i : IsRunning journal m state pending instants) (w : List SlotEntry) (stamp : Stamp) (outputs : ℕ) (next : State) → IsNext m state pending outputs next
+  pub added : (i : IsRunning journal m state pending instants) (w : List SlotEntry) (stamp : Stamp) (outputs : ℕ)
+      (next : State) → IsNext m state pending outputs next
       → HasRoom journal → w ≡ journal ++ entry stamp (Step (instant pending outputs)) ∷ []
       → (next : Term) × AddsInstant journal outputs next stamp w
   added i w stamp outputs next h room e = (
@@ -120,12 +133,14 @@ module _ {journal : List SlotEntry} {m : Module} {state : State} {pending : ℕ}
       outcome = outcome i outputs next h;
       room = room;
       appended = e;
-      leaves = subst (λ (v : List SlotEntry). Leaves v (state_term m.kernel.root next)) (sym e) (leaves_next i stamp outputs next h);
+      leaves = subst (λ (v : List SlotEntry). Leaves v (state_term m.kernel.root next)) (sym e)
+          (leaves_next i stamp outputs next h);
     },
   )
 
   -- nothing is the reaction of what a reactor has left to run
-  pub no_outcome : (i : IsRunning journal m state pending instants) (s : StuckValue) → HasNoReaction m.kernel state (record { signals = pending }) s
+  pub no_outcome : (i : IsRunning journal m state pending instants) (s : StuckValue)
+      → HasNoReaction m.kernel state (record { signals = pending }) s
       → HasNoOutcome journal s.undecided
   no_outcome i s h = record {
     running = running m pending instants;
@@ -136,7 +151,8 @@ module _ {journal : List SlotEntry} {m : Module} {state : State} {pending : ℕ}
   }
 
   -- an offer's entry keeps what a reactor is, with the signal pending
-  pub offers : (i : IsRunning journal m state pending instants) (stamp : Stamp) (name : List ℕ) (after : ℕ) → JoinsAs m pending name after
+  pub offers : (i : IsRunning journal m state pending instants) (stamp : Stamp) (name : List ℕ) (after : ℕ)
+      → JoinsAs m pending name after
       → IsRunning (journal ++ entry stamp (Offer name) ∷ []) m state after instants
   offers i stamp name after h =
       let e : SlotEntry = entry stamp (Offer name) in
@@ -188,7 +204,8 @@ pub nothing_runs : (journal : List SlotEntry) (stamp : Stamp) → is_loaded (jou
 nothing_runs journal stamp = ap is_some (after_snoc load_after None journal (entry stamp Unload))
 
 -- a load's entry makes a reactor that has not begun
-pub begins : (journal : List SlotEntry) (stamp : Stamp) (l : LoadEntry) (m : Module) → ModuleOf l (given_by m) → AreOverInputs m.kernel.interface m.relations
+pub begins : (journal : List SlotEntry) (stamp : Stamp) (l : LoadEntry) (m : Module) → ModuleOf l (given_by m)
+    → AreOverInputs m.kernel.interface m.relations
     → IsRunning (journal ++ entry stamp (Load l) ∷ []) m Fresh 0 []
 begins journal stamp l m is over = record {
   load = l;

@@ -1,5 +1,6 @@
 -- What a reactor answers: the reply to each command on a journal, and the journal afterwards.
-use Rattle.std.specs.Prelude.{◌≡◌, ◌⊎◌, ℕ, ◌-◌, ◌<◌, ◌≤◌, List, [], ◌∷◌, ◌++◌, length, Some, Result, Ok, Err, MatchResult, slice_get, bit_or, bit_and}
+use Rattle.std.specs.Prelude.{◌≡◌, ◌⊎◌, ℕ, ◌-◌, ◌<◌, ◌≤◌, List, [], ◌∷◌, ◌++◌, length, Some, Result, Ok, Err}
+use Rattle.std.specs.Prelude.{MatchResult, slice_get, bit_or, bit_and}
 use Rattle.est_relations.specs.Offers.{offer_rules as pending_rules}
 use Rattle.refusal_rules.specs.Rules.{Rule, Rules, Unless, MayRefuse, accept, ◌▸◌, ◌▸▸◌, Answers}
 use Rattle.reactor_core.specs.declared.entry.Stamp.{Stamp}
@@ -39,25 +40,29 @@ entry_rules journal = Unless (HasRoom journal) JournalFull ▸ MayRefuse Memory 
 abbrev pub offer_rules : List SlotEntry → Running → (name : List ℕ) → Rules Refusal
 offer_rules journal r name = all_converted refusal_of_pending (pending_rules (pending_of r) name) ▸▸ entry_rules journal
 
--- the answer to an offer of the name, and the journal afterwards: by the rules a refusal, and the journal as it was, or the entry is
--- added
-pub record OfferAnswer (before : List SlotEntry) (stamp : Stamp) (name : List ℕ) (answer : Result (Unit {0}) Refusal) (after : List SlotEntry) : Type 0 where
+-- the answer to an offer of the name, and the journal afterwards: by the rules a refusal, and the journal as it was, or
+-- the entry is added
+pub record OfferAnswer (before : List SlotEntry) (stamp : Stamp) (name : List ℕ) (answer : Result (Unit {0}) Refusal)
+    (after : List SlotEntry) : Type 0 where
   pub running : Running
   pub runs : Runs before running
   pub given : Answers (offer_rules before running name)
       (λ refusal. (answer ≡ Err refusal) × (after ≡ before))
       ((answer ≡ Ok (record {})) × (after ≡ before ++ entry stamp (Offer name) ∷ []))
 
--- the answer to a discard, and the journal afterwards: by the rules for an entry a refusal, and the journal as it was, or the entry is
--- added
-abbrev pub DiscardAnswer : (before : List SlotEntry) → Stamp → Result (Unit {0}) Refusal → (after : List SlotEntry) → Type 0
+-- the answer to a discard, and the journal afterwards: by the rules for an entry a refusal, and the journal as it was,
+-- or the entry is added
+abbrev pub DiscardAnswer : (before : List SlotEntry) → Stamp → Result (Unit {0}) Refusal → (after : List SlotEntry)
+    → Type 0
 DiscardAnswer before stamp answer after =
     Answers (entry_rules before)
     (λ refusal. (answer ≡ Err refusal) × (after ≡ before))
     ((answer ≡ Ok (record {})) × (after ≡ before ++ entry stamp Discard ∷ []))
 
--- the answer to an unload: by the rules for an entry a refusal, and the reactor as it was, or the journal with the entry
-abbrev pub UnloadAnswer : (before : List SlotEntry) → Stamp → Result (List SlotEntry) (Refusal × List SlotEntry) → Type 0
+-- the answer to an unload: by the rules for an entry a refusal, and the reactor as it was, or the journal with the
+-- entry
+abbrev pub UnloadAnswer : (before : List SlotEntry) → Stamp → Result (List SlotEntry) (Refusal × List SlotEntry)
+    → Type 0
 UnloadAnswer before stamp answer =
     Answers (entry_rules before)
     (λ refusal. answer ≡ Err (refusal, before))
@@ -76,14 +81,16 @@ abbrev pub load_of : (main text : List ℕ) → LoadEntry
 load_of main text = record { main = main; text = text }
 
 -- the load's entry is added, and the text gives a module
-pub record AddsLoad (before : List SlotEntry) (stamp : Stamp) (main text : List ℕ) (after : List SlotEntry) : Type 0 where
+pub record AddsLoad (before : List SlotEntry) (stamp : Stamp) (main text : List ℕ)
+    (after : List SlotEntry) : Type 0 where
   pub given : GivenModule
   pub gives : Gives main text given
   pub added : after ≡ before ++ entry stamp (Load (load_of main text)) ∷ []
 
--- the answer to a load of the text's module of this name: by the rules a refusal, and the journal as it was, or the reactor, with the
--- journal afterwards
-abbrev pub LoadAnswer : (before : List SlotEntry) → Stamp → (main text : List ℕ) → Result (List SlotEntry) (Refusal × List SlotEntry) → Type 0
+-- the answer to a load of the text's module of this name: by the rules a refusal, and the journal as it was, or the
+-- reactor, with the journal afterwards
+abbrev pub LoadAnswer : (before : List SlotEntry) → Stamp → (main text : List ℕ)
+    → Result (List SlotEntry) (Refusal × List SlotEntry) → Type 0
 LoadAnswer before stamp main text answer =
     Answers (load_rules before main text)
     (λ refusal. answer ≡ Err (refusal, before))
@@ -108,7 +115,7 @@ pub record ShowsInstant (journal : List SlotEntry) (n mask : ℕ) (s : Shown) : 
   pub there : IsInstant journal n instant
   pub masked : s ≡ within_mask instant mask
 
--- the answer to a look at the n-th instant since the load: NoInstant exactly where there is none
+-- the answer to a look at the n-th instant since the load: NoInstant exactly when there is none
 abbrev pub ShownAnswer : (journal : List SlotEntry) → (n mask : ℕ) → Result Shown Refusal → Type 0
 ShownAnswer journal n mask answer =
     MatchResult answer

@@ -1,5 +1,5 @@
--- The refusals that the faults of a load's stages are: of cutting, of the grammar, of linking and of reduction; and those of pending
--- inputs.
+-- The refusals that the faults of a load's stages are: of cutting, of the grammar, of linking and of reduction; and
+-- those of pending inputs.
 use Rattle.std.specs.Prelude.{ℕ, List}
 use Rattle.est_kernel.specs.declared.limits.Limit.{Limit as KernelLimit}
 use Rattle.est_kernel.specs.declared.limits.Limit.TheVariants as kernel
@@ -16,8 +16,12 @@ use Rattle.est_syntax.specs.declared.parse.ParseFault.TheVariants as parse
 use Rattle.est_text.specs.declared.lex.LexFault.{LexFault}
 use Rattle.est_text.specs.declared.lex.LexFault.TheVariants as lex
 use Rattle.reactor_core.specs.declared.refusal.Limit.{Limit}
-use Rattle.reactor_core.specs.declared.refusal.Limit.TheVariants.{Nesting, Signals, Relations, Statements, Loops, Traps, Locals}
-use Rattle.reactor_core.specs.declared.refusal.ModuleRefusal.TheVariants.{Pending, Lexical, Syntax, UnknownModule, RecursiveRun, UnknownName, DuplicateName, EmitInput, BadRename, InstantLoop, TooLarge, Semantics}
+use Rattle.reactor_core.specs.declared.refusal.Limit.TheVariants.{Nesting, Signals, Relations, Statements, Loops, Traps}
+use Rattle.reactor_core.specs.declared.refusal.Limit.TheVariants.{Locals}
+use Rattle.reactor_core.specs.declared.refusal.ModuleRefusal.TheVariants.{Pending, Lexical, Syntax, UnknownModule}
+use Rattle.reactor_core.specs.declared.refusal.ModuleRefusal.TheVariants.{RecursiveRun, UnknownName, DuplicateName}
+use Rattle.reactor_core.specs.declared.refusal.ModuleRefusal.TheVariants.{EmitInput, BadRename, InstantLoop, TooLarge}
+use Rattle.reactor_core.specs.declared.refusal.ModuleRefusal.TheVariants.{Semantics}
 use Rattle.reactor_core.specs.declared.refusal.Refusal.{Refusal}
 use Rattle.reactor_core.specs.declared.refusal.Refusal.TheVariants.{Module, Memory}
 

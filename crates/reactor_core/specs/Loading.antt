@@ -1,5 +1,5 @@
--- What a load reads: the module that a text and the name of its main module give, or the first fault of the stages of a load,
--- which are cutting, the grammar, linking and reduction (this project's own form).
+-- What a load reads: the module that a text and the name of its main module give, or the first fault of the stages of a
+-- load, which are cutting, the grammar, linking and reduction (this project's own form).
 use Rattle.std.specs.Prelude.{◌≡◌, ◌≤◌, ℕ, List, Some, None}
 use Rattle.est_kernel.specs.Limits.{limit_passed}
 use Rattle.est_kernel.specs.StartCodes.{IsLoopSafe}
@@ -52,8 +52,8 @@ pub record GivenModule : Type 0 where
   pub relations : List Relation
   pub term : Term
 
--- the text and the name of its main module give this module: it links to the main module's interface and relations, and the main
--- module's kernel term by the table of reductions is within the limits, and no loop of it takes no time
+-- the text and the name of its main module give this module: it links to the main module's interface and relations, and
+-- the main module's kernel term by the table of reductions is within the limits, and no loop of it takes no time
 pub record Gives (main text : List ℕ) (m : GivenModule) : Type 0 where
   pub flat : Flat
   pub links : LinksTo main text flat
@@ -63,13 +63,15 @@ pub record Gives (main text : List ℕ) (m : GivenModule) : Type 0 where
   pub within_limits : limit_passed m.term ≡ None
   pub loop_safe : IsLoopSafe m.term
 
--- why a text gives no module of this name: the first stage that has a fault has this one. Each stage asks what those before it
--- make of the text, so no two of them have one; want of memory is that of any stage.
+-- why a text gives no module of this name: the first stage that has a fault has this one. Each stage asks what those
+-- before it make of the text, so no two of them have one; want of memory is that of any stage.
 pub data IsLoadFault (main text : List ℕ) : Refusal → Type 0 where
   in_cutting : (fault : LexFault) → IsLexFault text fault → IsLoadFault main text (refusal_of_lex fault)
   in_grammar : (tokens : TokenList) → IsCutOf text tokens
-      → (fault : ParseFault) → IsParseFault MOST_OPEN_UNITS tokens fault → IsLoadFault main text (refusal_of_parse fault)
+      → (fault : ParseFault) → IsParseFault MOST_OPEN_UNITS tokens fault
+      → IsLoadFault main text (refusal_of_parse fault)
   in_linking : (library : LibraryTree) → Spells text library
-      → (fault : LinkFault) → IsFirstFault (programs_of library) main (Some fault) → IsLoadFault main text (refusal_of_link fault)
+      → (fault : LinkFault) → IsFirstFault (programs_of library) main (Some fault)
+      → IsLoadFault main text (refusal_of_link fault)
   in_reduction : (flat : Flat) → LinksTo main text flat
       → (fault : ReduceFault) → IsFaultOf (body_of flat.body) fault → IsLoadFault main text (refusal_of_reduce fault)

@@ -80,7 +80,8 @@ mask_of interface (name ∷ names) = with_signal (mask_of interface names) (plac
 abbrev pub ModuleOf : LoadEntry → GivenModule → Type 0
 ModuleOf l m = Gives l.main l.text m
 
--- a loaded module: its interface and relations, the inputs that are pending, and the instants since the load, the first one first
+-- a loaded module: its interface and relations, the inputs that are pending, and the instants since the load, the first
+-- one first
 pub record Running : Type 0 where
   pub interface : List Declaration
   pub relations : List Relation
@@ -91,8 +92,8 @@ pub record Running : Type 0 where
 abbrev pub pending_of : Running → PendingInputs
 pending_of r = record { interface = r.interface; relations = r.relations; mask = r.pending }
 
--- this is what runs after these entries: the module of the last load, with what was offered and the instants since then. There is
--- one such at most
+-- this is what runs after these entries: the module of the last load, with what was offered and the instants since
+-- then. There is one such at most
 pub record Runs (journal : List SlotEntry) (r : Running) : Type 0 where
   pub load : LoadEntry
   pub last : last_load journal ≡ Some load
@@ -101,9 +102,9 @@ pub record Runs (journal : List SlotEntry) (r : Running) : Type 0 where
   pub offered : r.pending ≡ mask_of r.interface (offers_of journal)
   pub past : r.instants ≡ instants_of journal
 
--- this term is left to run after these entries: a load leaves its module's whole term, an offer and a discard what was left, and a
--- step what the constructive reaction to the pending inputs leaves, which also gives the step's inputs and outputs; an unload leaves
--- none
+-- this term is left to run after these entries: a load leaves its module's whole term, an offer and a discard what was
+-- left, and a step what the constructive reaction to the pending inputs leaves, which also gives the step's inputs and
+-- outputs; an unload leaves none
 pub data Leaves : List SlotEntry → Term → Type 0 where
   loaded : (before : List SlotEntry) → (stamp : Stamp) → (l : LoadEntry) → (m : GivenModule) → ModuleOf l m
       → Leaves (before ++ entry stamp (Load l) ∷ []) m.term

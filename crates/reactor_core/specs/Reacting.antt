@@ -6,8 +6,8 @@ use Rattle.est_kernel.specs.declared.interface.Declaration.{Declaration}
 use Rattle.est_meaning.specs.Reaction.{Reacts, CannotReact, is_undecided}
 use Rattle.est_meaning.specs.Rounds.{judged_outputs}
 
--- the constructive reaction of the term to these inputs emits these outputs of the interface and goes on as the next term
--- (Berry, The Constructive Semantics of Pure Esterel)
+-- the constructive reaction of the term to these inputs emits these outputs of the interface and goes on as the next
+-- term (Berry, The Constructive Semantics of Pure Esterel)
 abbrev pub ReactsWith : List Declaration → Term → (inputs outputs : ℕ) → (next : Term) → Type 0
 ReactsWith interface term inputs outputs next = Reacts (judged_outputs interface) (bits inputs) term (bits outputs) next
 

@@ -29,9 +29,10 @@ pending_inputs m mask = record { interface = m.kernel.interface; relations = m.r
 abbrev pub AreKept : Module → (mask : ℕ) → Type 0
 AreKept m mask = KeepsExclusions m.kernel.interface m.relations mask
 
--- this module of the last load runs, with these pending inputs and these instants, and the state stands for the term that is left
--- of it
-pub record IsRunning (journal : List SlotEntry) (m : Module) (state : State) (pending : ℕ) (instants : List PastInstant) : Type 0 where
+-- this module of the last load runs, with these pending inputs and these instants, and the state stands for the term
+-- that is left of it
+pub record IsRunning (journal : List SlotEntry) (m : Module) (state : State) (pending : ℕ)
+    (instants : List PastInstant) : Type 0 where
   pub load : LoadEntry
   pub last : last_load journal ≡ Some load
   pub is : ModuleOf load (given_by m)
@@ -41,10 +42,12 @@ pub record IsRunning (journal : List SlotEntry) (m : Module) (state : State) (pe
   pub leaves : Leaves journal (state_term m.kernel.root state)
   pub fits : IsState m.kernel.root state
 
--- the reaction of what is left in this state to the pending inputs emits these outputs, and leaves what the next state stands for
+-- the reaction of what is left in this state to the pending inputs emits these outputs, and leaves what the next state
+-- stands for
 pub record IsNext (m : Module) (state : State) (pending outputs : ℕ) (next : State) : Type 0 where
   pub fits : IsState m.kernel.root next
-  pub reacts : ReactsWith m.kernel.interface (state_term m.kernel.root state) pending outputs (state_term m.kernel.root next)
+  pub reacts : ReactsWith m.kernel.interface (state_term m.kernel.root state) pending outputs
+      (state_term m.kernel.root next)
 
 -- the parts of a reactor run
 abbrev pub AreRunning : Parts → Type 0

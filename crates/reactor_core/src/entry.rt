@@ -9,14 +9,16 @@ pub struct Stamp {
     pub session: u16,
 }
 
-/// An instant that has passed: its present inputs and outputs, as masks over the interface in the order of declaration.
+/// An instant that has passed: its present inputs and outputs, as masks over the interface in the
+/// order of declaration.
 #[derive(Clone, Copy, PartialEq, Eq, Debug)]
 pub struct PastInstant {
     pub inputs: u64,
     pub outputs: u64,
 }
 
-/// An accepted load: the name of the main module, and the text. What runs is the module that the two give.
+/// An accepted load: the name of the main module, and the text. What runs is the module that the
+/// two give.
 #[derive(Drop)]
 pub struct Load {
     pub main: Identifier,

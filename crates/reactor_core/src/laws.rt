@@ -1,4 +1,5 @@
-//! The laws of journals. Each function does nothing but call the laws that it follows from: its contract is the law.
+//! The laws of journals. Each function does nothing but call the laws that it follows from: its
+//! contract is the law.
 ghost use Rattle.std.specs.Prelude.{◌≡◌, ◌⊎◌, ◌↔◌, ℕ, true, List};
 ghost use Rattle.est_kernel.specs.Bits.{bits};
 ghost use Rattle.est_kernel.specs.Term.{Term};
@@ -10,7 +11,8 @@ ghost use Rattle.reactor_core.specs.declared.refusal.Refusal.{Refusal};
 ghost use Rattle.reactor_core.specs.declared.refusal.Refusal.TheVariants.{Memory};
 ghost use Rattle.reactor_core.specs.Loading.{GivenModule, Gives, IsLoadFault};
 ghost use Rattle.reactor_core.specs.Meaning.{ModuleOf, Running, Runs, Leaves};
-ghost use Rattle.reactor_core.specs.Instants.{IsOutcome, HasNoOutcome, AddsInstant, LacksImplied, KeepsRelations};
+ghost use Rattle.reactor_core.specs.Instants.{IsOutcome, HasNoOutcome, AddsInstant, LacksImplied};
+ghost use Rattle.reactor_core.specs.Instants.{KeepsRelations};
 ghost use Rattle.reactor_core.specs.Offers.{IsOfferedAt, TakesOffers};
 ghost use Rattle.reactor_core.specs.Refusals.{row_of};
 ghost use Rattle.refusal_tables.specs.Rows.{TellsApart};
@@ -26,8 +28,8 @@ pub fn one_module()
     one_flat();
 }
 
-/// A text and the name of its main module give one module, or have one first fault, and never both. Want of memory, which no
-/// definition foresees, can come at any time.
+/// A text and the name of its main module give one module, or have one first fault, and never both.
+/// Want of memory, which no definition foresees, can come at any time.
 pub fn one_load()
     ensures given { (main text : List ℕ) (m n : GivenModule)
         → Gives main text m → Gives main text n → m ≡ n }
@@ -42,7 +44,8 @@ pub fn one_load()
     one_flat();
 }
 
-/// After a journal one module runs at most, with one mask of pending inputs and one list of instants.
+/// After a journal one module runs at most, with one mask of pending inputs and one list of
+/// instants.
 pub fn one_running()
     ensures { (journal : List SlotEntry) (r s : Running) → Runs journal r → Runs journal s → r ≡ s }
 {
@@ -57,7 +60,8 @@ pub fn one_term_is_left()
     one_module();
 }
 
-/// A journal's next instant has one outcome at most: one set of outputs, and one term that it leaves.
+/// A journal's next instant has one outcome at most: one set of outputs, and one term that it
+/// leaves.
 pub fn one_outcome()
     ensures { (journal : List SlotEntry) (a b : ℕ) (t u : Term)
         → IsOutcome journal a t → IsOutcome journal b u
@@ -66,7 +70,8 @@ pub fn one_outcome()
     one_module();
 }
 
-/// A journal's next instant doesn't both have an outcome and have none: a step is Stuck just where there is no reaction.
+/// A journal's next instant doesn't both have an outcome and have none: a step is Stuck exactly
+/// when there is no reaction.
 pub fn an_outcome_or_none()
     ensures { (journal : List SlotEntry) (outputs : ℕ) (next : Term) (undecided : ℕ)
         → IsOutcome journal outputs next → HasNoOutcome journal undecided → ⊥ }
@@ -74,8 +79,8 @@ pub fn an_outcome_or_none()
     one_module();
 }
 
-/// A journal's pending inputs don't both keep each relation and lack an implied one: a step is Implied just where a relation does not
-/// hold.
+/// A journal's pending inputs don't both keep each relation and lack an implied one: a step is
+/// Implied exactly when a relation does not hold.
 pub fn ready_or_lacking()
     ensures { (journal : List SlotEntry) (number : ℕ) (missing : List ℕ)
         → LacksImplied journal number missing → KeepsRelations journal → ⊥ }
@@ -83,8 +88,8 @@ pub fn ready_or_lacking()
     one_module();
 }
 
-/// A signal is pending exactly where an offer of it was accepted and no load, discard, step or unload since; and those are the inputs of
-/// the next step.
+/// A signal is pending exactly when an offer of it was accepted and no load, discard, step or
+/// unload since; and those are the inputs of the next step.
 pub fn inputs_are_offered()
     ensures pending { (journal : List SlotEntry) (r : Running) (place : ℕ) → Runs journal r
         → (bits r.pending place ≡ true) ↔ IsOfferedAt journal r.interface place }

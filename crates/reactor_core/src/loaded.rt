@@ -4,8 +4,8 @@ ghost use Rattle.est_relations.specs.Keeping.{AreOverInputs};
 use est_kernel::kernel::Kernel;
 use est_relations::relations::Relations;
 
-/// A module as it runs: its kernel, which has its interface, and the relations between its inputs. Its drop goes as deep as the kernel's
-/// statement, at most 2,048 levels.
+/// A module as it runs: its kernel, which has its interface, and the relations between its inputs.
+/// Its drop goes as deep as the kernel's statement, at most 2,048 levels.
 #[derive(Drop)]
 pub struct Module {
     pub kernel: Kernel,

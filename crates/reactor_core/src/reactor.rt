@@ -1,13 +1,14 @@
 //! A running module with its journal.
-ghost use Rattle.std.specs.Prelude.{◌≡◌, ◌⊎◌, ◌<◌, ◌-◌, ◌++◌, ◌∷◌, [], length, Some, MatchResult, MatchOption, IfOk};
-ghost use Rattle.std.specs.Prelude.{IfErr, IsTrue, true, false, slice_get};
+ghost use Rattle.std.specs.Prelude.{◌≡◌, ◌⊎◌, ◌<◌, ◌-◌, ◌++◌, ◌∷◌, [], length, Some, MatchResult};
+ghost use Rattle.std.specs.Prelude.{MatchOption, IfOk, IfErr, IsTrue, true, false, slice_get};
 ghost use Rattle.est_text.specs.Identifiers.{is_identifier};
-ghost use Rattle.reactor_core.specs.Meaning.{Running, Runs, ModuleOf, is_loaded, instants_of, entry};
+ghost use Rattle.reactor_core.specs.Meaning.{Running, Runs, ModuleOf, is_loaded, instants_of};
+ghost use Rattle.reactor_core.specs.Meaning.{entry};
 ghost use Rattle.reactor_core.specs.Loading.{IsLoadFault};
 ghost use Rattle.reactor_core.specs.Standing.{given_by};
 ghost use Rattle.reactor_core.specs.Instants.{OpenAnswer};
-ghost use Rattle.reactor_core.specs.Answers.{LoadAnswer, OfferAnswer, DiscardAnswer, UnloadAnswer, ShownAnswer};
-ghost use Rattle.reactor_core.specs.Answers.{HasRoom, RefusesEntry, load_of};
+ghost use Rattle.reactor_core.specs.Answers.{LoadAnswer, OfferAnswer, DiscardAnswer, UnloadAnswer};
+ghost use Rattle.reactor_core.specs.Answers.{ShownAnswer, HasRoom, RefusesEntry, load_of};
 
 use crate::entry::{Action, Load, PastInstant, SlotEntry, Stamp};
 use crate::journal::Journal;
@@ -26,8 +27,8 @@ use std::marker::Model;
 pub mod instant;
 mod parts;
 
-/// What is shown of an instant: the signals that were asked for, and those of them that were present, as masks over the
-/// interface in the order of declaration.
+/// What is shown of an instant: the signals that were asked for, and those of them that were
+/// present, as masks over the interface in the order of declaration.
 #[derive(Clone, Copy, PartialEq, Eq, Debug)]
 pub struct Shown {
     pub mask: u64,
@@ -69,7 +70,8 @@ fn instant_at(instants: &[PastInstant], n: u64) -> Option<PastInstant>
     Some(instants[(n - 1) as usize])
 }
 
-/// The load of the module `main` of a text: its entry keeps copies of both, and its module is read from the text.
+/// The load of the module `main` of a text: its entry keeps copies of both, and its module is read
+/// from the text.
 fn read_load(alloc: Global, main: &str, text: &str) -> Result<(Load, Module), Refusal>
     requires { IsTrue (is_identifier main.now) }
     ensures entry { IfOk result (λ read. read.0 ≡ load_of main.now text.now) }
@@ -115,16 +117,18 @@ impl Reactor {
         self.parts.instants.len() as u64
     }
 
-    /// The inputs that are offered and not yet taken by a step, as a mask over the interface in the order of declaration.
+    /// The inputs that are offered and not yet taken by a step, as a mask over the interface in the
+    /// order of declaration.
     pub fn pending(&self) -> u64
         ensures { (r : Running) × Runs self.now r × (result ≡ r.pending) }
     {
         self.parts.pending
     }
 
-    /// Loads the module `main` of a text: the reactor has not begun, and its journal has the load's entry, with copies of
-    /// both. That the name is an identifier is the caller's condition: no module has another. A refusal, by the text,
-    /// JournalFull or Memory, gives the journal back as it was.
+    /// Loads the module `main` of a text: the reactor has not begun, and its journal has the load's
+    /// entry, with copies of both. That the name is an identifier is the caller's condition: no
+    /// module has another. A refusal, by the text, JournalFull or Memory, gives the journal back as
+    /// it was.
     pub fn load(
         alloc: Global,
         journal: Journal,
@@ -141,8 +145,8 @@ impl Reactor {
         }
     }
 
-    /// The reactor of a load and its module: it has not begun, and its journal has the load's entry. A refusal, JournalFull or
-    /// Memory, gives the journal back as it was.
+    /// The reactor of a load and its module: it has not begun, and its journal has the load's
+    /// entry. A refusal, JournalFull or Memory, gives the journal back as it was.
     fn begin(
         alloc: Global,
         journal: Journal,
@@ -195,7 +199,8 @@ impl Reactor {
         }
     }
 
-    /// Takes the pending inputs away; the module runs on. A refusal, JournalFull or Memory, leaves the reactor as it was.
+    /// Takes the pending inputs away; the module runs on. A refusal, JournalFull or Memory, leaves
+    /// the reactor as it was.
     pub fn discard(&mut self, stamp: Stamp) -> Result<(), Refusal>
         ensures answer { DiscardAnswer self.old stamp result self.new }
         ensures loaded { is_loaded self.new ≡ true }
@@ -213,8 +218,8 @@ impl Reactor {
         }
     }
 
-    /// Ends the module, with its pending inputs: the journal, after which none runs. A refusal, JournalFull or Memory, gives the
-    /// reactor back as it was.
+    /// Ends the module, with its pending inputs: the journal, after which none runs. A refusal,
+    /// JournalFull or Memory, gives the reactor back as it was.
     pub fn unload(self, stamp: Stamp) -> Result<Journal, (Refusal, Reactor)>
         ensures answer { UnloadAnswer self stamp result }
         ensures empty { IfOk result (λ journal. is_loaded journal ≡ false) }
@@ -231,8 +236,9 @@ impl Reactor {
         }
     }
 
-    /// Opens the next instant, which takes the pending inputs, where each relation of the module holds of them. Where one doesn't it
-    /// is refused as Implied, and the reactor is handed back as it was. It adds no entry and takes no memory.
+    /// Opens the next instant, which takes the pending inputs, where each relation of the module
+    /// holds of them. Where one doesn't it is refused as Implied, and the reactor is handed back as
+    /// it was. It adds no entry and takes no memory.
     pub fn open(self) -> Result<Instant, (Refusal, Reactor)>
         ensures { OpenAnswer self result }
     {

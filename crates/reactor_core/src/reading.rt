@@ -12,8 +12,8 @@ use est_syntax::parse::parse;
 use est_text::lex::lex;
 use std::alloc::Global;
 
-/// The main module of a text: it is cut, read by the grammar, linked and reduced. Each stage ends before the next begins, so a
-/// fault of an earlier one is answered before any of a later one.
+/// The main module of a text: it is cut, read by the grammar, linked and reduced. Each stage ends
+/// before the next begins, so a fault of an earlier one is answered before any of a later one.
 pub fn read_module(alloc: Global, main: &str, text: &str) -> Result<Module, Refusal>
     requires { IsTrue (is_identifier main.now) }
     ensures given { IfOk result (λ m. Gives main.now text.now (given_by m)) }

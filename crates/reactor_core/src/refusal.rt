@@ -15,7 +15,7 @@ use std::alloc::AllocError;
 /// A limit of a module's size.
 #[derive(Clone, Copy, PartialEq, Eq, Debug)]
 pub enum Limit {
-    /// Open units round a unit of the text.
+    /// Open units around a unit of the text.
     Nesting,
     /// Signals of the interface.
     Signals,
@@ -98,7 +98,8 @@ pub enum ModuleRefusal {
     DuplicateName(Identifier),
     /// An input, or `tick`, is emitted.
     EmitInput(Identifier),
-    /// A renaming names no interface signal of the module that is run, or one that another of its list names too.
+    /// A renaming names no interface signal of the module that is run, or one that another of its
+    /// list names too.
     BadRename(Identifier),
     /// The body of a loop can end in the instant in which it begins.
     InstantLoop,

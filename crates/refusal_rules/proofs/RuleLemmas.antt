@@ -1,7 +1,8 @@
 -- Steps through an ordered list of rules.
 use Rattle.std.proofs.Common.{◌≡◌, ◌⊎◌, ◌∙◌, ℕ, zero, suc, ◌<◌, inl, inr, sym, ap, ⊎_elim, arith}
 use Rattle.std.specs.Prelude.{Result, Ok, Err}
-use Rattle.refusal_rules.specs.Rules.{Rule, Rules, Says, Unless, Naming, accept, ◌▸◌, ◌▸▸◌, Refuses, Passes, Answers, RefusesAt, PassBefore, AllPass, FirstRefuses, IsDefinite, AllDefinite}
+use Rattle.refusal_rules.specs.Rules.{Rule, Rules, Says, Unless, Naming, accept, ◌▸◌, ◌▸▸◌, Refuses, Passes, Answers}
+use Rattle.refusal_rules.specs.Rules.{RefusesAt, PassBefore, AllPass, FirstRefuses, IsDefinite, AllDefinite}
 
 -- the rule refuses
 pub refuse : {R : Type 0} {rule : Rule R} {Refused : R → Type 0} {Next : Type 0} (refusal : R) → rule.refuses refusal
@@ -19,14 +20,16 @@ pub append : {R : Type 0} (rules later : Rules R) (Refused : R → Type 0) (Acce
     → Answers rules Refused (Answers later Refused Accepted) → Answers (rules ▸▸ later) Refused Accepted
 append accept later Refused Accepted h = h
 append (rule ▸ rest) later Refused Accepted (inl refuses) = inl refuses
-append (rule ▸ rest) later Refused Accepted (inr passes) = pass passes.passed (append rest later Refused Accepted passes.next)
+append (rule ▸ rest) later Refused Accepted (inr passes) =
+    pass passes.passed (append rest later Refused Accepted passes.next)
 
 -- a list is cut in two
 pub split : {R : Type 0} (rules later : Rules R) (Refused : R → Type 0) (Accepted : Type 0)
     → Answers (rules ▸▸ later) Refused Accepted → Answers rules Refused (Answers later Refused Accepted)
 split accept later Refused Accepted h = h
 split (rule ▸ rest) later Refused Accepted (inl refuses) = inl refuses
-split (rule ▸ rest) later Refused Accepted (inr passes) = pass passes.passed (split rest later Refused Accepted passes.next)
+split (rule ▸ rest) later Refused Accepted (inr passes) =
+    pass passes.passed (split rest later Refused Accepted passes.next)
 
 -- what follows from being refused and from being accepted follows from the answer
 pub answered : {R : Type 0} (rules : Rules R) (Refused : R → Type 0) (Accepted Known : Type 0)
@@ -66,7 +69,8 @@ refused rules Refused Accepted refusal first h =
     refused_at rules Refused Accepted first.place refusal first.refuses first.passed h
 
 -- the answer is the refusal of the first rule that refuses, or each rule lets pass and the command is accepted
-pub first_or_none : {R : Type 0} (rules : Rules R) (Refused : R → Type 0) (Accepted : Type 0) → Answers rules Refused Accepted
+pub first_or_none : {R : Type 0} (rules : Rules R) (Refused : R → Type 0) (Accepted : Type 0)
+    → Answers rules Refused Accepted
     → ((refusal : R) × FirstRefuses rules refusal × Refused refusal) ⊎ (AllPass rules × Accepted)
 first_or_none accept Refused Accepted h = inr (record {}, h)
 first_or_none (rule ▸ later) Refused Accepted (inl refuses) =

@@ -22,7 +22,8 @@ module _ (list : List Entry) (slot session : ℕ) (before : List SlotEntry) (rep
       (λ refusal refused. ap place_told refused.replied) does step
 
   -- a reply that tells a place is one to a command that asks for an entry
-  pub tells_asked : (command : SlotCommand) → SlotStep list slot session command before reply after → IsSome (place_told reply) → IsSome (asked_by command)
+  pub tells_asked : (command : SlotCommand) → SlotStep list slot session command before reply after
+      → IsSome (place_told reply) → IsSome (asked_by command)
   tells_asked (Load main text) step told = refl
   tells_asked (Offer signal) step told = refl
   tells_asked Discard step told = refl

@@ -15,9 +15,12 @@ use Rattle.slot_table.specs.Closing.{AreLegal, ClosingState}
 use Rattle.slot_table.specs.Inner.Ending.{Ends, EndFrom, all_ended, one_ended}
 
 -- a journal that is legal over what its reader has seen is legal over the policy list that begins with it
-pub handed_legal : (seen policy : List Entry) (slot : ℕ) (journal : List SlotEntry) (handed : Result (Unit {0}) Mismatch) → IsLegal seen slot journal
-    → MatchResult handed (λ _. Begins seen policy) (λ mismatch. (mismatch ≡ Count POLICY_LIST) × (length policy < length seen))
-    → MatchResult handed (λ _. IsLegal policy slot journal) (λ mismatch. (mismatch ≡ Count POLICY_LIST) × (length policy < length seen))
+pub handed_legal : (seen policy : List Entry) (slot : ℕ) (journal : List SlotEntry)
+    (handed : Result (Unit {0}) Mismatch) → IsLegal seen slot journal
+    → MatchResult handed (λ _. Begins seen policy)
+    (λ mismatch. (mismatch ≡ Count POLICY_LIST) × (length policy < length seen))
+    → MatchResult handed (λ _. IsLegal policy slot journal)
+    (λ mismatch. (mismatch ≡ Count POLICY_LIST) × (length policy < length seen))
 handed_legal seen policy slot journal (Ok done) legal begins = still_legal seen policy slot journal begins legal
 handed_legal seen policy slot journal (Err mismatch) legal more = more
 
@@ -25,13 +28,15 @@ handed_legal seen policy slot journal (Err mismatch) legal more = more
 LegalFrom : (policy : List Entry) → (slot : ℕ) → List (List SlotEntry) → Type 0
 LegalFrom policy slot journals = (at : ℕ) → at < length journals → IsLegal policy (slot + at) (part_at journals at)
 
-legal_next : (policy : List Entry) (slot : ℕ) (journal : List SlotEntry) (journals : List (List SlotEntry)) → IsLegal policy slot journal
+legal_next : (policy : List Entry) (slot : ℕ) (journal : List SlotEntry) (journals : List (List SlotEntry))
+    → IsLegal policy slot journal
     → LegalFrom policy (slot + 1) journals → LegalFrom policy slot (journal ∷ journals)
 unfolding LegalFrom
 legal_next policy slot journal journals here later zero low =
     subst (λ n. IsLegal policy n journal) (let e : slot ≡ slot + 0 = omega arith in e) here
 legal_next policy slot journal journals here later (suc at) low =
-    subst (λ n. IsLegal policy n (part_at journals at)) (let e : slot + 1 + at ≡ slot + suc at = omega arith in e) (later at (omega arith))
+    subst (λ n. IsLegal policy n (part_at journals at)) (let e : slot + 1 + at ≡ slot + suc at = omega arith in e)
+    (later at (omega arith))
 
 -- what the slots that ended one after the other leave: the policy list, and where there is still no fault, none
 -- before and legal journals
@@ -39,7 +44,8 @@ record Left (slot : ℕ) (old : ClosingState) (journals : List (List SlotEntry))
   policy : new.policy ≡ old.policy
   legal : IsNone new.fault → IsNone old.fault × LegalFrom old.policy slot journals
 
-left_of : {slot : ℕ} {old new : ClosingState} {journals : List (List SlotEntry)} → EndFrom slot old journals new → Left slot old journals new
+left_of : {slot : ℕ} {old new : ClosingState} {journals : List (List SlotEntry)} → EndFrom slot old journals new
+    → Left slot old journals new
 unfolding LegalFrom
 left_of all_ended = record { policy = refl; legal = λ none. (none, λ at low. absurd (omega arith)) }
 left_of {slot} {old} (one_ended {journal = journal} {journals = journals} here later) =
@@ -57,12 +63,14 @@ left_of {slot} {old} (one_ended {journal = journal} {journals = journals} here l
 
 infixr 4 ◌▹◌
 -- one slot more has ended, before the others
-abbrev pub ◌▹◌ : {slot : ℕ} {old next new : ClosingState} {journal : List SlotEntry} {journals : List (List SlotEntry)} → Ends slot old journal next
+abbrev pub ◌▹◌ : {slot : ℕ} {old next new : ClosingState} {journal : List SlotEntry} {journals : List (List SlotEntry)}
+    → Ends slot old journal next
     → EndFrom (slot + 1) next journals new → EndFrom slot old (journal ∷ journals) new
 here ▹ later = one_ended here later
 
 -- where all slots have ended and there is no fault, their journals are legal over the policy list
-pub all_legal : (old : ClosingState) (journals : List (List SlotEntry)) (new : ClosingState) → EndFrom 0 old journals new → length journals ≡ SLOTS
+pub all_legal : (old : ClosingState) (journals : List (List SlotEntry)) (new : ClosingState)
+    → EndFrom 0 old journals new → length journals ≡ SLOTS
     → IsNone new.fault → AreLegal new.policy journals
 unfolding LegalFrom
 all_legal old journals new ends sixteen none = λ slot low.
@@ -72,12 +80,14 @@ all_legal old journals new ends sixteen none = λ slot low.
     (subst (λ n. IsLegal old.policy n (part_at journals slot)) (let e : 0 + slot ≡ slot = omega arith in e) legal)
 
 -- what is given back where all is well has what was asked of it
-pub given_back : {A E : Type 0} (Has : A → Type 0) (result : Result A E) (given : A) → IfOk result (λ a. a ≡ given) → OnOk result (Has given)
+pub given_back : {A E : Type 0} (Has : A → Type 0) (result : Result A E) (given : A) → IfOk result (λ a. a ≡ given)
+    → OnOk result (Has given)
     → IfOk result Has
 given_back Has (Ok a) given same has = subst Has (sym same) has
 given_back Has (Err e) given same has = tt
 
 -- an error that has the one has the other
-pub err_weaker : {A E : Type 0} (result : Result A E) (Has Other : E → Type 0) → ((e : E) → Has e → Other e) → IfErr result Has → IfErr result Other
+pub err_weaker : {A E : Type 0} (result : Result A E) (Has Other : E → Type 0) → ((e : E) → Has e → Other e)
+    → IfErr result Has → IfErr result Other
 err_weaker (Ok a) Has Other weaker has = tt
 err_weaker (Err e) Has Other weaker has = weaker e has

@@ -1,5 +1,6 @@
 -- The seats hand their receipts over, from the last one on.
-use Rattle.std.proofs.Common.{◌≡◌, ◌∙◌, ℕ, ◌+◌, ◌-◌, ◌≤◌, List, [], ◌∷◌, ◌++◌, length, take, sym, ap, arith, append_assoc, length-append}
+use Rattle.std.proofs.Common.{◌≡◌, ◌∙◌, ℕ, ◌+◌, ◌-◌, ◌≤◌, List, [], ◌∷◌, ◌++◌, length, take, sym, ap, arith}
+use Rattle.std.proofs.Common.{append_assoc, length-append}
 use Rattle.std.specs.Prelude.{slice_set}
 use Rattle.std.proofs.Math.ListN.{replicate}
 use Rattle.std.proofs.Math.Seq.{set-append_seam, take-append_seam}
@@ -12,14 +13,15 @@ use Rattle.slot_table.specs.Closing.{kept_of}
 abbrev none_kept : ℕ → List (List Kept)
 none_kept n = replicate n []
 
--- no receipts of the seats that are left, then those of the seats that were taken, and none behind them
+-- no receipts of the seats that are left, then those of the seats that were taken, and none after them
 pub record AreHanded (all left : List SeatState) (receipts : List (List Kept)) : Type 0 where
   pub taken : List SeatState
   pub whole : left ++ taken ≡ all
   pub handed : receipts ≡ none_kept (length left) ++ (kept_of taken ++ none_kept (SEATS - length all))
 
 -- none is handed over yet
-pub none_handed : (all : List SeatState) (receipts : List (List Kept)) → length all ≤ SEATS → receipts ≡ none_kept SEATS → AreHanded all all receipts
+pub none_handed : (all : List SeatState) (receipts : List (List Kept)) → length all ≤ SEATS → receipts ≡ none_kept SEATS
+    → AreHanded all all receipts
 none_handed all receipts few none = record {
   taken = [];
   whole = append-nil all;
@@ -29,7 +31,8 @@ none_handed all receipts few none = record {
 }
 
 -- one seat more
-pub one_handed : (all left : List SeatState) (seat : SeatState) (receipts : List (List Kept)) → AreHanded all (left ++ seat ∷ []) receipts
+pub one_handed : (all left : List SeatState) (seat : SeatState) (receipts : List (List Kept))
+    → AreHanded all (left ++ seat ∷ []) receipts
     → AreHanded all left (slice_set receipts (length left) seat.kept)
 one_handed all left seat receipts handed =
     let n = length left in
@@ -44,15 +47,18 @@ one_handed all left seat receipts handed =
       whole = sym (append_assoc left (seat ∷ []) handed.taken) ∙ handed.whole;
       handed =
           ap (λ l. slice_set l n seat.kept) before
-          ∙ (ap (λ m. slice_set (none_kept n ++ [] ∷ rest) m seat.kept) (sym long) ∙ set-append_seam (none_kept n) [] rest seat.kept);
+          ∙ (ap (λ m. slice_set (none_kept n ++ [] ∷ rest) m seat.kept) (sym long)
+          ∙ set-append_seam (none_kept n) [] rest seat.kept);
     }
 
 -- the seats that are left are no more than all
-pub few_left : (all left : List SeatState) (receipts : List (List Kept)) → AreHanded all left receipts → length left ≤ length all
+pub few_left : (all left : List SeatState) (receipts : List (List Kept)) → AreHanded all left receipts
+    → length left ≤ length all
 few_left all left receipts handed = let n = ap length handed.whole in omega (arith, n, length-append left handed.taken)
 
 -- all are handed over
-pub all_handed : (all : List SeatState) (receipts : List (List Kept)) → AreHanded all [] receipts → take (length all) receipts ≡ kept_of all
+pub all_handed : (all : List SeatState) (receipts : List (List Kept)) → AreHanded all [] receipts
+    → take (length all) receipts ≡ kept_of all
 all_handed all receipts handed =
     let pad = none_kept (SEATS - length all) in
     let same : handed.taken ≡ all = handed.whole in

@@ -17,7 +17,8 @@ use Rattle.access_core.specs.Journals.{IsLegal}
 abbrev pub kept_of : List SeatState → List (List Kept)
 kept_of seats = map (λ (s : SeatState). s.kept) seats
 
--- along the receipts of each seat versions never fall, they rise at a policy command, and the numbers of slot commands rise
+-- along the receipts of each seat versions never fall, they rise at a policy command, and the numbers of slot commands
+-- rise
 abbrev pub AllRise : (seats : List (List Kept)) → Type 0
 AllRise seats = (seat : ℕ) → seat < length seats → Rises 0 None (part_at seats seat)
 
@@ -25,7 +26,8 @@ AllRise seats = (seat : ℕ) → seat < length seats → Rises 0 None (part_at s
 abbrev pub AreLegal : (policy : List Entry) → (slots : List (List SlotEntry)) → Type 0
 AreLegal policy slots = (slot : ℕ) → slot < SLOTS → IsLegal policy slot (part_at slots slot)
 
--- the reader of some slot has seen more entries than the policy list has; over what it has seen the slot's journal is legal
+-- the reader of some slot has seen more entries than the policy list has; over what it has seen the slot's journal is
+-- legal
 pub record IsOverseen (policy : List Entry) : Type 0 where
   pub slot : ℕ
   pub there : slot < SLOTS

@@ -3,7 +3,8 @@ use Rattle.std.specs.Prelude.{List}
 use Rattle.rbac_policy.specs.declared.commands.Entry.{Entry}
 use Rattle.reactor_core.specs.declared.entry.SlotEntry.{SlotEntry}
 
--- list: the policy list that the slot's own reader has seen. journal: what was accepted in the slot, which says whether a module runs there
+-- list: the policy list that the slot's own reader has seen. journal: what was accepted in the slot, which says whether
+-- a module runs there
 pub record LockedState : Type 0 where
   pub list : List Entry
   pub journal : List SlotEntry

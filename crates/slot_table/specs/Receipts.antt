@@ -4,8 +4,9 @@ use Rattle.seat_receipts.specs.declared.receipt.Asked.{Asked}
 use Rattle.seat_receipts.specs.declared.receipt.Kept.{Kept}
 use Rattle.seat_receipts.specs.declared.receipt.Kept.TheVariants.{Slot}
 use Rattle.access_core.specs.declared.reply.Reply.{Reply}
-use Rattle.access_core.specs.declared.reply.Reply.TheVariants.{Refused, Login, Changed, Check}
-use Rattle.access_core.specs.declared.reply.Reply.TheVariants.{Load as Loaded, Offer as Offered, Discard as Discarded, Step as Stepped, Unload as Unloaded, Look as Shown, Audit as Audited}
+use Rattle.access_core.specs.declared.reply.Reply.TheVariants.{Refused, Login, Changed, Check, Load as Loaded}
+use Rattle.access_core.specs.declared.reply.Reply.TheVariants.{Offer as Offered, Discard as Discarded, Step as Stepped}
+use Rattle.access_core.specs.declared.reply.Reply.TheVariants.{Unload as Unloaded, Look as Shown, Audit as Audited}
 
 -- the place and the version that the reply tells of the entry that was added, if one was
 abbrev pub place_told : Reply → Option (ℕ × ℕ)
@@ -23,11 +24,20 @@ place_told (Check allowed) = None
 
 -- one receipt is added at the end of the seat's list: of this slot and this session, with the place and the version
 -- that were told, what was asked for, and a number
-pub record AddsReceipt (slot session : ℕ) (wanted : Option Asked) (told : ℕ × ℕ) (before after : List Kept) : Type 0 where
+pub record AddsReceipt (slot session : ℕ) (wanted : Option Asked) (told : ℕ × ℕ)
+    (before after : List Kept) : Type 0 where
   pub asked : Asked
   pub is : wanted ≡ Some asked
   pub number : ℕ
-  pub added : after ≡ before ++ Slot (record { slot = slot; place = told.0; version = told.1; session = session; number = number; asked = asked }) ∷ []
+  pub added : after ≡ before
+      ++ Slot (record {
+        slot = slot;
+        place = told.0;
+        version = told.1;
+        session = session;
+        number = number;
+        asked = asked;
+      }) ∷ []
 
 -- what the seat keeps after a reply to a command that asked for this: where the reply tells a place, its receipt at
 -- the end, and else what it kept

@@ -1,5 +1,5 @@
--- What a command on a slot is answered, under the slot's lock and on the table, and the slot and the seat afterwards (this project's own
--- form).
+-- What a command on a slot is answered, under the slot's lock and on the table, and the slot and the seat afterwards
+-- (this project's own form).
 use Rattle.std.specs.Prelude.{◌≡◌, ◌⊎◌, ℕ, ◌<◌, ◌≤◌, List, length}
 use Rattle.rbac_policy.specs.declared.commands.Entry.{Entry}
 use Rattle.rbac_policy.specs.declared.objects.TheConstants.{SLOTS}
@@ -21,10 +21,11 @@ use Rattle.slot_table.specs.LockedState.{LockedState}
 use Rattle.history_laws.specs.CallsInTurn.{asked_by}
 use Rattle.slot_table.specs.Receipts.{Keeps}
 
--- the slot's reader has read a policy list. It begins with all that this reader had seen and all that the seat knew, and is no shorter than
--- the seat's seen number. The slot step on it gives the reply and the journal. The seat then knows it, and
--- keeps a receipt of a reply that tells a place
-pub record IsJudged (slot session : ℕ) (command : SlotCommand) (old : LockedState) (seat : SeatState) (reply : Reply) (new : LockedState) (after : SeatState) : Type 0 where
+-- the slot's reader has read a policy list. It begins with all that this reader had seen and all that the seat knew,
+-- and is no shorter than the seat's seen number. The slot step on it gives the reply and the journal. The seat then
+-- knows it, and keeps a receipt of a reply that tells a place
+pub record IsJudged (slot session : ℕ) (command : SlotCommand) (old : LockedState) (seat : SeatState) (reply : Reply)
+    (new : LockedState) (after : SeatState) : Type 0 where
   pub is_list : IsPolicyList new.list
   pub later : Begins old.list new.list
   pub known : Begins seat.known new.list
@@ -33,9 +34,10 @@ pub record IsJudged (slot session : ℕ) (command : SlotCommand) (old : LockedSt
   pub seat_knows : after ≡ record (seat_after seat new.list) { kept = after.kept; room = after.room }
   pub keeps : Keeps slot session (asked_by command) reply seat.kept after.kept
 
--- the policy list that the slot's reader has read is shorter than the seat's seen number, and the refusal tells both lengths. Journal and
--- seat stay, but for the seat's room
-pub record IsBehind (old : LockedState) (seat : SeatState) (reply : Reply) (new : LockedState) (after : SeatState) : Type 0 where
+-- the policy list that the slot's reader has read is shorter than the seat's seen number, and the refusal tells both
+-- lengths. Journal and seat stay, but for the seat's room
+pub record IsBehind (old : LockedState) (seat : SeatState) (reply : Reply) (new : LockedState)
+    (after : SeatState) : Type 0 where
   pub is_list : IsPolicyList new.list
   pub later : Begins old.list new.list
   pub stale : length new.list < seat.seen
@@ -44,21 +46,25 @@ pub record IsBehind (old : LockedState) (seat : SeatState) (reply : Reply) (new 
   pub seat_stays : after ≡ record seat { room = after.room }
 
 -- the slot's reader could read nothing, or the seat has no room for a receipt, and all stays but for the seat's room
-pub record IsUnreadable (old : LockedState) (seat : SeatState) (reply : Reply) (new : LockedState) (after : SeatState) : Type 0 where
+pub record IsUnreadable (old : LockedState) (seat : SeatState) (reply : Reply) (new : LockedState)
+    (after : SeatState) : Type 0 where
   pub answered : reply ≡ Refused Memory
   pub slot_stays : new ≡ old
   pub seat_stays : after ≡ record seat { room = after.room }
 
--- a command on the slot that is lent under its lock: it is judged, or what was read is behind, or nothing could be read
-abbrev pub LockedCommand : (slot session : ℕ) → SlotCommand → (old : LockedState) → (seat : SeatState) → Reply → (new : LockedState) → (after : SeatState) → Type 0
+-- a command on the slot that is lent under its lock: it is judged, or what was read is too old (Behind), or nothing
+-- could be read
+abbrev pub LockedCommand : (slot session : ℕ) → SlotCommand → (old : LockedState) → (seat : SeatState) → Reply
+    → (new : LockedState) → (after : SeatState) → Type 0
 LockedCommand slot session command old seat reply new after =
     IsJudged slot session command old seat reply new after
     ⊎ IsBehind old seat reply new after
     ⊎ IsUnreadable old seat reply new after
 
--- there is a slot of this number, whose journal is legal over the policy list that its reader has seen, before and after. Under its lock the
--- command is answered so
-pub record IsAnswered (slot session : ℕ) (command : SlotCommand) (seat : SeatState) (reply : Reply) (after : SeatState) : Type 0 where
+-- there is a slot of this number, whose journal is legal over the policy list that its reader has seen, before and
+-- after. Under its lock the command is answered so
+pub record IsAnswered (slot session : ℕ) (command : SlotCommand) (seat : SeatState) (reply : Reply)
+    (after : SeatState) : Type 0 where
   pub there : slot < SLOTS
   pub old : LockedState
   pub new : LockedState
@@ -66,13 +72,14 @@ pub record IsAnswered (slot session : ℕ) (command : SlotCommand) (seat : SeatS
   pub legal_after : IsLegal new.list slot new.journal
   pub locked : LockedCommand slot session command old seat reply new after
 
--- there is no slot of this number. The seat's own reader has read a policy list: where the session lives on it the reply is NoSlot, and else
--- NoSession
+-- there is no slot of this number. The seat's own reader has read a policy list: where the session lives on it the
+-- reply is NoSlot, and else NoSession
 pub record IsNoSlot (slot session : ℕ) (seat : SeatState) (reply : Reply) (after : SeatState) : Type 0 where
   pub none : SLOTS ≤ slot
   pub list : List Entry
   pub read : HasRead seat list after
-  pub answered : ((reply ≡ Refused NoSlot) × IsLive list session) ⊎ ((reply ≡ Refused (Policy policy.NoSession)) × (IsLive list session → ⊥))
+  pub answered : ((reply ≡ Refused NoSlot) × IsLive list session)
+      ⊎ ((reply ≡ Refused (Policy policy.NoSession)) × (IsLive list session → ⊥))
 
 -- there is no slot of this number, and the seat's own read is refused
 pub record IsNotAsked (slot : ℕ) (seat : SeatState) (reply : Reply) (after : SeatState) : Type 0 where

@@ -1,5 +1,6 @@
 //! The end of a server: what is left of it, once its locks are opened and its journals compared.
-ghost use Rattle.std.specs.Prelude.{◌≡◌, ◌<◌, ◌≤◌, [], None, take, replicate, vec_len, OnOk, IfOk, IfErr};
+ghost use Rattle.std.specs.Prelude.{◌≡◌, ◌<◌, ◌≤◌, [], None, take, replicate, vec_len, OnOk, IfOk};
+ghost use Rattle.std.specs.Prelude.{IfErr};
 ghost use Rattle.rbac_admin.specs.PolicyLists.{IsPolicyList};
 ghost use Rattle.rbac_policy.specs.declared.objects.TheConstants.{SLOTS};
 ghost use Rattle.seat_receipts.specs.declared.receipts.TheConstants.{SEATS};
@@ -48,7 +49,7 @@ impl<B: BoardName> Model for Closing<B> {
 }
 
 impl<B: BoardName> Closing<B> {
-    /// The board is closed, and has no reader back yet.
+    /// Closes the board, which has no reader back yet.
     pub(crate) fn begin(board: Board<B>) -> Closing<B>
         ensures { result.fault ≡ None }
     {
@@ -70,7 +71,8 @@ impl<B: BoardName> Closing<B> {
         journal
     }
 
-    /// The policy journal, or the fault. It waits for the readers, and ends the writer, in either case.
+    /// The policy journal, or the fault. It waits for the readers, and ends the writer, in either
+    /// case.
     pub(crate) fn journal<R: Wait>(self, rt: &R) -> Result<PolicyJournal, Mismatch>
         ensures list { IsPolicyList self.policy }
         ensures journal { IfOk result (λ journal. (journal ≡ self.policy) × (self.fault ≡ None)) }
@@ -92,7 +94,7 @@ fn no_receipts(alloc: Global) -> [Receipts; SEATS]
     array::from_fn(|_| Receipts::from_vec(Vec::new(alloc)))
 }
 
-/// The receipts of the seats, in their order, and behind them empty lists.
+/// The receipts of the seats, in order, and then empty lists.
 fn receipts_of<B: BoardName>(alloc: Global, seats: Vec<Seat<B>>) -> [Receipts; SEATS]
     requires { vec_len seats ≤ SEATS }
     ensures { take (vec_len seats) result ≡ kept_of seats.items }
@@ -105,7 +107,8 @@ fn receipts_of<B: BoardName>(alloc: Global, seats: Vec<Seat<B>>) -> [Receipts; S
     receipts
 }
 
-/// The histories, where what the seats keep are their receipts, one for each entry. It takes no memory.
+/// The histories, if the seats keep exactly one receipt for each of their entries. It takes no
+/// memory.
 pub(crate) fn settle<B: BoardName>(
     alloc: Global,
     histories: Histories,

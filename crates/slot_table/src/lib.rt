@@ -1,12 +1,14 @@
-//! The slots of a server, which many threads share: sixteen locks, and under each a slot with a policy reader of its own.
+//! The slots of a server, which many threads share: sixteen locks, and under each a slot with a
+//! policy reader of its own.
 //!
-//! A command on a slot (`table`) takes that slot's lock alone, so that commands on two slots proceed side by side.
-//! Under the lock (`slot`) the slot's own reader reads the policy, and never goes back: the command is answered by
-//! the slot step on a policy list that begins with all that this reader had seen and all that the caller's seat knew,
-//! and that is no shorter than the seat's seen number; else the caller is told that what was read is behind. Whenever
-//! a lock is free its journal is legal over the list that its reader has seen. A reply that tells a place leaves its
-//! receipt with the seat (`receipts`). When the server is closed (`closing`), its journals are given out where one
-//! list of events has them and the receipts of all seats as its parts. No clause says that a wait ends.
+//! A command on a slot (`table`) takes that slot's lock alone, so that commands on two slots
+//! proceed side by side. Under the lock (`slot`) the slot's own reader reads the policy, and never
+//! goes back: the command is answered by the slot step on a policy list that begins with all that
+//! this reader had seen and all that the caller's seat knew, and that is no shorter than the seat's
+//! seen number; else it is refused as Behind. Whenever a lock is free its journal is legal over the
+//! list that its reader has seen. A reply that tells a place leaves its receipt with the seat
+//! (`receipts`). When the server is closed (`closing`), its journals are given out where one list
+//! of events has them and the receipts of all seats as its parts. No clause says that a wait ends.
 #![tactic(auto)]
 
 pub mod closing;

@@ -24,8 +24,8 @@ use std::alloc::Global;
 use std::marker::Model;
 use std::sync::Wait;
 
-/// The slot of this number with its reader. A contract sees its journal, and the policy list that the reader has seen. The journal is legal
-/// over that list.
+/// The slot of this number with its reader. A contract sees its journal, and the policy list that
+/// the reader has seen. The journal is legal over that list.
 #[derive(Drop)]
 pub struct LockedSlot<B: BoardName, const NUMBER: u8> {
     core: Slot,
@@ -68,8 +68,8 @@ fn decide_and_leave<B: BoardName>(
     (reply, reading.leave())
 }
 
-/// Answers a command on the slot of this number as this reader of its own reads the policy, and hands the reader back. The seat keeps a receipt
-/// of a reply that tells a place.
+/// Answers a command on the slot of this number as this reader of its own reads the policy, and
+/// hands the reader back. The seat keeps a receipt of a reply that tells a place.
 fn read_and_decide<B: BoardName, const NUMBER: u8, R: Wait>(
     rt: &R,
     board: &Board<B>,
@@ -116,7 +116,8 @@ impl<B: BoardName, const NUMBER: u8> LockedSlot<B, NUMBER> {
         }
     }
 
-    /// Answers a command on the policy as the slot's own reader reads it. The seat keeps a receipt of a reply that tells a place.
+    /// Answers a command on the policy as the slot's own reader reads it. The seat keeps a receipt
+    /// of a reply that tells a place.
     pub fn command<R: Wait>(
         &mut self,
         rt: &R,
@@ -144,8 +145,8 @@ impl<B: BoardName, const NUMBER: u8> LockedSlot<B, NUMBER> {
         reply
     }
 
-    /// Hands the reader back to the board, and gives the journal. It is legal over the policy list, or the reader has
-    /// seen more of that.
+    /// Hands the reader back to the board, and gives the journal. It is legal over the policy list,
+    /// or the reader has seen more of that.
     pub fn end(self, board: &mut Closed<B>) -> (Journal, Result<(), Mismatch>)
         ensures journal { result.0 ≡ self.journal }
         ensures seen { IsLegal self.list NUMBER self.journal }

@@ -29,7 +29,8 @@ use seat_receipts::receipts::SEATS;
 use std::alloc::Global;
 use std::sync::{Mutex, MutexGuard, Wait};
 
-/// The slots by number, each under its lock. The type of what lies under a lock has the slot's number: no clause of a lock could tell it.
+/// The sixteen slots, each under its lock. A lock's type has the slot's number as a parameter,
+/// since of what lies under a lock only facts of its type are known.
 #[derive(Drop)]
 pub struct SlotTable<B: BoardName> {
     slot0: Mutex<LockedSlot<B, 0>>,
@@ -50,7 +51,7 @@ pub struct SlotTable<B: BoardName> {
     slot15: Mutex<LockedSlot<B, 15>>,
 }
 
-// Hands the slots, each by its field and its number, to a macro below, behind what that is given.
+// Calls a macro below on what it is given and then the slots, each by its field and its number.
 macro_rules! with_slots {
     ($to:ident: $($given:tt)*) => {
         $to!($($given)*;
@@ -113,7 +114,7 @@ fn answer<B: BoardName, const NUMBER: u8, R: Wait>(
     reply
 }
 
-// Answers a command on a slot that there is none of.
+// Answers a command on a number that no slot has.
 fn refuse_number<B: BoardName>(seat: &mut Seat<B>, session: SessionId, slot: u64) -> Reply
     requires { SLOTS ≤ slot }
     ensures { IsNoSlot slot session seat.old result seat.new
@@ -135,9 +136,9 @@ impl<B: BoardName> SlotTable<B> {
         with_slots!(open_slots: alloc, readers)
     }
 
-    /// Answers a command of this session on the slot of this number, under the slot's lock, for which it waits. A
-    /// number that no slot has takes no lock: the seat's own reader tells whether the session lives. A reply that
-    /// tells a place leaves a receipt with the seat.
+    /// Answers a command of this session on the slot of this number, under the slot's lock, for
+    /// which it waits. A number that no slot has takes no lock: the seat's own reader tells whether
+    /// the session lives. A reply that tells a place leaves a receipt with the seat.
     pub fn command<R: Wait>(
         &self,
         rt: &R,
@@ -159,14 +160,14 @@ impl<B: BoardName> SlotTable<B> {
         with_slots!(end_slots: self, closing)
     }
 
-    /// Ends a server: its journals, where each of their entries was asked for by one call of one of these seats,
-    /// which keeps its receipt: they are the journals of clients that took turns. Board and seats are those of its
-    /// readers. It waits for reads of the policy, and takes no memory.
+    /// Closes a server: answers its journals, if each of their entries has exactly one receipt,
+    /// kept by one of these seats. They are then the journals of clients that took turns. Board and
+    /// seats are those of its readers. It waits for reads of the policy, and takes no memory.
     ///
     /// # Errors
     ///
-    /// - Count, where the reader of a slot has seen more policy entries than there are, or the receipts of a list are
-    ///   not as many as its entries;
+    /// - Count, where the reader of a slot has seen more policy entries than there are, or the
+    ///   receipts of a list are not as many as its entries;
     /// - Receipt, where what it names is not there, has the place of another, or breaks the order.
     pub fn close<R: Wait>(
         self,

@@ -106,7 +106,8 @@ fn start<'s, E, W: Work + Sync, R: Threads + Wait + Sync>(
 /// A thread that was started for a worker.
 type Started<W> = PromisedHandle<<W as Work>::Seat, GivesBack<W>>;
 
-/// Starts a thread for each seat, in room that was made for them, until one can't be started. Tells whether all were.
+/// Starts a thread for each seat, in room that was made for them, until one can't be started. Tells
+/// whether all were.
 fn start_each<'s, E, W: Work + Sync, R: Threads + Wait + Sync>(
     scope: &Scope<'s, E>,
     rt: &'s R,
@@ -147,11 +148,13 @@ fn join_each<W: Work, R: Threads>(
     seats
 }
 
-/// Starts a thread for each seat, lets all of them take turns once each is started, and takes the seats back.
+/// Starts a thread for each seat, lets all of them take turns once each is started, and takes the
+/// seats back.
 ///
 /// # Errors
 ///
-/// Where a thread can't be started, or memory is refused: then no worker takes a turn, and the seats are dropped.
+/// Where a thread can't be started, or memory is refused: then no worker takes a turn, and the
+/// seats are dropped.
 pub fn run_each<W: Work + Sync, R: Threads + Wait + Sync>(
     rt: &R,
     alloc: Global,

@@ -1,5 +1,6 @@
 -- What comes of giving a slot the command of one entry: private to the audit of a slot.
-use Rattle.std.specs.Prelude.{◌≡◌, ℕ, ◌-◌, List, [], ◌∷◌, ◌++◌, Option, Some, None, Result, MatchResult, length, slice_get}
+use Rattle.std.specs.Prelude.{◌≡◌, ℕ, ◌-◌, List, [], ◌∷◌, ◌++◌, Option, Some, None, Result, MatchResult, length}
+use Rattle.std.specs.Prelude.{slice_get}
 use Rattle.rbac_policy.specs.declared.commands.Entry.{Entry}
 use Rattle.reactor_core.specs.declared.entry.PastInstant.{PastInstant}
 use Rattle.reactor_core.specs.declared.entry.Action.{Action}
@@ -60,7 +61,8 @@ IsFaultOf judged slot before entry Reaction = ReactsOtherwise judged slot before
 IsFaultOf judged slot before entry Memory = Unit {0}
 
 -- the slot adds this very entry, or the answer is why it doesn't
-abbrev pub Replays : (judged : List Entry) → (slot : ℕ) → (before : List SlotEntry) → SlotEntry → Result (Unit {0}) Fault
+abbrev pub Replays : (judged : List Entry) → (slot : ℕ) → (before : List SlotEntry) → SlotEntry
+    → Result (Unit {0}) Fault
     → (after : List SlotEntry) → Type 0
 Replays judged slot before entry answer after =
     MatchResult answer

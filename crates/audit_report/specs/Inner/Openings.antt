@@ -29,5 +29,6 @@ abbrev pub is_opening : (place : ℕ) → AdminCommand → Bool
 is_opening place (AddUser user) = nat_eq place 0 && is_root user
 is_opening place (AddRole role) = nat_eq place 1 && is_root role
 is_opening place (AssignUser user role) = nat_eq place 2 && (is_root user && is_root role)
-is_opening place (GrantPermission role operation object) = nat_eq place 3 && (is_root role && (is_administer operation && is_policy object))
+is_opening place (GrantPermission role operation object) =
+    nat_eq place 3 && (is_root role && (is_administer operation && is_policy object))
 is_opening place _ = false

@@ -1,5 +1,6 @@
 -- How the receipts are taken, the first in order first (this project's own form).
-use Rattle.std.specs.Prelude.{◌≡◌, ◌≢◌, ◌⊎◌, ℕ, ◌+◌, ◌<◌, List, Option, Some, None, MatchOption, replicate, slice_get, slice_index, slice_index_or, slice_set, length}
+use Rattle.std.specs.Prelude.{◌≡◌, ◌≢◌, ◌⊎◌, ℕ, ◌+◌, ◌<◌, List, Option, Some, None, MatchOption, replicate, slice_get}
+use Rattle.std.specs.Prelude.{slice_index, slice_index_or, slice_set, length}
 use Rattle.rbac_policy.specs.declared.commands.Entry.{Entry}
 use Rattle.rbac_policy.specs.declared.objects.TheConstants.{SLOTS}
 use Rattle.reactor_core.specs.declared.entry.SlotEntry.{SlotEntry}
@@ -55,11 +56,12 @@ taken_command t seat r = record t {
 abbrev pub head : (seats : List (List Kept)) → (read : List ℕ) → (seat : ℕ) → Option Kept
 head seats read s = slice_get (part_at seats s) (slice_index read s)
 
--- this is the next receipt of this seat, and of those of the first seats, so few of them, none precedes it
+-- this is the next receipt of this seat, and no next receipt of the first `few` seats precedes it
 pub record IsLeast (seats : List (List Kept)) (read : List ℕ) (few seat : ℕ) (kept : Kept) : Type 0 where
   pub inside : seat < few
   pub next : head seats read seat ≡ Some kept
-  pub least : (s : ℕ) (other : Kept) → s < few → head seats read s ≡ Some other → Precedes (rank_of other) (rank_of kept) → ⊥
+  pub least : (s : ℕ) (other : Kept) → s < few → head seats read s ≡ Some other
+      → Precedes (rank_of other) (rank_of kept) → ⊥
 
 -- the least of them stands here
 pub record StandsLeast (seats : List (List Kept)) (read : List ℕ) (few seat : ℕ) (here : Rank) : Type 0 where
@@ -76,7 +78,8 @@ abbrev pub LeastOf : (seats : List (List Kept)) → (read : List ℕ) → (few :
 LeastOf seats read few least = MatchOption least (AreAllRead seats read few) (λ p. StandsLeast seats read few p.0 p.1)
 
 -- the next receipt of a seat takes the place of the least one, if it precedes that
-abbrev pub Lesser : (least : Option (ℕ × Rank)) → (seat : ℕ) → (next : Option Rank) → (result : Option (ℕ × Rank)) → Type 0
+abbrev pub Lesser : (least : Option (ℕ × Rank)) → (seat : ℕ) → (next : Option Rank) → (result : Option (ℕ × Rank))
+    → Type 0
 Lesser least seat None result = result ≡ least
 Lesser None seat (Some k) result = result ≡ Some (seat, k)
 Lesser (Some p) seat (Some k) result =
@@ -97,7 +100,8 @@ IsLined t (Admin version entry) = Unit {0}
 IsLined t (Slot r) = IsInLine t r
 
 -- the receipt is there, comes after the one that was taken last and is in line; and it is taken
-pub record Takes (policy : List Entry) (journals : List (List SlotEntry)) (seat : ℕ) (kept : Kept) (old new : Taken) : Type 0 where
+pub record Takes (policy : List Entry) (journals : List (List SlotEntry)) (seat : ℕ) (kept : Kept)
+    (old new : Taken) : Type 0 where
   pub there : IsThere policy journals kept
   pub follows : Precedes old.last (rank_of kept)
   pub lined : IsLined old kept
@@ -108,7 +112,8 @@ abbrev pub Refuses : (policy : List Entry) → (journals : List (List SlotEntry)
 Refuses policy journals kept old =
     (IsThere policy journals kept → ⊥)
     ⊎ ((IsThere policy journals kept × (Precedes old.last (rank_of kept) → ⊥))
-    ⊎ ((r : SlotReceipt) × (kept ≡ Slot r) × IsThere policy journals (Slot r) × Precedes old.last (rank_of (Slot r)) × (IsInLine old r → ⊥)))
+    ⊎ ((r : SlotReceipt) × (kept ≡ Slot r) × IsThere policy journals (Slot r) × Precedes old.last (rank_of (Slot r))
+    × (IsInLine old r → ⊥)))
 
 -- fewer policy entries were taken than the version of one that can come next
 abbrev pub HasRoom : Taken → Type 0

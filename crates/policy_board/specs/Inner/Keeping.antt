@@ -6,8 +6,10 @@ use Rattle.policy_board.specs.PolicyCommands.{admin_receipt}
 use Rattle.policy_board.specs.declared.refusal.Refusal.{Refusal}
 use Rattle.policy_board.specs.declared.seat.Receipt.{Receipt}
 
--- the receipt of an accepted command stands at the end of the receipts, which a refused one leaves; what the seat has seen stays
-pub record KeepsAnswer {B : Type 0} (old : SeatState) (answer : Result (Receipt B) Refusal) (after : List Entry) (new : SeatState) : Type 0 where
+-- the receipt of an accepted command stands at the end of the receipts, which a refused one leaves; what the seat has
+-- seen stays
+pub record KeepsAnswer {B : Type 0} (old : SeatState) (answer : Result (Receipt B) Refusal) (after : List Entry)
+    (new : SeatState) : Type 0 where
   pub known : new.known ≡ old.known
   pub seen : new.seen ≡ old.seen
   pub read : new.read ≡ old.read

@@ -10,7 +10,8 @@ use Rattle.policy_board.specs.Traced.{Traced}
 use Rattle.policy_board.specs.declared.shown.Operation.{Operation}
 use Rattle.policy_board.specs.Inner.Steps.{IsResting}
 
--- it shows the policy of a policy list of this board, in which each living session has room for its logout, and nothing waits
+-- it shows the policy of a policy list of this board, in which each living session has room for its logout, and nothing
+-- waits
 pub record IsPublishing (book : Book) (policy : Policy) (trace : Traced) (pending : List Operation) : Type 0 where
   pub own : trace.book ≡ book
   pub is_list : IsPolicyList trace.list

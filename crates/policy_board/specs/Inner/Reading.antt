@@ -27,9 +27,10 @@ pub record IsStale (read : List Entry) (old : Notes) (refusal : Refusal) (list :
   pub stale : length list < old.seen
   pub answered : refusal ≡ Behind (length list) old.seen
 
--- a refused read, after which the reader has this list, leaves what is known: what was read is behind, or nothing could
--- be read
-pub record IsNotRead (read : List Entry) (old : Notes) (refusal : Refusal) (list : List Entry) (new : Notes) : Type 0 where
+-- a refused read, after which the reader has this list, leaves what is known: what was read is too old (Behind), or
+-- nothing could be read
+pub record IsNotRead (read : List Entry) (old : Notes) (refusal : Refusal) (list : List Entry)
+    (new : Notes) : Type 0 where
   pub known : new.known ≡ old.known
   pub seen : new.seen ≡ old.seen
   pub cause : IsStale read old refusal list ⊎ ((refusal ≡ Memory) × (list ≡ read))

@@ -10,11 +10,13 @@ IsInTable edges = (senior junior : ℕ) → IsEdge edges senior junior → junio
 
 -- each place's row has what lies below it
 abbrev pub HasBelow : List ℕ → List ℕ → Type 0
-HasBelow edges below = (role : ℕ) → role < ROLES → (place : ℕ) → Has (slice_index below role) place ↔ IsAbove edges role place
+HasBelow edges below = (role : ℕ) → role < ROLES → (place : ℕ)
+    → Has (slice_index below role) place ↔ IsAbove edges role place
 
 -- each place's row has what lies above it
 abbrev pub HasAbove : List ℕ → List ℕ → Type 0
-HasAbove edges above = (role : ℕ) → role < ROLES → (place : ℕ) → Has (slice_index above role) place ↔ IsAbove edges place role
+HasAbove edges above = (role : ℕ) → role < ROLES → (place : ℕ)
+    → Has (slice_index above role) place ↔ IsAbove edges place role
 
 -- there is a row for each place, edges lead to places of the table, and the rows have what lies below and above each
 pub record IsClosed (edges lower upper : List ℕ) : Type 0 where

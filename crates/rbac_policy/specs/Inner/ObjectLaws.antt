@@ -1,4 +1,4 @@
--- The test of objects says yes exactly where the two are one, so that it is an equality (this project's own form).
+-- The test of objects says yes exactly when the two are equal, so that it is an equality (this project's own form).
 use Rattle.std.proofs.Common.{◌≡◌, Bool, true, false, ◌&&◌, Decides, ap, refl}
 use Rattle.std.proofs.lemmas.Slice.Eq.{bytes_eq-Decides}
 use Rattle.std.proofs.lemmas.Bool.{false≢true}

@@ -1,7 +1,8 @@
 //! The next instant of a reactor, while it is worked out: opened, settled, committed.
 //!
-//! An `Instant` and a `Settled` hold the reactor, and are spent by a move: neither is `Drop`, so a program that lets one go does
-//! not compile. Each way out hands a reactor back, which is as it was before `open` unless the instant was committed.
+//! An `Instant` and a `Settled` hold the reactor, and are spent by a move: neither is `Drop`, so a
+//! program that lets one go does not compile. Each way out hands a reactor back, which is as it was
+//! before `open` unless the instant was committed.
 ghost use Rattle.std.specs.Prelude.{◌≡◌};
 ghost use Rattle.reactor_core.specs.Instants.{SettleAnswer, CommitAnswer};
 
@@ -13,7 +14,8 @@ use est_kernel::state::{Outcome, Stuck};
 use est_rounds::rounds::Rounds;
 use std::marker::Model;
 
-/// An instant that was opened: its inputs are those that are pending. A contract sees the journal of its reactor.
+/// An instant that was opened: its inputs are those that are pending. A contract sees the journal
+/// of its reactor.
 pub struct Instant {
     reactor: Reactor,
 }
@@ -31,7 +33,8 @@ impl Model for Instant {
     ghost view = { λ i. i.reactor };
 }
 
-/// An instant whose reaction is known. A contract sees the journal of its reactor and the reaction's outputs.
+/// An instant whose reaction is known. A contract sees the journal of its reactor and the
+/// reaction's outputs.
 pub struct Settled {
     parts: Parts,
     outcome: Outcome,
@@ -60,8 +63,9 @@ impl Instant {
         Instant { reactor }
     }
 
-    /// Works out the reaction, exactly where there is one. Where there is none it is refused, with the undecided outputs, and the
-    /// reactor is handed back as it was before `open`. It takes no memory.
+    /// Works out the reaction, exactly when there is one. When there is none it is refused, with
+    /// the undecided outputs, and the reactor is handed back as it was before `open`. It takes no
+    /// memory.
     pub fn settle(self) -> Result<Settled, (Stuck, Reactor)>
         ensures { SettleAnswer self result }
     {
@@ -88,8 +92,9 @@ impl Instant {
 }
 
 impl Settled {
-    /// Makes it the reactor's next instant, and adds its entry: it keeps the inputs that were pending, none of which is pending any
-    /// more, and the reaction's outputs. A refusal, JournalFull or Memory, hands the reactor back as it was before `open`.
+    /// Makes it the reactor's next instant, and adds its entry: it keeps the inputs that were
+    /// pending, none of which is pending any more, and the reaction's outputs. A refusal,
+    /// JournalFull or Memory, hands the reactor back as it was before `open`.
     pub fn commit(self, stamp: Stamp) -> Result<Reactor, (Refusal, Reactor)>
         ensures { CommitAnswer self stamp result }
     {

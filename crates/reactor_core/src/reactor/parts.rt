@@ -6,7 +6,8 @@ ghost use Rattle.est_meaning.specs.States.{IsState};
 ghost use Rattle.est_relations.specs.Keeping.{AreLawful};
 ghost use Rattle.est_rounds.specs.Contract.{AreInputs, HasNoReaction};
 ghost use Rattle.reactor_core.specs.Meaning.{entry};
-ghost use Rattle.reactor_core.specs.Standing.{AreRunning, HaveOutcome, IsNext, AreKept, JoinsAs, RefusesName, RefusesInstant};
+ghost use Rattle.reactor_core.specs.Standing.{AreRunning, HaveOutcome, IsNext, AreKept, JoinsAs};
+ghost use Rattle.reactor_core.specs.Standing.{RefusesName, RefusesInstant};
 ghost use Rattle.reactor_core.specs.Instants.{AddsInstant};
 ghost use Rattle.reactor_core.specs.Answers.{HasRoom, RefusesEntry};
 
@@ -73,7 +74,8 @@ pub fn react<E: Engine>(
     engine.react(&loaded.kernel, state, &inputs)
 }
 
-/// Adds a step's entry and its instant, or refuses it as JournalFull or Memory and leaves both as they are.
+/// Adds a step's entry and its instant, or refuses it as JournalFull or Memory and leaves both as
+/// they are.
 fn append_step(
     journal: &mut Journal,
     instants: &mut Vec<PastInstant>,
@@ -103,8 +105,8 @@ fn append_step(
 }
 
 impl Parts {
-    /// Adds the instant of this outcome, with its entry, or refuses it as JournalFull or Memory; then the journal stays, and the same
-    /// runs.
+    /// Adds the instant of this outcome, with its entry. A refusal, JournalFull or Memory, leaves
+    /// the journal and the running module as they were.
     pub fn advance(&mut self, stamp: Stamp, outcome: Outcome) -> Result<(), Refusal>
         requires running { AreRunning self.old }
         requires next { HaveOutcome self.old outcome }

@@ -13,5 +13,6 @@ pub record Ends (slot : ℕ) (old : ClosingState) (journal : List SlotEntry) (ne
 -- the slots from this number on ended with these journals, one after the other
 pub data EndFrom : (slot : ℕ) → (old : ClosingState) → List (List SlotEntry) → (new : ClosingState) → Type 0 where
   all_ended : {slot : ℕ} {state : ClosingState} → EndFrom slot state [] state
-  one_ended : {slot : ℕ} {old next new : ClosingState} {journal : List SlotEntry} {journals : List (List SlotEntry)} → Ends slot old journal next
+  one_ended : {slot : ℕ} {old next new : ClosingState} {journal : List SlotEntry} {journals : List (List SlotEntry)}
+      → Ends slot old journal next
       → EndFrom (slot + 1) next journals new → EndFrom slot old (journal ∷ journals) new

@@ -14,21 +14,27 @@ loop-place-preserved c =
     let there = read_there _ _ c.loop-place.place c.index-declarations-place.result refl c.loop-place-test.true in
     elim c.if-may_observe.branch [
       | then-may_observe w ↦ record {
-        none = λ place h. ap (λ s. bits s place) w.seen-is ∙ (w.with-seen.ensures.other place (λ e. omega arith) ∙ c.loop-place.invariant.none place (omega arith));
+        none = λ place h. ap (λ s. bits s place) w.seen-is
+            ∙ (w.with-seen.ensures.other place (λ e. omega arith) ∙ c.loop-place.invariant.none place (omega arith));
         marks = λ entries stands. marks_of w.seen-is
-            (marks_with (c.loop-place.invariant.marks entries stands) _ there ((c.may_observe.ensures entries stands).0 w.if-may_observe.true) w.with-seen.ensures.same w.with-seen.ensures.other);
+            (marks_with (c.loop-place.invariant.marks entries stands) _ there
+            ((c.may_observe.ensures entries stands).0 w.if-may_observe.true) w.with-seen.ensures.same
+            w.with-seen.ensures.other);
       }
       | else-may_observe w ↦ record {
         none = λ place h. ap (λ s. bits s place) w.seen-is ∙ c.loop-place.invariant.none place (omega arith);
         marks = λ entries stands. marks_of w.seen-is
-            (marks_without (c.loop-place.invariant.marks entries stands) _ there (λ may. let yes : c.may_observe.result ≡ true = (c.may_observe.ensures entries stands).1 may in cc) (c.loop-place.invariant.none _ (omega arith)));
+            (marks_without (c.loop-place.invariant.marks entries stands) _ there
+            (λ may. let yes : c.may_observe.result ≡ true = (c.may_observe.ensures entries stands).1 may in cc)
+            (c.loop-place.invariant.none _ (omega arith)));
       }
     ]
 
 pub returns : goal.returns
 returns c = λ entries stands. record {
   exactly = λ place d there.
-      let here : slice_get c.declarations-declarations.result.now place ≡ Some d = ap (λ xs. slice_get xs place) c.declarations-declarations.ensures.all ∙ there in
+      let here : slice_get c.declarations-declarations.result.now place ≡ Some d =
+      ap (λ xs. slice_get xs place) c.declarations-declarations.ensures.all ∙ there in
       let within : place < c.loop-place.place = omega (arith, slice_get_within _ place d here) in
       (c.loop-place.invariant.marks entries stands).exactly place d within here;
 }

@@ -7,7 +7,8 @@ pub returns-clause-slots : goal.returns-clause-slots
 returns-clause-slots c =
     let below : c.in-Some.place < SLOTS = rw c.in-Some.ensures.0 c.in-Some.ensures.1 in
     slots_with c.args.slots.now c.in-Some.place c.decide_slot.new.slot c.requires below
-    (c.decide_slot.ensures.number ∙ number_at c.args.slots.now c.in-Some.place c.index-slots-place.result c.requires below)
+    (c.decide_slot.ensures.number ∙ number_at c.args.slots.now c.in-Some.place c.index-slots-place.result c.requires
+    below)
 
 pub returns-clause-step : goal.returns-clause-step
 returns-clause-step c = λ entries stands.

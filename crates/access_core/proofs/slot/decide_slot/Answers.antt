@@ -9,39 +9,53 @@ returns-in-Err-clause-step c = λ entries stands.
 
 pub returns-in-Load-clause-step : goal.returns-in-Load-clause-step
 returns-in-Load-clause-step c = λ entries stands.
-    let may = rw (c.permission_of-needed.ensures, c.number.ensures, c.in-Load.is) at c.in_default.ensures entries stands in
-    let done = rw (c.stamp.ensures entries stands, c.as_str.ensures.same, c.as_str-in-Load.ensures) at c.load.ensures.step in
-    rw c.in-Load.is (allowed_step entries c.args.slot.now.number c.args.session (Load c.in-Load.main c.in-Load.text) _ _ _ may done)
+    let may = rw (c.permission_of-needed.ensures, c.number.ensures, c.in-Load.is) at c.in_default.ensures entries
+    stands in
+    let done = rw (c.stamp.ensures entries stands, c.as_str.ensures.same, c.as_str-in-Load.ensures) at
+    c.load.ensures.step in
+    rw c.in-Load.is
+    (allowed_step entries c.args.slot.now.number c.args.session (Load c.in-Load.main c.in-Load.text) _ _ _ may done)
 
 pub returns-in-Offer-clause-step : goal.returns-in-Offer-clause-step
 returns-in-Offer-clause-step c = λ entries stands.
-    let may = rw (c.permission_of-needed.ensures, c.number.ensures, c.in-Offer.is) at c.in_default.ensures entries stands in
+    let may = rw (c.permission_of-needed.ensures, c.number.ensures, c.in-Offer.is) at c.in_default.ensures entries
+    stands in
     let done = rw (c.stamp-in-Offer.ensures entries stands) at c.offer.ensures.step in
-    rw c.in-Offer.is (allowed_step entries c.args.slot.now.number c.args.session (Offer c.in-Offer.signal) _ _ _ may done)
+    rw c.in-Offer.is
+    (allowed_step entries c.args.slot.now.number c.args.session (Offer c.in-Offer.signal) _ _ _ may done)
 
 pub returns-in-Discard-clause-step : goal.returns-in-Discard-clause-step
 returns-in-Discard-clause-step c = λ entries stands.
-    let may = rw (c.permission_of-needed.ensures, c.number.ensures, c.in-Discard.is) at c.in_default.ensures entries stands in
+    let may = rw (c.permission_of-needed.ensures, c.number.ensures, c.in-Discard.is) at c.in_default.ensures entries
+    stands in
     let done = rw (c.stamp-in-Discard.ensures entries stands) at c.discard.ensures.step in
     rw c.in-Discard.is (allowed_step entries c.args.slot.now.number c.args.session Discard _ _ _ may done)
 
 pub returns-in-Step-clause-step : goal.returns-in-Step-clause-step
 returns-in-Step-clause-step c = λ entries stands.
-    let may = rw (c.permission_of-needed.ensures, c.number.ensures, c.in-Step.is) at c.in_default.ensures entries stands in
-    rw c.in-Step.is (allowed_step entries c.args.slot.now.number c.args.session Step _ _ _ may (c.step.ensures.step entries stands))
+    let may = rw (c.permission_of-needed.ensures, c.number.ensures, c.in-Step.is) at c.in_default.ensures entries
+    stands in
+    rw c.in-Step.is
+    (allowed_step entries c.args.slot.now.number c.args.session Step _ _ _ may (c.step.ensures.step entries stands))
 
 pub returns-in-Unload-clause-step : goal.returns-in-Unload-clause-step
 returns-in-Unload-clause-step c = λ entries stands.
-    let may = rw (c.permission_of-needed.ensures, c.number.ensures, c.in-Unload.is) at c.in_default.ensures entries stands in
+    let may = rw (c.permission_of-needed.ensures, c.number.ensures, c.in-Unload.is) at c.in_default.ensures entries
+    stands in
     let done = rw (c.stamp-in-Unload.ensures entries stands) at c.unload.ensures.step in
     rw c.in-Unload.is (allowed_step entries c.args.slot.now.number c.args.session Unload _ _ _ may done)
 
 pub returns-in-Look-clause-step : goal.returns-in-Look-clause-step
 returns-in-Look-clause-step c = λ entries stands.
-    let may = rw (c.permission_of-needed.ensures, c.number.ensures, c.in-Look.is) at c.in_default.ensures entries stands in
-    rw c.in-Look.is (allowed_step entries c.args.slot.now.number c.args.session (Look c.in-Look.instant) _ _ _ may (c.look.ensures entries stands))
+    let may = rw (c.permission_of-needed.ensures, c.number.ensures, c.in-Look.is) at c.in_default.ensures entries
+    stands in
+    rw c.in-Look.is
+    (allowed_step entries c.args.slot.now.number c.args.session (Look c.in-Look.instant) _ _ _ may
+    (c.look.ensures entries stands))
 
 pub returns-in-Audit-clause-step : goal.returns-in-Audit-clause-step
 returns-in-Audit-clause-step c = λ entries stands.
-    let may = rw (c.permission_of-needed.ensures, c.number.ensures, c.in-Audit.is) at c.in_default.ensures entries stands in
-    rw c.in-Audit.is (allowed_step entries c.args.slot.now.number c.args.session Audit _ _ _ may (c.audit.ensures entries stands))
+    let may = rw (c.permission_of-needed.ensures, c.number.ensures, c.in-Audit.is) at c.in_default.ensures entries
+    stands in
+    rw c.in-Audit.is
+    (allowed_step entries c.args.slot.now.number c.args.session Audit _ _ _ may (c.audit.ensures entries stands))

@@ -11,4 +11,5 @@ returns-in-Ok-clause-step c =
 
 pub returns-in-Err-clause-step : goal.returns-in-Err-clause-step
 returns-in-Err-clause-step c =
-    discard_answered c.args.reactor.now c.args.stamp (Err c.in-Err.refusal) _ _ c.in-Err.ensures.answer (ap Refused c.from.ensures)
+    discard_answered c.args.reactor.now c.args.stamp (Err c.in-Err.refusal) _ _ c.in-Err.ensures.answer
+    (ap Refused c.from.ensures)

@@ -9,7 +9,8 @@ use Rattle.access_core.proofs.slot.offer_signal.Goals as goal
 pub returns-in-Err-clause-loaded : goal.returns-in-Err-clause-loaded
 returns-in-Err-clause-loaded c =
     let answer = c.in-Err.ensures in
-    ap is_loaded (offer_stays c.args.reactor.now c.args.stamp c.args.signal.now c.in-Err.refusal c.offer.new.self answer)
+    ap is_loaded
+    (offer_stays c.args.reactor.now c.args.stamp c.args.signal.now c.in-Err.refusal c.offer.new.self answer)
     ∙ is_loaded_where c.args.reactor.now answer.running answer.runs
 
 pub returns-in-Err-clause-step : goal.returns-in-Err-clause-step
@@ -18,6 +19,7 @@ returns-in-Err-clause-step c = record {
   given = c.in-Err.ensures;
   replied = record {
     replied = ap Refused c.from.ensures;
-    stays = offer_stays c.args.reactor.now c.args.stamp c.args.signal.now c.in-Err.refusal c.offer.new.self c.in-Err.ensures;
+    stays = offer_stays c.args.reactor.now c.args.stamp c.args.signal.now c.in-Err.refusal c.offer.new.self
+        c.in-Err.ensures;
   };
 }

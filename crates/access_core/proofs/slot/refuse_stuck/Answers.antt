@@ -16,8 +16,11 @@ returns-in-Ok c = λ entries stands.
       running = interface.0;
       runs = interface.1;
       sees = bits c.find_observed-seen.result;
-      observes = subst (λ (ds : List Declaration). Sees entries c.args.session c.args.slot ds (bits c.find_observed-seen.result)) same (c.find_observed-seen.ensures entries stands);
+      observes =
+          subst (λ (ds : List Declaration). Sees entries c.args.session c.args.slot ds
+          (bits c.find_observed-seen.result)) same (c.find_observed-seen.ensures entries stands);
       named = ap Stuck (c.in-Ok.ensures
-          ∙ ap (λ p. map (name_at c.interface-interface.result.now) (filter p (places_of c.interface-interface.result.now))) (fun_ext c.keep_seen-undecided.ensures)
+          ∙ ap (λ p. map (name_at c.interface-interface.result.now)
+          (filter p (places_of c.interface-interface.result.now))) (fun_ext c.keep_seen-undecided.ensures)
           ∙ ap (λ (ds : List Declaration). names_of ds (bits c.find_observed-seen.result) c.args.stuck.undecided) same);
     })

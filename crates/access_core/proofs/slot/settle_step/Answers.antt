@@ -13,7 +13,8 @@ returns-in-Ok-clause-step c = λ entries stands.
     step_settled _ _ _ _ _ _ _ _ _ c.in-Ok.ensures.1.1 done
 
 pub returns-in-Err-clause-loaded : goal.returns-in-Err-clause-loaded
-returns-in-Err-clause-loaded c = let none = c.in-Err.ensures.0 in ap is_loaded c.in-Err.ensures.1 ∙ is_loaded_where _ none.running none.runs
+returns-in-Err-clause-loaded c = let none = c.in-Err.ensures.0 in
+    ap is_loaded c.in-Err.ensures.1 ∙ is_loaded_where _ none.running none.runs
 
 pub returns-in-Err-clause-step : goal.returns-in-Err-clause-step
 returns-in-Err-clause-step c = λ entries stands.

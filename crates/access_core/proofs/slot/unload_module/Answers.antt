@@ -12,7 +12,8 @@ returns-in-Ok-clause-step c =
 
 pub returns-in-Err-clause-held : goal.returns-in-Err-clause-held
 returns-in-Err-clause-held c =
-    ap is_loaded (unload_stays c.args.reactor c.args.stamp (c.in-Err.refusal, c.in-Err.reactor) c.in-Err.ensures.answer) ∙ c.requires
+    ap is_loaded (unload_stays c.args.reactor c.args.stamp (c.in-Err.refusal, c.in-Err.reactor) c.in-Err.ensures.answer)
+    ∙ c.requires
 
 pub returns-in-Err-clause-step : goal.returns-in-Err-clause-step
 returns-in-Err-clause-step c =

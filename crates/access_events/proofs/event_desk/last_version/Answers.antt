@@ -10,6 +10,8 @@ returns c =
     let n : ℕ = length c.args.entries.now in
     let some : 0 < n = elim (cases_lt 0 n) [
       | inl low ↦ low
-      | inr none ↦ (let zero_is : (n == 0) ≡ true = (Decides-eqb n 0).1 (omega arith) in absurd (false≢true (sym c.if-is_empty.false ∙ (c.is_empty.ensures ∙ zero_is))))
+      | inr none ↦
+          (let zero_is : (n == 0) ≡ true = (Decides-eqb n 0).1 (omega arith) in
+          absurd (false≢true (sym c.if-is_empty.false ∙ (c.is_empty.ensures ∙ zero_is))))
     ] in
     last_is 0 c.args.entries.now (n - 1) c.index-entries-entries.result (omega arith)

@@ -9,4 +9,5 @@ returns-in_ok-try_clone-in-Admin c =
     let copy = c.in_ok-try_clone-in-Admin.field-0 in
     let same : copy ≡ command = c.in_ok-try_clone-in-Admin.ensures in
     subst (λ e. EventStep e c.args.desk.now c.admin.result c.admin.new.self) (sym c.in-Admin.is)
-    (subst (λ given. EventStep (event.Admin c.in-Admin.seat c.in-Admin.session given) c.args.desk.now c.admin.result c.admin.new.self) same c.admin.ensures)
+    (subst (λ given. EventStep (event.Admin c.in-Admin.seat c.in-Admin.session given) c.args.desk.now c.admin.result
+    c.admin.new.self) same c.admin.ensures)

@@ -17,7 +17,8 @@ returns-in_err-check_slot-clause-err c =
     let number = c.loop-number.number in
     let journal = c.index-slots-number.result in
     let low : number < length slots = omega arith in
-    let there : slice_get slots number ≡ Some journal = slice_get_read slots (length slots) number journal refl low c.index-slots-number.is in
+    let there : slice_get slots number ≡ Some journal = slice_get_read slots
+    (length slots) number journal refl low c.index-slots-number.is in
     let finding = c.in_err-check_slot.field-0.0 in
     let entries = c.entries-entries.result.now in
     let first : IsFirstOfSlot entries number journal finding =
@@ -25,8 +26,10 @@ returns-in_err-check_slot-clause-err c =
     (subst (λ (j : List SlotEntry). IsFirstOfSlot entries c.slot_at.result j finding)
     (c.entries.ensures ∙ sym c.index-slots-number.is) c.in_err-check_slot.ensures.err) in
     let all : IsFirst entries slots finding =
-    first_of_slot entries slots number journal c.in_ok-check_policy.ensures.ok c.loop-number.invariant there finding first in
-    let here : IsFirst c.args.policy.now slots finding = subst (λ (es : List Entry). IsFirst es slots finding) c.entries-entries.ensures all in
+    first_of_slot entries slots number journal c.in_ok-check_policy.ensures.ok c.loop-number.invariant there finding
+    first in
+    let here : IsFirst c.args.policy.now slots finding = subst
+    (λ (es : List Entry). IsFirst es slots finding) c.entries-entries.ensures all in
     let p = err_from_is_err_and c.from_residual-in_err-check_slot.result c.from_residual-in_err-check_slot.ensures.1 in
     rw (p.1, p.2) here
 
@@ -36,7 +39,8 @@ loop-number-preserved c =
     let number = c.loop-number.number in
     let journal = c.index-slots-number.result in
     let low : number < length slots = omega arith in
-    let there : slice_get slots number ≡ Some journal = slice_get_read slots (length slots) number journal refl low c.index-slots-number.is in
+    let there : slice_get slots number ≡ Some journal = slice_get_read slots
+    (length slots) number journal refl low c.index-slots-number.is in
     let entries = c.entries-entries.result.now in
     let legal : IsLegal entries number journal =
     subst (λ (k : ℕ). IsLegal entries k journal) c.slot_at.ensures
@@ -54,5 +58,6 @@ returns-clause-ok c =
     record {
       policy = subst IsPolicyList same c.in_ok-check_policy.ensures.ok;
       journals = λ k journal there.
-          subst (λ (es : List Entry). IsLegal es k journal) same (all k journal (slice_get_within slots k journal there) there);
+          subst (λ (es : List Entry). IsLegal es k journal) same
+          (all k journal (slice_get_within slots k journal there) there);
     }

@@ -12,7 +12,8 @@ use Rattle.audit_report.proofs.policy_audit.check_policy.Goals as goal
 pub loop-at-init : goal.loop-at-init
 loop-at-init c = record {
   right = c.in_ok-check_opening.ensures.ok;
-  policy = c.opening-policy.ensures.exact ∙ ap policy_of (sym (opens_front c.args.entries.now c.in_ok-check_opening.ensures.ok));
+  policy = c.opening-policy.ensures.exact ∙ ap policy_of
+      (sym (opens_front c.args.entries.now c.in_ok-check_opening.ensures.ok));
 }
 
 pub is_accepted-requires : goal.is_accepted-requires
@@ -31,7 +32,8 @@ returns-then-not-branch-clause-err c =
     let entry = c.index-entries-at.result in
     let late : 4 ≤ at = omega arith in
     let low : at < length entries = omega arith in
-    let there : slice_get entries at ≡ Some entry = slice_get_read entries (length entries) at entry refl low c.index-entries-at.is in
+    let there : slice_get entries at ≡ Some entry = slice_get_read entries
+    (length entries) at entry refl low c.index-entries-at.is in
     wrong_later entries at entry late there c.loop-at.invariant.right
     (λ accepted. let t = c.in_ok-is_accepted.ensures.1 accepted in absurd (search (rules, t, c.if-not-branch.true)))
 
@@ -43,7 +45,8 @@ loop-at-preserved c =
     let again = c.index-entries-at-in-loop-at.result in
     let late : 4 ≤ at = omega arith in
     let low : at < length entries = omega arith in
-    let there : slice_get entries at ≡ Some entry = slice_get_read entries (length entries) at entry refl low c.index-entries-at.is in
+    let there : slice_get entries at ≡ Some entry = slice_get_read entries
+    (length entries) at entry refl low c.index-entries-at.is in
     let is = c.index-entries-at-in-loop-at.is in
     let accepted = c.in_ok-is_accepted.ensures.0 (search (rules, c.if-not-branch.false)) in
     record {

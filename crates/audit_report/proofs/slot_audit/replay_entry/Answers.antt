@@ -8,7 +8,8 @@ pub returns-in-Refused-clause-step : goal.returns-in-Refused-clause-step
 returns-in-Refused-clause-step c = λ judged stands version.
     let slot = c.args.slot.now in
     let e = c.args.entry.now in
-    let step = judges judged slot.number c.new-session.result c.in-Ok.command slot.journal e _ c.decide_slot.new.slot.journal
+    let step = judges judged slot.number c.new-session.result c.in-Ok.command slot.journal e _
+    c.decide_slot.new.slot.journal
     c.new-session.ensures c.in-Ok.ensures (c.in-Refused.ensures.step judged stands) in
     subst (IsFaultOf judged slot.number slot.journal e) (sym c.fault_of.ensures)
     (fault_is judged slot.number slot.journal e c.in-Refused.refusal c.decide_slot.new.slot.journal version step)
@@ -19,7 +20,8 @@ returns-then-keeps_instant c =
     let e = c.args.entry.now in
     let after = c.decide_slot.new.slot.journal in
     let keeps : KeepsInstant after e.action =
-    subst (λ (j : List SlotEntry). KeepsInstant j e.action) (c.entries.ensures ∙ c.journal.ensures) (c.if-keeps_instant.ensures.0 (search rules)) in
+    subst (λ (j : List SlotEntry). KeepsInstant j e.action) (c.entries.ensures ∙ c.journal.ensures)
+    (c.if-keeps_instant.ensures.0 (search rules)) in
     record {
       number = c.decide_slot.ensures.number;
       step = λ judged stands version. adds judged slot.number slot.journal e c.decide_slot.result after version

@@ -19,5 +19,6 @@ returns g c =
       seat_knows = a.5.known;
       seat_seen = a.5.seen;
       seat_read = a.5.read;
-      seat_keeps = keeps_added a.0 a.1 c.admin.result c.args.seat.now c.admin.new.seat c.args.session c.args.command a.4 a.5;
+      seat_keeps = keeps_added a.0 a.1 c.admin.result c.args.seat.now c.admin.new.seat c.args.session c.args.command a.4
+          a.5;
     }

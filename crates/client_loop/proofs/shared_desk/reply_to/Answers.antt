@@ -10,7 +10,8 @@ pub returns-in-Some : goal.returns-in-Some
 returns-in-Some g c entry old new p =
     let made : change_of c.args.receipt.now.entry.command ≡ Some c.in-Some.change =
     sym (c.change_of.ensures ∙ ap (λ (e : Entry). change_of e.command) c.entry.ensures) ∙ c.in-Some.is in
-    ap (λ n. Changed c.in-Some.change n) c.version-version.ensures ∙ reply_changed c.args.receipt.now entry old new c.in-Some.change p made
+    ap (λ n. Changed c.in-Some.change n) c.version-version.ensures
+    ∙ reply_changed c.args.receipt.now entry old new c.in-Some.change p made
 
 pub returns-in-None : goal.returns-in-None
 returns-in-None g c entry old new p =

@@ -17,7 +17,8 @@ returns c =
     let serve = c.in_ok-serve.serve in
     let script_local = (plain_fields script (is_plain_line script script_line c.in_ok-script.ensures refl)).globals in
     let serve_local = (plain_fields serve (is_plain_line serve serve_line c.in_ok-serve.ensures refl)).globals in
-    let about : app_of c.about.result ≡ new_app (codes "estserve") = ap app_of_fields c.about.ensures ∙ c.new.ensures.app in
+    let about : app_of c.about.result ≡ new_app (codes "estserve") =
+    ap app_of_fields c.about.ensures ∙ c.new.ensures.app in
     let named : app_of c.subcommand_required.result ≡ required (new_app (codes "estserve"))
     = ap app_of_fields c.subcommand_required.ensures ∙ ap required about in
     let script_is = ap (λ (a : App). a.top) c.in_ok-script.ensures in

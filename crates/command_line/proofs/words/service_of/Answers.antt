@@ -17,5 +17,6 @@ returns c =
       path = ap (λ (s : Bor Text). s.now) c.unwrap_or.ensures ∙ (text_or c.get_str.result _
           ∙ ap (λ o. unwrap_or o []) (c.get_str.ensures ∙ first_value-rows found (codes "socket")));
       workers = c.workers_of.ensures;
-      connections = number_is found (codes "connections") c.get_one.result c.get_one.ensures.none c.get_one.ensures.value;
+      connections = number_is found (codes "connections") c.get_one.result c.get_one.ensures.none
+          c.get_one.ensures.value;
     }

@@ -7,7 +7,8 @@ use Rattle.command_line.specs.declared.order.TheConstants.{WORKERS}
 use Rattle.command_line.proofs.CommandLines.{number_is}
 use Rattle.command_line.proofs.words.workers_of.Goals as goal
 
-allowed_by : (b : Bool) (count r : ℕ) (o : Option ℕ) → o ≡ cond b (Some count) None → UnwrapsOrElse o (λ w. w ≡ WORKERS) r
+allowed_by : (b : Bool) (count r : ℕ) (o : Option ℕ) → o ≡ cond b (Some count) None
+    → UnwrapsOrElse o (λ w. w ≡ WORKERS) r
     → r ≡ cond b count WORKERS
 allowed_by true count r o e h = rw e at h
 allowed_by false count r o e h = rw e at h

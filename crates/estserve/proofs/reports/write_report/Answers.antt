@@ -5,7 +5,8 @@ use Rattle.estserve.proofs.reports.write_report.Goals as goal
 
 pub returns-in_default-write_out-clause-reports : goal.returns-in_default-write_out-clause-reports
 returns-in_default-write_out-clause-reports g c =
-    let held : waiting_bytes c.in-Ok-new.waiting ++ c.as_bytes.result.now ≡ string_bytes c.in-Ok.text = rw c.in-Ok-new.ensures.empty c.as_bytes.ensures.value in
+    let held : waiting_bytes c.in-Ok-new.waiting ++ c.as_bytes.result.now ≡ string_bytes c.in-Ok.text =
+    rw c.in-Ok-new.ensures.empty c.as_bytes.ensures.value in
     record {
       text = waiting_bytes c.in-Ok-new.waiting ++ c.as_bytes.result.now;
       report = record { verdict = c.in-Ok.ensures.0; is = c.in-Ok.ensures.1; tells = held ∙ c.in-Ok.ensures.2 };
@@ -14,7 +15,8 @@ returns-in_default-write_out-clause-reports g c =
 
 pub returns-clause-reports : goal.returns-clause-reports
 returns-clause-reports g c =
-    let held : waiting_bytes c.in-Ok-new.waiting ++ c.as_bytes.result.now ≡ string_bytes c.in-Ok.text = rw c.in-Ok-new.ensures.empty c.as_bytes.ensures.value in
+    let held : waiting_bytes c.in-Ok-new.waiting ++ c.as_bytes.result.now ≡ string_bytes c.in-Ok.text =
+    rw c.in-Ok-new.ensures.empty c.as_bytes.ensures.value in
     record {
       text = waiting_bytes c.in-Ok-new.waiting ++ c.as_bytes.result.now;
       report = record { verdict = c.in-Ok.ensures.0; is = c.in-Ok.ensures.1; tells = held ∙ c.in-Ok.ensures.2 };

@@ -22,5 +22,6 @@ returns-clause-runs g c = inr (record {
 pub returns-clause-devices : goal.returns-clause-devices
 returns-clause-devices g c = record {
   read = λ is. c.serve-why.ensures.read_fault (c.finish.ensures.read is);
-  write = λ is. failed_in_run _ _ _ _ (c.finish.ensures.write is) c.serve-why.ensures.write_fault c.serve-why.ensures.unfailed_writer;
+  write = λ is. failed_in_run _ _ _ _ (c.finish.ensures.write is) c.serve-why.ensures.write_fault
+      c.serve-why.ensures.unfailed_writer;
 }

@@ -12,7 +12,8 @@ pub close-requires : goal.close-requires
 close-requires g c =
     let back : AreBack ServesNext (replicate c.args.workers new_seat) c.in-Ok-run_workers.seats.items = search rules in
     let few : length c.in-Ok-run_workers.seats.items ≤ SEATS
-    = rw (as_many ServesNext c.args.workers new_seat c.in-Ok-run_workers.seats.items back) (subst (λ n. n ≤ SEATS) c.count.ensures.count c.count.ensures.few) in
+    = rw (as_many ServesNext c.args.workers new_seat c.in-Ok-run_workers.seats.items back)
+    (subst (λ n. n ≤ SEATS) c.count.ensures.count c.count.ensures.few) in
     search (rules, few)
 
 pub returns-clause-serves : goal.returns-clause-serves

@@ -8,5 +8,7 @@ pub returns-in-Some : goal.returns-in-Some
 returns-in-Some c =
     let place = c.args.version - 1 in
     let found = c.in-Some.ensures.lookup in
-    let here = get_is c.args.policy.now place c.in-Some.found.now ((Decides-ltb place (length c.args.policy.now)).0 (sym found.0)) found.1 in
-    entered c.args.policy.now c.args.version c.args.entry.now c.in-Some.found.now _ (omega arith) here c.is_same_entry.ensures
+    let here = get_is c.args.policy.now place c.in-Some.found.now
+    ((Decides-ltb place (length c.args.policy.now)).0 (sym found.0)) found.1 in
+    entered c.args.policy.now c.args.version c.args.entry.now c.in-Some.found.now _
+    (omega arith) here c.is_same_entry.ensures

@@ -16,5 +16,6 @@ compare_exchange-found-requires c =
       book,
       pen.0 ∙ book,
       offer.0,
-      rw (ap (λ w. w.key) h, pen.1, offer.1, offer.3) (adds_moves c.again-seen.result.log e c.trace.inside.count (ap length log ∙ sym c.trace.invariant.0) may),
+      rw (ap (λ w. w.key) h, pen.1, offer.1, offer.3)
+          (adds_moves c.again-seen.result.log e c.trace.inside.count (ap length log ∙ sym c.trace.invariant.0) may),
     )

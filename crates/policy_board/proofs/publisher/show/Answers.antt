@@ -10,7 +10,8 @@ pub publish_as-writer-requires : goal.publish_as-writer-requires
 publish_as-writer-requires g c next same =
     let shown = ap (λ d. d.shown.value) c.append-writer.ensures.shown in
     publishes _ _ _ _ next (drop c.args.writer.behind c.args.writer.log.items) _ c.args.entry c.trace.result
-    (rw shown c.requires.before) (rw shown c.requires.accepted) c.trace.ensures.1 (c.trace.ensures.0 ∙ rw shown c.requires.list) c.append-writer.ensures.pending same
+    (rw shown c.requires.before) (rw shown c.requires.accepted) c.trace.ensures.1
+    (c.trace.ensures.0 ∙ rw shown c.requires.list) c.append-writer.ensures.pending same
 
 pub returns-clause-after : goal.returns-clause-after
 returns-clause-after g c =
@@ -23,6 +24,8 @@ returns-clause-after g c =
     let next : State = (y.policy, y.trace) in
     let values = rw c.in-Ok.is at c.publish_as-writer.ensures.values in
     let now : next ≡ (absorbed x.policy c.args.entry, c.trace.result) =
-    next_is x.policy x.trace c.args.entry c.trace.result before _ next was.resting c.append-writer.ensures.pending values.0 in
+    next_is x.policy x.trace c.args.entry c.trace.result before _ next was.resting c.append-writer.ensures.pending
+    values.0 in
     rw (ap (λ (s : State). s.0) now, ap (λ (s : State). s.1) now, values.1)
-    (publishing_more _ x.policy x.trace before c.args.entry c.trace.result was (rw shown c.requires.accepted) c.trace.ensures.1 (c.trace.ensures.0 ∙ rw shown c.requires.list))
+    (publishing_more _ x.policy x.trace before c.args.entry c.trace.result was
+    (rw shown c.requires.accepted) c.trace.ensures.1 (c.trace.ensures.0 ∙ rw shown c.requires.list))

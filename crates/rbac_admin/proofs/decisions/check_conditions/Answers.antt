@@ -9,8 +9,11 @@ use Rattle.rbac_admin.proofs.decisions.check_conditions.Goals as goal
 pub returns-in_err-authorized_roles-in-CreateSession :
     goal.returns-in_err-authorized_roles-in-CreateSession
 returns-in_err-authorized_roles-in-CreateSession c =
-    let p = err_from_is_err_and c.from_residual-in_err-authorized_roles-in-CreateSession.result c.from_residual-in_err-authorized_roles-in-CreateSession.ensures.1 in
-    rw (p.1, p.2) (λ L st given. rw c.in-CreateSession.is (refuse _ (c.in_err-authorized_roles-in-CreateSession.ensures L st) refl))
+    let p = err_from_is_err_and c.from_residual-in_err-authorized_roles-in-CreateSession.result
+    c.from_residual-in_err-authorized_roles-in-CreateSession.ensures.1 in
+    rw (p.1, p.2)
+    (λ L st given. rw c.in-CreateSession.is
+    (refuse _ (c.in_err-authorized_roles-in-CreateSession.ensures L st) refl))
 
 pub returns-in_ok-authorized_roles-in-CreateSession :
     goal.returns-in_ok-authorized_roles-in-CreateSession
@@ -20,13 +23,16 @@ returns-in_ok-authorized_roles-in-CreateSession c = λ L st given. rw c.in-Creat
 pub returns-in_err-authorized_role-in-AddActiveRole :
     goal.returns-in_err-authorized_role-in-AddActiveRole
 returns-in_err-authorized_role-in-AddActiveRole c =
-    let p = err_from_is_err_and c.from_residual-in_err-authorized_role-in-AddActiveRole.result c.from_residual-in_err-authorized_role-in-AddActiveRole.ensures.1 in
+    let p = err_from_is_err_and c.from_residual-in_err-authorized_role-in-AddActiveRole.result
+    c.from_residual-in_err-authorized_role-in-AddActiveRole.ensures.1 in
     let e = c.args.entry.now in
     let n = c.in_ok-session-in-AddActiveRole.session in
     let here : e.session ≡ Some n = (let is = c.in_ok-session-in-AddActiveRole.ensures.value in cc) in
-    let plain : IsFalse (makes_session e.command) = subst (λ k. IsFalse (makes_session k)) (sym c.in-AddActiveRole.is) refl in
+    let plain : IsFalse (makes_session e.command) = subst (λ k. IsFalse (makes_session k))
+    (sym c.in-AddActiveRole.is) refl in
     rw (p.1, p.2) (λ L st given. let by = given_by L e n plain here given in rw c.in-AddActiveRole.is
-    (refuse_authorized L e.session n by _ _ (λ user lives. c.in_err-authorized_role-in-AddActiveRole.ensures L user st lives) refl))
+    (refuse_authorized L e.session n by _ _
+    (λ user lives. c.in_err-authorized_role-in-AddActiveRole.ensures L user st lives) refl))
 
 pub returns-in_ok-authorized_role-in-AddActiveRole :
     goal.returns-in_ok-authorized_role-in-AddActiveRole
@@ -34,7 +40,8 @@ returns-in_ok-authorized_role-in-AddActiveRole c =
     let e = c.args.entry.now in
     let n = c.in_ok-session-in-AddActiveRole.session in
     let here : e.session ≡ Some n = (let is = c.in_ok-session-in-AddActiveRole.ensures.value in cc) in
-    let plain : IsFalse (makes_session e.command) = subst (λ k. IsFalse (makes_session k)) (sym c.in-AddActiveRole.is) refl in
+    let plain : IsFalse (makes_session e.command) = subst (λ k. IsFalse (makes_session k))
+    (sym c.in-AddActiveRole.is) refl in
     λ L st given. let by = given_by L e n plain here given in rw c.in-AddActiveRole.is
     (pass_authorized L e.session n by _ (c.in_ok-authorized_role-in-AddActiveRole.ensures L by.user st by.lives)
     (tested_inactive L e.session n by _ _ (c.inactive_role.ensures L st (by.user, by.lives))))

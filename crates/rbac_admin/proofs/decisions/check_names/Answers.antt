@@ -7,7 +7,8 @@ use Rattle.rbac_admin.proofs.decisions.check_names.Goals as goal
 
 pub returns-in_err-known_role-in-AddInheritance : goal.returns-in_err-known_role-in-AddInheritance
 returns-in_err-known_role-in-AddInheritance c =
-    let p = err_from_is_err_and c.from_residual-in_err-known_role-in-AddInheritance.result c.from_residual-in_err-known_role-in-AddInheritance.ensures.1 in
+    let p = err_from_is_err_and c.from_residual-in_err-known_role-in-AddInheritance.result
+    c.from_residual-in_err-known_role-in-AddInheritance.ensures.1 in
     rw (p.1, p.2) (λ L st. let refused = c.in_err-known_role-in-AddInheritance.ensures L st in
     elim c.in-AddInheritance.is [ inl is ↦ rw is (refuse _ refused refl) | inr is ↦ rw is (refuse _ refused refl) ])
 
@@ -18,7 +19,8 @@ returns-in_ok-new_set-in-CreateDsdSet c = λ L st. rw c.in-CreateDsdSet.is
 pub returns-in_ok-known_user-in-CreateSession : goal.returns-in_ok-known_user-in-CreateSession
 returns-in_ok-known_user-in-CreateSession c = λ L st. rw c.in-CreateSession.is
     (pass (c.in_ok-number_left-in-CreateSession.ensures L st)
-    (pass (c.in_ok-known_user-in-CreateSession.ensures L st) (tested _ _ (c.known_roles-in-CreateSession.ensures L st))))
+    (pass (c.in_ok-known_user-in-CreateSession.ensures L st)
+    (tested _ _ (c.known_roles-in-CreateSession.ensures L st))))
 
 pub returns-in-DeleteRole : goal.returns-in-DeleteRole
 returns-in-DeleteRole c = λ L st.

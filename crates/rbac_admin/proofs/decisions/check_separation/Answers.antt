@@ -33,5 +33,6 @@ returns-in-Some c = λ L st given names conditions.
     let n = c.in-Some.session in
     let here : e.session ≡ Some n = (let is = c.in-Some.is in cc) in
     let met = subst (λ k. AllPass (condition_rules L e.session k)) c.in-AddActiveRole.is conditions in
-    let lives = subst (λ k. Lives L k met.0.by.user) (same_Some met.0.number n (sym met.0.by.given ∙ here)) met.0.by.lives in
+    let lives = subst (λ k. Lives L k met.0.by.user) (same_Some met.0.number n (sym met.0.by.given ∙ here))
+    met.0.by.lives in
     rw c.in-AddActiveRole.is (tested _ _ (rw here (c.separated_role.ensures L met.0.by.user st lives met.0.authorized)))

@@ -11,4 +11,5 @@ pub returns-clause-accepted : goal.returns-clause-accepted
 returns-clause-accepted c = accepted_all
 
 pub returns-clause-silent : goal.returns-clause-silent
-returns-clause-silent c = λ entries session command. silent_before (policy_rules entries session command) (all_definite entries session command)
+returns-clause-silent c = λ entries session command. silent_before (policy_rules entries session command)
+    (all_definite entries session command)

@@ -6,4 +6,5 @@ use Rattle.rbac_admin.proofs.Listing.{NoneBefore}
 use Rattle.rbac_admin.proofs.rules.first_unauthorized.Given as goal
 
 abbrev pub invariant-loop-place : goal.invariant-loop-place
-invariant-loop-place l = (entries : List Entry) → StandsFor l.policy entries → NoneBefore (λ before name. IsAuthorized entries l.user name → ⊥) l.roles l.place
+invariant-loop-place l = (entries : List Entry) → StandsFor l.policy entries
+    → NoneBefore (λ before name. IsAuthorized entries l.user name → ⊥) l.roles l.place

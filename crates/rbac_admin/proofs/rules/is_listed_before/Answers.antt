@@ -6,8 +6,10 @@ use Rattle.rbac_admin.proofs.rules.is_listed_before.Goals as goal
 
 pub returns-then-eq : goal.returns-then-eq
 returns-then-eq c =
-    let same : c.in-Some.name ≡ c.args.role.now = (bytes_eq-Decides c.in-Some.name c.args.role.now).0 (sym c.eq.ensures ∙ c.if-eq.true) in (
-      λ t. taken c.args.roles.now c.args.place c.loop-earlier.earlier c.args.role.now (omega arith) (sym c.get.ensures ∙ c.in-Some.is ∙ ap Some same),
+    let same : c.in-Some.name ≡ c.args.role.now = (bytes_eq-Decides c.in-Some.name c.args.role.now).0
+    (sym c.eq.ensures ∙ c.if-eq.true) in (
+      λ t. taken c.args.roles.now c.args.place c.loop-earlier.earlier c.args.role.now (omega arith)
+          (sym c.get.ensures ∙ c.in-Some.is ∙ ap Some same),
       λ h. search rules,
     )
 

@@ -15,11 +15,14 @@ loop-role-preserved c =
     let inside : i < length rows = omega (arith, within, c.loop-role.invariant.same) in
     elim c.if-has.branch [
       | then-has w ↦
-          let row = w.union.ensures ∙ ap (λ n. either n c.args.more) (get_or_default_zero rows i w.index-rows-role.result inside) in
+          let row = w.union.ensures ∙ ap (λ n. either n c.args.more)
+          (get_or_default_zero rows i w.index-rows-role.result inside) in
           subst (λ r. TakenUpTo old r c.args.places c.args.more (i + 1)) (sym (w.rows-is ∙ ap (slice_set rows i) row))
-          (taken_in old rows c.args.places c.args.more i within c.loop-role.invariant (c.has.ensures.0 (search (rules, w.if-has.true))))
+          (taken_in old rows c.args.places c.args.more i within c.loop-role.invariant
+          (c.has.ensures.0 (search (rules, w.if-has.true))))
       | else-has w ↦ subst (λ r. TakenUpTo old r c.args.places c.args.more (i + 1)) (sym w.rows-is)
-          (passed_over old rows c.args.places c.args.more i c.loop-role.invariant (λ h. search (rules, c.has.ensures.1 h, w.if-has.false)))
+          (passed_over old rows c.args.places c.args.more i c.loop-role.invariant
+          (λ h. search (rules, c.has.ensures.1 h, w.if-has.false)))
     ]
 
 pub returns : goal.returns

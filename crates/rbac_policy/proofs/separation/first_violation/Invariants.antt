@@ -5,4 +5,7 @@ use Rattle.rbac_policy.proofs.separation.first_violation.Given as goal
 
 abbrev pub invariant-loop-slot : goal.invariant-loop-slot
 invariant-loop-slot l =
-    fold (λ first slot. lesser place_of_set first (violation_of l.juniors (l.sessions ++ l.coming ∷ []) slot)) l.first (drop l.slot-index l.sets) ≡ fold (λ first slot. lesser place_of_set first (violation_of l.juniors (l.sessions ++ l.coming ∷ []) slot)) None l.sets
+    fold (λ first slot. lesser place_of_set first (violation_of l.juniors (l.sessions ++ l.coming ∷ []) slot)) l.first
+    (drop l.slot-index l.sets)
+    ≡ fold (λ first slot. lesser place_of_set first (violation_of l.juniors (l.sessions ++ l.coming ∷ []) slot))
+    None l.sets

@@ -6,4 +6,5 @@ use Rattle.rbac_policy.proofs.sets.first_set_with.Given as goal
 
 abbrev pub invariant-loop-slot : goal.invariant-loop-slot
 invariant-loop-slot l =
-    fold (λ first slot. lesser place_of_row first (set_with l.place slot)) l.first (drop l.slot-index l.sets) ≡ fold (λ first slot. lesser place_of_row first (set_with l.place slot)) None l.sets
+    fold (λ first slot. lesser place_of_row first (set_with l.place slot)) l.first (drop l.slot-index l.sets)
+    ≡ fold (λ first slot. lesser place_of_row first (set_with l.place slot)) None l.sets

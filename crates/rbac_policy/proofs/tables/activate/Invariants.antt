@@ -3,4 +3,5 @@ use Rattle.rbac_policy.specs.Tables.{session_given}
 use Rattle.rbac_policy.proofs.tables.activate.Given as goal
 
 abbrev pub invariant-loop-at : goal.invariant-loop-at
-invariant-loop-at l = l.sessions ≡ map (session_given l.number l.place) (take l.at l.fn.sessions) ++ drop l.at l.fn.sessions
+invariant-loop-at l = l.sessions ≡ map (session_given l.number l.place) (take l.at l.fn.sessions)
+    ++ drop l.at l.fn.sessions

@@ -8,4 +8,5 @@ loop-at-preserved c =
     let f = session_kept c.args.users.now c.args.juniors.now in
     let within : c.loop-at.at < length c.args.sessions.now = omega arith in
     ap (set c.loop-at.sessions c.loop-at.at) (c.session_kept.ensures ∙ ap f (sym c.index-sessions-at.is))
-    ∙ map_over_more f c.args.sessions.now c.loop-at.sessions c.loop-at.at c.index-sessions-at.result within c.loop-at.invariant c.index-sessions-at.is
+    ∙ map_over_more f c.args.sessions.now c.loop-at.sessions c.loop-at.at c.index-sessions-at.result within
+    c.loop-at.invariant c.index-sessions-at.is

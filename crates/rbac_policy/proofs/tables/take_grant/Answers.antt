@@ -8,4 +8,5 @@ loop-at-preserved c =
     let f = grant_revoked c.args.operation.now c.args.object.now c.args.place in
     let within : c.loop-at.at < length c.args.grants.now = omega arith in
     ap (set c.loop-at.grants c.loop-at.at) (c.grant_revoked.ensures ∙ ap f (sym c.index-grants-at.is))
-    ∙ map_over_more f c.args.grants.now c.loop-at.grants c.loop-at.at c.index-grants-at.result within c.loop-at.invariant c.index-grants-at.is
+    ∙ map_over_more f c.args.grants.now c.loop-at.grants c.loop-at.at c.index-grants-at.result within
+    c.loop-at.invariant c.index-grants-at.is

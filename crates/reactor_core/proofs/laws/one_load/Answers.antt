@@ -7,8 +7,10 @@ returns-clause-given c = same_given c.one_cut.ensures.tokens c.one_flat.ensures
 
 pub returns-clause-fault : goal.returns-clause-fault
 returns-clause-fault c =
-    one_load_fault c.one_cut.ensures.tokens (record { same = c.one_fault.ensures.same; no_tokens = c.one_fault.ensures.no_tokens }) c.one_flat.ensures
+    one_load_fault c.one_cut.ensures.tokens
+    (record { same = c.one_fault.ensures.same; no_tokens = c.one_fault.ensures.no_tokens }) c.one_flat.ensures
 
 pub returns-clause-never_both : goal.returns-clause-never_both
 returns-clause-never_both c =
-    given_or_fault c.one_cut.ensures.tokens (record { same = c.one_fault.ensures.same; no_tokens = c.one_fault.ensures.no_tokens }) c.one_flat.ensures
+    given_or_fault c.one_cut.ensures.tokens
+    (record { same = c.one_fault.ensures.same; no_tokens = c.one_fault.ensures.no_tokens }) c.one_flat.ensures

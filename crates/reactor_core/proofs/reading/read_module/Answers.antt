@@ -14,14 +14,17 @@ use Rattle.est_syntax.specs.Tree.{LibraryTree}
 use Rattle.est_syntax.specs.Views.{library_view}
 use Rattle.est_text.specs.declared.lex.LexFault.TheVariants as lex
 use Rattle.reactor_core.specs.Faults.{refusal_of_link}
-use Rattle.reactor_core.specs.Loading.{IsCutOf, Spells, LinksTo, IsLoadFault, in_cutting, in_grammar, in_linking, in_reduction}
+use Rattle.reactor_core.specs.Loading.{IsCutOf, Spells, LinksTo, IsLoadFault, in_cutting, in_grammar, in_linking}
+use Rattle.reactor_core.specs.Loading.{in_reduction}
 use Rattle.reactor_core.proofs.reading.read_module.Goals as goal
 
 -- want of memory while linking is that of a load
 link_fault : (main text : List ℕ) (library : LibraryTree) (fault : LinkFault) → Spells text library
-    → (fault ≡ link.Memory) ⊎ IsFirstFault (programs_of library) main (Some fault) → IsLoadFault main text (refusal_of_link fault)
+    → (fault ≡ link.Memory) ⊎ IsFirstFault (programs_of library) main (Some fault)
+    → IsLoadFault main text (refusal_of_link fault)
 link_fault main text library fault spells h =
-    ⊎_elim (λ e. subst (λ (f : LinkFault). IsLoadFault main text (refusal_of_link f)) (sym e) (in_cutting lex.Memory tt))
+    ⊎_elim (λ e. subst (λ (f : LinkFault). IsLoadFault main text (refusal_of_link f)) (sym e)
+    (in_cutting lex.Memory tt))
     (λ first. in_linking library spells fault first) h
 
 pub returns-in_err-tokens-clause-fault : goal.returns-in_err-tokens-clause-fault
@@ -43,8 +46,10 @@ returns-in_err-flat-clause-fault c =
     let l = c.in_ok-library.ensures in
     let cut : IsCutOf c.args.text.now c.in_ok-tokens.tokens = record { source = e.source; cut = e.tokens } in
     let library = library_view c.in_ok-library.library in
-    let spells : Spells c.args.text.now library = record { tokens = c.in_ok-tokens.tokens; cut = cut; spelt = l.spelt; shallow = l.depth } in
-    rw (p.1, p.2) (link_fault c.args.main.now c.args.text.now library c.in_err-flat.field-0.0 spells c.in_err-flat.ensures.first)
+    let spells : Spells c.args.text.now library =
+    record { tokens = c.in_ok-tokens.tokens; cut = cut; spelt = l.spelt; shallow = l.depth } in
+    rw (p.1, p.2)
+    (link_fault c.args.main.now c.args.text.now library c.in_err-flat.field-0.0 spells c.in_err-flat.ensures.first)
 
 pub returns-in_err-kernel-clause-fault : goal.returns-in_err-kernel-clause-fault
 returns-in_err-kernel-clause-fault c =
@@ -54,8 +59,10 @@ returns-in_err-kernel-clause-fault c =
     let f = c.in_ok-flat.ensures in
     let cut : IsCutOf c.args.text.now c.in_ok-tokens.tokens = record { source = e.source; cut = e.tokens } in
     let library = library_view c.in_ok-library.library in
-    let spells : Spells c.args.text.now library = record { tokens = c.in_ok-tokens.tokens; cut = cut; spelt = l.spelt; shallow = l.depth } in
-    let links : LinksTo c.args.main.now c.args.text.now c.in_ok-flat.flat = record { library = library; spells = spells; sound = f.first; is = f.flat } in
+    let spells : Spells c.args.text.now library =
+    record { tokens = c.in_ok-tokens.tokens; cut = cut; spelt = l.spelt; shallow = l.depth } in
+    let links : LinksTo c.args.main.now c.args.text.now c.in_ok-flat.flat =
+    record { library = library; spells = spells; sound = f.first; is = f.flat } in
     rw (p.1, p.2) (in_reduction c.in_ok-flat.flat links c.in_err-kernel.field-0.0 c.in_err-kernel.ensures)
 
 pub returns-clause-given : goal.returns-clause-given
@@ -66,7 +73,8 @@ returns-clause-given c =
     let k = c.in_ok-kernel.ensures in
     let cut : IsCutOf c.args.text.now c.in_ok-tokens.tokens = record { source = e.source; cut = e.tokens } in
     let library = library_view c.in_ok-library.library in
-    let spells : Spells c.args.text.now library = record { tokens = c.in_ok-tokens.tokens; cut = cut; spelt = l.spelt; shallow = l.depth } in
+    let spells : Spells c.args.text.now library =
+    record { tokens = c.in_ok-tokens.tokens; cut = cut; spelt = l.spelt; shallow = l.depth } in
     record {
       flat = c.in_ok-flat.flat;
       links = record { library = library; spells = spells; sound = f.first; is = f.flat };
@@ -79,5 +87,6 @@ returns-clause-given c =
 
 pub invariant_of-result : goal.invariant_of-result
 invariant_of-result c = record {
-  over_inputs = subst (λ (i : List Declaration). AreOverInputs i c.in_ok-flat.flat.relations) (sym c.in_ok-kernel.ensures.declares) c.in_ok-flat.flat.over_inputs;
+  over_inputs = subst (λ (i : List Declaration). AreOverInputs i c.in_ok-flat.flat.relations)
+      (sym c.in_ok-kernel.ensures.declares) c.in_ok-flat.flat.over_inputs;
 }

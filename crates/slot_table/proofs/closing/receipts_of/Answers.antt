@@ -5,7 +5,8 @@ use Rattle.slot_table.proofs.Handing.{AreHanded, none_handed, one_handed}
 use Rattle.slot_table.proofs.closing.receipts_of.Goals as goal
 
 pub loop-seat-init : goal.loop-seat-init
-loop-seat-init g c = none_handed c.args.seats.items c.no_receipts-receipts.result (search rules) c.no_receipts-receipts.ensures
+loop-seat-init g c = none_handed c.args.seats.items c.no_receipts-receipts.result
+    (search rules) c.no_receipts-receipts.ensures
 
 pub loop-seat-preserved : goal.loop-seat-preserved
 loop-seat-preserved g c =
@@ -17,4 +18,5 @@ loop-seat-preserved g c =
     let before : AreHanded all (left ++ seat ∷ []) receipts =
     subst (λ (l : List SeatState). AreHanded all l receipts) c.in-Some.ensures.items c.loop-seat.invariant in
     subst (λ (k : List Kept). AreHanded all left (slice_set receipts c.len.result k)) (sym c.into_receipts.ensures)
-    (subst (λ (n : ℕ). AreHanded all left (slice_set receipts n seat.kept)) count (one_handed all left seat receipts before))
+    (subst (λ (n : ℕ). AreHanded all left (slice_set receipts n seat.kept)) count
+    (one_handed all left seat receipts before))

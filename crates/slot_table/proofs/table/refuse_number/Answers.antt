@@ -8,5 +8,6 @@ returns-in-Ok-false g c =
       none = c.requires;
       list = asked.list;
       read = asked.read;
-      answered = inr (refl, λ lives. let yes = asked.answered.1 lives in search (rules, yes, c.in-Ok-false.field-0-test));
+      answered =
+          inr (refl, λ lives. let yes = asked.answered.1 lives in search (rules, yes, c.in-Ok-false.field-0-test));
     })

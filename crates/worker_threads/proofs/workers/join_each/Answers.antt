@@ -8,6 +8,7 @@ loop-thread-init g c = record { back = rw c.requires.room.0 no_seat; room = sear
 
 pub loop-thread-preserved : goal.loop-thread-preserved
 loop-thread-preserved g c = record {
-  back = rw c.push_reserved.ensures.items (back_more g.W.Work.turn _ _ _ _ _ c.loop-thread.invariant.back c.join.ensures);
+  back = rw c.push_reserved.ensures.items
+      (back_more g.W.Work.turn _ _ _ _ _ c.loop-thread.invariant.back c.join.ensures);
   room = search rules;
 }

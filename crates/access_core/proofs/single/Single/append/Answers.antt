@@ -21,15 +21,28 @@ invariant_of-self c =
     let policy = c.self.inside.policy in
     let entries = c.self.inside.entries in
     let e = c.args.entry in
-    let step : PolicyStep entries e.session e.command (Ok e) = subst (λ (d : DeskState). PolicyStep d.entries e.session e.command (Ok e)) (sym c.self.view_is) c.requires in
-    let room : HasRoomFor e.command entries = subst (HasRoomFor e.command) c.entries.ensures (c.has_room.ensures.0 (search (rules, c.if-not-has_room.false))) in
+    let step : PolicyStep entries e.session e.command (Ok e) =
+    subst (λ (d : DeskState). PolicyStep d.entries e.session e.command (Ok e)) (sym c.self.view_is) c.requires in
+    let room : HasRoomFor e.command entries = subst (HasRoomFor e.command) c.entries.ensures
+    (c.has_room.ensures.0 (search (rules, c.if-not-has_room.false))) in
     let accepted : IsAccepted entries e = record { step = step; room = room } in
     let few = few_entries entries e c.self.invariant.2 accepted in
-    let fits : Fits entries e = step_fits policy entries c.self.invariant.0 e.session e.command e (omega (arith, few)) step in
+    let fits : Fits entries e = step_fits policy entries c.self.invariant.0 e.session e.command e
+    (omega (arith, few)) step in
     let after = stands_after policy entries c.args.entry c.self.invariant.0 fits in
     elim c.match-take_in.branch [
-      | in-Ok w ↦ (rw (w.in-Ok.ensures.0, w.in-Ok.ensures.1) after, c.self.invariant.1, rw w.in-Ok.ensures.0 (still_leaves _ entries e c.self.invariant.2 after accepted), rw w.in-Ok.ensures.0 (fit_push entries c.args.entry c.self.invariant.3 fits))
-      | in-Err w ↦ (rw (w.in-Err.ensures.0, w.in-Err.ensures.1) c.self.invariant.0, c.self.invariant.1, rw w.in-Err.ensures.0 c.self.invariant.2, rw w.in-Err.ensures.0 c.self.invariant.3)
+      | in-Ok w ↦ (
+        rw (w.in-Ok.ensures.0, w.in-Ok.ensures.1) after,
+        c.self.invariant.1,
+        rw w.in-Ok.ensures.0 (still_leaves _ entries e c.self.invariant.2 after accepted),
+        rw w.in-Ok.ensures.0 (fit_push entries c.args.entry c.self.invariant.3 fits),
+      )
+      | in-Err w ↦ (
+        rw (w.in-Err.ensures.0, w.in-Err.ensures.1) c.self.invariant.0,
+        c.self.invariant.1,
+        rw w.in-Err.ensures.0 c.self.invariant.2,
+        rw w.in-Err.ensures.0 c.self.invariant.3,
+      )
     ]
 
 pub returns : goal.returns
@@ -38,11 +51,14 @@ returns c =
     let entries = c.self.inside.entries in
     let slots = c.self.inside.slots in
     let e = c.args.entry in
-    let step : PolicyStep entries e.session e.command (Ok e) = subst (λ (d : DeskState). PolicyStep d.entries e.session e.command (Ok e)) (sym c.self.view_is) c.requires in
-    let room : HasRoomFor e.command entries = subst (HasRoomFor e.command) c.entries.ensures (c.has_room.ensures.0 (search (rules, c.if-not-has_room.false))) in
+    let step : PolicyStep entries e.session e.command (Ok e) =
+    subst (λ (d : DeskState). PolicyStep d.entries e.session e.command (Ok e)) (sym c.self.view_is) c.requires in
+    let room : HasRoomFor e.command entries = subst (HasRoomFor e.command) c.entries.ensures
+    (c.has_room.ensures.0 (search (rules, c.if-not-has_room.false))) in
     let accepted : IsAccepted entries e = record { step = step; room = room } in
     let few = few_entries entries e c.self.invariant.2 accepted in
-    let fits : Fits entries e = step_fits policy entries c.self.invariant.0 e.session e.command e (omega (arith, few)) step in
+    let fits : Fits entries e = step_fits policy entries c.self.invariant.0 e.session e.command e
+    (omega (arith, few)) step in
     let after = stands_after policy entries c.args.entry c.self.invariant.0 fits in
     let desk : List Entry → DeskState = λ list. record { entries = list; slots = slots } in
     rw (← c.self.view_is) (pass room (elim c.match-take_in.branch [

@@ -18,7 +18,8 @@ returns-in-Ok-clause-step c =
     rw (← c.self.view_is, ← c.in-Empty.ensures.value) (pass (λ runs. cc) (record {
       answer = Ok c.in-Ok.reactor;
       given = c.in-Ok.ensures;
-      replied = (refl, ap (λ n. Loaded n c.args.stamp.version) (c.len-place.ensures ∙ ap length c.journal.ensures.same));
+      replied =
+          (refl, ap (λ n. Loaded n c.args.stamp.version) (c.len-place.ensures ∙ ap length c.journal.ensures.same));
     }))
 
 pub returns-in-Err-clause-step : goal.returns-in-Err-clause-step
@@ -29,6 +30,7 @@ returns-in-Err-clause-step c =
       given = c.in-Err.ensures;
       replied = record {
         replied = ap Refused c.from.ensures;
-        stays = load_stays c.in-Empty.journal c.args.stamp c.args.main.now c.args.text.now (c.in-Err.refusal, c.in-Err.journal) c.in-Err.ensures;
+        stays = load_stays c.in-Empty.journal c.args.stamp c.args.main.now c.args.text.now
+            (c.in-Err.refusal, c.in-Err.journal) c.in-Err.ensures;
       };
     }))

@@ -13,4 +13,5 @@ returns-in_default-put-clause-err g c =
     (front.0, up_to_then _ _ _ _ c.args.text.now front.0 c.in-Ok.ensures.ok front.1)
 
 pub returns-clause-ok : goal.returns-clause-ok
-returns-clause-ok g c = whole_then _ _ _ _ c.args.text.now _ c.in-Ok.ensures.ok c.in-Ok.ensures.none.0 c.in-Ok-put.ensures.ok
+returns-clause-ok g c = whole_then _ _ _ _ c.args.text.now _ c.in-Ok.ensures.ok c.in-Ok.ensures.none.0
+    c.in-Ok-put.ensures.ok

@@ -23,6 +23,9 @@ returns-clause-answer g c =
       answered = refl;
       entry_is = told;
       list_is = c.front.ensures ∙ (all ∙ sym c.in-Ok-push.ensures);
-      session_is = c.session_made.ensures journal stands ∙ (ap (λ (x : Entry). session_made journal x) told ∙ ap (λ (l : List Entry). session_made l e) c.self.view_is);
+      session_is =
+          c.session_made.ensures journal stands
+          ∙ (ap (λ (x : Entry). session_made journal x) told
+          ∙ ap (λ (l : List Entry). session_made l e) c.self.view_is);
       appended = c.in-Ok-push.ensures ∙ ap (λ (l : List Entry). l ++ e ∷ []) c.self.view_is;
     })

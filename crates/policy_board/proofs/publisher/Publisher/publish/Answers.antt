@@ -6,5 +6,6 @@ use Rattle.policy_board.proofs.publisher.Publisher.publish.Goals as goal
 pub add_entry-front-requires-clause-room : goal.add_entry-front-requires-clause-room
 add_entry-front-requires-clause-room g c =
     let list = c.self.inside.writer.desk.shown.value.trace.list in
-    let accepted : IsAccepted list c.args.entry = subst (λ l. IsAccepted l c.args.entry) (sym c.self.view_is) c.requires in
+    let accepted : IsAccepted list c.args.entry = subst (λ l. IsAccepted l c.args.entry)
+    (sym c.self.view_is) c.requires in
     rw (c.front-front.ensures, ← c.self.view_is) (few_entries list c.args.entry c.self.invariant.leaves accepted)

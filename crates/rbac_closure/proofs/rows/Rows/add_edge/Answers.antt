@@ -20,11 +20,16 @@ invariant_of-self c =
     let own = get_or_default_zero f.juniors s c.index-self-senior-2.result edges_full in
     let row : c.with.result ≡ with_place (slice_index f.juniors s) j = c.with.ensures ∙ ap (λ n. with_place n j) own in
     let down : TakesIn f.below c.join.new.rows (slice_index f.above s) (slice_index f.below j) =
-    subst (λ m. TakesIn f.below c.join.new.rows (slice_index f.above s) m) lower (subst (λ m. TakesIn f.below c.join.new.rows m (get_or f.below j c.index-self-junior.result)) upper c.join.ensures) in
+    subst (λ m. TakesIn f.below c.join.new.rows (slice_index f.above s) m) lower
+    (subst (λ m. TakesIn f.below c.join.new.rows m (get_or f.below j c.index-self-junior.result)) upper
+    c.join.ensures) in
     let up : TakesIn f.above c.join-2.new.rows (slice_index f.below j) (slice_index f.above s) =
-    subst (λ m. TakesIn f.above c.join-2.new.rows (slice_index f.below j) m) upper (subst (λ m. TakesIn f.above c.join-2.new.rows m (get_or f.above s c.index-self-senior.result)) lower c.join-2.ensures) in
+    subst (λ m. TakesIn f.above c.join-2.new.rows (slice_index f.below j) m) upper
+    (subst (λ m. TakesIn f.above c.join-2.new.rows m (get_or f.above s c.index-self-senior.result)) lower
+    c.join-2.ensures) in
     subst (λ n. IsClosed (slice_set f.juniors s n) c.join.new.rows c.join-2.new.rows) (sym row)
-    (closed_after s j f.juniors f.below f.above c.join.new.rows c.join-2.new.rows c.requires.senior_is c.requires.junior_is c.self.invariant down up)
+    (closed_after s j f.juniors f.below f.above c.join.new.rows c.join-2.new.rows c.requires.senior_is
+    c.requires.junior_is c.self.invariant down up)
 
 pub returns-clause-again : goal.returns-clause-again
 returns-clause-again c = λ it.
@@ -32,5 +37,7 @@ returns-clause-again c = λ it.
     let s = c.args.senior in
     let j = c.args.junior in
     let full : s < length edges = omega arith in
-    let row = c.with.ensures ∙ ap (λ n. with_place n j) (get_or_default_zero edges s c.index-self-senior-2.result full) in
-    ap (slice_set edges s) row ∙ edge_again s j edges (subst (λ (e : List ℕ). IsEdge e s j) (sym c.self.view_is) it) ∙ c.self.view_is
+    let row =
+    c.with.ensures ∙ ap (λ n. with_place n j) (get_or_default_zero edges s c.index-self-senior-2.result full) in
+    ap (slice_set edges s) row ∙ edge_again s j edges (subst (λ (e : List ℕ). IsEdge e s j) (sym c.self.view_is) it)
+    ∙ c.self.view_is

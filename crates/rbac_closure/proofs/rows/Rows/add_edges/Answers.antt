@@ -15,9 +15,18 @@ loop-junior-preserved c =
     elim c.if-has.branch [
       | then-has w ↦
           let longer = ap length w.add_edge.ensures.added in
-          let within : s < length edges = omega (arith, c.requires, longer, w.add_edge.ensures.places, length-set edges s (with_place (slice_index edges s) i)) in
+          let within : s < length edges =
+          omega (
+            arith,
+            c.requires,
+            longer,
+            w.add_edge.ensures.places,
+            length-set edges s (with_place (slice_index edges s) i),
+          ) in
           subst (λ n. HasJuniors old n s c.args.juniors (i + 1)) (sym (w.self-is ∙ w.add_edge.ensures.added))
-          (junior_added old edges s c.args.juniors i c.loop-junior.invariant (c.has.ensures.0 (search (rules, w.if-has.true))) within)
+          (junior_added old edges s c.args.juniors i c.loop-junior.invariant
+          (c.has.ensures.0 (search (rules, w.if-has.true))) within)
       | else-has w ↦ subst (λ n. HasJuniors old n s c.args.juniors (i + 1)) (sym w.self-is)
-          (junior_passed old edges s c.args.juniors i c.loop-junior.invariant (λ h. search (rules, c.has.ensures.1 h, w.if-has.false)))
+          (junior_passed old edges s c.args.juniors i c.loop-junior.invariant
+          (λ h. search (rules, c.has.ensures.1 h, w.if-has.false)))
     ]

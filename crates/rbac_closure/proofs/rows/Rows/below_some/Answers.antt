@@ -21,20 +21,24 @@ loop-role-preserved c =
     let first : IsFirstFrom c.args.roles next role = c.in-Some.ensures.first in (
       omega (arith, c.in-Some.ensures.within),
       λ place. subst (λ n. Has n place ↔ IsFound edges c.args.roles (role + 1) place) (sym c.union-found.ensures)
-          (found_more edges c.args.roles c.loop-role.found c.below.result role place first.within (c.below.ensures place)
-          (found_past edges c.args.roles c.loop-role.found next role place first.after first.first (c.loop-role.invariant.1 place))),
+          (found_more edges c.args.roles c.loop-role.found c.below.result role place first.within
+          (c.below.ensures place)
+          (found_past edges c.args.roles c.loop-role.found next role place first.after first.first
+          (c.loop-role.invariant.1 place))),
     )
 
 pub returns-clause-found : goal.returns-clause-found
 returns-clause-found c = λ place.
-    found_ends c.args.self.now c.args.roles c.loop-role.found c.loop-role.next place c.in_default.ensures.first (c.loop-role.invariant.1 place)
+    found_ends c.args.self.now c.args.roles c.loop-role.found c.loop-role.next place c.in_default.ensures.first
+    (c.loop-role.invariant.1 place)
 
 pub returns-clause-within : goal.returns-clause-within
 returns-clause-within c = λ place h.
     let edges = c.args.self.now in
     let table : IsInTable edges = subst (λ (e : List ℕ). IsInTable e) c.self.view_is c.self.invariant.in_table in
     let fits : c.args.roles < 2 ^ ROLES = subst (λ (n : ℕ). n < 2 ^ ROLES) c.roles.view_is c.roles.invariant in
-    let found = found_ends edges c.args.roles c.loop-role.found c.loop-role.next place c.in_default.ensures.first (c.loop-role.invariant.1 place) in
+    let found = found_ends edges c.args.roles c.loop-role.found c.loop-role.next place c.in_default.ensures.first
+    (c.loop-role.invariant.1 place) in
     below_in_table edges c.args.roles place table fits (found.0 h)
 
 pub returns-clause-places : goal.returns-clause-places

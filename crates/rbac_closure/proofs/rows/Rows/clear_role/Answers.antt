@@ -10,5 +10,7 @@ rebuild-requires c =
     let edges = c.self.inside.juniors in
     let within : c.args.role < length edges = omega arith in
     subst (λ (r : List ℕ). IsInTable (slice_set r c.args.role c.empty.result)) (sym c.take_out.ensures)
-    (subst (λ (n : ℕ). IsInTable (slice_set (map (λ (juniors : ℕ). without_place juniors c.args.role) edges) c.args.role n)) (sym c.empty.ensures)
+    (subst (λ (n : ℕ). IsInTable
+    (slice_set (map (λ (juniors : ℕ). without_place juniors c.args.role) edges) c.args.role n))
+    (sym c.empty.ensures)
     (cleared_in_table c.args.role edges within c.self.invariant.in_table))

@@ -4,10 +4,12 @@ use Rattle.rbac_closure.proofs.EdgeLemmas.{HasSeniors, seniors_begin, seniors_en
 use Rattle.rbac_closure.proofs.rows.Rows.rebuild.Goals as goal
 
 pub loop-senior-init : goal.loop-senior-init
-loop-senior-init c = subst (λ (r : List ℕ). HasSeniors c.args.juniors.now r 0) (sym c.new-rows.ensures) (seniors_begin c.args.juniors.now)
+loop-senior-init c = subst (λ (r : List ℕ). HasSeniors c.args.juniors.now r 0) (sym c.new-rows.ensures)
+    (seniors_begin c.args.juniors.now)
 
 pub returns : goal.returns
 returns c =
     let all : c.loop-senior.senior ≡ ROLES = omega arith in
     let full : length c.args.juniors.now ≡ ROLES = omega arith in
-    seniors_end c.args.juniors.now c.loop-senior.rows full (subst (HasSeniors c.args.juniors.now c.loop-senior.rows) all c.loop-senior.invariant)
+    seniors_end c.args.juniors.now c.loop-senior.rows full
+    (subst (HasSeniors c.args.juniors.now c.loop-senior.rows) all c.loop-senior.invariant)

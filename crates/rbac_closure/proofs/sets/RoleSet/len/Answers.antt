@@ -5,4 +5,5 @@ use Rattle.rbac_closure.proofs.CountLemmas.{ones_are_places}
 use Rattle.rbac_closure.proofs.sets.RoleSet.len.Goals as goal
 
 pub returns : goal.returns
-returns c = ap count_ones c.self.view_is ∙ ones_are_places c.args.self (subst (λ (n : ℕ). n < 2 ^ ROLES) c.self.view_is c.self.invariant)
+returns c = ap count_ones c.self.view_is ∙ ones_are_places c.args.self
+    (subst (λ (n : ℕ). n < 2 ^ ROLES) c.self.view_is c.self.invariant)

@@ -13,5 +13,6 @@ invariant_of-result c =
     let short : length text ≤ NAME_BYTES = short_name text is in
     rw c.copy_from_slice.ensures.after (
       filled NAME_BYTES text (length text) refl short,
-      subst (λ s. IsTrue (is_name s)) (sym (front text (drop (length text) (replicate NAME_BYTES 0)) (length text) refl)) (search rules),
+      subst (λ s. IsTrue (is_name s))
+          (sym (front text (drop (length text) (replicate NAME_BYTES 0)) (length text) refl)) (search rules),
     )

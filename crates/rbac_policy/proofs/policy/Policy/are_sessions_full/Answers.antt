@@ -11,4 +11,5 @@ pub returns : goal.returns
 returns c = λ L st.
     let p = c.args.self.now in
     full_test (λ (x : Session). x.number) p.sessions (IsLive L) SESSIONS c.is_none.result
-    (keeps_sessions p.roles p.sessions L st.sessions) st.sessions.places (sym (ap is_some c.free.ensures) ∙ c.is_none.ensures)
+    (keeps_sessions p.roles p.sessions L st.sessions) st.sessions.places
+    (sym (ap is_some c.free.ensures) ∙ c.is_none.ensures)

@@ -16,4 +16,5 @@ returns-clause-exact c = ap with_rows c.new.ensures ∙ sym policy_of_none
 
 pub returns-clause-stands : goal.returns-clause-stands
 returns-clause-stands c =
-    subst (λ (p : Policy). StandsFor p []) (sym (ap with_rows c.new.ensures)) (blank_stands USERS ROLES ROLES GRANTS SESSIONS SETS refl refl refl refl refl refl)
+    subst (λ (p : Policy). StandsFor p []) (sym (ap with_rows c.new.ensures))
+    (blank_stands USERS ROLES ROLES GRANTS SESSIONS SETS refl refl refl refl refl refl)

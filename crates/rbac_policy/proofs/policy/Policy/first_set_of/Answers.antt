@@ -4,7 +4,8 @@ use Rattle.rbac_policy.proofs.policy.Policy.first_set_of.Goals as goal
 
 pub returns-in-Some-first_set_with : goal.returns-in-Some-first_set_with
 returns-in-Some-first_set_with c = λ L st.
-    first_row c.args.self.now L st c.args.role.now c.in-Some.place (sym c.place_of.ensures.place ∙ c.in-Some.is) c.in-Some-first_set_with.row
+    first_row c.args.self.now L st c.args.role.now c.in-Some.place
+    (sym c.place_of.ensures.place ∙ c.in-Some.is) c.in-Some-first_set_with.row
     (sym c.first_set_with.ensures ∙ c.in-Some-first_set_with.is)
 
 pub returns-in-None-first_set_with : goal.returns-in-None-first_set_with

@@ -11,7 +11,8 @@ returns-in-Some-place_of c = λ L by st is_senior is_junior.
 
 pub returns-in-None-place_of : goal.returns-in-None-place_of
 returns-in-None-place_of c = λ L by st is_senior is_junior.
-    absurd (no_role c.args.self.now L st c.args.junior.now (sym c.place_of-in-Some.ensures.place ∙ c.in-None-place_of.is) is_junior)
+    absurd (no_role c.args.self.now L st c.args.junior.now
+    (sym c.place_of-in-Some.ensures.place ∙ c.in-None-place_of.is) is_junior)
 
 pub returns-in-None : goal.returns-in-None
 returns-in-None c = λ L by st is_senior is_junior.

@@ -11,5 +11,7 @@ returns-in-Some c = λ L st.
 pub returns-in-None : goal.returns-in-None
 returns-in-None c = λ L st. (
   λ t. absurd (search (rules, t)),
-  λ a. absurd (no_role c.args.self.now L st c.args.role.now (sym c.place_of.ensures.place ∙ c.in-None.is) (assigned_role c.args.self.now L st c.args.user.now c.args.role.now a)),
+  λ a. absurd
+      (no_role c.args.self.now L st c.args.role.now (sym c.place_of.ensures.place ∙ c.in-None.is)
+      (assigned_role c.args.self.now L st c.args.user.now c.args.role.now a)),
 )

@@ -8,7 +8,8 @@ pub returns-in-Some : goal.returns-in-Some
 returns-in-Some c = λ L st.
     let p = c.args.self.now in
     authorized_test p L st c.args.user.now c.args.role.now c.in-Some.place c.below.result c.has.result
-    (sym c.place_of.ensures.place ∙ c.in-Some.is) (c.below.ensures.exact ∙ ap (below c.args.self.now.juniors) c.roles_of.ensures) c.has.ensures
+    (sym c.place_of.ensures.place ∙ c.in-Some.is)
+    (c.below.ensures.exact ∙ ap (below c.args.self.now.juniors) c.roles_of.ensures) c.has.ensures
 
 pub returns-in-None : goal.returns-in-None
 returns-in-None c = λ L st. (

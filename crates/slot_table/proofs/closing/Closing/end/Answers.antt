@@ -13,8 +13,10 @@ pub invariant_of-self : goal.invariant_of-self
 invariant_of-self g c =
     let policy = c.self.inside.board.desk in
     let locked = c.into_inner.result in
-    let more = subst (λ (r : Result (Unit {0}) Mismatch). MatchResult r (λ _. IsLegal policy g.row.NUMBER locked.journal)
-    (λ mismatch. (mismatch ≡ Count POLICY_LIST) × (length policy < length locked.list))) c.in-Err.is c.end-journal.ensures.handed in
+    let more =
+    subst (λ (r : Result (Unit {0}) Mismatch). MatchResult r (λ _. IsLegal policy g.row.NUMBER locked.journal)
+    (λ mismatch. (mismatch ≡ Count POLICY_LIST) × (length policy < length locked.list))) c.in-Err.is
+    c.end-journal.ensures.handed in
     subst (λ (p : List Entry). IsReadersFault p c.in-Err.mismatch) (sym c.end-journal.ensures.board) (record {
       named = more.0;
       overseen = record {
@@ -31,8 +33,10 @@ pub returns-in_default : goal.returns-in_default
 returns-in_default g c =
     let policy = c.self.inside.board.desk in
     let locked = c.into_inner.result in
-    let legal = subst (λ (r : Result (Unit {0}) Mismatch). MatchResult r (λ _. IsLegal policy g.row.NUMBER locked.journal)
-    (λ mismatch. (mismatch ≡ Count POLICY_LIST) × (length policy < length locked.list))) c.in_default.is c.end-journal.ensures.handed in
+    let legal =
+    subst (λ (r : Result (Unit {0}) Mismatch). MatchResult r (λ _. IsLegal policy g.row.NUMBER locked.journal)
+    (λ mismatch. (mismatch ≡ Count POLICY_LIST) × (length policy < length locked.list))) c.in_default.is
+    c.end-journal.ensures.handed in
     let same = ap (λ (s : ClosingState). s.policy) c.self.view_is in
     record {
       policy = c.end-journal.ensures.board ∙ same;

@@ -16,7 +16,8 @@ invariant_of-self g c = (
 )
 
 pub returns-clause-before : goal.returns-clause-before
-returns-clause-before g c = subst (λ (s : LockedState). IsLegal s.list g.row.NUMBER s.journal) c.self.view_is c.self.invariant.2
+returns-clause-before g c = subst (λ (s : LockedState). IsLegal s.list g.row.NUMBER s.journal) c.self.view_is
+    c.self.invariant.2
 
 pub returns-clause-after : goal.returns-clause-after
 returns-clause-after g c =

@@ -9,7 +9,8 @@ use Rattle.slot_table.proofs.Ending.{handed_legal}
 use Rattle.slot_table.proofs.slot.LockedSlot.end.Goals as goal
 
 pub returns-clause-seen : goal.returns-clause-seen
-returns-clause-seen g c = subst (λ (s : LockedState). IsLegal s.list g.row.NUMBER s.journal) c.self.view_is c.self.invariant.2
+returns-clause-seen g c = subst (λ (s : LockedState). IsLegal s.list g.row.NUMBER s.journal) c.self.view_is
+    c.self.invariant.2
 
 pub returns-clause-handed : goal.returns-clause-handed
 returns-clause-handed g c =
@@ -18,7 +19,9 @@ returns-clause-handed g c =
     subst (λ (s : LockedState). MatchResult c.reader-handed.result (λ _. IsLegal desk g.row.NUMBER s.journal)
     (λ mismatch. (mismatch ≡ Count POLICY_LIST) × (length desk < length s.list))) c.self.view_is
     (subst (λ (held : Option (List Entry)). MatchResult c.reader-handed.result (λ _. IsLegal desk g.row.NUMBER journal)
-    (λ mismatch. (mismatch ≡ Count POLICY_LIST) × (length desk < length (unwrap_or held [])))) (sym c.unwrap-reader.ensures)
+    (λ mismatch. (mismatch ≡ Count POLICY_LIST) × (length desk < length (unwrap_or held []))))
+    (sym c.unwrap-reader.ensures)
     (handed_legal c.unwrap-reader.result desk g.row.NUMBER journal c.reader-handed.result
-    (subst (λ (held : Option (List Entry)). IsLegal (unwrap_or held []) g.row.NUMBER journal) c.unwrap-reader.ensures c.self.invariant.2)
+    (subst (λ (held : Option (List Entry)). IsLegal (unwrap_or held []) g.row.NUMBER journal) c.unwrap-reader.ensures
+    c.self.invariant.2)
     c.reader-handed.ensures.seen))

@@ -18,7 +18,8 @@ use Rattle.slot_table.proofs.table.SlotTable.close.Goals as goal
 use Rattle.slot_table.proofs.table.SlotTable.close.Goals.{After-settle}
 
 -- what follows on Ok from what holds on Ok
-still_so : {A E : Type 0} (result : Result A E) (One Other : Type 0) → (One → Other) → OnOk result One → OnOk result Other
+still_so : {A E : Type 0} (result : Result A E) (One Other : Type 0) → (One → Other) → OnOk result One
+    → OnOk result Other
 still_so (Ok a) One Other follows one = follows one
 still_so (Err e) One Other follows one = tt
 
@@ -29,16 +30,23 @@ legal_of g c =
     let told = c.in_ok-policy.ensures.journal in
     let sixteen : length slots ≡ SLOTS = search rules in
     subst (λ (p : List Entry). AreLegal p slots) (sym told.0)
-    (all_legal c.begin-closing.result slots c.end-slots.new.closing c.end-slots.ensures sixteen (subst IsNone (sym told.1) refl))
+    (all_legal c.begin-closing.result slots c.end-slots.new.closing c.end-slots.ensures sixteen
+    (subst IsNone (sym told.1) refl))
 
 pub returns-in_err-policy-clause-err : goal.returns-in_err-policy-clause-err
 returns-in_err-policy-clause-err g c =
     let p = err_from_is_err_and c.from_residual.result c.from_residual.ensures.1 in
-    rw (p.1, p.2) (record { policy = c.end-slots.new.closing.policy; is_list = c.journal.ensures.list; fault = inr c.in_err-policy.ensures.err })
+    rw (p.1, p.2)
+    (record {
+      policy = c.end-slots.new.closing.policy;
+      is_list = c.journal.ensures.list;
+      fault = inr c.in_err-policy.ensures.err;
+    })
 
 pub returns-clause-one : goal.returns-clause-one
 returns-clause-one g c =
-    given_back (λ (h : Histories). AreOfOneList h.policy h.slots (kept_of c.args.seats.items)) c.settle.result _ c.settle.ensures.same c.settle.ensures.one
+    given_back (λ (h : Histories). AreOfOneList h.policy h.slots (kept_of c.args.seats.items)) c.settle.result _
+    c.settle.ensures.same c.settle.ensures.one
 
 pub returns-clause-run : goal.returns-clause-run
 returns-clause-run g c =
@@ -48,9 +56,11 @@ returns-clause-run g c =
     let sixteen : length slots ≡ SLOTS = search rules in
     let told = c.in_ok-policy.ensures.journal in
     let list : IsPolicyList policy = subst IsPolicyList (sym told.0) c.journal.ensures.list in
-    let few : length kept ≤ SEATS = subst (λ n. n ≤ SEATS) (sym (length-map c.args.seats.items (λ (s : SeatState). s.kept))) (search (rules, c.requires.few)) in
+    let few : length kept ≤ SEATS = subst (λ n. n ≤ SEATS)
+    (sym (length-map c.args.seats.items (λ (s : SeatState). s.kept))) (search (rules, c.requires.few)) in
     let law = c.journals_are_of_one_run.ensures policy slots kept sixteen few list (legal_of g c) in
-    given_back (λ (h : Histories). AreOfOneRun h.policy h.slots kept) c.settle.result _ c.settle.ensures.same (still_so c.settle.result _ _ law c.settle.ensures.one)
+    given_back (λ (h : Histories). AreOfOneRun h.policy h.slots kept) c.settle.result _ c.settle.ensures.same
+    (still_so c.settle.result _ _ law c.settle.ensures.one)
 
 pub returns-clause-legal : goal.returns-clause-legal
 returns-clause-legal g c =

@@ -6,8 +6,14 @@ use Rattle.reactor_core.proofs.reactor.instant.Instant.settle.Goals as goal
 pub returns-in-Ok : goal.returns-in-Ok
 returns-in-Ok c =
     let parts = c.reactor.inside.parts in
-    rw (← c.self.view_is, ← c.reactor.view_is)
-    (refl, (state_term parts.loaded.kernel.root c.in-Ok.outcome.next, outcome c.reactor.invariant c.in-Ok.outcome.outputs c.in-Ok.outcome.next c.in-Ok.ensures))
+    rw (← c.self.view_is, ← c.reactor.view_is) (
+      refl,
+      (
+        state_term parts.loaded.kernel.root c.in-Ok.outcome.next,
+        outcome c.reactor.invariant c.in-Ok.outcome.outputs c.in-Ok.outcome.next c.in-Ok.ensures,
+      ),
+    )
 
 pub returns-in-Err : goal.returns-in-Err
-returns-in-Err c = rw (← c.self.view_is, ← c.reactor.view_is) (no_outcome c.reactor.invariant c.in-Err.stuck c.in-Err.ensures, refl)
+returns-in-Err c = rw (← c.self.view_is, ← c.reactor.view_is)
+    (no_outcome c.reactor.invariant c.in-Err.stuck c.in-Err.ensures, refl)

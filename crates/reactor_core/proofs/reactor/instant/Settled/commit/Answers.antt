@@ -5,4 +5,5 @@ use Rattle.reactor_core.proofs.reactor.instant.Settled.commit.Goals as goal
 pub returns-in-Ok : goal.returns-in-Ok
 returns-in-Ok c =
     let adds = c.in-Ok.ensures.adds in
-    rw (← c.self.view_is) (entry_passes c.self.inside.parts.journal adds.1.room (c.advance.new.self.journal, refl, adds))
+    rw (← c.self.view_is)
+    (entry_passes c.self.inside.parts.journal adds.1.room (c.advance.new.self.journal, refl, adds))
