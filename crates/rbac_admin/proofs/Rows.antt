@@ -69,7 +69,7 @@ permission_is : (operation : Operation) (object : Object) → IsObject object
 permission_is operation object is =
     let text = operation_text operation in
     ap (option_and_then (permission_back (operation_of text)))
-        ((object_of-exact (object_text object) object).1 (is, refl))
+    ((object_of-exact (object_text object) object).1 (is, refl))
     ∙ ap (λ (found : Option Operation). permission_back found object) ((operation_of-exact text operation).1 refl)
 
 -- each row reads back as its refusal
