@@ -7,7 +7,7 @@ use Rattle.client_loop.proofs.serving.answer_lines.Goals as goal
 
 pub returns-clause-serves : goal.returns-clause-serves
 returns-clause-serves g c =
-    elim (rw c.too_long_line.ensures at c.serve-why.ensures.serves) [
+    elim (rw c.too_long_line.ensures at c.answer_connection-why.ensures.serves) [
       | inl s ↦
           inl (serves_map seen_of _ _ (λ a line text b. Tells g.D.Desk.answers line a text b)
           (λ a line b. TellsNothing g.D.Desk.answers line a b) (λ a line text b h. h)
