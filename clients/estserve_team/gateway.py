@@ -16,7 +16,7 @@ from typing import Any, Callable, Dict, List, Optional, Set, Tuple
 
 from . import reads, web, words
 from .answerer import Answerer
-from .lines import Reader
+from .lines import Reader, Request
 from .order import Asked, Order
 from .people import People, Person
 from .places import Failed, Places
@@ -45,8 +45,15 @@ STARTING, SERVING, BEGINNING, ARCHIVING, STOPPING = (
 WATCH_SECONDS = 1.0
 UNUSED_SECONDS = 5.0  # a shared login for which nobody has waited is logged out after so many
 AGAIN_SECONDS = 0.05  # a logout for which there was no memory is asked again after so many
-MOST_STARTS = 5  # of servers that are lost while they are begun
+MOST_STARTS = 5  # of servers that are lost while they are begun, or before they answer one login
 STOP_SECONDS = 60  # logouts are answered in so many, or the gateway ends without
+
+
+def is_past(held: "asyncio.Future[SharedSession]") -> bool:
+    """Whether a shared session is over, or its login has failed."""
+    return held.done() and (
+        held.cancelled() or held.exception() is not None or held.result().is_over
+    )
 
 
 class Gateway:
@@ -118,9 +125,7 @@ class Gateway:
         is none. Raises Refused."""
         key = (person.name, user, tuple(sorted(roles)))
         held = self.shared.get(key)
-        if held is None or (
-            held.done() and not held.cancelled() and not held.exception() and held.result().is_over
-        ):
+        if held is None or is_past(held):
             held = self.shared[key] = asyncio.ensure_future(
                 self._share_first(key, person, user, roles)
             )
@@ -146,6 +151,11 @@ class Gateway:
         self, key: Tuple[str, str, Tuple[str, ...]], person: Person, user: str, roles: List[str]
     ) -> SharedSession:
         return SharedSession(self, key, await self.open_session(person, user, roles))
+
+    def _forget_shared(self) -> None:
+        """Forgets the shared sessions that are over. Logins that are under way go on, for all who
+        wait for them."""
+        self.shared = {key: held for key, held in self.shared.items() if not is_past(held)}
 
     # ---- logins
 
@@ -173,34 +183,52 @@ class Gateway:
         request = login_request(user, roles)
         if request is None:
             raise ProgramRefused(b'{"code":3,"fault":"NotARequest"}')
-        session = await self._connect(person, user, roles, instead)
-        reply = await ask_later(session, request)
+        session, reply = await self._log_in(person, user, roles, request, instead)
         answer(reply)
         if not session.session:
             session.end()
             raise ProgramRefused(reply)
         return session
 
+    async def _log_in(
+        self,
+        person: Person,
+        user: str,
+        roles: List[str],
+        request: Request,
+        instead: Optional[Session],
+    ) -> Tuple[Session, bytes]:
+        """A session with a seat, and the program's answer to its login. Where the server is lost
+        before that answer may go out, the next one is asked, unless the login may be recorded.
+        Raises Refused."""
+        for _ in range(MOST_STARTS):
+            session = await self._connect(person, user, roles, instead)
+            try:
+                if not session.is_over:
+                    return session, await ask_later(session, request)
+            except Refused:
+                if session.is_recorded:
+                    raise
+        raise interrupted()
+
     async def _connect(
         self, person: Person, user: str, roles: List[str], instead: Optional[Session]
     ) -> Session:
-        """A connection to the server with a seat, on which nothing is asked yet. Raises Refused."""
-        for _ in range(MOST_STARTS):
-            await self.until_serving()
-            if instead is not None:
-                self.sessions.pop(instead.number, None)
-            elif len(self.sessions) >= SEATS:
-                raise all_taken([[holder.user, holder.person] for holder in self.holders()])
-            self._connections += 1
-            session = Session(self, self._connections, person, user, roles)
-            self.sessions[session.number] = session
-            try:
-                await session.connect(self.places.inner_socket)
-            except OSError as fault:
-                self.fail(f"the server takes no connection: {fault}")
-            if not session.is_over:
-                return session
-        raise interrupted()
+        """A connection to the server with a seat, on which nothing is asked yet. It is over, where
+        the server is lost meanwhile. Raises Refused."""
+        await self.until_serving()
+        if instead is not None:
+            self.sessions.pop(instead.number, None)  # which is gone already, if its server was lost
+        if len(self.sessions) >= SEATS:
+            raise all_taken([[holder.user, holder.person] for holder in self.holders()])
+        self._connections += 1
+        session = Session(self, self._connections, person, user, roles)
+        self.sessions[session.number] = session
+        try:
+            await session.connect(self.places.inner_socket)
+        except OSError as fault:
+            self.fail(f"the server takes no connection: {fault}")
+        return session
 
     async def close_session(self, session: Session) -> bool:
         """Logs a session out, which is recorded, and closes it. Answers whether it lived until
@@ -277,6 +305,8 @@ class Gateway:
         connections = [
             Connection(s.number, s.session, s.user, s.person.name, s.login_roles) for s in logins
         ]
+        for session in logins:
+            session.is_recorded = True
         version = max(
             [self.order.version, *(asked.place for asked in ready if asked.request.slot is None)]
         )
@@ -392,9 +422,9 @@ class Gateway:
         for asked in lost:
             asked.lose()
         sessions, self.sessions = list(self.sessions.values()), {}
-        self.shared.clear()
         for session in sessions:
             session.abandon()
+        self._forget_shared()
         self.flush()
 
     async def _begin_anew(self) -> None:
@@ -425,7 +455,7 @@ class Gateway:
         """Logs out each session, which is recorded, and tells who holds it."""
         sessions = list(self.sessions.values())
         await asyncio.gather(*(self.close_session(session) for session in sessions))
-        self.shared.clear()
+        self._forget_shared()
         for session in sessions:
             if session.on_close:
                 session.on_close()

@@ -52,6 +52,7 @@ class Session(asyncio.Protocol):
         self.answered: Deque[Asked] = deque()  # answered, not gone out
         self.sends = 0
         self.is_over = False  # lost with the server, or logged out
+        self.is_recorded = False  # its login is in the record, or may be, since a write has failed
         self.keeps_seat = False
         self.on_close: Optional[
             Callable[[], None]

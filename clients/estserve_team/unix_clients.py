@@ -195,10 +195,14 @@ class TeamClient(LineClient):
         await self._take_session(session)
 
     async def _take_session(self, session: Optional[Session]) -> None:
-        """Holds a session, or gives it up again where the client has gone meanwhile."""
+        """Holds a session, or gives it up again where the client has gone meanwhile. Where it is
+        over already, the connection ends."""
         self._is_busy = False
         if session is not None and self.is_gone:
             await self.gateway.close_session(session)
+            return
+        if session is not None and session.is_over:
+            self.lose()
             return
         self.session = session
         if session is not None:

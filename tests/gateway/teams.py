@@ -232,6 +232,18 @@ def is_running(process):
         return False
 
 
+def hold(process):
+    """Has a process stand still, and waits until each of its threads does."""
+    os.kill(process, signal.SIGSTOP)
+    threads = pathlib.Path(f"/proc/{process}/task")
+    wait_for(
+        lambda: all(
+            (thread / "stat").read_text().rpartition(")")[2].split()[0] == "T"
+            for thread in threads.iterdir()
+        )
+    )
+
+
 def wait_for(what, seconds=WAIT_SECONDS):
     """The first answer of `what` that isn't None or false. Fails, where there is none in time."""
     return programs.wait_for(what, seconds)

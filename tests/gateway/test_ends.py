@@ -1,4 +1,5 @@
 """How the gateway ends, and what it does where the server or the record fails it."""
+import contextlib
 import json
 import os
 import signal
@@ -8,6 +9,7 @@ import time
 import unittest
 
 import teams
+from running import sockets_of
 from teams import Team, line_of, login_line
 from estserve_client.connection import Disconnected
 
@@ -132,6 +134,26 @@ class ServerLost(unittest.TestCase):
             teams.wait_for(lambda: not teams.is_running(server))
             self.assertEqual(talker.ask(login_line()), b'{"ok":"login","session":1,"version":5}')
             teams.wait_for(lambda: team.server() != server)
+
+    def test_logins_that_it_takes_and_does_not_answer_are_answered_by_the_next_one(self):
+        """It stands still, and takes connections, as one does whose first thread has ended and
+        whose others are about to."""
+        with Team() as team, contextlib.ExitStack() as held:
+            talkers = [held.enter_context(team.talker()) for _ in range(3)]
+            for talker in talkers:
+                talker.ask(STEP)
+            server, count = team.server(), len(sockets_of(team.process.pid))
+            teams.hold(server)
+            for talker in talkers:
+                talker._socket.sendall(login_line() + b"\n")
+            teams.wait_for(lambda: len(sockets_of(team.process.pid)) == count + len(talkers))
+            os.kill(server, signal.SIGKILL)
+            told = [talker._receive() for talker in talkers]
+            self.assertEqual(
+                sorted(told),
+                [b'{"ok":"login","session":%d,"version":%d}\n' % (at, at + 4) for at in (1, 2, 3)],
+            )
+            self.assertEqual([entry.command for entry in team.entries()], ["login"] * 3)
 
     def test_the_second_child_is_begun_anew(self):
         with Team() as team, team.talker() as talker:

@@ -5,16 +5,18 @@ import json
 import os
 import pathlib
 import signal
+import sqlite3
 import tempfile
 import unittest
 
 import teams
 from teams import Team, line_of, login_line
 from estserve_client.connection import Disconnected, Refusal
-from estserve_team.gateway import Gateway
+from estserve_team.gateway import MOST_STARTS, Gateway
 from estserve_team.people import People, Person
 from estserve_team.places import Places
 from estserve_team.refusals import Refused
+from estserve_team.unix_clients import TeamClient
 
 ROOT = Person("admin", ("root",))
 LOGOUT = line_of(cmd="logout")
@@ -132,7 +134,8 @@ class Changed(unittest.TestCase):
 async def gateway_of(folder, most_sends=900_000):
     """A gateway in this process."""
     with Places(pathlib.Path(folder) / "team") as places:
-        gateway = Gateway(places, People({"root": ["admin"]}), teams.program_file(), most_sends)
+        people = People({"root": ["admin", teams.ME]})
+        gateway = Gateway(places, people, teams.program_file(), most_sends)
         gateway.log = lambda text: None
         await gateway.start()
         try:
@@ -141,7 +144,9 @@ async def gateway_of(folder, most_sends=900_000):
             await gateway.stop()
 
 
-class Shared(unittest.TestCase):
+class InProcess(unittest.TestCase):
+    """Tests with a gateway in this process."""
+
     def run_with(self, work, **words):
         """Runs a coroutine with a gateway of its own."""
 
@@ -159,6 +164,134 @@ class Shared(unittest.TestCase):
                 for row in database.execute("SELECT * FROM entries ORDER BY number")
             ]
 
+
+class ServerLost(InProcess):
+    @staticmethod
+    def hold_server_of(gateway):
+        """Has the server stand still."""
+        teams.hold(gateway._server.process)
+
+    async def lose_server_of(self, gateway, count):
+        """Kills the server, which stands still, once so many logins wait for its answer, and waits
+        until that is noticed."""
+        server = gateway._server.process
+        while self.logins_of(gateway) < count:
+            await asyncio.sleep(0.001)
+        os.kill(server, signal.SIGKILL)
+        while gateway._server.process == server:
+            await asyncio.sleep(0.001)
+
+    @staticmethod
+    def logins_of(gateway):
+        """How many logins are sent and not answered."""
+        return sum(
+            asked.request.cmd == "login"
+            for session in gateway.sessions.values()
+            for asked in session.flight
+        )
+
+    def test_a_login_that_is_shared_and_not_answered_goes_on_for_all_who_wait(self):
+        async def work(gateway):
+            self.hold_server_of(gateway)
+            waiting = [asyncio.ensure_future(gateway.share(ROOT, "root", [])) for _ in range(3)]
+            await self.lose_server_of(gateway, 1)
+            shared = await asyncio.gather(*waiting, gateway.share(ROOT, "root", []))
+            self.assertEqual([one.number for one in shared], [1] * 4)
+            self.assertEqual([holder.session for holder in gateway.holders()], [1])
+            self.assertEqual([one.command for one in self.entries_of(gateway)], ["login"])
+
+        self.run_with(work)
+
+    def test_a_login_that_each_server_loses_is_given_up(self):
+        async def work(gateway):
+            waiting = asyncio.ensure_future(gateway.open_session(ROOT, "root", []))
+            for _ in range(MOST_STARTS):
+                await gateway.until_serving()
+                self.hold_server_of(gateway)
+                await self.lose_server_of(gateway, 1)
+            with self.assertRaises(Refused) as held:
+                await waiting
+            self.assertEqual(held.exception.code, 1004)
+            await gateway.until_serving()
+            self.assertEqual(self.entries_of(gateway), [])
+
+        self.run_with(work)
+
+    def test_a_login_that_could_not_be_recorded_is_not_asked_again(self):
+        async def work(gateway):
+            def fail(*_):
+                raise sqlite3.OperationalError("disk I/O error")
+
+            gateway._writer.append = fail
+            with self.assertRaises(Refused) as held:
+                await gateway.open_session(ROOT, "root", [])
+            self.assertEqual(held.exception.code, 1004)
+            await gateway.until_serving()
+            self.assertEqual((self.entries_of(gateway), gateway.holders()), ([], []))
+
+        self.run_with(work)
+
+    def test_after_a_login_that_was_recorded_just_before_the_connection_ends(self):
+        async def work(gateway):
+            path, loop = gateway.state / "lines.sock", asyncio.get_running_loop()
+            server = await loop.create_unix_server(lambda: TeamClient(gateway, set()), str(path))
+            gateway.listen(lambda _: loop.call_soon(gateway.fail, "the test has it so"))
+            reader, writer = await asyncio.open_unix_connection(str(path))
+            writer.write(login_line() + b"\n" + line_of(cmd="step", slot=0) + b"\n")
+            told = await asyncio.wait_for(reader.read(), teams.WAIT_SECONDS)
+            self.assertEqual(told, b'{"ok":"login","session":1,"version":5}\n')
+            writer.close()
+            server.close()
+            await gateway.until_serving()
+            self.assertEqual([one.command for one in self.entries_of(gateway)], ["login", "logout"])
+
+        self.run_with(work)
+
+    def test_a_renewal_goes_on_with_the_next_one(self):
+        async def work(gateway):
+            session = await gateway.open_session(ROOT, "root", ["root"])
+            unlisten = gateway.listen(lambda _: self.hold_server_of(gateway))  # at the logout
+            renewing = asyncio.ensure_future(gateway.renew(session))
+            await self.lose_server_of(gateway, 1)
+            unlisten()
+            renewed = await renewing
+            self.assertEqual((renewed.session, renewed.roles), (2, ["root"]))
+            self.assertEqual(list(gateway.sessions.values()), [renewed])
+            self.assertEqual(
+                [one.command for one in self.entries_of(gateway)], ["login", "logout", "login"]
+            )
+
+        self.run_with(work)
+
+    def test_a_renewal_that_is_shared_goes_on_for_all_who_share_it(self):
+        async def work(gateway):
+            shared = await gateway.share(ROOT, "root", ["root"])
+            shared._session.sends = gateway.most_sends
+            unlisten = gateway.listen(lambda _: self.hold_server_of(gateway))  # at the logout
+            asking = asyncio.ensure_future(shared.ask_answer(GRANT))
+            await self.lose_server_of(gateway, 1)
+            unlisten()
+            other = await gateway.share(ROOT, "root", ["root"])
+            self.assertEqual((await asking)["ok"], "grant")
+            self.assertIs(other, shared)
+            self.assertEqual([holder.session for holder in gateway.holders()], [2])
+
+        self.run_with(work)
+
+    def test_a_renewal_whose_seat_was_lost_takes_no_seventeenth(self):
+        async def work(gateway):
+            session = await gateway.open_session(ROOT, "root", [])
+            gateway.fail("the test has it so")
+            await asyncio.gather(*(gateway.open_session(ROOT, "root", []) for _ in range(16)))
+            with self.assertRaises(Refused) as held:
+                await gateway.open_session(ROOT, "root", [], session)
+            self.assertEqual(held.exception.code, 1002)
+            self.assertEqual(len(gateway.sessions), 16)
+
+        self.run_with(work)
+
+
+class Shared(InProcess):
     def test_all_with_the_same_roles_share_one_login_until_the_last_leaves(self):
         async def work(gateway):
             shared = await asyncio.gather(
