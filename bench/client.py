@@ -7,12 +7,14 @@ PROGRAM is the built `crates/estserve/out/estserve`. The client runs the arbiter
 20,000 instants (or INSTANTS) with inputs that are drawn at random from a fixed seed, and writes its
 table. What it sends is recorded once. Then client and program take turns: the client runs, and the
 program alone answers the recorded commands from a file. Printed are the medians of both, their
-ratio, when the first row of the table came, and what is hoped of each.
+ratio, when the first row of the table came, and what is hoped of each. Python starts as it does for
+a user: it keeps its bytecode (in a folder of this run) and gathers what it writes.
 """
 import sys
 
 HERE = sys.path.pop(0)  # a file of this folder has the name of a module that is taken
 
+import os
 import pathlib
 import random
 import shlex
@@ -42,24 +44,31 @@ def words_of(program, inputs):
     return [*CLIENT, "run", MODULE, "--inputs", inputs, "--table", "--program", program]
 
 
+def environment_in(folder):
+    """The environment of a run: without what changes how Python starts, but where bytecode is."""
+    kept = {name: value for name, value in os.environ.items() if not name.startswith("PYTHON")}
+    return {**kept, "PYTHONPYCACHEPREFIX": str(folder / "bytecode")}
+
+
 def record(program, inputs, folder):
     """The file of the commands that a run of the client sends."""
     sent, through = folder / "commands", folder / "recorded"
     words = f"tee {shlex.quote(str(sent))} | {shlex.quote(str(program))}"
     through.write_text(f'#!/bin/sh\n{words} "$@"\n')
     through.chmod(0o755)
-    subprocess.run(words_of(through, inputs), stdout=subprocess.DEVNULL, check=True)
+    words = words_of(through, inputs)
+    subprocess.run(words, stdout=subprocess.DEVNULL, env=environment_in(folder), check=True)
     return sent
 
 
-def time_client(program, inputs):
+def time_client(program, inputs, environment):
     """The seconds of a run, and those until its first row is there."""
     begun = time.perf_counter()
-    with subprocess.Popen(words_of(program, inputs), stdout=subprocess.PIPE) as client:
+    words = words_of(program, inputs)
+    with subprocess.Popen(words, stdout=subprocess.PIPE, env=environment) as client:
         rows = iter(client.stdout.readline, b"")
         first = next(time.perf_counter() for row in rows if row.split()[:1] == [b"1"])
-        for _ in rows:
-            pass
+        client.stdout.read()
     if client.returncode:
         sys.exit("client.py: the client refused the run")
     return time.perf_counter() - begun, first - begun
@@ -83,7 +92,7 @@ def main():
         commands = record(program, inputs, folder)
         clients, rows, programs = [], [], []
         for _ in range(TURNS):
-            seconds, first = time_client(program, inputs)
+            seconds, first = time_client(program, inputs, environment_in(folder))
             clients.append(seconds)
             rows.append(first)
             programs.append(time_program(program, commands))
