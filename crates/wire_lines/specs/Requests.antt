@@ -168,8 +168,7 @@ pub record IsRequest (line : List ℕ) (request : Request) : Type 0 where
   pub fits : Fits request
 
 -- what a line is read as: the request that it asks for; NotJson where it reads as no value; NotARequest where it reads
--- as a value
--- and asks for no request; Memory where memory was refused
+-- as a value and asks for no request; Memory where memory was refused
 abbrev pub IsReadAs : List ℕ → Result Request Refusal → Type 0
 IsReadAs line (Ok request) = IsRequest line request
 IsReadAs line (Err refusal.NotJson) = (d : Data) → IsValue line d → ⊥
