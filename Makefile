@@ -94,6 +94,7 @@ bench: build
 	python3 bench/texts.py $(TEXTS)
 	@python3 scripts/run.py load_bench 1 < crates/load_bench/stdin > /dev/null
 	python3 bench/loads.py $(LOADS)
+	python3 bench/loads.py $(LOADS) --search 300
 	@python3 scripts/run.py policy_bench all 1 > /dev/null
 	python3 bench/policies.py $(POLICIES)
 	@python3 scripts/run.py echo_bench < crates/echo_bench/stdin > /dev/null

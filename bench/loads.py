@@ -2,11 +2,17 @@
 """Milliseconds that a load takes, of texts that a stranger may send in one line, and its answer.
 
 usage: loads.py PROGRAM [NAME..]
+       loads.py PROGRAM --search COUNT [SEED]
+       loads.py --text SEED
 
 PROGRAM is the built `crates/load_bench/out/load_bench`, which makes the kernel of the module M of a text: tokens, tree, linking,
 reduction. Each text has 64 KiB at most, as a line does. The time is processor time, user and system, of one load in a process of its own,
-the fastest of three. Each answer has to be the one that stands here; where a load takes longer than 100 ms, that is said.
+the fastest of three. Each answer has to be the one that stands here; where a load takes longer than 50 ms, that is said.
+
+With --search, COUNT texts are made at random, from SEED on (0 if it is left out), which mix long interfaces, many runs, renamings, `signal`s,
+relations and depth. The ten that took longest are run twice more and printed, each with its seed: --text prints the text of a seed.
 """
+import random
 import re
 import resource
 import subprocess
@@ -14,7 +20,22 @@ import sys
 import tempfile
 
 MOST_BYTES = 65536
-MOST_SECONDS = 0.1
+MOST_SECONDS = 0.05
+SLOWEST = 10
+
+# of the search from seed 0, what took longest on 25 November
+KEPT = (
+    (119, "TooLarge(Signals)"),
+    (78, "TooLarge(Signals)"),
+    (194, "UnknownName Zr"),
+    (111, "TooLarge(Signals)"),
+    (93, "TooLarge(Signals)"),
+    (228, "EmitInput RK"),
+    (152, "EmitInput nab"),
+    (125, "EmitInput Be"),
+    (230, "EmitInput da"),
+    (38, "UnknownName ya"),
+)
 TIMEOUT = 100
 
 KEYWORDS = frozenset(
@@ -87,24 +108,70 @@ def renamings():
     return filled(f"module N:input {inputs};nothing end module module M:input A64,{mine};", run, "nothing end module")
 
 
+def emitter(names):
+    """A module of outputs that it emits."""
+    return f"module N:output {','.join(names)};{';'.join('emit ' + name for name in names)} end module"
+
+
 def emitting(names):
-    """A module of outputs that it emits, and one that has the same outputs and runs it."""
+    """A module that has the same outputs as another, which emits them, and runs it."""
+    return filled(f"module M:output {','.join(names)};", "run N;", f"halt end module {emitter(names)}")
+
+
+def emitting_renamed(names):
+    """The same, with a renaming of one name in each run."""
+    part = f"run N[signal Z/{names[len(names) // 2]}];"
+    return filled(f"module M:output {','.join(names)},Z;", part, f"halt end module {emitter(names)}")
+
+
+def emitting_below_signals(names):
+    """The same, with a `signal` of one name round each run."""
+    part = f"signal {names[len(names) // 2]} in run N end;"
+    return filled(f"module M:output {','.join(names)};", part, f"halt end module {emitter(names)}")
+
+
+def emitting_inside(names, local, head):
+    """A module that runs another, which emits all its outputs, inside a `signal` that declares some of them."""
+    return filled(f"module M:{head}signal {','.join(local)} in ", "run N;", f"halt end end module {emitter(names)}")
+
+
+def emitting_input(names):
+    """The same, where the `signal` declares an input of the module that runs the other."""
+    middle = names[len(names) // 2]
+    others = ",".join(name for name in names if name != middle)
+    return emitting_inside(names, [middle], f"input {middle};output {others};")
+
+
+def emitting_half(names):
+    """The same, where the `signal` declares half of them."""
+    middle = len(names) // 2
+    return emitting_inside(names, names[:middle], f"output {','.join(names[middle:])};")
+
+
+def emitting_shuffled(names):
+    """The same, where the `signal` declares half of them in another order."""
+    middle = len(names) // 2
+    return emitting_inside(names, random.Random(1).sample(names[:middle], middle), f"output {','.join(names[middle:])};")
+
+
+def emitting_nested(names, depth):
+    """A module that runs another, which emits all its outputs, behind each of many `signal`s in one another, which declare them all."""
+    parts = [names[n::depth] for n in range(depth)]
+    head = "".join(f"signal {','.join(part)} in " for part in parts)
+    return f"module M:output {','.join(names)};{head}{'run N end;' * depth}halt end module {emitter(names)}"
+
+
+def signals_before_a_run(names):
+    """Many `signal`s of one name, and then one of all the names of a module that is run inside it."""
     listed = ",".join(names)
-    emissions = ";".join("emit " + name for name in names)
-    return filled(f"module M:output {listed};", "run N;", f"halt end module module N:output {listed};{emissions} end module")
+    end = f"signal {listed} in run N end end module module N:output {listed};halt end module"
+    return filled("module M:", f"signal {names[0]} in nothing end;", end)
 
 
 def inside_signal(names):
     """A module that runs another inside a `signal` that declares all its outputs."""
     listed = ",".join(names)
     return filled(f"module M:signal {listed} in ", "run N;", f"halt end end module module N:output {listed};halt end module")
-
-
-def emitting_inside(names):
-    """A module that runs another, which emits all its outputs, inside a `signal` that declares them."""
-    listed = ",".join(names)
-    emissions = ";".join("emit " + name for name in names)
-    return filled(f"module M:signal {listed} in ", "run N;", f"halt end end module module N:output {listed};{emissions} end module")
 
 
 def relations():
@@ -149,7 +216,15 @@ def texts():
         ("2,000 names of a `signal`, and runs inside it of a module that has them as outputs", inside_signal(half[:2000]), "TooLarge(Statements)"),
         ("5,461 names of a `signal`, and runs inside it of a module that has them as outputs", inside_signal(half[:5461]), "TooLarge(Statements)"),
         ("1,000 outputs that a module emits, run by another as often as a line holds", emitting(half[:1000]), "TooLarge(Signals)"),
-        ("1,000 names of a `signal`, and runs inside it of a module that emits them", emitting_inside(half[:1000]), "TooLarge(Statements)"),
+        ("1,000 names of a `signal`, and runs inside it of a module that emits them", emitting_inside(half[:1000], half[:1000], ""), "TooLarge(Statements)"),
+        ("1,000 outputs that a module emits, run by another with a renaming each time", emitting_renamed(half[:1000]), "TooLarge(Signals)"),
+        ("1,000 outputs that a module emits, run inside a `signal` that hides an input", emitting_input(half[:1000]), "TooLarge(Signals)"),
+        ("1,000 outputs that a module emits, run with a `signal` of one name round each run", emitting_below_signals(half[:1000]), "TooLarge(Signals)"),
+        ("1,000 outputs that a module emits, run inside a `signal` of half of them", emitting_half(half[:1000]), "TooLarge(Signals)"),
+        ("1,000 outputs that a module emits, run inside a `signal` of half of them in another order", emitting_shuffled(half[:1000]), "TooLarge(Signals)"),
+        ("2,900 outputs that a module emits, run behind each of 120 `signal`s in one another", emitting_nested(half[:2900], 120), "TooLarge(Signals)"),
+        ("1,300 `signal`s of one name, and one of 5,000 names round a run", signals_before_a_run(half[:5000]), "TooLarge(Statements)"),
+        *((f"a text made at random, of seed {seed}", random_text(seed), answer) for seed, answer in KEPT),
     )
 
 
@@ -160,6 +235,129 @@ def told(answer):
         return answer
     letters = [chr(int(byte)) for byte in match.group(2).split(",")]
     return match.group(1) + " " + "".join(letters[: int(match.group(3))])
+
+
+def some_of(chance, names, share):
+    """Some of the names, in their order or in another."""
+    chosen = [name for name in names if chance.random() < share] or names[:1]
+    if chance.random() < 0.5:
+        chance.shuffle(chosen)
+    return chosen
+
+
+def some_renamings(chance, inner, outer):
+    """A few renamings of a run, or many, or none."""
+    most = min(len(inner), chance.choice((0, 0, 0, 1, 1, 2, 8, 64)))
+    chosen = chance.sample(inner, chance.randint(min(1, most), most))
+    return f"[signal {','.join(f'{chance.choice(outer)}/{name}' for name in chosen)}]" if chosen else ""
+
+
+def random_relations(chance, inputs):
+    if len(inputs) < 2 or chance.random() < 0.7:
+        return ""
+    pairs = (chance.sample(inputs, 2) for _ in range(int(2 ** chance.uniform(0, 10))))
+    return "relation " + ",".join(chance.choice(("{}=>{}", "{}#{}")).format(*pair) for pair in pairs) + ";"
+
+
+def random_act(chance, names, modules):
+    """One thing that a body does: it runs a module, with renamings or without, as it is or inside a `signal`, or emits."""
+    if not modules or chance.random() < 0.1:
+        return f"emit {chance.choice(names)}"
+    called, interface = chance.choice(modules)
+    return f"run {called}{some_renamings(chance, interface, names)}"
+
+
+def random_wrapped(chance, act, names, wrapping):
+    """The same inside a `signal` of some names, a `trap` or a test, as often as the module does so."""
+    if chance.random() >= wrapping:
+        return act
+    local = some_of(chance, chance.sample(names, min(len(names), chance.choice((1, 1, 2, 10)))), 1)
+    return chance.choice((f"signal {','.join(local)} in {act} end", f"signal {','.join(local)} in nothing end;{act}", f"trap T in {act} end", f"present {local[0]} then {act} end"))
+
+
+def random_body(chance, names, modules, room):
+    """Acts in a nest of `signal`s and brackets that declares some of the names, some of them behind an inner part."""
+    depth = chance.choice((0, 0, 1, 1, 2, 10, 60, 120))
+    local = some_of(chance, names, chance.choice((0.1, 0.5, 1))) if depth else []
+    opening = []
+    for level in range(depth):
+        part = local[level::depth]
+        opening.append(f"signal {','.join(part)} in " if part else "trap T in ")
+    wrapping = chance.choice((0, 0, 0.5, 1))
+    acts = [random_wrapped(chance, random_act(chance, names, modules), names, wrapping) for _ in range(chance.choice((1, 2, 5, 20)))]
+    behind = [";" + chance.choice(acts) if chance.random() < 0.8 else "" for _ in range(depth)]
+    ending = "".join(f" end{act}" for act in behind)
+    whole = ";".join(acts)
+    left = room - sum(map(len, opening)) - len(ending) - len(whole)
+    times = max(0, left // (len(whole) + 1)) if chance.random() < 0.8 else chance.randint(0, 5)
+    return "".join(opening) + ";".join([whole] * (1 + times)) + ending
+
+
+def random_module(chance, called, names, modules, room):
+    """A module of some of the names, which emits some of its outputs and runs some of the modules that stand before it."""
+    interface = some_of(chance, names, chance.choice((0.5, 1, 1)))
+    runs = modules if chance.random() < 0.5 else []
+    interface += sorted(set().union(*(inner for _, inner in runs)) - set(interface))
+    cut = chance.choice((0, 0, 1, len(interface) // 2))
+    inputs, outputs = interface[:cut], interface[cut:]
+    head = f"module {called}:" + (f"input {','.join(inputs)};" if inputs else "") + (f"output {','.join(outputs)};" if outputs else "")
+    head += random_relations(chance, inputs)
+    emitted = some_of(chance, outputs, chance.choice((0.1, 1, 1))) if outputs and chance.random() < 0.8 else []
+    body = ";".join(f"emit {name}" for name in emitted) or "halt"
+    if runs:
+        body += ";" + random_body(chance, interface, runs, room - len(head) - len(body))
+    return interface, f"{head}{body} end module "
+
+
+def random_text(seed):
+    """A library of up to 64 KiB, the main module last. A module for which there is no room any more is left out."""
+    chance = random.Random(seed)
+    names = short_names(int(2 ** chance.uniform(2, 12)), MOST_BYTES)
+    count = int(2 ** chance.uniform(0, 7))
+    modules = []
+    text = ""
+    for number in range(1, count + 1):
+        room = chance.choice((0, 0, 2000, 10000))
+        interface, part = random_module(chance, name(number), some_of(chance, names, 1 if count < 8 else 8 / count), modules[-20:], room)
+        if len(text) + len(part) <= MOST_BYTES * 3 // 4:
+            modules.append((name(number), interface))
+            text += part
+    outer = some_of(chance, names, chance.choice((0.1, 0.5, 1, 1, 1, 1)))
+    head = f"module M:{chance.choice(('output', 'output', 'output', 'input'))} {','.join(outer)};" + random_relations(chance, outer)
+    end = " end module"
+    body = random_body(chance, names, modules, MOST_BYTES - len(text) - len(head) - len(end))
+    whole = text + head + body + end
+    return whole if len(whole) <= MOST_BYTES else random_text(seed + 1000000000)
+
+
+def timed_text(program, text):
+    with tempfile.NamedTemporaryFile("w", suffix=".txt") as file:
+        file.write(text)
+        file.flush()
+        return seconds_of(program, file.name)
+
+
+def search(program, count, first):
+    """Times texts made at random: whether the slowest of them keep within the limit."""
+    runs = []
+    answers = {}
+    for seed in range(first, first + count):
+        text = random_text(seed)
+        used, answer = timed_text(program, text)
+        runs.append((used, seed))
+        kind = answer.split(" ")[0]
+        answers[kind] = answers.get(kind, 0) + 1
+    slowest = []
+    for used, seed in sorted(runs, reverse=True)[: 2 * SLOWEST]:
+        text = random_text(seed)
+        again = [timed_text(program, text) for _ in range(2)]
+        slowest.append((min(used, *(run[0] for run in again)), seed, len(text), again[0][1]))
+    print(f"{count} texts made at random from seed {first}: " + ", ".join(f"{number} {kind}" for kind, number in sorted(answers.items())))
+    slowest.sort(reverse=True)
+    for used, seed, size, answer in slowest[:SLOWEST]:
+        note = "" if used <= MOST_SECONDS else "  OVER 50 ms"
+        print(f"{1000 * used:7.0f} ms  {size:6} bytes  seed {seed}: {answer}{note}", flush=True)
+    return all(not kind.startswith(("no", "status")) for kind in answers)
 
 
 def seconds_of(program, path):
@@ -176,6 +374,12 @@ def seconds_of(program, path):
 def main():
     if len(sys.argv) < 2:
         sys.exit(__doc__)
+    if sys.argv[1] == "--text":
+        print(random_text(int(sys.argv[2])))
+        sys.exit(0)
+    if sys.argv[2:3] == ["--search"]:
+        words = [int(word) for word in sys.argv[3:5]]
+        sys.exit(0 if search(sys.argv[1], *words, *[0] * (2 - len(words))) else 1)
     wanted = sys.argv[2:]
     wrong = 0
     for title, text, answer in texts():
@@ -187,7 +391,7 @@ def main():
             file.flush()
             runs = [seconds_of(sys.argv[1], file.name) for _ in range(3)]
         used = min(run[0] for run in runs)
-        note = "" if used <= MOST_SECONDS else "  OVER 100 ms"
+        note = "" if used <= MOST_SECONDS else "  OVER 50 ms"
         if any(run[1] != answer for run in runs):
             wrong += 1
             note += f"  WRONG: {runs[0][1]} in place of {answer}"

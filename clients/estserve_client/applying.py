@@ -12,7 +12,7 @@ import sys
 from typing import Any, Callable, Dict, Iterator, List, Optional, Union
 
 from .connection import Client, Refusal, start
-from .module_text import main_of
+from .module_text import OFFERED, main_of
 from .policy_file import BadPolicy, Policy, Wish, read_file
 from .pruning import candidates, prune
 from .sentences import sentence
@@ -144,7 +144,7 @@ def wrong_permission(op: str, signal: str, kinds: Dict[str, str]) -> Optional[st
     """What is wrong with a permission on a signal of a module; None where nothing is."""
     if signal not in kinds:
         return f"has no signal {signal}"
-    if op == "offer" and kinds[signal] != "input":
+    if op == "offer" and kinds[signal] not in OFFERED:
         return f"gives {signal} as an output, which nobody can offer"
     return None if op in ("offer", "observe") else f"knows no {op} on a signal"
 

@@ -584,7 +584,7 @@ class Client:
         return self.ask("unload", slot=slot)
 
     def offer(self, slot: int, signal: str) -> Answer:
-        """Puts an input into the slot's pending set. Gives `place`, `version`.
+        """Puts an input or inputoutput into the slot's pending set. Gives `place`, `version`.
 
         Refused as NoSlot, Permission, Empty, UnknownSignal, NotInput, AlreadyOffered, Excluded,
         JournalFull."""

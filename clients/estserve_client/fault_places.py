@@ -250,15 +250,17 @@ def emitted_inputs(modules: List[ModuleTree], name: str, _: str) -> List[Place]:
 
 
 def wrong_members(modules: List[ModuleTree], number: str, main: str) -> List[Place]:
-    """The members of the relation of this number that are no inputs of the main module."""
+    """The members of the relation of this number that are neither inputs nor inputoutputs of the
+    main module.
+    """
     module = by_name(modules).get(main)
     if module is None or not 0 < int(number) <= len(module.relations):
         return []
-    inputs = {token.text for token in module.inputs}
+    offered = {token.text for token in module.inputs + module.inputoutputs}
     return [
         Place(token, main, f"{token.text} is no input of {main}")
         for token in module.relations[int(number) - 1]
-        if token.text not in inputs
+        if token.text not in offered
     ]
 
 

@@ -10,21 +10,29 @@ import dataclasses
 import re
 from typing import List, Optional
 
-from .syntax_tree import Token, tokens_of
+from .syntax_tree import KEYWORDS, Token, tokens_of
 
 DELAYS = ("await", "when", "every", "each", "immediate", "watching", "upto")
-TESTED = (*DELAYS, "present")
+IN_TESTS = ("and", "or", "not", "immediate", "(", ")", "[", "]")  # besides names
 
 
 @dataclasses.dataclass
 class Spot:
-    """The tokens around a place: its own, up to three before it, the nearest first, and all after
-    it.
+    """The tokens around a place: its own, those before it, the nearest first, and those after it.
+    Before the first one stand three empty ones.
     """
 
     here: str
     before: List[str]
     after: List[str]
+
+    def near(self) -> List[str]:
+        """The three tokens before it, the nearest first."""
+        return self.before[:3]
+
+    def tested_by(self) -> str:
+        """The word whose test ends before it, as the `when` of `when A and not B`."""
+        return next((word for word in self.before if not in_a_test(word)), "")
 
     def comes(self, *words: str) -> str:
         """The first of these words that comes after; empty where none does."""
@@ -46,7 +54,6 @@ COUNT = LeftOut("a count (`await 3 S`)", "write `await S; await S; await S`")
 CASE = LeftOut(
     "a list of cases (`case S do`)", "wait for each in a branch of its own, inside a `trap`"
 )
-EXPRESSION = LeftOut("an expression over signals (`and`, `or`, `not`)", "nest `present` tests")
 PRE = LeftOut(
     "`pre`, the status of the instant before,",
     "keep it by a signal: `loop present S then pause; emit PRE_S else pause end end`",
@@ -63,7 +70,6 @@ TRAPS = LeftOut("a list of traps (`trap A, B in`)", "nest them: `trap A in trap 
 UPTO = LeftOut("`do p upto S`", "write `abort p; halt when S`")
 WATCHING = LeftOut("`do p watching S`", "write `abort p when S`")
 DO = LeftOut("a `do` part of `await` or `abort`", "write what it does after the statement")
-INOUT = LeftOut("`inputoutput`", "declare an input and an output")
 RENAMED = LeftOut("a new name for a module that is run (`run M/N`)", "write `run N`")
 VARIABLE = LeftOut(
     "a variable (`var`, `:=`, `if`)", "keep states by signals and by where the program stands"
@@ -97,12 +103,16 @@ WORDS = {
     "upto": UPTO,
     "watching": WATCHING,
     "pre": PRE,
-    "and": EXPRESSION,
-    "or": EXPRESSION,
-    "not": EXPRESSION,
-    "inputoutput": INOUT,
 }
-SYMBOLS = {"?": VALUE, ".": STOP, ":=": VARIABLE, "(": VALUED}
+SYMBOLS = {"?": VALUE, ".": STOP, ":=": VARIABLE}
+# The words before a name that a value in `(` or a type after `:` can belong to
+VALUED_WORDS = ("emit", "sustain", "exit", "input", "output", "inputoutput", "signal", "trap", ",")
+
+
+def in_a_test(word: str) -> bool:
+    """Whether a token can stand in a test."""
+    is_name = re.match("[A-Za-z]", word) is not None and word not in KEYWORDS
+    return is_name or word in IN_TESTS
 
 
 def spot_at(text: str, line: int, column: int) -> Optional[Spot]:
@@ -112,7 +122,7 @@ def spot_at(text: str, line: int, column: int) -> Optional[Spot]:
     if at is None:
         return None
     texts = [token.text for token in tokens]
-    return Spot(texts[at], texts[max(0, at - 3) : at][::-1] + [""] * 3, texts[at + 1 :])
+    return Spot(texts[at], texts[:at][::-1] + [""] * 3, texts[at + 1 :])
 
 
 def place_of(token: Token) -> "tuple[int, int]":
@@ -133,21 +143,19 @@ def of_number(spot: Spot) -> LeftOut:
 
 def declared(spot: Spot) -> Optional[LeftOut]:
     """What a word shortly before is the beginning of."""
-    return next((WORDS[word] for word in spot.before if word in WORDS), None)
+    return next((WORDS[word] for word in spot.near() if word in WORDS), None)
 
 
 def of_symbol(spot: Spot) -> Optional[LeftOut]:
     """What a symbol is the beginning of, where it cannot stand."""
     here, first, second = spot.here, *spot.before[:2]
-    if here in ("(", "[") and first in TESTED:
-        return EXPRESSION
     if first == "pre":
         return PRE
     if here == "," and second in ("trap", "emit"):
         return TRAPS if second == "trap" else EMITS
     if here == "/" and second == "run":
         return RENAMED
-    if here == ":" and second in ("input", "output", "signal", ",", "trap"):
+    if here in (":", "(") and second in VALUED_WORDS:
         return VALUED
     if here == "=" and first == ":":
         return VARIABLE
@@ -156,9 +164,9 @@ def of_symbol(spot: Spot) -> Optional[LeftOut]:
 
 def of_word(spot: Spot) -> Optional[LeftOut]:
     """What a word is the beginning of, where it cannot stand."""
-    here, first, second, third = spot.here, *spot.before[:3]
+    here, first = spot.here, spot.before[0]
     if here == "do":
-        is_part = "when" in (second, third) or "await" in (second, third)
+        is_part = spot.tested_by() in ("await", "when")
         until = {"upto": UPTO, "watching": WATCHING}.get(spot.comes("upto", "watching"))
         return CASE if first == "case" else DO if is_part else until
     if first in (

@@ -14,11 +14,13 @@ if TYPE_CHECKING:
 
 TOKEN = re.compile(r"%\{.*?\}%|%[^\n]*|\s+|[A-Za-z][A-Za-z0-9_]*|\|\||=>|.", re.DOTALL)
 KEPT = re.compile(r"[^\s%]")
+KINDS = {"input": "input", "output": "output", "inputoutput": "inout"}  # of what each word declares
+OFFERED = ("input", "inout")  # the kinds of signals that can be offered
 
 
 class Module:
-    """A module: its name, its signals in declaration order as pairs of a name and `input` or
-    `output`, its relations by their text, and what it runs.
+    """A module: its name, its signals in declaration order as pairs of a name and `input`, `output`
+    or `inout` (an inputoutput), its relations by their text, and what it runs.
     """
 
     def __init__(
@@ -31,10 +33,16 @@ class Module:
         return dict(self.signals)
 
     def inputs(self) -> List[str]:
-        return [name for name, kind in self.signals if kind == "input"]
+        """The signals that can be offered."""
+        return [name for name, kind in self.signals if kind in OFFERED]
 
     def outputs(self) -> List[str]:
+        """The signals that can be emitted."""
         return [name for name, kind in self.signals if kind != "input"]
+
+    def of_kind(self, kind: str) -> List[str]:
+        """The signals of one kind."""
+        return [name for name, other in self.signals if other == kind]
 
 
 def tokens_of(text: str) -> List[str]:
@@ -61,13 +69,13 @@ def read_module(tokens: List[str], at: int, end: int) -> Module:
     runs = [name for word, name in zip(tokens[at:end], tokens[at + 1 : end]) if word == "run"]
     module = Module(tokens[at], [], [], runs)
     at += 2
-    while at < len(tokens) and tokens[at] in ("input", "output", "relation"):
+    while at < len(tokens) and tokens[at] in (*KINDS, "relation"):
         word = tokens[at]
         parts, at = parts_of(tokens, at + 1)
         if word == "relation":
             module.relations += [" ".join(part) for part in parts]
         else:
-            module.signals += [(part[0], word) for part in parts if part]
+            module.signals += [(part[0], KINDS[word]) for part in parts if part]
     return module
 
 

@@ -21,6 +21,7 @@ if TYPE_CHECKING:
 HIGH, LOW, HIDDEN = "_/‾\\", "____", "...."
 PLAIN_HIGH = "_/^\\"
 STEP = 10  # an instant of a VCD file takes this many units of time: instant n begins at n * STEP
+KINDS = ("input", "inout", "output")  # of signals, in the order of a table's columns
 TICK = "tick"  # the wire that goes up with each instant, and down in its middle
 
 
@@ -28,9 +29,9 @@ class Seen:
     """What was seen of a module: its name, its signals, its instants, and the number of the first
     of these.
 
-    The signals stand in declaration order, pairs of a name and `input` or `output`, or `signal`
-    where it isn't known which of the two it is. `scopes` has the modules that it runs, where they
-    are known.
+    The signals stand in declaration order, pairs of a name and `input`, `output` or `inout` (an
+    inputoutput), or `signal` where it isn't known which of these it is. `scopes` has the modules
+    that it runs, where they are known.
     """
 
     def __init__(
@@ -45,9 +46,11 @@ class Seen:
         self.first, self.scopes = first, scopes
 
     def kinds(self) -> Tuple[str, ...]:
-        """The kinds of signals that are told apart."""
-        known = all(kind in ("input", "output") for _, kind in self.signals)
-        return ("input", "output") if known else ("signal",)
+        """The kinds of signals that are told apart: `inout` where there is one."""
+        kinds = {kind for _, kind in self.signals}
+        if not kinds <= set(KINDS):
+            return ("signal",)
+        return tuple(kind for kind in KINDS if kind != "inout" or kind in kinds)
 
     def of_kind(self, kind: str) -> List[str]:
         """The names of the signals of a kind."""
@@ -63,13 +66,17 @@ def present_of(names: List[str], instant: Instant) -> str:
 
 class Table:
     """A table that is written as its instants come: the width of the column after the numbers is
-    known before.
+    known before. That of the inouts, which are emitted too, has room for all of them.
     """
 
     def __init__(self, seen: Seen, wide: int = 0) -> None:
         self.kinds = [seen.of_kind(kind) for kind in seen.kinds()]
         self.heads = [kind + "s" for kind in seen.kinds()]
         self.wide = max(wide, len(self.heads[0]))
+        self.others = [
+            max(len(head), len(" ".join(names)))
+            for head, names in zip(self.heads[1:-1], self.kinds[1:-1])
+        ]
         self.drawn = Known()  # instants, each with its cells as they are drawn, by its identity
 
     def widen(self, instants: Iterable[Instant]) -> None:
@@ -79,7 +86,9 @@ class Table:
         self.drawn.clear()
 
     def line(self, number: str, cells: List[str]) -> str:
-        return "  ".join([f"{number:>7}", f"{cells[0]:<{self.wide}}", *cells[1:]]).rstrip()
+        wides = [self.wide, *self.others, 0]
+        padded = [f"{cell:<{wide}}" for cell, wide in zip(cells, wides)]
+        return "  ".join([f"{number:>7}", *padded]).rstrip()
 
     def head(self) -> str:
         """The line over the instants."""
@@ -99,7 +108,9 @@ class Table:
 
 
 def table_lines(seen: Seen) -> List[str]:
-    """The lines of a table: a row an instant, with the inputs and the outputs that were present."""
+    """The lines of a table: a row an instant, with the inputs, the inouts where there are any, and
+    the outputs that were present.
+    """
     table = Table(seen)
     table.widen(seen.instants)
     rows = [table.row(number, instant) for number, instant in enumerate(seen.instants, seen.first)]

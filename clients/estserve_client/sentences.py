@@ -57,7 +57,7 @@ SENTENCES = {
     "BadRename": "the module that is run has no signal {name}, or it is renamed twice",
     "InstantLoop": "a loop's body can end in the instant in which it begins",
     "TooLarge": "the module passes the limit of {limit}",
-    "Semantics": "relation {relation} has a member that is no input of the module",
+    "Semantics": "relation {relation} has a member that the module can't be offered",
     "Memory": "the server found no memory",
 }
 

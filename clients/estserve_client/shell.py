@@ -16,7 +16,7 @@ from .instants import Instant
 from .library_text import LibraryText
 from .load_faults import load_fault
 from .module_text import Module, main_of
-from .pictures import Seen, Table, present_of, table_lines
+from .pictures import KINDS, Seen, Table, present_of, table_lines
 from .scopes import scopes_of
 from .seeing import module_for, see_slot
 from .sentences import OPERATIONS, sentence
@@ -140,8 +140,8 @@ class Shell(cmd.Cmd):
         return "\n".join([first, *more])
 
     def instant_line(self, slot: int, instant: Instant) -> str:
-        """What is said of an instant: its outputs, or all that was present where the module isn't
-        known here.
+        """What is said of an instant: its outputs and inputoutputs, or all that was present where
+        the module isn't known here.
         """
         told = f"instant {instant.number}"
         if not instant.signals:
@@ -195,7 +195,7 @@ class Shell(cmd.Cmd):
         )
 
     def inputs_here(self) -> List[str]:
-        """The inputs of the module in the slot of `use`, as far as it is known here."""
+        """What can be offered to the module in the slot of `use`, as far as it is known here."""
         module = self.modules.get(self.slot)
         return module.inputs() if module else []
 
@@ -303,8 +303,9 @@ class Shell(cmd.Cmd):
         """module [SLOT] FILE [MODULE]: tells the shell which text another client has loaded"""
         slot, library, module = self.module_of(line)
         self.keep(slot, library, module)
-        inputs, outputs = " ".join(module.inputs()), " ".join(module.outputs())
-        print(f"{module.name}: inputs {inputs or 'none'}, outputs {outputs or 'none'}")
+        kinds = [kind for kind in KINDS if kind != "inout" or module.of_kind(kind)]
+        told = [f"{kind}s {' '.join(module.of_kind(kind)) or 'none'}" for kind in kinds]
+        print(f"{module.name}: {', '.join(told)}")
 
     def do_unload(self, line: str) -> None:
         """unload [SLOT]: takes the module out of the slot, with its instants"""

@@ -75,7 +75,7 @@ PLAIN = {
     "drop": Plain("role", "makes the role inactive in this session", "{role} is no longer active"),
     "offer": Plain(
         "slot signal",
-        "puts the input into what is pending for the next instant",
+        "puts the input or inputoutput into what is pending for the next instant",
         "{signal} is pending",
     ),
     "discard": Plain(

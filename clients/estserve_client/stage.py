@@ -78,9 +78,8 @@ def grants_of(module: Module, slot: int = 0) -> List[Answer]:
 
 
 def fault_of_inputs(scenario: Scenario) -> Optional[str]:
-    """What is said of the first name that is no input of the module; None where each is one."""
-    kinds = scenario.module.kinds()
-    inputs = {name for name, kind in kinds.items() if kind == "input"}
+    """What is said of the first name that the module can't be offered; None where each can be."""
+    inputs = set(scenario.module.inputs())
     for offers in scenario.instants:
         if not inputs.issuperset(offers.names):
             wrong = next(name for name in offers.names if name not in inputs)

@@ -1,9 +1,9 @@
 """A chain of what waits for what in an instant that is stuck, drawn from the text.
 
-estserve names the outputs that stay undecided. Here the text is asked which tests come before each
-emission, in the same instant as far as the text tells, and a circle is looked for: an emission
-waits for a test, and the test for an emission of its signal. Where the program stands isn't known
-here, so that the circle is a possible one.
+estserve names the outputs and inputoutputs that stay undecided. Here the text is asked which tests
+come before each emission, in the same instant as far as the text tells, and a circle is looked for:
+an emission waits for a test, and the test for an emission of one of its signals. Where the program
+stands isn't known here, so that the circle is a possible one.
 """
 from __future__ import annotations
 
@@ -13,7 +13,7 @@ from typing import Dict, Iterable, List, Optional, Tuple
 from .circles import shortest_circle
 from .fault_places import StartCodes
 from .library_text import LibraryText
-from .syntax_tree import ModuleTree, Node, Token, by_name, parse
+from .syntax_tree import ModuleTree, Node, Test, Token, by_name, parse
 
 Signal = Tuple[
     str, int
@@ -23,11 +23,45 @@ Names = Dict[str, Signal]
 
 @dataclasses.dataclass(frozen=True)
 class Act:
-    """A test or an emission: its signal, its token, and its words in the text."""
+    """An emission, or a test as far as it asks for one signal: that signal, the statement's token,
+    and its words in the text.
+    """
 
     signal: Signal
     at: Token
     words: str
+
+
+WORDS = {
+    "weak": "weak abort when",
+    "abort": "abort when",
+    "suspend": "suspend when",
+    "each": "loop each",
+}
+BINDS = {"or": 0, "and": 1, "not": 2, "name": 3}  # how tight
+
+
+def signal_of(token: Token, names: Names) -> Signal:
+    """The signal that a name means."""
+    return names.get(token.text, (token.text, 0))
+
+
+def called(token: Token, names: Names) -> str:
+    """A name, and behind it that of its signal where it is another one."""
+    signal = signal_of(token, names)
+    return token.text + (f" ({signal[0]})" if signal[0] != token.text else "")
+
+
+def written(test: Test, names: Names, least: int = 0) -> str:
+    """A test as it could stand in a text, in parentheses where it binds less tight than `least`."""
+    binds = BINDS[test.kind]
+    if test.kind == "name":
+        return called(test.at, names)
+    if test.kind == "not":
+        told = f"not {written(test.parts[0], names, binds)}"
+    else:
+        told = f" {test.kind} ".join(written(part, names, binds + 1) for part in test.parts)
+    return f"({told})" if binds < least else told
 
 
 @dataclasses.dataclass
@@ -50,13 +84,17 @@ class Waiting:
         module = self.known[main]
         self.walk(module.body, {name: (name, 0) for name in module.names()}, [], [], main)
 
-    def act(self, node: Node, names: Names) -> Act:
-        name = node.names[0].text
-        signal = names.get(name, (name, 0))
-        called = f" ({signal[0]})" if signal[0] != name else ""
-        words = {"weak": "weak abort when", "abort": "abort when", "suspend": "suspend when"}
-        words = {**words, "each": "loop each"}
-        return Act(signal, node.at, f"{words.get(node.kind, node.kind)} {name}{called}")
+    def emission(self, node: Node, names: Names) -> Act:
+        """What a statement emits."""
+        token = node.names[0]
+        return Act(signal_of(token, names), node.at, f"{node.kind} {called(token, names)}")
+
+    def tests(self, node: Node, names: Names) -> List[Act]:
+        """What a statement asks for: its test, once for each of its signals."""
+        assert node.test
+        told = f"{WORDS.get(node.kind, node.kind)} {written(node.test, names)}"
+        signals = dict.fromkeys(signal_of(token, names) for token in node.names)
+        return [Act(signal, node.at, told) for signal in signals]
 
     def walk(
         self, node: Optional[Node], names: Names, begun: List[Act], held: List[Act], module: str
@@ -73,7 +111,7 @@ class Waiting:
     def walk_emit(
         self, node: Node, names: Names, begun: List[Act], held: List[Act], _: str
     ) -> List[Act]:
-        self.emissions.append(Emission(self.act(node, names), begun[::-1] + held[::-1]))
+        self.emissions.append(Emission(self.emission(node, names), begun[::-1] + held[::-1]))
         return []
 
     walk_sustain = walk_emit
@@ -87,38 +125,38 @@ class Waiting:
         return []
 
     def walk_await(self, node: Node, names: Names, *_: object) -> List[Act]:
-        return [self.act(node, names)]
+        return self.tests(node, names)
 
     def walk_present(
         self, node: Node, names: Names, begun: List[Act], held: List[Act], module: str
     ) -> List[Act]:
-        test = self.act(node, names)
-        ends = [self.walk(part, names, begun + [test], held, module) for part in node.parts]
-        return [test, *ends[0], *ends[1]]
+        tests = self.tests(node, names)
+        ends = [self.walk(part, names, begun + tests, held, module) for part in node.parts]
+        return [*tests, *ends[0], *ends[1]]
 
     def walk_abort(
         self, node: Node, names: Names, begun: List[Act], held: List[Act], module: str
     ) -> List[Act]:
-        test = self.act(node, names)
-        return self.walk(node.parts[0], names, begun, held + [test], module) + [test]
+        tests = self.tests(node, names)
+        return self.walk(node.parts[0], names, begun, held + tests, module) + tests
 
     walk_suspend = walk_abort
 
     def walk_weak(
         self, node: Node, names: Names, begun: List[Act], held: List[Act], module: str
     ) -> List[Act]:
-        return self.walk(node.parts[0], names, begun, held, module) + [self.act(node, names)]
+        return self.walk(node.parts[0], names, begun, held, module) + self.tests(node, names)
 
     def walk_each(
         self, node: Node, names: Names, begun: List[Act], held: List[Act], module: str
     ) -> List[Act]:
-        self.walk(node.parts[0], names, begun, held + [self.act(node, names)], module)
+        self.walk(node.parts[0], names, begun, held + self.tests(node, names), module)
         return []
 
     def walk_every(
         self, node: Node, names: Names, _: List[Act], held: List[Act], module: str
     ) -> List[Act]:
-        self.walk(node.parts[0], names, [], held + [self.act(node, names)], module)
+        self.walk(node.parts[0], names, [], held + self.tests(node, names), module)
         return []
 
     def walk_seq(

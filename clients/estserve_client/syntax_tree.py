@@ -8,7 +8,7 @@ from __future__ import annotations
 
 import dataclasses
 import re
-from typing import Dict, Iterator, List, Optional
+from typing import Callable, Dict, Iterator, List, Optional
 
 TOKEN = re.compile(r"%\{.*?\}%|%[^\n]*|\s+|[A-Za-z][A-Za-z0-9_]*|[0-9]+|\|\||=>|:=|<=|.", re.DOTALL)
 KEYWORDS = frozenset(
@@ -16,6 +16,7 @@ KEYWORDS = frozenset(
     " suspend when immediate loop each every do await abort weak trap in exit signal run"
     " and or not".split()
 )
+DECLARATIONS = ("input", "output", "inputoutput", "relation")
 
 
 @dataclasses.dataclass(frozen=True)
@@ -45,12 +46,32 @@ def tokens_of(text: str) -> List[Token]:
 
 
 @dataclasses.dataclass
+class Test:
+    """What a statement asks of signals: a name, or `not`, `and`, `or` over other tests.
+
+    `kind` is `name`, `not`, `and` or `or`; `at` is the name, or else the first token. `parts` has
+    the one operand of a `not`, or all that stand between the words of an `and` or `or`.
+    """
+
+    kind: str
+    at: Token
+    parts: List["Test"] = dataclasses.field(default_factory=list)
+
+    def names(self) -> List[Token]:
+        """The names in it, in the order of the text, each as often as it stands there."""
+        if self.kind == "name":
+            return [self.at]
+        return [name for part in self.parts for name in part.names()]
+
+
+@dataclasses.dataclass
 class Node:
     """A statement.
 
     `kind` is its keyword, `seq` or `par`; `loop` with `each` is `each`, and `weak abort` is `weak`.
-    `at` is its first token, `names` the names that it has (of a run the module's first), `parts`
-    the statements in it. A branch of a `present` that is left out is None.
+    `at` is its first token, `names` the names that it has (of a run the module's first, of a
+    statement with a `test` those in it), `parts` the statements in it. A branch of a `present` that
+    is left out is None.
     """
 
     kind: str
@@ -59,6 +80,7 @@ class Node:
     parts: List[Optional["Node"]] = dataclasses.field(default_factory=list)
     immediate: bool = False
     renamings: List["Renaming"] = dataclasses.field(default_factory=list)
+    test: Optional[Test] = None
 
     def walk(self) -> Iterator["Node"]:
         """The statement and those in it, in the order of the text."""
@@ -88,6 +110,7 @@ class ModuleTree:
     name: Token
     inputs: List[Token]
     outputs: List[Token]
+    inputoutputs: List[Token]
     interface: List[Token]
     relations: List[List[Token]]
     body: Node
@@ -145,8 +168,8 @@ class Reader:
 
     def module(self) -> ModuleTree:
         self.take("module")
-        module = ModuleTree(self.name(), [], [], [], [], Node("nothing", self.take(":")))
-        while self.peek() in ("input", "output", "relation"):
+        module = ModuleTree(self.name(), [], [], [], [], [], Node("nothing", self.take(":")))
+        while self.peek() in DECLARATIONS:
             self.declaration(module)
         module.body = self.statement()
         self.take("end")
@@ -162,7 +185,8 @@ class Reader:
         else:
             names = self.names()
             module.interface += names
-            (module.inputs if word == "input" else module.outputs).extend(names)
+            declared = {"input": module.inputs, "output": module.outputs}
+            declared.get(word, module.inputoutputs).extend(names)
         self.take(";")
 
     def relation(self) -> List[Token]:
@@ -211,9 +235,48 @@ class Reader:
 
     unit_sustain = unit_exit = unit_emit
 
+    def test(self) -> Test:
+        """What is asked of signals, in brackets or not."""
+        if not self.takes("["):
+            return self.disjunction()
+        test = self.disjunction()
+        self.take("]")
+        return test
+
+    def disjunction(self) -> Test:
+        """Tests with `or` between them."""
+        return self.operands("or", self.conjunction)
+
+    def conjunction(self) -> Test:
+        """Tests with `and` between them."""
+        return self.operands("and", self.literal)
+
+    def operands(self, word: str, read: Callable[[], Test]) -> Test:
+        """The tests that stand around a word, as one; where it doesn't come, the one test."""
+        parts = [read()]
+        while self.takes(word):
+            parts.append(read())
+        return parts[0] if len(parts) == 1 else Test(word, parts[0].at, parts)
+
+    def literal(self) -> Test:
+        """A name, the `not` of a test, or a test in parentheses."""
+        if self.peek() == "not":
+            return Test("not", self.take(), [self.literal()])
+        if self.takes("("):
+            test = self.disjunction()
+            self.take(")")
+            return test
+        return Test("name", self.name())
+
+    def tested(
+        self, kind: str, at: Token, parts: List[Optional[Node]], immediate: bool, test: Test
+    ) -> Node:
+        """A statement with a test."""
+        return Node(kind, at, test.names(), parts, immediate, [], test)
+
     def unit_await(self, at: Token) -> Node:
         immediate = self.takes("immediate")
-        return Node("await", at, [self.name()], [], immediate)
+        return self.tested("await", at, [], immediate, self.test())
 
     def unit_group(self, at: Token) -> Node:
         body = self.statement()
@@ -221,18 +284,18 @@ class Reader:
         return body
 
     def unit_present(self, at: Token) -> Node:
-        name = self.name()
+        test = self.test()
         then = self.statement() if self.takes("then") else None
         otherwise = self.statement() if self.takes("else") else None
         self.take("end")
         self.takes("present")
-        return Node("present", at, [name], [then, otherwise])
+        return self.tested("present", at, [then, otherwise], False, test)
 
     def when(self, kind: str, at: Token) -> Node:
         body = self.statement()
         self.take("when")
         immediate = self.takes("immediate")
-        return Node(kind, at, [self.name()], [body], immediate)
+        return self.tested(kind, at, [body], immediate, self.test())
 
     def unit_suspend(self, at: Token) -> Node:
         node = self.when("suspend", at)
@@ -261,19 +324,19 @@ class Reader:
     def unit_loop(self, at: Token) -> Node:
         body = self.statement()
         if self.takes("each"):
-            return Node("each", at, [self.name()], [body])
+            return self.tested("each", at, [body], False, self.test())
         self.take("end")
         self.takes("loop")
         return Node("loop", at, [], [body])
 
     def unit_every(self, at: Token) -> Node:
         immediate = self.takes("immediate")
-        name = self.name()
+        test = self.test()
         self.take("do")
         body = self.statement()
         self.take("end")
         self.takes("every")
-        return Node("every", at, [name], [body], immediate)
+        return self.tested("every", at, [body], immediate, test)
 
     def unit_trap(self, at: Token) -> Node:
         name = self.name()

@@ -18,6 +18,7 @@ ROOT = CLIENTS.parent
 EXAMPLES = ROOT / "examples"
 DIALOGUE = CLIENTS / "tests" / "dialogue.py"
 DIALOGUES = CLIENTS / "tests" / "dialogues"
+EXPRESSIONS = {"coin_machine", "shared_bus", "inouts"}  # dialogues that load modules with them
 sys.path.insert(0, str(CLIENTS))
 
 
@@ -79,12 +80,14 @@ def run_words(name, inputs=None, *more):
 
 def dialogue_variables(path, faults):
     """The variables by which `dialogue.py` plays a stored dialogue, beside the real program that
-    ESTSERVE names, if it does.
+    ESTSERVE names, if it does, and if it reads what is loaded there.
     """
     variables = {"ESTSERVE": str(DIALOGUE), "DIALOGUE": str(path), "FAULTS": str(faults)}
     for name, real in (("RECORD", "RECORDER"), ("BESIDE", "ESTSERVE")):
         if os.environ.get(real):
             variables[name] = os.environ[real]
+    if path.stem in EXPRESSIONS and not reads_expressions():
+        variables.pop("BESIDE", None)
     return variables
 
 
@@ -96,6 +99,23 @@ def play_dialogue(path, words, typed=""):
         if faults.exists():
             raise AssertionError(f"{path.name}: {faults.read_text()}")
     return ran
+
+
+def reads_expressions():
+    """Whether ESTSERVE names a program that reads expressions over signals, and `inputoutput`."""
+    if not os.environ.get("ESTSERVE"):
+        return False
+    sys.path.append(str(ROOT / "tests" / "socket"))
+    import language
+
+    return language.reads_expressions(os.environ["ESTSERVE"])
+
+
+def needs_expressions(test):
+    """Marks a test of a real program that reads expressions over signals, and `inputoutput`."""
+    return unittest.skipUnless(
+        reads_expressions(), "the variable ESTSERVE names no program that reads `inputoutput`"
+    )(test)
 
 
 def needs_program(test):

@@ -124,6 +124,9 @@ class Dialogues(unittest.TestCase):
     def test_policy_commands(self):
         self.check("policy_commands")
 
+    def test_an_inputoutput_is_offered_and_shown(self):
+        self.check("inouts")
+
 
 class OverASocket(unittest.TestCase):
     """A client over a Unix socket: behind it stands a stored dialogue, as a server."""

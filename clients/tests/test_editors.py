@@ -42,6 +42,11 @@ class Grammar:
         found = next(pattern for match, pattern in self.patterns if match.fullmatch(word))
         return found["name"]
 
+    def is_illegal(self, letter):
+        """Whether a letter alone is marked as one that no token begins with."""
+        found = [pattern["name"] for match, pattern in self.patterns if match.fullmatch(letter)]
+        return found[:1] == ["invalid.illegal.esterel"]
+
 
 class Editors(unittest.TestCase):
     def test_the_keywords_are_those_of_the_program(self):
@@ -61,6 +66,19 @@ class Editors(unittest.TestCase):
         for word in ("A", "emits", "in_", "tock"):
             self.assertEqual(grammar.scope_of(word), "variable.other.esterel")
         self.assertEqual(grammar.scope_of("tick"), "constant.language.esterel")
+
+    def test_words_and_brackets_of_tests(self):
+        words, grammar = words_in_vim(), Grammar()
+        for word in ("and", "or", "not"):
+            self.assertEqual(words[word], "esterelOperator")
+            self.assertEqual(grammar.scope_of(word), "keyword.operator.word.esterel")
+        self.assertEqual(words["inputoutput"], words["input"])
+        self.assertEqual(grammar.scope_of("inputoutput"), grammar.scope_of("input"))
+        pairs = json.loads((VSCODE / "language-configuration.json").read_text())["brackets"]
+        self.assertEqual(pairs, [["[", "]"], ["(", ")"]])
+        for letter in "()[]":
+            self.assertFalse(grammar.is_illegal(letter))
+        self.assertTrue(grammar.is_illegal("?"))
 
     def test_the_extension_names_files_that_are_there(self):
         package = json.loads((VSCODE / "package.json").read_text())["contributes"]

@@ -121,9 +121,6 @@ LEFT_OUT = [
     ("do halt watching S", "watching"),
     ("await S do emit O end", "`do` part"),
     ("abort halt when S do emit O end", "`do` part"),
-    ("present S and S then emit O end", "expression"),
-    ("present not S then emit O end", "expression"),
-    ("await [S or S]", "expression"),
     ("run N/P", "new name"),
     ("var X := 3 in emit O end", "variable"),
     ("if X then emit O end", "variable"),
@@ -133,7 +130,6 @@ LEFT_OUT = [
     ("signal L : integer in emit L end", "value"),
 ]
 DECLARED_LEFT_OUT = [
-    ("module M: inputoutput S; nothing end module", "`inputoutput`"),
     ("module M: input S : integer; nothing end module", "value"),
     ("module M: input S(integer); nothing end module", "value"),
     ("module M: sensor S : integer; nothing end module", "sensor"),

@@ -8,6 +8,7 @@ import unittest
 import browsers
 import teams
 import visitors
+from language import LACKS, reads_expressions
 
 SHOT = os.environ.get("GATEWAY_SHOTS")  # a folder for pictures of the page, where one is wanted
 SIGNALS, INSTANTS = 64, 10_000
@@ -127,6 +128,25 @@ class PageTest(unittest.TestCase):
         self.one.click("#wave-pick summary")
         self.one.click("#wave-pick input[value=B]")
         self.one.wait(lambda: "B, input" not in self.one.text("#wave-table"), "the table without B")
+
+    def test_an_inout_is_driven_and_shown(self):
+        if not reads_expressions(teams.program_file()):
+            self.skipTest(LACKS)
+        self.come_in(self.one, "ann", "lead")
+        text = "module M: inputoutput A; output O; input B; present A then emit O end end module"
+        with self.team.root() as root, self.team.client() as cho:
+            root.unload(0)
+            root.load(0, "M", text)
+            self.one.wait_text("h1", "Slot 0 · M")
+            cho.login("cho", ["stepper"])
+            self.one.press("1")
+            self.one.wait_text("#pending", "Pending: A")
+            cho.step(0)
+            root.logout()
+        self.one.wait_text("#wave-told", "instant 1: A O; may not be observed: B")
+        self.one.wait_text("#wave-table", "A, inoutpresent")
+        self.assertIsNotNone(self.one.find("[data-signal=B]"))
+        self.assertIsNone(self.one.find("[data-signal=O]"))
 
     def test_load_with_a_fault_and_without(self):
         self.come_in(self.one, "root", "root")

@@ -10,7 +10,12 @@ import unittest
 
 sys.path.insert(0, str(pathlib.Path(__file__).resolve().parents[2] / "clients"))
 from estserve_team import web  # noqa: E402
+from estserve_team.reads import who  # noqa: E402
+from estserve_team.reads.printing import slots_lines  # noqa: E402
+from estserve_team.reads.slot_model import SlotsModel  # noqa: E402
+from estserve_team.reads.witness import Witness  # noqa: E402
 from estserve_team.refusals import Refused  # noqa: E402
+from estserve_team.web import page_slots  # noqa: E402
 from estserve_team.web.options import Bad, Options, read_options  # noqa: E402
 from estserve_team.web.refusing import refusal_of, sentence_of  # noqa: E402
 from estserve_team.web.seats import SILENT_SECONDS, Changes, Seat, Seats  # noqa: E402
@@ -258,6 +263,67 @@ class SentencesTest(unittest.TestCase):
         self.assertEqual(
             taken, "AllTaken: each of the sixteen logins is held: ann of ann, bob of eve"
         )
+
+
+class Granted:
+    """Rights that have what was granted."""
+
+    def __init__(self, *pairs):
+        self.pairs = set(pairs)
+
+    async def may(self, operation, object):
+        return (operation, object) in self.pairs
+
+    async def may_any(self, pairs):
+        return bool(self.pairs.intersection(pairs))
+
+
+class InoutsTest(unittest.TestCase):
+    """A module with an inputoutput: it can be offered as an input can, and an output can not."""
+
+    TEXT = "module M: input A; inputoutput B, C; output O; relation A # B; emit B end module"
+
+    def setUp(self):
+        self.slots = SlotsModel()
+        load = {"cmd": "load", "slot": 0, "main": "M", "text": self.TEXT}
+        self.slots.add(load, {"ok": "load", "place": 1, "version": 5})
+        for place, name in enumerate("CB", 2):
+            offer = {"cmd": "offer", "slot": 0, "signal": name}
+            self.slots.add(offer, {"ok": "offer", "place": place, "version": 5})
+        self.slot = self.slots[0]
+        self.pairs = [("offer", "0.B"), ("observe", "0.C"), ("offer", "0.O"), ("observe", "0.O")]
+
+    def test_kinds(self):
+        wanted = [("A", "input"), ("B", "inout"), ("C", "inout"), ("O", "output")]
+        self.assertEqual(self.slot.signals, wanted)
+
+    def test_the_page_is_told_which_can_be_offered(self):
+        asked = page_slots.may_of(Granted(*self.pairs), set(self.pairs), 0, self.slot.signals)
+        may = asyncio.run(asked)
+        self.assertEqual(may["offer"], {"A": False, "B": True, "C": False})
+        self.assertEqual(may["observe"], {"A": False, "B": False, "C": True, "O": True})
+        told = page_slots.shown(self.slot, may)
+        self.assertEqual(told["pending"], ["C", "B"])
+        self.assertEqual(told["signals"][1:], [["B", "inout"], ["C", "inout"], ["O", "output"]])
+
+    def test_what_is_pending_is_told_to_who_may_offer_or_observe_it(self):
+        class State:
+            slots = self.slots
+
+            class policy:
+                pairs = staticmethod(lambda: self.pairs)
+
+        for granted, names in ((self.pairs[:1], {"B"}), (self.pairs[1:2], {"C"}), ([], set())):
+            seen = asyncio.run(who.seen_pending(Granted(*granted), State, {0}))
+            self.assertEqual(seen, {0: names})
+        lines = list(slots_lines({"slots": [who.slot_dict(self.slot, {"B"}, {})]}))
+        wanted = ["   input   A", "   inout   B  pending", "   inout   C", "   output  O"]
+        self.assertEqual(lines[1:], wanted)
+
+    def test_a_second_run_may_offer_them(self):
+        keys = [(one["op"], one["object"]) for one in Witness._permissions(self.slot)]
+        offered = [object for operation, object in keys if operation == "offer"]
+        self.assertEqual(offered, ["0.A", "0.B", "0.C"])
 
 
 if __name__ == "__main__":

@@ -128,7 +128,8 @@ class Replay:
         return self.expect(line, answer, **wanted)
 
     def look(self, line, answer, slot, instant):
-        """The signals that may be observed are shown in their order, and an input is present where it was offered."""
+        """The signals that may be observed are shown in their order. An input is present where it was offered, and nowhere
+        else; an inputoutput where it was offered, and maybe elsewhere."""
         module, inputs = slot.module, slot.instants[instant - 1]
         seen = self.seen(slot)
         shown = answer.get("signals", [])
@@ -137,6 +138,8 @@ class Replay:
         for name, present in shown:
             if name in module.inputs and present != (name in inputs):
                 self.fault(line, answer, f"{name} {name in inputs}")
+            if name in module.both & inputs and not present:
+                self.fault(line, answer, f"{name} True")
 
     def by_language(self, line, answer, slot, keys):
         """A refusal that only the language decides has its name, and keys that can be."""
@@ -146,7 +149,7 @@ class Replay:
             if not is_fault_of(answer, keys["text"]):
                 self.fault(line, answer, "a fault of this text")
             return
-        seen = [name for name in self.seen(slot) if name not in slot.module.inputs]
+        seen = [name for name in self.seen(slot) if name not in slot.module.inputs | slot.pending]
         undecided = answer["undecided"]
         if set(answer) != {"code", "fault", "undecided"} or [name for name in seen if name in undecided] != undecided:
             self.fault(line, answer, f"some of {seen}")

@@ -33,19 +33,20 @@ def is_fault_of(answer, text):
 
 
 class Module:
-    """The interface and the relations of the main module of a text that was accepted."""
+    """The interface and the relations of the main module of a text that was accepted: `both` has its inputoutputs."""
 
     def __init__(self, main, text):
         text = re.sub(r"%\{(?:.|\n)*?\}%|%[^\n]*", " ", text)
         body = re.search(rf"\bmodule\s+{main}\s*:(.*)", text, re.DOTALL)[1]
-        self.signals, self.inputs, self.relations = [], set(), []
-        while found := re.match(r"\s*(input|output|relation)\b([^;]*);", body):
+        self.signals, self.inputs, self.both, self.relations = [], set(), set(), []
+        while found := re.match(r"\s*(inputoutput|input|output|relation)\b([^;]*);", body):
             parts = [part.strip() for part in found[2].split(",")]
             if found[1] == "relation":
                 self.relations += parts
             else:
                 self.signals += parts
                 self.inputs |= set(parts) if found[1] == "input" else set()
+                self.both |= set(parts) if found[1] == "inputoutput" else set()
             body = body[found.end():]
 
     def excluded(self, pending, signal):
@@ -111,7 +112,7 @@ class Slot:
         module = self.module
         if signal not in module.signals:
             raise Refused(63)
-        if signal not in module.inputs:
+        if signal not in module.inputs | module.both:
             raise Refused(64)
         if signal in self.pending:
             raise Refused(65)

@@ -1,9 +1,10 @@
-/** What drives a slot: its inputs as toggles that offer, Step, Discard, Unload. */
+/** What drives a slot: its inputs and inouts as toggles that offer, Step, Discard, Unload. */
 
 import { button, fill, make, say } from "./dom.js";
 import { allow, needs, refusalPlace, trying } from "./trying.js";
 
 const DIGITS = 10; // inputs that a digit toggles: 1 to 9, and 0
+const OFFERED = ["input", "inout"]; // the kinds of signals that can be offered
 
 /** The digit of an input, by its place. */
 const digitOf = (place) => (place < DIGITS ? String((place + 1) % DIGITS) : null);
@@ -65,7 +66,8 @@ export class Controls {
 
   /** Shows the inputs of another load. */
   show(slot) {
-    const inputs = slot.signals.filter(([, kind]) => kind === "input").map(([name]) => name);
+    const offered = slot.signals.filter(([, kind]) => OFFERED.includes(kind));
+    const inputs = offered.map(([name]) => name);
     this.toggles = new Map(inputs.map((name, place) => [name, this.buildToggle(name, place)]));
     fill(this.inputs, ...[...this.toggles.values()].map(({ element }) => element));
     for (const { told } of [this.stepping, this.discarding]) say(told, "");

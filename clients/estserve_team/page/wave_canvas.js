@@ -11,10 +11,13 @@ export function coloursOf(element) {
   const named = (name) => style.getPropertyValue(name).trim();
   return {
     ground: named("--card"), ink: named("--ink"), quiet: named("--quiet"), line: named("--line"),
-    input: named("--input"), output: named("--output"), cursor: named("--cursor"),
-    font: named("--mono"),
+    input: named("--input"), output: named("--output"), inout: named("--inout"),
+    cursor: named("--cursor"), font: named("--mono"),
   };
 }
+
+/** The sign before a signal's name, by its kind: what goes in, what comes out, and what does both. */
+const SIGNS = { input: "▸", output: "◂", inout: "◆" };
 
 /** The instants that a view shows, the first and the last. */
 export function shownInstants(view) {
@@ -88,7 +91,7 @@ function drawRow(pen, view, rows, colours, at, span) {
   const signal = view.signals[at];
   const y = RULER + at * ROW - view.top;
   const { solid, dotted, filled } = traceRow(view, rows, signal, y, span);
-  pen.strokeStyle = pen.fillStyle = signal.kind === "input" ? colours.input : colours.output;
+  pen.strokeStyle = pen.fillStyle = colours[signal.kind];
   pen.globalAlpha = 0.22;
   pen.fill(filled);
   pen.globalAlpha = 1;
@@ -112,8 +115,8 @@ function drawNames(pen, view, colours, [first, last]) {
   for (let at = first; at < last; at += 1) {
     const { name, kind } = view.signals[at];
     const y = RULER + at * ROW - view.top + ROW / 2;
-    pen.fillStyle = kind === "input" ? colours.input : colours.output;
-    pen.fillText(kind === "input" ? "▸" : "◂", 4, y);
+    pen.fillStyle = colours[kind];
+    pen.fillText(SIGNS[kind], 4, y);
     pen.fillStyle = colours.ink;
     pen.fillText(fitName(pen, name, view.names - 24), 17, y);
   }

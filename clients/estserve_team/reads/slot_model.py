@@ -41,7 +41,7 @@ class Slot:
 
     @property
     def signals(self) -> List[Tuple[str, str]]:
-        """The interface of the module in order, each a name and `input` or `output`."""
+        """The interface of the module in order, each a name and `input`, `output` or `inout`."""
         if self._signals is None:
             module = main_of(self.text, self.main) if self.is_loaded else None
             self._signals = module.signals if module else []

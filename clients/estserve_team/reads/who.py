@@ -2,6 +2,7 @@
 import datetime
 from typing import Any, Dict, List, Optional, Set
 
+from estserve_client.module_text import OFFERED
 from estserve_client.sentences import out_of_form
 
 from ..refusals import not_a_word
@@ -82,11 +83,11 @@ async def sees_slot(rights: Rights, policy: PolicyModel, number: int) -> bool:
 
 
 async def seen_pending(rights: Rights, state, numbers: Set[int]) -> Dict[int, Set[str]]:
-    """Of each slot the inputs that the session may offer or observe."""
+    """Of each slot the inputs and inputoutputs that the session may offer or observe."""
     granted, seen = set(state.policy.pairs()), {}
     for number in numbers:
         seen[number] = set()
-        for name in [name for name, kind in state.slots[number].signals if kind == "input"]:
+        for name in [name for name, kind in state.slots[number].signals if kind in OFFERED]:
             pairs = [("offer", f"{number}.{name}"), ("observe", f"{number}.{name}")]
             if await rights.may_any(pair for pair in pairs if pair in granted):
                 seen[number].add(name)

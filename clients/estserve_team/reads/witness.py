@@ -10,6 +10,7 @@ import sqlite3
 from typing import Iterator, List, Optional, Set, Tuple
 
 from estserve_client.connection import line_of
+from estserve_client.module_text import OFFERED
 
 from ..record import open_reader
 from ..replay import Talker
@@ -105,7 +106,7 @@ class Witness:
         pairs = [("load", f"{slot.number}"), ("step", f"{slot.number}")]
         for name, kind in slot.signals:
             pairs.append(("observe", f"{slot.number}.{name}"))
-            if kind == "input":
+            if kind in OFFERED:
                 pairs.append(("offer", f"{slot.number}.{name}"))
         return [{"object": object, "op": operation, "role": "root"} for operation, object in pairs]
 
@@ -125,10 +126,10 @@ class Witness:
             yield self._accepted(asked)
 
     def pending(self, slot: Slot) -> Set[str]:
-        """The inputs that are pending: those that can't be offered since they are offered already.
+        """The names that are pending: those that can't be offered since they are offered already.
 
         The others are pending afterwards too, so it is asked last."""
-        names = [name for name, kind in slot.signals if kind == "input"]
+        names = [name for name, kind in slot.signals if kind in OFFERED]
         asked = [{"cmd": "offer", "signal": name, "slot": slot.number} for name in names]
         replies = self._talker.ask_all([line_of(command)[:-1] for command in asked])
         codes = [json.loads(reply).get("code") for reply in replies]

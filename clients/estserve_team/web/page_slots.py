@@ -2,7 +2,7 @@
 by `check`."""
 from typing import Any, Dict, List
 
-from estserve_client.module_text import main_of
+from estserve_client.module_text import OFFERED, main_of
 
 from ..reads.rights import Rights
 from ..reads.who import sees_slot
@@ -31,7 +31,7 @@ async def may_of(rights: Rights, granted: set, number: int, signals: List[Any]) 
         "load": await may("load", own),
         "step": await may("step", own),
         "offer": {
-            name: await may("offer", f"{own}.{name}") for name, kind in signals if kind == "input"
+            name: await may("offer", f"{own}.{name}") for name, kind in signals if kind in OFFERED
         },
         "observe": {name: await may("observe", f"{own}.{name}") for name, _ in signals},
     }

@@ -26,7 +26,7 @@ module _ (entries : List Entry) (slot session : ℕ) (command : SlotCommand) whe
   abbrev who : Rules Refusal
   who = access_rules entries session (permission_of slot command)
 
-  -- a session that may give the command is answered by what the command asks of the slot
+  -- a session that may give the command gets the answer that the slot gives to the command
   pub allowed_step : (before : List SlotEntry) (reply : Reply) (after : List SlotEntry)
       → AllPass (access_rules entries session (permission_of slot command))
       → ByRules (journal_rules entries slot session command before)
@@ -39,7 +39,7 @@ module _ (entries : List Entry) (slot session : ℕ) (command : SlotCommand) whe
       (ByRules (journal_rules entries slot session command before)
       (Does entries slot session command) before reply after) may h)
 
-  -- one that may not is refused by the first of the two rules that doesn't let pass
+  -- a session that may not is refused by the first of the two rules that refuses
   pub denied_step : (before : List SlotEntry) (refusal : Refusal)
       → FirstRefuses (access_rules entries session (permission_of slot command)) refusal
       → SlotStep entries slot session command before (Refused refusal) before
@@ -52,7 +52,7 @@ module _ (entries : List Entry) (slot session : ℕ) (command : SlotCommand) whe
       (Refused refusal) before)
       refusal first refusing)
 
-  -- where the command is accepted, the rules of who may give it let pass
+  -- where the command is accepted, the rules of who may give it let it pass
   pub accepted_access : (before : List SlotEntry) (reply : Reply) (after : List SlotEntry) → IsAccepted reply
       → SlotStep entries slot session command before reply after
       → AllPass (access_rules entries session (permission_of slot command))
@@ -63,7 +63,7 @@ module _ (entries : List Entry) (slot session : ℕ) (command : SlotCommand) whe
       (split who (journal_rules entries slot session command before) (λ refusal. IsRefused refusal before reply after)
       (Does entries slot session command before reply after) h)).0
 
--- a session for which they let pass has what the command needs
+-- a session that they let pass has what the command needs
 pub has_needed : (entries : List Entry) (slot session : ℕ) (command : SlotCommand)
     → AllPass (access_rules entries session (permission_of slot command)) → Needs entries slot session command
 has_needed entries slot session (Load main text) may = may.1.0

@@ -12,7 +12,7 @@ use Rattle.access_core.specs.Journals.{command_of, IsLegal, HasEnded}
 use Rattle.access_core.specs.Needs.{Needs}
 use Rattle.access_core.proofs.Legality.{versions_rise, entry_allowed}
 
--- whoever has what a command needs lives
+-- a session that has what a command needs lives
 needs_life : (entries : List Entry) (slot session : ℕ) (command : SlotCommand) → Needs entries slot session command
     → IsLive entries session
 needs_life entries slot session (Load main text) may = (may.user, may.lives)
@@ -23,7 +23,7 @@ needs_life entries slot session Unload may = (may.user, may.lives)
 needs_life entries slot session (Look n) live = live
 needs_life entries slot session Audit may = (may.user, may.lives)
 
--- the first entries are more of them after fewer
+-- more of the first entries begin with fewer of them
 take_longer : (list : List Entry) (few many : ℕ) → few ≤ many
     → take few list ++ drop few (take many list) ≡ take many list
 take_longer list few many le =

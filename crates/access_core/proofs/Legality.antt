@@ -148,7 +148,7 @@ last_within most start (x ∷ later) low all =
 pub none_legal : (list : List Entry) (slot : ℕ) → IsLegal list slot []
 none_legal list slot = λ at e low there. absurd (omega (arith, low))
 
--- one entry more is legal
+-- with one more entry it is legal
 pub legal_more : (list : List Entry) (slot : ℕ) (journal : List SlotEntry) (at : ℕ) (e : SlotEntry)
     → AreLegal list slot journal at
     → slice_get journal at ≡ Some e → IsLegalEntry list slot (take at journal) e → AreLegal list slot journal (at + 1)
@@ -158,7 +158,7 @@ legal_more list slot journal at e legal there here = λ k x low is.
     (λ x is. subst (IsLegalEntry list slot (take at journal)) (same_Some e x (sym there ∙ is)) here)
     k low x is
 
--- the first entries of a list are those of what it begins
+-- the first n entries of a list are those of a longer list that begins with it
 take_begins : (n : ℕ) (list longer : List Entry) → Begins list longer → n ≤ length list → take n list ≡ take n longer
 take_begins n list longer b within = sym (take-append-le n list b.rest within) ∙ ap (take n) b.is
 
@@ -184,7 +184,7 @@ take_all [] = refl
 take_all (x ∷ list) = ap (λ m. x ∷ m) (take_all list)
 
 module _ (list : List Entry) (slot : ℕ) (journal : List SlotEntry) (legal : IsLegal list slot journal) where
-  -- with one entry more that is legal after the others
+  -- with one more entry, legal after the others, it is legal
   push_legal : (e : SlotEntry) → IsLegalEntry list slot journal e → IsLegal list slot (journal ++ e ∷ [])
   push_legal e one = λ at x low there. elim (get_push journal e x at there) [
     | inl old ↦

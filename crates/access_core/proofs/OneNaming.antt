@@ -1,4 +1,4 @@
--- What a refusal names, and what a look shows, is one.
+-- What a refusal names, and what a look shows, is determined.
 use Rattle.std.proofs.Common.{◌≡◌, ◌∙◌, ℕ, zero, suc, ◌+◌, ◌<◌, Bool, true, false, nat_eq, IsTrue, List, [], ◌∷◌, ◌++◌}
 use Rattle.std.proofs.Common.{length, map, filter, inl, inr, refl, sym, ap, subst, arith}
 use Rattle.std.specs.Prelude.{slice_get}
@@ -44,11 +44,11 @@ same_name interface place other name text same x y =
     let declared : x.declaration ≡ y.declaration = same_Some x.declaration y.declaration (sym x.there ∙ at ∙ y.there) in
     x.named ∙ ap (λ (d : Declaration). d.name) declared ∙ sym y.named
 
--- two numbers with their names
+-- two numbers with their names are equal
 abbrev pub SamePair : (number other : ℕ) (name text : List ℕ) → Type 0
 SamePair number other name text = (number ≡ other) × (name ≡ text)
 
--- the first implication that lacks a signal is one
+-- the first implication that lacks a signal is determined
 pub one_implied : (p : PendingInputs) (number other : ℕ) (name text : List ℕ) → IsFirstImplied p number name
     → IsFirstImplied p other text
     → SamePair number other name text
@@ -68,7 +68,7 @@ one_implied p number other name text x y =
       same_name p.interface x.implied y.implied name text place x.named y.named,
     )
 
--- the first exclusion that an offer would break is one
+-- the first exclusion that an offer would break is determined
 pub one_excluded : (p : PendingInputs) (offered : List ℕ) (number other : ℕ) (name text : List ℕ)
     → IsFirstExcluded p offered number name
     → IsFirstExcluded p offered other text → SamePair number other name text
@@ -86,7 +86,7 @@ one_excluded p offered number other name text x y =
       same_name p.interface x.member y.member name text member x.named y.named,
     )
 
--- what a session sees of an interface is one
+-- what a session sees of an interface is determined
 same_test : (a b : Bool) → (IsTrue a → IsTrue b) → (IsTrue b → IsTrue a) → a ≡ b
 same_test true true there back = refl
 same_test false false there back = refl
@@ -122,7 +122,7 @@ same_kept {X = X} f p q (suc n) agree =
       by_test before false off = passed_place f p n (here ∙ off) ∙ before ∙ sym (passed_place f q n off)
 
 module _ (modules : OneModule) (journal : List SlotEntry) where
-  -- the first implication that the pending inputs lack is one
+  -- the first implication that the pending inputs lack is determined
   pub one_lacking : (number other : ℕ) (name text : List ℕ) → LacksImplied journal number name
       → LacksImplied journal other text
       → SamePair number other name text

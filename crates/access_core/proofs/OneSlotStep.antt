@@ -1,4 +1,4 @@
--- A command on a slot has one answer, want of memory aside.
+-- A command on a slot has one answer, except that memory may be refused.
 use Rattle.std.proofs.Common.{◌≡◌, ◌⊎◌, ◌∙◌, ℕ, Bool, ◌&&◌, List, [], ◌∷◌, ◌++◌, length, inl, inr, sym, ap, subst}
 use Rattle.std.proofs.Common.{⊎_elim}
 use Rattle.std.specs.Prelude.{Result, Ok, Err, MatchResult}
@@ -37,8 +37,8 @@ use Rattle.access_core.proofs.OneNaming.{one_excluded, one_lacking, one_undecide
 use Rattle.access_core.proofs.Settling.{IsSettled, AllSettled, settled_unless, settled_says, settled_apart}
 use Rattle.access_core.proofs.Settling.{settled_converted, both_answers}
 
--- a text and a name have one first fault at most, and none where they give a module, want of memory aside (the law
--- one_load)
+-- a text and a name have one first fault at most, and none where they give a module, except that memory may be refused
+-- (the law one_load)
 pub record OneLoad : Type 0 where
   pub fault : (main text : List ℕ) (a b : ReactorRefusal) → IsLoadFault main text a → IsLoadFault main text b
       → (a ≡ b) ⊎ (a ≡ reactor.Memory) ⊎ (b ≡ reactor.Memory)
@@ -223,7 +223,7 @@ module _ (modules : OneModule) (one_load : OneLoad) (entries : List Entry) (slot
 
   module _ (r s : Reply) (ample : r ≡ Refused Memory → ⊥) (ample_too : s ≡ Refused Memory → ⊥)
       (a b : List SlotEntry) where
-    -- a refusal by a reactor that is told isn't one of memory
+    -- a refusal that a reactor gives, and that is told, is not one of memory
     here : (refusal : ReactorRefusal) → IsRefused (of_reactor refusal) before r a → ¬ (IsReactorWant refusal)
     here refusal h want = ample (h.replied ∙ ap (λ x. Refused (of_reactor x)) want)
 

@@ -16,7 +16,7 @@ use Rattle.access_core.specs.declared.reply.ShownSignal.{ShownSignal}
 use Rattle.access_core.specs.Shown.{Sees, places_of, present_at, name_at, shown_of}
 use Rattle.access_core.specs.SlotStep.{no_instant, Looks}
 
--- where none runs, the slot isn't loaded
+-- where no module runs, the slot is not loaded
 pub not_loaded : (journal : List SlotEntry) → is_loaded journal ≡ false → is_loaded journal ≡ true → ⊥
 not_loaded journal none runs = cc
 
@@ -27,7 +27,7 @@ instant_within journal n i there (inr past) =
     let within = slice_get_within (instants_of journal) (n - 1) i there.there in
     let some = there.counted in omega arith
 
--- where there is an instant of this number, it isn't refused
+-- where there is an instant of this number, it is not refused
 pub not_no_instant : (journal : List SlotEntry) (n : ℕ) (i : PastInstant) → IsInstant journal n i
     → (no_instant journal n).passes
 not_no_instant journal n i there = instant_within journal n i there

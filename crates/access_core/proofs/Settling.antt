@@ -1,11 +1,10 @@
--- Rules that leave nothing open but some refusals: their answer is one, apart from those.
+-- Rules that leave nothing open except some refusals: apart from those, their answer is determined.
 use Rattle.std.proofs.Common.{◌≡◌, ◌∙◌, inl, inr, sym, ap, subst}
 use Rattle.refusal_rules.specs.Rules.{Rule, Rules, Unless, Says, MayRefuse, accept, ◌▸◌, Answers, IsDefinite}
 use Rattle.refusal_rules.proofs.RuleLemmas.{says, unless}
 use Rattle.reactor_core.specs.Converting.{converted}
 
--- the rule refuses or lets pass, not both, and it gives one refusal at most: all of this of the refusals that are not
--- apart
+-- the rule refuses or lets pass, not both, and it gives one refusal at most, leaving aside the refusals that are apart
 pub record IsSettled {R : Type 0} (Apart : R → Type 0) (rule : Rule R) : Type 0 where
   pub exclusive : (refusal : R) → ¬ (Apart refusal) → rule.refuses refusal → rule.passes → ⊥
   pub one : (a b : R) → ¬ (Apart a) → ¬ (Apart b) → rule.refuses a → rule.refuses b → a ≡ b
@@ -40,7 +39,7 @@ settled_converted {convert = convert} d = record {
   one = λ a b _ _ x y. x.1 ∙ ap convert (d.one x.0 y.0 x.2 y.2) ∙ sym y.1;
 }
 
--- two answers by settled rules are one, where neither is a refusal that is apart
+-- two answers by settled rules are equal, where neither is a refusal that is apart
 pub both_answers : {R : Type 0} {Apart : R → Type 0} {Same : Type 0} (rules : Rules R) → AllSettled Apart rules
     → (Refused Told : R → Type 0) (Accepted Done : Type 0)
     → ((refusal : R) → Refused refusal → ¬ (Apart refusal)) → ((refusal : R) → Told refusal → ¬ (Apart refusal))

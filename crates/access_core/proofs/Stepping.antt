@@ -121,7 +121,7 @@ module _ (entries : List Entry) (slot session : ℕ) (stamp : Stamp) (before : L
       (subst (λ (journal : List SlotEntry). ByRules (settle_rules entries slot session journal)
       (Steps stamp) journal reply after) same h)
 
-  -- one whose pending inputs lack an implied one
+  -- an instant whose pending inputs lack an implied one
   pub step_lacking : (refused : ReactorRefusal × List SlotEntry) → OpenAnswer before (Err refused)
       → ByRules (step_rules entries slot session before) (Steps stamp) before (Refused (of_reactor refused.0)) refused.1
   step_lacking refused (inl lacks) =

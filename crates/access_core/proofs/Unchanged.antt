@@ -31,7 +31,7 @@ same_place [] number slot there = refl
 same_place (first ∷ others) zero slot there = let e : first ≡ slot = cc in ap (λ s. s ∷ others) (sym e)
 same_place (first ∷ others) (suc number) slot there = ap (λ slots. first ∷ slots) (same_place others number slot there)
 
--- the reply to an accepted command is no refusal
+-- the reply to an accepted command is not a refusal
 not_accepted : (change : Option Change) (entries : List Entry) (refusal : Refusal)
     → Refused refusal ≡ reply_of_change change entries → ⊥
 not_accepted None entries refusal e = cc
@@ -79,7 +79,7 @@ offered : (answer : Result (Unit {0}) ReactorRefusal) (stamp : ℕ) (before : Li
 offered (Ok done) stamp before refusal after h = absurd (cc)
 offered (Err given) stamp before refusal after h = h.stays
 
--- what a command does that is accepted gives no refusal
+-- what an accepted command does gives no refusal
 does_nothing : (entries : List Entry) (slot session : ℕ) (command : SlotCommand) (before : List SlotEntry)
     (refusal : Refusal) (after : List SlotEntry)
     → Does entries slot session command before (Refused refusal) after → after ≡ before

@@ -33,7 +33,7 @@ pub record DeskState : Type 0 where
   pub entries : List Entry
   pub slots : List SlotState
 
--- the desk, when the policy list had so many entries
+-- the desk, when the policy list had `version` entries
 abbrev pub desk_at : (version : ℕ) → DeskState → DeskState
 desk_at version desk = record desk { entries = take version desk.entries }
 
@@ -92,8 +92,8 @@ pub record Appends (entry : Entry) (before : DeskState) (reply : Reply) (after :
   pub replied : reply ≡ accepted_reply before.entries entry.command
   pub appended : after ≡ record before { entries = before.entries ++ entry ∷ [] }
 
--- the reply to a policy command, which this session gives, and the desk afterwards: the policy step's, or a refusal for
--- want of room
+-- the reply to a policy command, which this session gives, and the desk afterwards: the policy step's, or a refusal
+-- because there is no room or no memory
 abbrev pub AdminStep : (session : Option ℕ) → AdminCommand → (before : DeskState) → Reply → (after : DeskState) → Type 0
 AdminStep session command before reply after =
     StepsOnList list_refusals before.entries session command (λ refusal. IsRefused refusal before reply after)

@@ -13,7 +13,7 @@ use Rattle.access_core.specs.declared.reply.Reply.{Reply}
 use Rattle.access_core.specs.Needs.{IsAccepted}
 use Rattle.access_core.specs.SlotStep.{SlotStep}
 
--- the command that an entry's action was asked for by: of a step neither the inputs nor the outputs are asked for
+-- the command that asked for an entry's action; a step's command names neither inputs nor outputs
 abbrev pub command_of : Action → SlotCommand
 command_of (action.Load l) = Load l.main l.text
 command_of (action.Offer signal) = Offer signal

@@ -13,7 +13,7 @@ use Rattle.reactor_core.specs.declared.refusal.Refusal.TheVariants as reactor
 use Rattle.access_core.specs.declared.refusal.Refusal.{Refusal}
 use Rattle.access_core.specs.declared.refusal.Refusal.TheVariants as refusal
 
--- a refusal of the reactor: its module's, or want of room or memory, which stands here
+-- a refusal of the reactor: its module's, or one for room or memory, which has its own row here
 abbrev pub of_reactor : ReactorRefusal → Refusal
 of_reactor (reactor.Module given) = refusal.Module given
 of_reactor reactor.JournalFull = refusal.JournalFull

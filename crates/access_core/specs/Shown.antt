@@ -34,12 +34,12 @@ abbrev pub status_at : List Declaration → PastInstant → ℕ → ShownSignal
 status_at interface i place =
     record { name = name_at interface place; present = bits i.inputs place || bits i.outputs place }
 
--- of an instant: for each signal that is seen, in the order of declaration, its name and whether it stands in the
+-- what is shown of an instant: for each signal that is seen, in declaration order, its name and whether it is among the
 -- instant's inputs or outputs
 abbrev pub shown_of : List Declaration → (sees : ℕ → Bool) → PastInstant → List ShownSignal
 shown_of interface sees i = map (status_at interface i) (filter sees (places_of interface))
 
--- of a set of signals: the names of those that are seen, in the order of declaration
+-- what is named of a set of signals: the names of those that are seen, in declaration order
 abbrev pub names_of : List Declaration → (sees : ℕ → Bool) → (signals : ℕ) → List (List ℕ)
 names_of interface sees signals = map (name_at interface)
     (filter (λ place. sees place && bits signals place) (places_of interface))

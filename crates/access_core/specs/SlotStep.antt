@@ -60,7 +60,7 @@ no_instant journal n = Says (Module NoInstant) (HasNoInstant journal n)
 abbrev pub implied : (relation : ℕ) → (missing : List ℕ) → Refusal
 implied relation missing = Module (Pending (Implied relation missing))
 
--- what an entry bears: the version at which its command was judged, and the session that gave it
+-- what an entry bears: the version at which its command was judged, and the session that gave the command
 abbrev pub stamp_of : List Entry → (session : ℕ) → Stamp
 stamp_of entries session = record { version = length entries; session = session }
 
@@ -102,7 +102,7 @@ pub record NamesUndecided (entries : List Entry) (slot session : ℕ) (journal :
   pub observes : Sees entries session slot running.interface sees
   pub named : refusal ≡ Stuck (names_of running.interface sees undecided)
 
--- refuses where the next instant has no outcome; and hands on the outcome where it has one
+-- refuses where the next instant has no outcome; where it has one, hands the outcome on
 abbrev pub no_reaction : List Entry → (slot session : ℕ) → List SlotEntry → Rule Refusal
 no_reaction entries slot session journal = record {
   refuses = NamesUndecided entries slot session journal;
@@ -152,8 +152,8 @@ access_rules entries session (Some permission) =
 abbrev pub load_rules : List Entry → (slot session : ℕ) → Rules Refusal
 load_rules entries slot session = access_rules entries session (Some (ToLoad, Slot slot))
 
--- what a session is answered that asks whether it may load the slot: what the load's entry is to bear, where the rules
--- let pass; else the refusal of the first that doesn't
+-- the answer to a session that asks whether it may load the slot: what the load's entry is to bear, where the rules let
+-- it pass; else the refusal of the first rule that does not
 abbrev pub IsAdmitted : List Entry → (slot session : ℕ) → Result Stamp Refusal → Type 0
 IsAdmitted entries slot session answer =
     MatchResult answer (λ stamp. (stamp ≡ stamp_of entries session) × AllPass (load_rules entries slot session))

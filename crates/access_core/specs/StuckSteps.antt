@@ -14,7 +14,7 @@ use Rattle.access_core.specs.declared.reply.Reply.{Reply}
 use Rattle.access_core.specs.declared.reply.Reply.TheVariants.{Refused}
 use Rattle.access_core.specs.SlotStep.{NamesUndecided}
 
--- the command is a step which reaches the reactor: the session lives and may step the slot, a module runs there, and
+-- the command is a step that reaches the reactor: the session lives and may step the slot, a module runs there, and
 -- each of its relations holds of the pending inputs
 pub record ReachesReactor (entries : List Entry) (slot session : ℕ) (command : SlotCommand)
     (journal : List SlotEntry) : Type 0 where
@@ -24,9 +24,9 @@ pub record ReachesReactor (entries : List Entry) (slot session : ℕ) (command :
   pub loaded : is_loaded journal ≡ true
   pub ready : KeepsRelations journal
 
--- the reply is Stuck exactly when the pending inputs have no constructive reaction, want of memory aside: it is Stuck
--- only where there is none, and names what NamesUndecided says; and where there is none it is Stuck, or memory was
--- refused
+-- the reply is Stuck exactly when the pending inputs have no constructive reaction, except that memory may be refused:
+-- it is Stuck only where there is none, and names what NamesUndecided says; and where there is none it is Stuck, or
+-- memory was refused
 pub record IsStuckExactly (entries : List Entry) (slot session : ℕ) (journal : List SlotEntry)
     (reply : Reply) : Type 0 where
   pub only : (names : List (List ℕ)) → reply ≡ Refused (Stuck names)

@@ -40,7 +40,7 @@ pub fn accepted_is_allowed()
 {}
 
 /// A step that reaches the reactor, and whose pending inputs keep each relation, is answered Stuck
-/// exactly when there is no reaction, want of memory aside.
+/// exactly when there is no reaction, except that memory may be refused.
 pub fn stuck_exactly()
     ensures { (entries : List Entry) (slot session : ℕ) (command : SlotCommand)
         (before : List SlotEntry) (reply : Reply) (after : List SlotEntry)
@@ -52,7 +52,7 @@ pub fn stuck_exactly()
 }
 
 /// A command on a slot has one answer after the same journal: one reply, and one journal
-/// afterwards, want of memory aside.
+/// afterwards, except that memory may be refused.
 pub fn one_slot_answer()
     ensures { (entries : List Entry) (slot session : ℕ) (command : SlotCommand)
         (before : List SlotEntry) (r s : Reply) (a b : List SlotEntry)
@@ -96,7 +96,7 @@ pub fn ended_sessions_add_nothing()
     ended_sessions_stay_ended();
 }
 
-/// Equal numbers and equal fields are of equal refusals, where each object that is named is one.
+/// Refusals with equal numbers and equal fields are equal, where each object that they name is one.
 pub fn refusals_are_told_apart()
     ensures { (one other : Refusal) → NamesObjects one → NamesObjects other
         → TellsApart row_of one other }

@@ -1,4 +1,4 @@
-//! Every refusal that a line can be answered by, with its number and its name.
+//! Every refusal with which a line can be answered, with its number and its name.
 ghost use Rattle.std.specs.Prelude.{◌≡◌};
 ghost use Rattle.access_core.specs.Refusals.{code_of, name_of};
 
@@ -18,12 +18,12 @@ pub enum Refusal {
     NotARequest,
     /// There is a login on this connection already.
     AlreadyLoggedIn,
-    /// The policy refuses the command; NoSession is also where there is no login on this
+    /// The policy refuses the command. NoSession is also the answer where there is no login on this
     /// connection.
     Policy(PolicyRefusal),
     /// The module refuses the command.
     Module(ModuleRefusal),
-    /// The inputs have no constructive reaction. Those undecided outputs are named that the session
+    /// The inputs have no constructive reaction. It names those undecided outputs that the session
     /// may observe.
     Stuck { undecided: SignalNames },
     /// There is no slot of this number.
@@ -35,7 +35,7 @@ pub enum Refusal {
     /// The journal has as many entries as it may have.
     JournalFull,
     /// The policy that was read is older than one seen before (`found` and `seen` are their
-    /// lengths); in the laws of runs also: the version that an event names is newer than the policy
+    /// lengths). In the laws of runs also: the version that an event names is newer than the policy
     /// list.
     Behind { found: u64, seen: u64 },
     /// Memory was refused.

@@ -150,12 +150,12 @@ impl Change {
 pub enum Reply {
     /// The command was refused, and nothing is changed.
     Refused(Refusal),
-    /// A session was made; the version is that with its entry.
+    /// A session was made. The version is the one with its entry.
     Login {
         session: SessionId,
         version: u64,
     },
-    /// The policy was changed; the version is that with the new entry.
+    /// The policy was changed. The version is the one with the new entry.
     Changed {
         change: Change,
         version: u64,
@@ -193,8 +193,8 @@ pub enum Reply {
         signals: ShownSignals,
         version: u64,
     },
-    /// How many entries the slot's journal has, and how many instants there were since the load,
-    /// none where no module runs; judged at this version.
+    /// How many entries the slot's journal has, and how many instants there were since the load
+    /// (none where no module runs); judged at this version.
     Audit {
         entries: u64,
         instants: u64,

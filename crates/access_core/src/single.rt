@@ -251,8 +251,8 @@ impl Single {
         answer_slot(&self.policy, &mut self.slots, session, number, command)
     }
 
-    /// Answers a command on the slot of this number as of an older policy: the first `version`
-    /// entries of the list. It replays them, so it takes longer for a later version.
+    /// Answers a command on the slot of this number as of an older policy: that of the first
+    /// `version` entries of the list. It replays them, so it takes longer for a later version.
     pub fn slot_at(
         &mut self,
         version: usize,

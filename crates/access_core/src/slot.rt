@@ -478,8 +478,8 @@ pub fn admit_load(policy: &Policy, slot: SlotNumber, session: SessionId) -> Resu
     Ok(stamp(policy, session))
 }
 
-/// Answers a load of the slot by what `admit_load` answered: as `decide_slot` answers it at that
-/// policy.
+/// Answers a load of the slot, given what `admit_load` answered: as `decide_slot` answers it at
+/// that policy.
 pub fn load_admitted(
     admitted: Result<Stamp, Refusal>,
     slot: &mut Slot,

@@ -1,14 +1,12 @@
 -- Where an offer or a step is accepted.
-use Rattle.std.proofs.Common.{◌≡◌, ◌↔◌, ℕ, zero, suc, ◌<◌, true, List, [], ◌∷◌, length, take, refl, sym, ◌∙◌, ap, inl}
-use Rattle.std.proofs.Common.{inr, subst, arith, ⊎_elim}
+use Rattle.std.proofs.Common.{◌≡◌, ◌↔◌, ℕ, zero, suc, ◌<◌, true, false, List, [], ◌∷◌, length, take, refl, sym, ◌∙◌, ap}
+use Rattle.std.proofs.Common.{inl, inr, subst, arith, ⊎_elim}
 use Rattle.std.specs.Prelude.{Option, Some, None, Result, Ok, Err, MatchResult, slice_get}
 use Rattle.std.proofs.Math.ListN.{length-set}
+use Rattle.std.proofs.lemmas.Bool.{true≢false}
 use Rattle.std.proofs.lemmas.Option.{slice_get_within, same_Some}
 use Rattle.refusal_rules.specs.Rules.{accept, ◌▸◌}
-use Rattle.est_kernel.specs.Interfaces.{declares}
-use Rattle.est_kernel.specs.declared.interface.Declaration.{Declaration}
-use Rattle.est_kernel.specs.declared.interface.Kind.{Kind}
-use Rattle.est_kernel.specs.declared.interface.Kind.TheVariants.{Input, Output}
+use Rattle.est_kernel.specs.Interfaces.{offerable}
 use Rattle.rbac_policy.specs.declared.commands.Entry.{Entry}
 use Rattle.rbac_policy.specs.declared.objects.Operation.TheVariants.{Offer as ToOffer, Step as ToStep}
 use Rattle.rbac_policy.specs.declared.objects.Object.TheVariants.{Slot, Signal}
@@ -165,16 +163,6 @@ adds_entry : (m : Moment) (seat version slot session : ℕ) (command : SlotComma
 adds_entry m seat version slot session command adds accepted (inl a) = a.1
 adds_entry m seat version slot session command adds accepted (inr n) = absurd (adds (n.0 accepted))
 
--- a signal is no input and output
-two_kinds : (ds : List Declaration) (place : ℕ) → declares Input ds place ≡ true → declares Output ds place ≡ true → ⊥
-two_kinds [] place input output = cc
-two_kinds (d ∷ ds) zero input output = by_kind d.kind input output where
-  by_kind : (kind : Kind) → declares Input (record d { kind = kind } ∷ []) 0 ≡ true
-      → declares Output (record d { kind = kind } ∷ []) 0 ≡ true → ⊥
-  by_kind Input input output = cc
-  by_kind Output input output = cc
-two_kinds (d ∷ ds) (suc place) input output = two_kinds ds place input output
-
 -- an input that was not offered, and excludes nothing, can be offered
 can_offer : (running : Running) (name : List ℕ) → IsInputName running.interface name
     → (StandsIn running.interface running.pending name → ⊥) → ¬ (IsExcluded running name) → CanOffer running name
@@ -182,8 +170,7 @@ can_offer running name input new kept = record {
   signal = record { place = input.place; there = input.there };
   input = λ output.
       let same : output.place ≡ input.place = same_Some output.place input.place (sym output.there ∙ input.there) in
-      two_kinds running.interface input.place input.input
-      (subst (λ p. declares Output running.interface p ≡ true) same output.output);
+      true≢false (sym input.input ∙ subst (λ p. offerable running.interface p ≡ false) same output.output);
   new = λ pending. new (record { place = pending.place; there = pending.there; set = pending.pending });
   kept = kept;
 }

@@ -1,6 +1,6 @@
 -- What the laws of acceptance speak of (this project's own form).
 use Rattle.std.specs.Prelude.{◌≡◌, ℕ, true, List, Some}
-use Rattle.est_kernel.specs.Interfaces.{inputs_of}
+use Rattle.est_kernel.specs.Interfaces.{offerable}
 use Rattle.est_kernel.specs.Term.{Term}
 use Rattle.est_kernel.specs.declared.interface.Declaration.{Declaration}
 use Rattle.est_relations.specs.Offers.{place_of, IsSignalName, IsOutputName, IsPendingName, IsFirstExcluded}
@@ -25,17 +25,17 @@ MeetsNoLimit (Refused (Module (TooLarge limit))) = ⊥
 MeetsNoLimit (Refused Memory) = ⊥
 MeetsNoLimit _ = Unit {0}
 
--- the name is that of an input of the interface
+-- the name is that of an input or inputoutput of the interface
 pub record IsInputName (interface : List Declaration) (name : List ℕ) : Type 0 where
   pub place : ℕ
   pub there : place_of interface name ≡ Some place
-  pub input : inputs_of interface place ≡ true
+  pub input : offerable interface place ≡ true
 
 -- with the signal of this name some exclusion would be broken
 abbrev pub IsExcluded : Running → (name : List ℕ) → Type 0
 IsExcluded running name = (number : ℕ) × (signal : List ℕ) × IsFirstExcluded (pending_of running) name number signal
 
--- the name is that of a signal that is no output and isn't pending, and no exclusion would be broken with it
+-- the name is that of a signal that is no output alone and isn't pending, and no exclusion would be broken with it
 pub record CanOffer (running : Running) (name : List ℕ) : Type 0 where
   pub signal : IsSignalName running.interface name
   pub input : ¬ (IsOutputName running.interface name)

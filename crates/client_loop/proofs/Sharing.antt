@@ -7,6 +7,7 @@ use Rattle.std.proofs.Crossing.{crosses}
 use Rattle.std.proofs.MapsCrossing as maps
 use Rattle.std.specs.contracts.option.Option as option
 use Rattle.est_kernel.proofs.statement.Statement.TheLaws.TheKnot as statement
+use Rattle.est_kernel.proofs.statement.Test.TheLaws.TheKnot as test
 use Rattle.reactor_core.specs.contracts.journal.Journal as journal
 use Rattle.reactor_core.specs.contracts.reactor.Reactor as reactor
 use Rattle.access_core.specs.contracts.slot.Slot as slot
@@ -20,11 +21,12 @@ journal_sends : IsSend journal.the_row
 journal_sends = search (sendable, crosses, maps.crosses) depth 60 fits 20000
 
 reactor_sends : IsSend reactor.the_row
-reactor_sends = search (journal_sends, statement.crosses, crosses, maps.crosses, sendable) depth 60 fits 20000
+reactor_sends = search (journal_sends, statement.crosses, test.crosses, crosses, maps.crosses, sendable) depth 60
+    fits 20000
 
 slot_sends : IsSend slot.the_row
-slot_sends = search (journal_sends, reactor_sends, statement.crosses, crosses, maps.crosses, sendable) depth 60 fits
-    20000
+slot_sends = search (journal_sends, reactor_sends, statement.crosses, test.crosses, crosses, maps.crosses, sendable)
+    depth 60 fits 20000
 
 option_sends : (R : RattleType) → IsSend R → IsSend (option.the_field R).row
 option_sends R sends = search sendable depth 12

@@ -1,7 +1,9 @@
-//! What does a round trip over a Unix socket cost where nothing is done? Sends back what its clients send, one client after another.
+//! What does a round trip over a Unix socket cost where nothing is done? Sends back what its
+//! clients send, one client after another.
 //!
-//! `echo_bench PATH CLIENTS` makes a socket at the path, and ends when so many clients have gone. Without words it sends back its standard
-//! input. The time is taken from outside (`bench/socket.py`).
+//! `echo_bench PATH CLIENTS` makes a socket at the path, and ends when that many clients have gone.
+//! Without words it sends back its standard input. The time is taken from outside
+//! (`bench/socket.py`).
 //!
 //! Proved: that it is safe. No clause speaks of what passes through a socket, or of time.
 #![tactic(auto)]

@@ -5,10 +5,12 @@ use Rattle.est_kernel.specs.Scope.{IsClosed}
 use Rattle.est_kernel.specs.Term.{Term}
 use Rattle.est_kernel.specs.declared.interface.Declaration.{Declaration}
 use Rattle.est_bench.specs.Outputs.{HasOutputs, IsClosedOver}
-use Rattle.est_bench.specs.Terms.{blinker, blinkers, told, chain, part, nested_right, nested_left, under_locals, emissions, relay}
+use Rattle.est_bench.specs.Terms.{blinker, blinkers, told, chain, part, nested_right, nested_left, under_locals}
+use Rattle.est_bench.specs.Terms.{emissions, relay}
 use Rattle.est_bench.specs.Workloads.{output_count, meant}
 use Rattle.est_bench.specs.declared.workload.Workload.{Workload}
-use Rattle.est_bench.specs.declared.workload.Workload.TheVariants.{Opening, Parallel, Locals, Large, Sequence, SequenceLeft, OneOutput, ManyOutputs, Relay}
+use Rattle.est_bench.specs.declared.workload.Workload.TheVariants.{Opening, Parallel, Locals, Large, Sequence}
+use Rattle.est_bench.specs.declared.workload.Workload.TheVariants.{SequenceLeft, OneOutput, ManyOutputs, Relay}
 
 blinker_closed : (outputs n : ℕ) → 0 < outputs → IsClosedOver outputs 0 (blinker outputs n)
 blinker_closed outputs n h i a = (
@@ -28,8 +30,10 @@ told_closed i (suc n) locals h = (omega arith, omega arith, tt)
 chain_closed : (outputs d locals : ℕ) → 0 < outputs → locals + d ≡ 6 → IsClosedOver outputs locals (chain d)
 unfolding chain
 chain_closed outputs zero locals h e i a = (omega arith, a.each 0 h, tt)
-chain_closed outputs (suc d) locals h e i a =
-    (omega arith, (told_closed i (5 - d) (locals + 1) (omega arith), chain_closed outputs d (locals + 1) h (omega arith) i a))
+chain_closed outputs (suc d) locals h e i a = (
+  omega arith,
+  (told_closed i (5 - d) (locals + 1) (omega arith), chain_closed outputs d (locals + 1) h (omega arith) i a),
+)
 
 part_closed : (n : ℕ) → IsClosedOver 64 6 (part n)
 part_closed n i a = (omega arith, a.each (n % 64) (omega arith), tt)
@@ -56,7 +60,8 @@ under_locals_closed i (suc d) locals t e h =
 emissions_closed : (outputs n : ℕ) → 0 < outputs → IsClosedOver outputs 0 (emissions outputs n)
 unfolding emissions
 emissions_closed outputs zero h i a = tt
-emissions_closed outputs (suc n) h i a = (a.each (n % outputs) (mod_below n outputs h), emissions_closed outputs n h i a)
+emissions_closed outputs (suc n) h i a =
+    (a.each (n % outputs) (mod_below n outputs h), emissions_closed outputs n h i a)
 
 visible_output : (i : List Declaration) (outputs n : ℕ) → n < outputs → HasOutputs outputs i → n < length i
 visible_output i outputs n h a = omega (arith, a.length_is)
@@ -64,8 +69,10 @@ visible_output i outputs n h a = omega (arith, a.length_is)
 relay_closed : (outputs n : ℕ) → n < outputs → IsClosedOver outputs 0 (relay n)
 unfolding relay
 relay_closed outputs zero h i a = a.each 0 h
-relay_closed outputs (suc n) h i a =
-    ((visible_output i outputs n (omega arith) a, a.each (n + 1) (omega arith), tt), relay_closed outputs n (omega arith) i a)
+relay_closed outputs (suc n) h i a = (
+  (visible_output i outputs n (omega arith) a, a.each (n + 1) (omega arith), tt),
+  relay_closed outputs n (omega arith) i a,
+)
 
 pub workload_closed : (w : Workload) → IsClosedOver (output_count w) 0 (meant w)
 workload_closed Opening i a = (a.each 0 (lit< tt), (tt, a.each 1 (lit< tt)))

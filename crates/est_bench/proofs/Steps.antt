@@ -1,6 +1,7 @@
--- The invariants of the loops, from one round to the next.
-use Rattle.std.proofs.Common.{◌≡◌, ℕ, zero, suc, ◌+◌, ◌<◌, List, [], ◌∷◌, ◌++◌, length, length-append, true, refl, arith}
-use Rattle.est_kernel.specs.Interfaces.{outputs_of}
+-- The invariants of the loops, from one turn to the next.
+use Rattle.std.proofs.Common.{◌≡◌, ℕ, zero, suc, ◌+◌, ◌<◌, List, [], ◌∷◌, ◌++◌, length, length-append, true, refl}
+use Rattle.std.proofs.Common.{arith}
+use Rattle.est_kernel.specs.Interfaces.{emittable}
 use Rattle.est_kernel.specs.declared.interface.Kind.TheVariants.{Output}
 use Rattle.est_kernel.specs.declared.interface.Declaration.{Declaration}
 use Rattle.est_kernel.specs.declared.kernel.Kernel.{Kernel}
@@ -14,7 +15,8 @@ use Rattle.est_bench.specs.Outputs.{HasOutputs}
 use Rattle.est_bench.specs.Runs.{no_inputs, begun_again, sum_after, SumsTo, goes_on}
 
 all_outputs_push : (ds : List Declaration) (d : Declaration) → d.kind ≡ Output
-    → ((n : ℕ) → n < length ds → outputs_of ds n ≡ true) → (n : ℕ) → n < length ds + 1 → outputs_of (ds ++ d ∷ []) n ≡ true
+    → ((n : ℕ) → n < length ds → emittable ds n ≡ true) → (n : ℕ) → n < length ds + 1
+    → emittable (ds ++ d ∷ []) n ≡ true
 all_outputs_push [] d k h zero l = rw k refl
 all_outputs_push [] d k h (suc n) l = absurd (omega arith)
 all_outputs_push (e ∷ ds) d k h zero l = h zero (omega arith)

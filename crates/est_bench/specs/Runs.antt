@@ -22,13 +22,13 @@ begun_again (Paused p) = Paused p
 abbrev pub sum_after : (sum outputs : ℕ) → ℕ
 sum_after sum outputs = (sum * 31 % 2 ^ 64 + outputs) % 2 ^ 64
 
--- after so many reactions in turn the outputs have this sum, and the kernel stands here
+-- after n reactions, one after another, the outputs have this sum, and the kernel stands here
 pub data SumsTo (k : Kernel) : (instants sum : ℕ) → State → Type 0 where
   begun : SumsTo k 0 0 Fresh
   goes_on : {n sum : ℕ} {x : State} (o : Outcome) → SumsTo k n sum x → IsReaction k x no_inputs o
       → SumsTo k (n + 1) (sum_after sum o.outputs) (begun_again o.next)
 
--- the outputs of so many reactions have this sum
+-- the outputs of n reactions have this sum
 abbrev pub IsSum : Kernel → (instants sum : ℕ) → Type 0
 IsSum k instants sum = (x : State) × SumsTo k instants sum x
 

@@ -6,9 +6,10 @@ use Rattle.est_kernel.specs.Term.{Term, outer, inner, of, nothing, pause, emit, 
 abbrev pub opening : Term
 opening = seq (emit (outer 0)) (seq pause (emit (outer 1)))
 
--- a loop of two states, over so many outputs: `loop emit O; pause; emit P; pause end`, with O and P by its number
+-- a loop of two states, over n outputs: `loop emit O; pause; emit P; pause end`, with O and P by its number
 abbrev pub blinker : (outputs n : ℕ) → Term
-blinker outputs n = loop (seq (emit (outer (2 * n % outputs))) (seq pause (seq (emit (outer ((2 * n + 1) % outputs))) pause)))
+blinker outputs n =
+    loop (seq (emit (outer (2 * n % outputs))) (seq pause (seq (emit (outer ((2 * n + 1) % outputs))) pause)))
 
 -- the loops with the numbers 0 to n, side by side
 unfoldable pub blinkers : (outputs n : ℕ) → Term
@@ -20,7 +21,7 @@ abbrev pub told : ℕ → Term
 told zero = emit (inner 0)
 told (suc n) = present (of (inner n)) (emit (inner (n + 1))) nothing
 
--- the innermost d of six local signals in one another, each beside what makes it present: `signal S in [ .. || .. ]`;
+-- the innermost d of six nested local signals, each in parallel with what makes it present: `signal S in [ .. || .. ]`;
 -- inside them `present S5 then emit O0 end`
 unfoldable pub chain : ℕ → Term
 chain zero = present (of (inner 5)) (emit (outer 0)) nothing
@@ -40,12 +41,12 @@ unfoldable pub nested_left : ℕ → Term
 nested_left zero = part 0
 nested_left (suc n) = seq (nested_left n) (part (n + 1))
 
--- the innermost d of six local signals round a term, each emitted first: `signal S in emit S; .. end`
+-- the innermost d of six local signals around a term, each emitted first: `signal S in emit S; .. end`
 unfoldable pub under_locals : ℕ → Term → Term
 under_locals zero t = t
 under_locals (suc d) t = signal (5 - d) (seq (emit (inner (5 - d))) (under_locals d t))
 
--- so many emissions, of each of the outputs in turn, and then a pause: `emit P; emit O; emit P; emit O; pause`
+-- n emissions, of each of the outputs in turn, and then a pause: `emit P; emit O; emit P; emit O; pause`
 unfoldable pub emissions : (outputs n : ℕ) → Term
 emissions outputs zero = pause
 emissions outputs (suc n) = seq (emit (outer (n % outputs))) (emissions outputs n)

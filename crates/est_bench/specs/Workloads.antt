@@ -3,7 +3,8 @@ use Rattle.std.specs.Prelude.{ℕ}
 use Rattle.est_kernel.specs.Term.{Term, pause, seq, loop}
 use Rattle.est_bench.specs.Terms.{opening, blinkers, chain, nested_left, nested_right, under_locals, emissions, relay}
 use Rattle.est_bench.specs.declared.workload.Workload.{Workload}
-use Rattle.est_bench.specs.declared.workload.Workload.TheVariants.{Opening, Parallel, Locals, Large, Sequence, SequenceLeft, OneOutput, ManyOutputs, Relay}
+use Rattle.est_bench.specs.declared.workload.Workload.TheVariants.{Opening, Parallel, Locals, Large, Sequence}
+use Rattle.est_bench.specs.declared.workload.Workload.TheVariants.{SequenceLeft, OneOutput, ManyOutputs, Relay}
 
 -- how many outputs the interface has
 abbrev pub output_count : Workload → ℕ

@@ -1,12 +1,13 @@
-//! How many instants a second? Kernels of several shapes, each run for as many instants as the words say.
+//! How many instants a second? Kernels of several shapes, each run for as many instants as the
+//! command line says.
 //!
-//! `est_bench WORKLOAD INSTANTS`, or `est_bench all INSTANTS` for one workload after the other. A line for each: its
-//! name, the instants, and the sum of the outputs of these instants. The time is taken from outside
-//! (`bench/instants.py`).
+//! `est_bench WORKLOAD INSTANTS`, or `est_bench all INSTANTS` for one workload after another. A
+//! line for each: its name, the instants, and the sum of the outputs of these instants. The time is
+//! taken from outside (`bench/instants.py`).
 //!
-//! Proved: a workload is exactly the term that `specs/Workloads.antt` writes down, closed over its outputs, so that
-//! `Kernel::build` may be called; and the sum of a run is that of reactions in turn from the kernel's beginning. No
-//! clause speaks of the printed line or of time.
+//! Proved: a workload is exactly the term that `specs/Workloads.antt` writes down, closed over its
+//! outputs, so that `Kernel::build` may be called; and the sum of a run is that of reactions one
+//! after another from the kernel's beginning. No clause speaks of the printed line or of time.
 #![tactic(auto)]
 
 mod run;

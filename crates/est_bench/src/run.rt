@@ -26,8 +26,8 @@ fn sum_after(sum: u64, outputs: u64) -> u64
     sum.wrapping_mul(31).wrapping_add(outputs)
 }
 
-/// The sum of the outputs of so many instants without inputs, or `Stuck` at the first that has no reaction. A kernel that has
-/// ended is begun again.
+/// The sum of the outputs of n instants without inputs, or `Stuck` at the first that has no
+/// reaction. A kernel that has ended is begun again.
 pub fn run(kernel: &Kernel, instants: u32) -> Result<u64, Stuck>
     ensures sum { IfOk result (IsSum kernel.now instants) }
     ensures stuck { IfErr result (StopsAt kernel.now) }

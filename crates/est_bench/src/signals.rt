@@ -8,7 +8,7 @@ use est_kernel::interface::{Declaration, Interface, Kind, MOST_SIGNALS};
 use est_text::identifier::Identifier;
 use std::alloc::Global;
 
-/// The interface of so many outputs, named `O0`, `O1` and so on, or memory was refused.
+/// The interface of n outputs, named `O0`, `O1` and so on, or memory was refused.
 pub fn outputs(alloc: Global, count: u8) -> Result<Interface>
     requires { count ≤ MOST_SIGNALS }
     ensures { IfOk result (HasOutputs count) }

@@ -1,9 +1,11 @@
 //! The statements that are measured, built up from small ones.
 
 ghost use Rattle.std.specs.Prelude.{◌≡◌, ◌<◌, ◌≤◌, IfOk};
-ghost use Rattle.est_kernel.specs.Term.{outer, inner, of, nothing, pause, emit, present, seq, loop, par, signal};
+ghost use Rattle.est_kernel.specs.Term.{outer, inner, of, nothing, pause, emit, present, seq, loop};
+ghost use Rattle.est_kernel.specs.Term.{par, signal};
 ghost use Rattle.est_kernel.specs.View.{term_of, name_of};
-ghost use Rattle.est_bench.specs.Terms.{opening, blinker, blinkers, told, chain, part, nested_right, nested_left, under_locals, emissions, relay};
+ghost use Rattle.est_bench.specs.Terms.{opening, blinker, blinkers, told, chain, part};
+ghost use Rattle.est_bench.specs.Terms.{nested_right, nested_left, under_locals, emissions, relay};
 
 use est_kernel::statement::{InterfaceSignal, LocalSignal, Signal, Statement, Test};
 use std::alloc::{AllocError, Global};
@@ -38,7 +40,7 @@ pub fn opening(alloc: Global) -> Result<Statement, AllocError>
     Statement::seq(alloc, Statement::Emit(output(0)), rest)
 }
 
-/// A loop of two states, over so many outputs.
+/// A loop of two states, over n outputs.
 fn blinker(alloc: Global, outputs: u8, n: u8) -> Result<Statement, AllocError>
     requires some { 0 < outputs }
     requires few { outputs ≤ 64 }
@@ -78,7 +80,7 @@ fn told(alloc: Global, n: u16) -> Result<Statement, AllocError>
     }
 }
 
-/// Six local signals in one another, each of which makes the next one present.
+/// Six nested local signals, each of which makes the next one present.
 #[tactic(auto, unfolding(crate::specs::Terms::chain))]
 pub fn chain(alloc: Global) -> Result<Statement, AllocError>
     ensures { IfOk result (λ s. term_of s ≡ chain 6) }
@@ -129,7 +131,7 @@ pub fn nested_left(alloc: Global, last: u16) -> Result<Statement, AllocError>
     Ok(whole)
 }
 
-/// Six local signals round a statement, each emitted first.
+/// Six local signals around a statement, each emitted first.
 #[tactic(auto, unfolding(crate::specs::Terms::under_locals))]
 fn under_locals(alloc: Global, body: Statement) -> Result<Statement, AllocError>
     ensures { IfOk result (λ s. term_of s ≡ under_locals 6 (term_of body)) }
@@ -142,7 +144,7 @@ fn under_locals(alloc: Global, body: Statement) -> Result<Statement, AllocError>
     Ok(whole)
 }
 
-/// A loop of six local signals round these parts and a pause.
+/// A loop of six local signals around these parts and a pause.
 pub fn looped_under_locals(alloc: Global, parts: Statement) -> Result<Statement, AllocError>
     ensures { IfOk result (λ s. term_of s ≡ loop (under_locals 6 (seq (term_of parts) pause))) }
 {
@@ -150,7 +152,7 @@ pub fn looped_under_locals(alloc: Global, parts: Statement) -> Result<Statement,
     Statement::repeat(alloc, under_locals(alloc, body)?)
 }
 
-/// So many emissions, of each of the outputs in turn, and then a pause.
+/// `count` emissions, of each of the outputs in turn, and then a pause.
 #[tactic(auto, unfolding(crate::specs::Terms::emissions))]
 pub fn emissions(alloc: Global, outputs: u8, count: u8) -> Result<Statement, AllocError>
     requires some { 0 < outputs }

@@ -15,7 +15,7 @@ pub enum Workload {
     Opening,
     /// 16 loops of two states, side by side.
     Parallel,
-    /// Six local signals in one another, each of which makes the next one present.
+    /// Six nested local signals, each of which makes the next one present.
     Locals,
     /// 227 loops of two states, side by side.
     Large,
@@ -25,7 +25,7 @@ pub enum Workload {
     SequenceLeft,
     /// 64 emissions of one output.
     OneOutput,
-    /// 64 emissions, each of another output.
+    /// 64 emissions, each of a different output.
     ManyOutputs,
     /// 64 outputs, each of which makes the next one present: a round finds one of them.
     Relay,

@@ -10,9 +10,10 @@ use Rattle.std.proofs.lemmas.List.Folds.{find_at}
 use Rattle.std.proofs.lemmas.Option.{slice_get_within, slice_get-get_or, get_or_from_slice_get}
 use Rattle.est_checks.specs.declared.statement_count.TheConstants.{TOO_MANY, MOST_STATEMENTS}
 use Rattle.est_modules.specs.RunRows.{IsRun}
-use Rattle.est_modules.proofs.SolutionLemmas.{each_stands}
+use Rattle.est_modules.proofs.OrderPlaces.{each_stands}
 use Rattle.est_modules.specs.Derived.{Derived, missing, nothing, pause, halt, emit, sustain, exit, await, present, suspend, abort, weak_abort, repeat, repeat_each, every, trap, signal, run, seq, par}
-use Rattle.est_modules.specs.Occurrences.{Binder, signals, a_trap, tests, binds, runs, Occurrence, occurrences}
+use Rattle.est_modules.specs.Occurrences.{Binder, signals, a_trap, binds, runs, Occurrence, tested, occurrences}
+use Rattle.est_modules.specs.Tests.{test_words}
 use Rattle.est_modules.specs.Modules.{Program}
 use Rattle.est_checks.specs.Counting.{counted, AreCounts, IsCountOf, IsWithinLimit}
 use Rattle.est_modules.specs.ModuleOrders.{place_named, places_run, run_rows, IsOrderOf}
@@ -27,6 +28,12 @@ cut_sum c a b x y e d = omega (arith, e, d)
 cut_one : (c a x : ℕ) → min c a ≡ min c x → min c (a + 1) ≡ min c (x + 1)
 cut_one c a x e = omega (arith, e)
 
+cut_test : (c w a b x y : ℕ) → min c a ≡ min c x → min c b ≡ min c y → min c (w + a + b + 1) ≡ min c (w + x + y + 1)
+cut_test c w a b x y e d = omega (arith, e, d)
+
+cut_watch : (c w a x : ℕ) → min c a ≡ min c x → min c (w + a + 1) ≡ min c (w + x + 1)
+cut_watch c w a x e = omega (arith, e)
+
 -- numbers that are cut alike give counts that are cut alike
 pub counted_cut : (c : ℕ) (f g : List ℕ → ℕ) → ((m : List ℕ) → min c (f m) ≡ min c (g m)) → (d : Derived) → min c (counted f d) ≡ min c (counted g d)
 counted_cut c f g h missing = refl
@@ -37,13 +44,15 @@ counted_cut c f g h (emit s) = refl
 counted_cut c f g h (sustain s) = refl
 counted_cut c f g h (exit t) = refl
 counted_cut c f g h (await d) = refl
-counted_cut c f g h (present s p q) = cut_sum c (counted f p) (counted f q) (counted g p) (counted g q) (counted_cut c f g h p) (counted_cut c f g h q)
-counted_cut c f g h (suspend p d) = cut_one c (counted f p) (counted g p) (counted_cut c f g h p)
-counted_cut c f g h (abort p d) = cut_one c (counted f p) (counted g p) (counted_cut c f g h p)
-counted_cut c f g h (weak_abort p d) = cut_one c (counted f p) (counted g p) (counted_cut c f g h p)
+counted_cut c f g h (present t p q) = cut_test c (test_words t) (counted f p) (counted f q) (counted g p)
+    (counted g q) (counted_cut c f g h p) (counted_cut c f g h q)
+counted_cut c f g h (suspend p d) = cut_watch c (test_words d.test) (counted f p) (counted g p) (counted_cut c f g h p)
+counted_cut c f g h (abort p d) = cut_watch c (test_words d.test) (counted f p) (counted g p) (counted_cut c f g h p)
+counted_cut c f g h (weak_abort p d) = cut_watch c (test_words d.test) (counted f p) (counted g p)
+    (counted_cut c f g h p)
 counted_cut c f g h (repeat p) = cut_one c (counted f p) (counted g p) (counted_cut c f g h p)
-counted_cut c f g h (repeat_each p s) = cut_one c (counted f p) (counted g p) (counted_cut c f g h p)
-counted_cut c f g h (every d p) = cut_one c (counted f p) (counted g p) (counted_cut c f g h p)
+counted_cut c f g h (repeat_each p t) = cut_watch c (test_words t) (counted f p) (counted g p) (counted_cut c f g h p)
+counted_cut c f g h (every d p) = cut_watch c (test_words d.test) (counted f p) (counted g p) (counted_cut c f g h p)
 counted_cut c f g h (trap t p) = cut_one c (counted f p) (counted g p) (counted_cut c f g h p)
 counted_cut c f g h (signal ns p) = cut_one c (counted f p) (counted g p) (counted_cut c f g h p)
 counted_cut c f g h (run m rs) = h m
@@ -66,6 +75,12 @@ agree_rest f g first os h o x = h o (Contains-append_right (first ∷ []) os o x
 same_sum : (a b x y : ℕ) → a ≡ x → b ≡ y → a + b + 1 ≡ x + y + 1
 same_sum a b x y e d = omega (arith, e, d)
 
+same_test : (w a b x y : ℕ) → a ≡ x → b ≡ y → w + a + b + 1 ≡ w + x + y + 1
+same_test w a b x y e d = omega (arith, e, d)
+
+same_watch : (w a x : ℕ) → a ≡ x → w + a + 1 ≡ w + x + 1
+same_watch w a x e = omega (arith, e)
+
 one_more : (a x : ℕ) → a ≡ x → a + 1 ≡ x + 1
 one_more a x e = ap (λ n. n + 1) e
 
@@ -79,15 +94,23 @@ counted_same f g bs (emit s) h = refl
 counted_same f g bs (sustain s) h = refl
 counted_same f g bs (exit t) h = refl
 counted_same f g bs (await d) h = refl
-counted_same f g bs (present s p q) h =
-    let both : Agree f g (occurrences bs p ++ occurrences bs q) = agree_rest f g (record { act = tests s; round = bs }) (occurrences bs p ++ occurrences bs q) h in
-    same_sum (counted f p) (counted f q) (counted g p) (counted g q) (counted_same f g bs p (agree_left f g (occurrences bs p) (occurrences bs q) both)) (counted_same f g bs q (agree_right f g (occurrences bs p) (occurrences bs q) both))
-counted_same f g bs (suspend p d) h = one_more (counted f p) (counted g p) (counted_same f g bs p (agree_left f g (occurrences bs p) (record { act = tests d.signal; round = bs } ∷ []) h))
-counted_same f g bs (abort p d) h = one_more (counted f p) (counted g p) (counted_same f g bs p (agree_left f g (occurrences bs p) (record { act = tests d.signal; round = bs } ∷ []) h))
-counted_same f g bs (weak_abort p d) h = one_more (counted f p) (counted g p) (counted_same f g bs p (agree_left f g (occurrences bs p) (record { act = tests d.signal; round = bs } ∷ []) h))
+counted_same f g bs (present t p q) h =
+    let both : Agree f g (occurrences bs p ++ occurrences bs q) = agree_right f g (tested bs t)
+    (occurrences bs p ++ occurrences bs q) h in
+    same_test (test_words t) (counted f p) (counted f q) (counted g p) (counted g q) (counted_same f g bs p
+    (agree_left f g (occurrences bs p) (occurrences bs q) both)) (counted_same f g bs q (agree_right f g
+    (occurrences bs p) (occurrences bs q) both))
+counted_same f g bs (suspend p d) h = same_watch (test_words d.test) (counted f p) (counted g p)
+    (counted_same f g bs p (agree_left f g (occurrences bs p) (tested bs d.test) h))
+counted_same f g bs (abort p d) h = same_watch (test_words d.test) (counted f p) (counted g p)
+    (counted_same f g bs p (agree_left f g (occurrences bs p) (tested bs d.test) h))
+counted_same f g bs (weak_abort p d) h = same_watch (test_words d.test) (counted f p) (counted g p)
+    (counted_same f g bs p (agree_left f g (occurrences bs p) (tested bs d.test) h))
 counted_same f g bs (repeat p) h = one_more (counted f p) (counted g p) (counted_same f g bs p h)
-counted_same f g bs (repeat_each p s) h = one_more (counted f p) (counted g p) (counted_same f g bs p (agree_left f g (occurrences bs p) (record { act = tests s; round = bs } ∷ []) h))
-counted_same f g bs (every d p) h = one_more (counted f p) (counted g p) (counted_same f g bs p (agree_rest f g (record { act = tests d.signal; round = bs }) (occurrences bs p) h))
+counted_same f g bs (repeat_each p t) h = same_watch (test_words t) (counted f p) (counted g p)
+    (counted_same f g bs p (agree_left f g (occurrences bs p) (tested bs t) h))
+counted_same f g bs (every d p) h = same_watch (test_words d.test) (counted f p) (counted g p)
+    (counted_same f g bs p (agree_right f g (tested bs d.test) (occurrences bs p) h))
 counted_same f g bs (trap t p) h = one_more (counted f p) (counted g p) (counted_same f g (a_trap t ∷ bs) p h)
 counted_same f g bs (signal ns p) h = one_more (counted f p) (counted g p) (counted_same f g (signals ns ∷ bs) p (agree_rest f g (record { act = binds ns; round = bs }) (occurrences (signals ns ∷ bs) p) h))
 counted_same f g bs (run m rs) h = h (record { act = runs m rs; round = bs }) (0, omega arith, refl) m refl

@@ -1,14 +1,11 @@
--- What a run without renamings emits, among the names that no `signal` round it declares.
-use Rattle.std.proofs.Common.{◌≡◌, ◌||◌, ◌&&◌, not, ℕ, List, [], ◌∷◌, Some, None, Option, Bool, true, false, cond, map, filter, refl, ap, sym, ◌∙◌}
+-- What a run without renamings emits, among names of its module.
+use Rattle.std.proofs.Common.{◌≡◌, ◌||◌, ◌&&◌, ℕ, List, [], ◌∷◌, Some, Bool, true, false, cond, map, filter, refl, ap, sym, ◌∙◌}
 use Rattle.std.specs.List.{list_any}
 use Rattle.std.specs.Str.{bytes_eq}
 use Rattle.est_modules.specs.Visible.{stands_in}
 use Rattle.est_checks.specs.Emissions.{emits_in_run}
 use Rattle.est_checks.specs.Inner.Emitted.{sent_in}
 use Rattle.est_modules.specs.Modules.{Program, program_named}
-use Rattle.est_modules.specs.Occurrences.{Binder}
-use Rattle.est_modules.specs.OpenNames.{open_at}
-use Rattle.est_modules.specs.Visible.{is_local}
 use Rattle.est_modules.specs.declared.head.Declared.{Declared}
 use Rattle.est_modules.proofs.Testing.{same_bytes, found_passes}
 
@@ -30,7 +27,7 @@ kept_name p n ns s true = refl
 kept_name p n ns s false = refl
 
 -- what stands in a list from which names were taken is the name of one that was left
-stands_left : (p : List ℕ → Bool) (ns : List (List ℕ)) (s : List ℕ) → stands_in (filter p ns) s ≡ (p s && stands_in ns s)
+pub stands_left : (p : List ℕ → Bool) (ns : List (List ℕ)) (s : List ℕ) → stands_in (filter p ns) s ≡ (p s && stands_in ns s)
 stands_left p [] s = sym (and_false (p s))
 stands_left p (n ∷ ns) s =
     kept_name p n (filter p ns) s (p n)
@@ -44,14 +41,15 @@ named_so p (d ∷ ds) s =
     ap (λ b. (p d.name && bytes_eq d.name s) || b) (named_so p ds s)
     ∙ one_left p d.name s (stands_in (map (λ (d : Declared). d.name) ds) s) (bytes_eq d.name s) refl
 
--- the names that are left are those that the run emits
-left_sent : (em : List ℕ → List ℕ → Bool) (bs : List Binder) (m : List ℕ) (q : Program) (s : List ℕ) → q.name ≡ m → stands_in (open_at bs (sent_in (em m) (Some q))) s ≡ (not (is_local bs s) && emits_in_run em s [] (Some q))
-left_sent em bs m q s named =
-    stands_left (λ n. not (is_local bs n)) (filter (em m) (map (λ (d : Declared). d.name) q.interface)) s
-    ∙ ap (λ b. not (is_local bs s) && b) (stands_left (em m) (map (λ (d : Declared). d.name) q.interface) s ∙ sym (named_so (em m) q.interface s) ∙ ap (λ k. list_any (λ (d : Declared). em k d.name && bytes_eq d.name s) q.interface) (sym named))
+-- the names that a module emits are those that a run of it emits without renamings
+names_sent : (em : List ℕ → List ℕ → Bool) (m : List ℕ) (q : Program) (s : List ℕ) → q.name ≡ m → stands_in (sent_in (em m) (Some q)) s ≡ emits_in_run em s [] (Some q)
+names_sent em m q s named =
+    stands_left (em m) (map (λ (d : Declared). d.name) q.interface) s
+    ∙ sym (named_so (em m) q.interface s)
+    ∙ ap (λ k. list_any (λ (d : Declared). em k d.name && bytes_eq d.name s) q.interface) (sym named)
 
 -- the same of a module that was asked for
-pub sent_left : (ps : List Program) (em : List ℕ → List ℕ → Bool) (bs : List Binder) (m : List ℕ) (q : Program) (s : List ℕ) → program_named ps m ≡ Some q → stands_in (open_at bs (sent_in (em m) (program_named ps m))) s ≡ (not (is_local bs s) && emits_in_run em s [] (Some q))
-sent_left ps em bs m q s found =
-    ap (λ o. stands_in (open_at bs (sent_in (em m) o)) s) found
-    ∙ left_sent em bs m q s (same_bytes q.name m (found_passes (λ (p : Program). bytes_eq p.name m) ps q found))
+pub sent_is : (ps : List Program) (em : List ℕ → List ℕ → Bool) (m : List ℕ) (q : Program) (s : List ℕ) → program_named ps m ≡ Some q → stands_in (sent_in (em m) (program_named ps m)) s ≡ emits_in_run em s [] (Some q)
+sent_is ps em m q s found =
+    ap (λ o. stands_in (sent_in (em m) o) s) found
+    ∙ names_sent em m q s (same_bytes q.name m (found_passes (λ (p : Program). bytes_eq p.name m) ps q found))

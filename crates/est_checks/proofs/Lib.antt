@@ -1,3 +1,4 @@
+pub mod Barring
 pub mod Deciding
 pub mod Declaring
 pub mod Emitting
@@ -8,7 +9,6 @@ pub mod Leaving
 pub mod Listing
 pub mod Noting
 pub mod OneName
-pub mod Quieting
 pub mod RunsThere
 pub mod Sending
 pub mod Sums

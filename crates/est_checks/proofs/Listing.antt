@@ -1,5 +1,5 @@
 -- What checks find along lists of the code.
-use Rattle.std.proofs.Common.{◌≡◌, Bor, ◌||◌, not, ℕ, ◌+◌, List, ◌∷◌, Option, Some, None, Bool, ap, sym, ◌∙◌, map, option_map}
+use Rattle.std.proofs.Common.{◌≡◌, Bor, not, ℕ, ◌+◌, List, Option, Some, None, Bool, ap, sym, ◌∙◌, map, option_map}
 use Rattle.std.specs.List.{find, position}
 use Rattle.est_syntax.specs.Tree.{RenamingTree, RelationTree}
 use Rattle.est_syntax.specs.Views.{renaming_view, relation_view}

@@ -1,14 +1,22 @@
 -- Sums up to a most, along lists.
 use Rattle.std.proofs.Common.{◌≡◌, ℕ, ◌+◌, min, List, [], ◌∷◌, map, refl, ap, sym, ◌∙◌, arith, rules}
 use Rattle.std.specs.List.{fold}
+use Rattle.est_syntax.specs.Views.{literal_view, conjunction_view, expression_view, literals_of, conjunctions_of}
 use Rattle.est_syntax.specs.Views.{unit_view, sequence_view, statement_view, units_of, sequences_of}
-use Rattle.est_syntax.specs.Tree.{sequence, statement}
+use Rattle.est_syntax.specs.Tree.{conjunction, expression, sequence, statement}
+use Rattle.est_syntax.specs.declared.tree.Literal.{Literal}
+use Rattle.est_syntax.specs.declared.tree.Conjunction.{Conjunction}
+use Rattle.est_syntax.specs.declared.tree.Expression.{Expression}
+use Rattle.est_syntax.specs.declared.tree.Literal.TheViews.{out-Conjunction, out-Expression}
+use Rattle.est_syntax.specs.declared.tree.Literal.TheFolds.{the_lemmas as test_lemmas}
 use Rattle.est_syntax.specs.declared.tree.Unit.{Unit}
 use Rattle.est_syntax.specs.declared.tree.Sequence.{Sequence}
 use Rattle.est_syntax.specs.declared.tree.Statement.{Statement}
 use Rattle.est_syntax.specs.declared.tree.Branches.TheViews.{out-Sequence, out-Statement}
 use Rattle.est_syntax.specs.declared.tree.Branches.TheFolds.{the_lemmas}
 use Rattle.est_modules.specs.Derived.{Derived, unit_derived, sequence_derived, statement_derived, then_units, beside_sequences}
+use Rattle.est_modules.specs.Tests.{literal_words, conjunction_words, literals_words}
+use Rattle.est_modules.specs.Tests.{expression_words, conjunctions_words}
 use Rattle.est_checks.specs.Counting.{counted}
 
 pub capped : (c a b : ℕ) → min c (min c a + min c b) ≡ min c (a + b)
@@ -42,6 +50,51 @@ whole_count c f n [] = refl
 whole_count c f n (x ∷ xs) =
     let step : min c (min c (min c n + min c (f x)) + 1) ≡ min c (n + f x + 1) = omega arith in
     ap (λ k. fold (λ k x. min c (min c (k + min c (f x)) + 1)) k xs) step ∙ whole_count c f (n + f x + 1) xs
+
+-- ---- the words of tests
+
+abbrev pub literal_counted : Literal → ℕ
+literal_counted l = literal_words (literal_view l)
+
+abbrev pub conjunction_counted : Conjunction → ℕ
+conjunction_counted c = conjunction_words (conjunction_view c)
+
+later_literals : (n : ℕ) (ls : List Literal)
+    → n + literals_words (literals_of (map literal_view ls)) ≡ all_counted literal_counted n ls
+later_literals n [] = omega arith
+later_literals n (l ∷ ls) =
+    let e : n + (literal_counted l + 1 + literals_words (literals_of (map literal_view ls)))
+    ≡ n + literal_counted l + 1 + literals_words (literals_of (map literal_view ls)) = omega arith in
+    e ∙ later_literals (n + literal_counted l + 1) ls
+
+later_conjunctions : (n : ℕ) (cs : List Conjunction)
+    → n + conjunctions_words (conjunctions_of (map conjunction_view cs)) ≡ all_counted conjunction_counted n cs
+later_conjunctions n [] = omega arith
+later_conjunctions n (c ∷ cs) =
+    let e : n + (conjunction_counted c + 1 + conjunctions_words (conjunctions_of (map conjunction_view cs)))
+    ≡ n + conjunction_counted c + 1 + conjunctions_words (conjunctions_of (map conjunction_view cs)) = omega arith in
+    e ∙ later_conjunctions (n + conjunction_counted c + 1) cs
+
+pub conjunction_whole : (c : Conjunction) → conjunction_counted c
+    ≡ all_counted literal_counted (literal_counted (out-Conjunction c).first.value) (out-Conjunction c).later.items
+conjunction_whole c =
+    let parts = out-Conjunction c in
+    let seen : conjunction_view c
+    ≡ conjunction (literal_view parts.first.value) (literals_of (map literal_view parts.later.items)) = search
+    (rules, test_lemmas) in
+    ap conjunction_words seen ∙ later_literals (literal_counted parts.first.value) parts.later.items
+
+pub expression_whole : (e : Expression) → expression_words (expression_view e)
+    ≡ all_counted conjunction_counted (conjunction_counted (out-Expression e).first.value)
+    (out-Expression e).later.items
+expression_whole e =
+    let parts = out-Expression e in
+    let seen : expression_view e
+    ≡ expression (conjunction_view parts.first.value) (conjunctions_of (map conjunction_view parts.later.items)) =
+    search (rules, test_lemmas) in
+    ap expression_words seen ∙ later_conjunctions (conjunction_counted parts.first.value) parts.later.items
+
+-- ---- the statements of units
 
 abbrev pub unit_counted : (List ℕ → ℕ) → Unit → ℕ
 unit_counted counts u = counted counts (unit_derived (unit_view u))

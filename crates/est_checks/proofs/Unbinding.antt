@@ -11,7 +11,7 @@ use Rattle.est_checks.specs.UnknownNames.{is_unbound}
 use Rattle.est_modules.specs.declared.head.Declared.{Declared}
 use Rattle.est_modules.proofs.Opening.{taken_twice}
 
-found_among : {X : Type 0} (p : X → Bool) (x : X) (ys : List X) (b : Bool) → find p (cond b (x ∷ ys) ys) ≡ cond b (cond (p x) (Some x) (find p ys)) (find p ys)
+pub found_among : {X : Type 0} (p : X → Bool) (x : X) (ys : List X) (b : Bool) → find p (cond b (x ∷ ys) ys) ≡ cond b (cond (p x) (Some x) (find p ys)) (find p ys)
 found_among p x ys true = refl
 found_among p x ys false = refl
 

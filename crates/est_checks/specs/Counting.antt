@@ -3,10 +3,12 @@
 use Rattle.std.specs.Prelude.{◌≡◌, ℕ, ◌+◌, ◌<◌, ◌≤◌, List, Option, Some, None}
 use Rattle.est_modules.specs.Derived.{Derived, missing, nothing, pause, halt, emit, sustain, exit, await, present, suspend, abort, weak_abort, repeat, repeat_each, every, trap, signal, run, seq, par}
 use Rattle.est_modules.specs.Modules.{Program, program_named}
+use Rattle.est_modules.specs.Tests.{test_words}
 use Rattle.est_checks.specs.declared.statement_count.TheConstants.{MOST_STATEMENTS}
 
--- the statements of a body, where each module m has (counts m) of them: each `;` between units and each `||` is one, a
--- branch that is left out has none, and a run has those of its module
+-- the statements of a body, where each module m has (counts m) of them: each `;` between units and each `||` is
+-- one, and so is each `not`, `and` and `or` of a test; a branch that is left out has none, and a run has those of its
+-- module
 abbrev pub counted : (List ℕ → ℕ) → Derived → ℕ
 counted counts missing = 0
 counted counts nothing = 1
@@ -15,14 +17,14 @@ counted counts halt = 1
 counted counts (emit s) = 1
 counted counts (sustain s) = 1
 counted counts (exit t) = 1
-counted counts (await d) = 1
-counted counts (present s p q) = counted counts p + counted counts q + 1
-counted counts (suspend p d) = counted counts p + 1
-counted counts (abort p d) = counted counts p + 1
-counted counts (weak_abort p d) = counted counts p + 1
+counted counts (await d) = test_words d.test + 1
+counted counts (present t p q) = test_words t + counted counts p + counted counts q + 1
+counted counts (suspend p d) = test_words d.test + counted counts p + 1
+counted counts (abort p d) = test_words d.test + counted counts p + 1
+counted counts (weak_abort p d) = test_words d.test + counted counts p + 1
 counted counts (repeat p) = counted counts p + 1
-counted counts (repeat_each p s) = counted counts p + 1
-counted counts (every d p) = counted counts p + 1
+counted counts (repeat_each p t) = test_words t + counted counts p + 1
+counted counts (every d p) = test_words d.test + counted counts p + 1
 counted counts (trap t p) = counted counts p + 1
 counted counts (signal ns p) = counted counts p + 1
 counted counts (run m rs) = counts m

@@ -1,9 +1,9 @@
 pub mod BadRenamings
+pub mod Barred
 pub mod Counting
 pub mod Duplicates
 pub mod Emissions
 pub mod FirstFaults
-pub mod Harmless
 pub mod Inner
 pub mod LawlessRelations
 pub mod LinkFaults

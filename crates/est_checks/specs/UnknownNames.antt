@@ -1,5 +1,5 @@
 -- Names that aren't visible where they are used (this project's own form, after Berry, The Esterel v5 Language Primer).
-use Rattle.std.specs.Prelude.{ℕ, List, ◌∷◌, Bool, not, ◌||◌, Option, Some, None, option_map, if◌then◌else◌}
+use Rattle.std.specs.Prelude.{ℕ, List, Bool, not, ◌||◌, Option, Some, None, option_map, if◌then◌else◌}
 use Rattle.std.specs.Option.{option_or}
 use Rattle.std.specs.List.{find}
 use Rattle.est_syntax.specs.Tree.{RenamingTree}

@@ -1,15 +1,18 @@
 //! Emissions of inputs.
-ghost use Rattle.std.specs.Prelude.{◌≡◌, [], Some, IfOk, map, option_map};
-ghost use Rattle.std.specs.List.{find};
+ghost use Rattle.std.specs.Prelude.{◌≡◌, ◌&&◌, [], Some, IfOk, map, option_map};
+ghost use Rattle.std.specs.List.{find, list_any};
 ghost use Rattle.est_syntax.specs.Views.{renaming_view};
 ghost use Rattle.est_modules.specs.Scopes.{binders_of};
-ghost use Rattle.est_modules.specs.Modules.{program_of, program_named, first_in_bodies};
+ghost use Rattle.est_modules.specs.Modules.{is_input, program_of, program_named, first_in_bodies};
+ghost use Rattle.est_modules.specs.OpenNames.{AreOpen, opens_of};
+ghost use Rattle.est_checks.specs.Barred.{barred_by};
 ghost use Rattle.est_modules.specs.Occurrences.{first_of, occurrences};
 ghost use Rattle.est_checks.specs.Emissions.{is_refused, is_refused_in_run, refused_in_run, refused_at, emitted_of};
 
+use crate::barred_names::barred_of;
 use crate::emission::{Emission, is_emitted};
-use crate::harmless_runs::{Harmless, harmless_of};
 use crate::place_check::{Check, first_in_body};
+use crate::unknown_names::first_unrenamed;
 use est_modules::head::{Declared, Head, head_named};
 use est_modules::open_names::OpenNames;
 use est_modules::relations::is_input;
@@ -64,88 +67,133 @@ fn refused_signal<'a>(
     ))
 }
 
-/// The first interface signal of a module that is run for which a run of it is refused. Where the module emits no input
-/// of its caller, and nothing is renamed, there is none, and no name is looked up.
-fn refused_of<'b>(
-    harmless: &Harmless<'_>,
+/// The caller's name for the first interface signal of a module that is run for which a run of it is refused.
+fn refused_name(
+    check: &EmitInput<'_>,
     scope: &Scope<'_>,
     renamings: &[Renaming],
     name: &Identifier,
-    run: &'b Head<'_>,
-) -> Option<&'b Declared>
-    requires { program_named (map program_of harmless.now.heads.now) name.now
-        ≡ Some (program_of run.now) }
-    ensures { option_map (λ d. d.now) result ≡ find (λ d. is_refused_in_run
-        (emitted_of harmless.now.table.now) (program_of harmless.now.home.now)
-        (binders_of scope.now) (map renaming_view renamings.now) name.now d.name)
-        (program_of run.now).interface }
+    run: &Head<'_>,
+) -> Option<Identifier>
+    ensures { result ≡ refused_in_run (emitted_of check.now.table.now)
+        (program_of check.now.home.now) (binders_of scope.now) (map renaming_view renamings.now)
+        name.now (Some (program_of run.now)) }
 {
-    if renamings.is_empty() && harmless.has(name) {
-        return None;
-    }
-    refused_signal(
-        harmless.table,
-        harmless.home,
+    match refused_signal(
+        check.table,
+        check.home,
         scope,
         renamings,
         name,
         &run.interface,
-    )
+    ) {
+        Some(declared) => Some(callers_name(renamings, &declared.name)),
+        None => None,
+    }
+}
+
+/// Whether a renaming binds a signal that the module which is run emits to an input of the caller, or to `tick`.
+fn binds_input(
+    check: &EmitInput<'_>,
+    scope: &Scope<'_>,
+    renamings: &[Renaming],
+    name: &Identifier,
+) -> bool
+    ensures { result ≡ list_any (λ r. is_refused (program_of check.now.home.now) (binders_of
+        scope.now) r.outer && emitted_of check.now.table.now name.now r.inner) renamings.now }
+{
+    renamings.iter().any(|renaming| is_refused(check.home, scope, &renaming.outer)
+        && is_emitted(check.table, name, &renaming.inner))
+}
+
+/// The same name, found among the names that were kept: where no renaming is at fault, a run is refused for those that
+/// it does not rename.
+fn refused_of(
+    check: &EmitInput<'_>,
+    kept: &OpenNames,
+    scope: &Scope<'_>,
+    renamings: &[Renaming],
+    name: &Identifier,
+    run: &Head<'_>,
+) -> Option<Identifier>
+    requires named { program_named (map program_of check.now.heads.now) name.now
+        ≡ Some (program_of run.now) }
+    requires open { AreOpen (barred_by (map program_of check.now.heads.now) (emitted_of
+        check.now.table.now) (is_input (program_of check.now.home.now).interface))
+        (binders_of scope.now) (opens_of kept.now) }
+    ensures { result ≡ refused_in_run (emitted_of check.now.table.now)
+        (program_of check.now.home.now) (binders_of scope.now) (map renaming_view renamings.now)
+        name.now (Some (program_of run.now)) }
+{
+    if binds_input(check, scope, renamings, name) {
+        return refused_name(check, scope, renamings, name, run);
+    }
+    match kept.named(name) {
+        Some(left) => first_unrenamed(renamings, &left.names),
+        None => refused_name(check, scope, renamings, name, run),
+    }
 }
 
 fn refused_in_run(
-    harmless: &Harmless<'_>,
+    check: &EmitInput<'_>,
+    kept: &OpenNames,
     scope: &Scope<'_>,
     renamings: &[Renaming],
     name: &Identifier,
 ) -> Option<Identifier>
-    ensures { result ≡ refused_in_run (emitted_of harmless.now.table.now)
-        (program_of harmless.now.home.now) (binders_of scope.now) (map renaming_view renamings.now)
-        name.now (program_named (map program_of harmless.now.heads.now) name.now) }
+    requires { AreOpen (barred_by (map program_of check.now.heads.now) (emitted_of
+        check.now.table.now) (is_input (program_of check.now.home.now).interface))
+        (binders_of scope.now) (opens_of kept.now) }
+    ensures { result ≡ refused_in_run (emitted_of check.now.table.now)
+        (program_of check.now.home.now) (binders_of scope.now) (map renaming_view renamings.now)
+        name.now (program_named (map program_of check.now.heads.now) name.now) }
 {
-    match head_named(harmless.heads, name) {
-        Some(run) => match refused_of(harmless, scope, renamings, name, run) {
-            Some(declared) => Some(callers_name(renamings, &declared.name)),
-            None => None,
-        },
+    match head_named(check.heads, name) {
+        Some(run) => refused_of(check, kept, scope, renamings, name, run),
         None => None,
     }
 }
 
 /// The check for emissions of inputs and of `tick`, by statements and by runs. It is asked of the places in one module.
 #[derive(Clone, Copy)]
-pub struct EmitInput<'a, 'b> {
-    /// The module, and which of those that it runs emit none of its inputs.
-    pub harmless: &'b Harmless<'a>,
+pub struct EmitInput<'a> {
+    /// The modules of the library.
+    pub heads: &'a [Head<'a>],
+    /// The module.
+    pub home: &'a Head<'a>,
+    /// What each module emits.
+    pub table: &'a [Emission],
 }
 
-impl Check for EmitInput<'_, '_> {
-    ghost use Rattle.std.specs.Prelude.{[], map};
-    ghost use Rattle.est_modules.specs.Modules.{program_of};
+impl Check for EmitInput<'_> {
+    ghost use Rattle.std.specs.Prelude.{map};
+    ghost use Rattle.est_modules.specs.Modules.{is_input, program_of};
+    ghost use Rattle.est_checks.specs.Barred.{barred_by};
     ghost use Rattle.est_checks.specs.Emissions.{refused_at, emitted_of};
 
-    ghost base = { λ c m. [] };
+    ghost base = { λ c. barred_by (map program_of c.heads.now) (emitted_of c.table.now)
+        (is_input (program_of c.home.now).interface) };
 
-    ghost fault = { λ c p. refused_at (map program_of c.harmless.now.heads.now)
-        (emitted_of c.harmless.now.table.now) (program_of c.harmless.now.home.now) };
+    ghost fault = { λ c p. refused_at (map program_of c.heads.now)
+        (emitted_of c.table.now) (program_of c.home.now) };
 
     fn fault(
         &self,
         _home: &Head<'_>,
-        _kept: &OpenNames,
+        kept: &OpenNames,
         act: &Act<'_>,
         scope: &Scope<'_>,
     ) -> Result<Option<Identifier>, AllocError> {
         match act {
             Act::Emits(signal) => {
-                if is_refused(self.harmless.home, scope, signal) {
+                if is_refused(self.home, scope, signal) {
                     Ok(Some(*signal))
                 } else {
                     Ok(None)
                 }
             }
             Act::Tests(_) | Act::Exits(_) | Act::Binds(_) => Ok(None),
-            Act::Runs(name, renamings) => Ok(refused_in_run(self.harmless, scope, renamings, name)),
+            Act::Runs(name, renamings) => Ok(refused_in_run(self, kept, scope, renamings, name)),
         }
     }
 }
@@ -160,14 +208,13 @@ fn refused_in<'a>(
     ensures { IfOk result (λ name. name ≡ first_of (refused_at (map program_of heads.now)
         (emitted_of table.now) (program_of home.now)) (occurrences [] (program_of home.now).body)) }
 {
-    let harmless = harmless_of(alloc, &*heads, &*home, &*table)?;
-    first_in_body(
-        &EmitInput {
-            harmless: &harmless,
-        },
-        &OpenNames::new(alloc),
-        &*home,
-    )
+    let kept = barred_of(alloc, &*heads, &*home, &*table)?;
+    let check = EmitInput {
+        heads: &*heads,
+        home: &*home,
+        table: &*table,
+    };
+    first_in_body(&check, &kept, &*home)
 }
 
 /// The first input, or `tick`, that a module of a library emits. The table says what each module emits.

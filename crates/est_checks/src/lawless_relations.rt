@@ -1,34 +1,34 @@
-//! Relations of the main module with a member that is no input.
+//! Relations of the main module with a member that is neither an input nor an inputoutput.
 ghost use Rattle.std.specs.Prelude.{◌≡◌, option_map, ◌+◌, not, IfOk};
 ghost use Rattle.std.specs.List.{list_any, position};
 ghost use Rattle.est_syntax.specs.Views.{relation_view};
-ghost use Rattle.est_modules.specs.Modules.{is_input, program_of};
+ghost use Rattle.est_modules.specs.Modules.{is_offerable, program_of};
 ghost use Rattle.est_checks.specs.LawlessRelations.{is_lawless, first_lawless};
 
 use est_modules::head::{Declared, Head};
-use est_modules::relations::{is_input, relations_of};
+use est_modules::relations::{is_offerable, relations_of};
 use est_syntax::tree::Relation;
 use est_text::identifier::Identifier;
 use std::alloc::{AllocError, Global};
 
-fn are_past_inputs(interface: &[Declared], names: &[Identifier]) -> bool
-    ensures { result ≡ list_any (λ n. not (is_input interface.now n)) names.now }
+fn are_past_offers(interface: &[Declared], names: &[Identifier]) -> bool
+    ensures { result ≡ list_any (λ n. not (is_offerable interface.now n)) names.now }
 {
-    names.iter().any(|name| !is_input(interface, name))
+    names.iter().any(|name| !is_offerable(interface, name))
 }
 
-/// Whether a member of a relation is no input of the interface.
+/// Whether a member of a relation is neither an input nor an inputoutput of the interface.
 pub fn is_lawless(interface: &[Declared], relation: &Relation) -> bool
     ensures { result ≡ is_lawless interface.now (relation_view relation.now) }
 {
     match relation {
         Relation::Excludes(first, second, later) => {
-            !is_input(interface, first)
-                || !is_input(interface, second)
-                || are_past_inputs(interface, later)
+            !is_offerable(interface, first)
+                || !is_offerable(interface, second)
+                || are_past_offers(interface, later)
         }
         Relation::Implies(first, second) => {
-            !is_input(interface, first) || !is_input(interface, second)
+            !is_offerable(interface, first) || !is_offerable(interface, second)
         }
     }
 }
@@ -42,7 +42,8 @@ fn lawless_place(interface: &[Declared], relations: &[&Relation]) -> Option<usiz
         .position(|relation| is_lawless(interface, relation))
 }
 
-/// The number, from 1, of the first of these relations with a member that is no input of the interface.
+/// The number, from 1, of the first of these relations with a member that is neither an input nor
+/// an inputoutput of the interface.
 fn lawless_number(interface: &[Declared], relations: &[&Relation]) -> Option<usize>
     ensures { result ≡ option_map (λ i. i + 1)
         (position (λ r. is_lawless interface.now (relation_view r.now)) relations.now) }
@@ -53,7 +54,8 @@ fn lawless_number(interface: &[Declared], relations: &[&Relation]) -> Option<usi
     }
 }
 
-/// The number, from 1 in the order of the text, of the first relation of a module with a member that is no input of it.
+/// The number, from 1 in the order of the text, of the first relation of a module with a member
+/// that is neither an input nor an inputoutput of it.
 ///
 /// # Errors
 ///

@@ -6,10 +6,11 @@
 #![tactic(auto)]
 
 pub mod bad_renamings;
+mod barred_names;
 pub mod duplicates;
 pub mod emission;
 pub mod fault;
-pub mod harmless_runs;
+mod hidden_names;
 pub mod input_emissions;
 pub mod lawless_relations;
 pub mod laws;
@@ -23,3 +24,4 @@ pub mod run_emissions;
 pub mod statement_count;
 pub mod unknown_names;
 pub mod unseen_names;
+mod word_count;

@@ -12,9 +12,8 @@ use std::alloc::{AllocError, Global};
 
 /// The check for runs of modules that aren't there.
 #[derive(Clone, Copy)]
-pub struct UnknownModule<'a> {
-    /// The modules of the library.
-    pub heads: &'a [Head<'a>],
+struct UnknownModule<'a> {
+    heads: &'a [Head<'a>],
 }
 
 impl Check for UnknownModule<'_> {

@@ -1,37 +1,34 @@
 //! What a module emits of the signals that its callers see.
-ghost use Rattle.std.specs.Prelude.{◌≡◌, ℕ, ◌<◌, List, [], length, map, slice_get, Some, None, option_map, not, ◌||◌};
+ghost use Rattle.std.specs.Prelude.{◌≡◌, ℕ, ◌<◌, List, [], length, map, slice_get, Some, None, not, ◌||◌, filter};
 ghost use Rattle.std.specs.Prelude.{◌&&◌, OnOk, IfOk, Bool};
 ghost use Rattle.std.specs.List.{list_any};
 ghost use Rattle.std.specs.Str.{bytes_eq};
 ghost use Rattle.est_syntax.specs.Views.{renaming_view};
 ghost use Rattle.est_modules.specs.Scopes.{binders_of};
-ghost use Rattle.est_modules.specs.Modules.{Program, program_of, program_named};
+ghost use Rattle.est_modules.specs.Modules.{Program, program_of, program_named, is_declared};
 ghost use Rattle.est_modules.specs.Occurrences.{occurrences, emits, runs};
 ghost use Rattle.est_modules.specs.Visible.{is_local};
 ghost use Rattle.est_modules.specs.Renamings.{renamed};
 ghost use Rattle.est_modules.specs.Visible.{stands_in};
 ghost use Rattle.est_checks.specs.Duplicates.{first_duplicate};
-ghost use Rattle.est_checks.specs.Emissions.{emitted_of, emits_here, emits_in_run, AreEmissions};
-ghost use Rattle.est_modules.specs.NameSets.{has};
-ghost use Rattle.est_modules.specs.OpenNames.{AreOpen, opens_of};
-ghost use Rattle.est_checks.specs.Inner.Emitted.{sent_by};
-ghost use Rattle.est_modules.specs.Visible.{has_signals};
-ghost use Rattle.est_checks.specs.Inner.Noted.{is_plain, has_name, noted_of, noted_behind};
+ghost use Rattle.est_checks.specs.Emissions.{emitted_of, emits_here, AreEmissions};
+ghost use Rattle.est_checks.specs.Inner.Noted.{entry_of, left_or, none_goes, stays, noted_run, noted_of, noted_behind};
 ghost use Rattle.est_modules.specs.ModuleOrders.{IsOrderOf};
 
 use crate::emission::{Emission, is_emitted};
-use crate::run_emissions::emitted_names;
-use est_modules::head::{Declared, Head, head_named};
-use est_modules::name_set::NameSet;
+use crate::hidden_names::{all_stay, stays};
+use crate::run_emissions::emitted_run;
+use est_modules::head::{Head, head_named, is_declared};
 use est_modules::open_names::OpenNames;
 use est_modules::renamings::callers_name;
 use est_modules::scope::{Act, Scope};
-use est_modules::visibility::{has_signals, is_local, stands_in};
+use est_modules::visibility::{is_local, stands_in};
 use est_modules::visit::Visitor;
 use est_modules::walk::walk_body;
 use est_syntax::tree::Renaming;
 use est_text::identifier::Identifier;
 use std::alloc::{AllocError, Global};
+use std::collections::BTreeMap;
 
 /// Adds the signal, unless it is local.
 fn add_outer(
@@ -47,29 +44,6 @@ fn add_outer(
         return Ok(());
     }
     seen.push(*signal)?;
-    Ok(())
-}
-
-/// Adds the caller's names for what the module that is run emits.
-fn add_sent(
-    seen: &mut Vec<Identifier>,
-    table: &[Emission],
-    scope: &Scope<'_>,
-    name: &Identifier,
-    renamings: &[Renaming],
-    interface: &[Declared],
-) -> Result<(), AllocError>
-    ensures { OnOk result ((s : List ℕ)
-        → stands_in seen.new.items s ≡ (stands_in seen.old.items s ||
-        (not (is_local (binders_of scope.now) s) && list_any
-        (λ d. emitted_of table.now name.now d.name && bytes_eq
-        (renamed (map renaming_view renamings.now) d.name) s) interface.now))) }
-{
-    for declared in interface {
-        if is_emitted(table, name, &declared.name) {
-            add_outer(seen, scope, &callers_name(renamings, &declared.name))?;
-        }
-    }
     Ok(())
 }
 
@@ -96,137 +70,155 @@ fn add_signals(seen: &mut Vec<Identifier>, names: &[Identifier]) -> Result<(), A
     Ok(())
 }
 
-/// Adds what a run without renamings emits: only names that no `signal` round it declares are looked at, if they were
-/// kept.
-fn add_plain(
+/// Adds the caller's names for those signals of a module that a run of it renames and that it emits.
+#[tactic(auto, using(est_modules::proofs::Lists::any_map))]
+fn add_renamed(
     seen: &mut Vec<Identifier>,
-    sent: &Sent<'_>,
-    kept: &OpenNames,
+    table: &[Emission],
     scope: &Scope<'_>,
-    name: &Identifier,
-    run: &Head<'_>,
-) -> Result<(), AllocError>
-    requires named { program_named (map program_of sent.now.heads.now) name.now
-        ≡ Some (program_of run.now) }
-    requires outside { AreOpen (sent_by (map program_of sent.now.heads.now)
-        (emitted_of sent.now.table.now)) (binders_of scope.now) (opens_of kept.now) }
-    ensures { OnOk result ((s : List ℕ)
-        → stands_in seen.new.items s ≡ (stands_in seen.old.items s ||
-        (not (is_local (binders_of scope.now) s) && emits_in_run (emitted_of sent.now.table.now) s
-        [] (Some (program_of run.now))))) }
-{
-    match kept.named(name) {
-        Some(left) => add_signals(seen, &left.names),
-        None => add_sent(seen, sent.table, scope, &run.name, &[], &run.interface),
-    }
-}
-
-/// Adds what a run of a module that is there emits.
-fn add_found(
-    seen: &mut Vec<Identifier>,
-    sent: &Sent<'_>,
-    kept: &OpenNames,
-    scope: &Scope<'_>,
-    name: &Identifier,
     renamings: &[Renaming],
     run: &Head<'_>,
 ) -> Result<(), AllocError>
-    requires named { program_named (map program_of sent.now.heads.now) name.now
-        ≡ Some (program_of run.now) }
-    requires outside { AreOpen (sent_by (map program_of sent.now.heads.now)
-        (emitted_of sent.now.table.now)) (binders_of scope.now) (opens_of kept.now) }
     ensures { OnOk result ((s : List ℕ)
         → stands_in seen.new.items s ≡ (stands_in seen.old.items s ||
-        (not (is_local (binders_of scope.now) s) && emits_in_run (emitted_of sent.now.table.now) s
-        (map renaming_view renamings.now) (Some (program_of run.now))))) }
+        (not (is_local (binders_of scope.now) s) && list_any
+        (λ r. (is_declared run.now.interface.items r.inner && emitted_of table.now run.now.name
+        r.inner) && bytes_eq (renamed (map renaming_view renamings.now) r.inner) s)
+        renamings.now))) }
 {
-    if is_plain(renamings) {
-        return add_plain(seen, sent, kept, scope, name, run);
+    for renaming in renamings {
+        if is_declared(&run.interface, &renaming.inner)
+            && is_emitted(table, &run.name, &renaming.inner)
+        {
+            add_outer(seen, scope, &callers_name(renamings, &renaming.inner))?;
+        }
     }
-    add_sent(
-        seen,
-        sent.table,
-        scope,
-        &run.name,
-        renamings,
-        &run.interface,
-    )
+    Ok(())
 }
 
-/// Adds what a run emits: the caller's names for what the module that is run emits, if it is there.
-fn add_run(
-    seen: &mut Vec<Identifier>,
-    sent: &Sent<'_>,
-    kept: &OpenNames,
-    scope: &Scope<'_>,
-    name: &Identifier,
-    renamings: &[Renaming],
-    run: Option<&Head<'_>>,
-) -> Result<(), AllocError>
-    requires named { option_map (λ h. program_of h.now) run
-        ≡ program_named (map program_of sent.now.heads.now) name.now }
-    requires outside { AreOpen (sent_by (map program_of sent.now.heads.now)
-        (emitted_of sent.now.table.now)) (binders_of scope.now) (opens_of kept.now) }
-    ensures { OnOk result ((s : List ℕ)
-        → stands_in seen.new.items s ≡ (stands_in seen.old.items s ||
-        (not (is_local (binders_of scope.now) s) && emits_in_run (emitted_of sent.now.table.now) s
-        (map renaming_view renamings.now) (option_map (λ h. program_of h.now) run.entry)))) }
-{
-    match run {
-        Some(run) => add_found(seen, sent, kept, scope, name, renamings, run),
-        None => Ok(()),
-    }
-}
-
-/// What has been noted of what a module emits: names, and modules of which all that they emit is among these names.
+/// What has been noted of what a module emits: names, and of each module that was run those names that it emits and
+/// that are not noted yet.
 #[derive(Drop)]
 struct Notes<'a> {
     names: Vec<Identifier>,
-    whole: NameSet<'a>,
+    left: BTreeMap<&'a [u8], Vec<Identifier>>,
 }
 
-/// Whether no signal is renamed.
-#[tactic(auto, using(crate::proofs::Noting::plain_is))]
-fn is_plain(renamings: &[Renaming]) -> bool
-    ensures { result ≡ is_plain (map renaming_view renamings.now) }
-{
-    renamings.is_empty()
-}
-
-/// Puts the name of a module into a set, if there is one.
-fn add_name<'a>(whole: &mut NameSet<'a>, run: Option<&'a Head<'a>>) -> Result<(), AllocError>
-    ensures { OnOk result ((m : List ℕ) → has whole.new m ≡ (has whole.old m || has_name
-        (option_map (λ h. program_of h.now) run.entry) m)) }
-{
-    if let Some(run) = run {
-        whole.insert(&run.name)?;
-    }
-    Ok(())
-}
-
-/// Puts the name of a module into a set where it is run without renamings, with no `signal` round it.
-fn add_whole<'a>(
-    whole: &mut NameSet<'a>,
+/// Those names that a run does not emit by itself.
+fn names_that_stay(
+    alloc: Global,
     scope: &Scope<'_>,
     renamings: &[Renaming],
-    run: Option<&'a Head<'a>>,
-) -> Result<(), AllocError>
-    ensures { OnOk result ((m : List ℕ) → has whole.new m ≡ (has whole.old m ||
-        ((is_plain (map renaming_view renamings.now) && not (has_signals (binders_of scope.now))) &&
-        has_name (option_map (λ h. program_of h.now) run.entry) m))) }
+    names: &[Identifier],
+) -> Result<Vec<Identifier>, AllocError>
+    ensures { IfOk result (λ kept. kept.items ≡ filter (stays (binders_of scope.now)
+        (map renaming_view renamings.now)) names.now) }
 {
-    if is_plain(renamings) && !has_signals(scope) {
-        add_name(whole, run)?;
+    let mut kept = Vec::new(alloc);
+    for name in names {
+        if stays(scope, renamings, name) {
+            kept.push(*name)?;
+        }
     }
+    Ok(kept)
+}
+
+/// Those names that a run emits by itself.
+fn names_that_go(
+    alloc: Global,
+    scope: &Scope<'_>,
+    renamings: &[Renaming],
+    names: &[Identifier],
+) -> Result<Vec<Identifier>, AllocError>
+    ensures { IfOk result (λ gone. gone.items ≡ filter (λ n. not (stays (binders_of scope.now)
+        (map renaming_view renamings.now) n)) names.now) }
+{
+    let mut gone = Vec::new(alloc);
+    for name in names {
+        if !stays(scope, renamings, name) {
+            gone.push(*name)?;
+        }
+    }
+    Ok(gone)
+}
+
+/// The names that are left of a module: before its first run all interface names that it emits.
+fn names_left(
+    sent: &Sent<'_>,
+    left: &BTreeMap<&[u8], Vec<Identifier>>,
+    name: &Identifier,
+) -> Result<Vec<Identifier>, AllocError>
+    ensures { IfOk result (λ names. names.items ≡ left_or (map program_of sent.now.heads.now)
+        (emitted_of sent.now.table.now) name.now (entry_of left.now name.now)) }
+{
+    match left.get(name.as_bytes()) {
+        Some(names) => Ok(Vec::from_slice(sent.alloc, names)?),
+        None => emitted_run(sent.alloc, sent.heads, sent.table, name),
+    }
+}
+
+/// Whether a module was run before, and a run emits none of the names that are left of it by itself.
+fn none_goes(
+    left: &BTreeMap<&[u8], Vec<Identifier>>,
+    scope: &Scope<'_>,
+    renamings: &[Renaming],
+    name: &Identifier,
+) -> bool
+    ensures { result ≡ none_goes (binders_of scope.now) (map renaming_view renamings.now)
+        (entry_of left.now name.now) }
+{
+    match left.get(name.as_bytes()) {
+        Some(names) => all_stay(scope, renamings, names),
+        None => false,
+    }
+}
+
+/// Notes what a run of a module that is there emits: of its own names only those that were left, so that many runs of
+/// one module cost no more than their renamings and the names that stay.
+fn note_found<'a>(
+    seen: &mut Notes<'a>,
+    sent: &Sent<'a>,
+    scope: &Scope<'_>,
+    name: &Identifier,
+    renamings: &[Renaming],
+    run: &'a Head<'a>,
+) -> Result<(), AllocError>
+    requires { program_named (map program_of sent.now.heads.now) name.now
+        ≡ Some (program_of run.now) }
+    ensures { OnOk result (noted_of seen.new ≡ noted_run (emitted_of sent.now.table.now)
+        (noted_of seen.old) (binders_of scope.now) (map renaming_view renamings.now)
+        (left_or (map program_of sent.now.heads.now) (emitted_of sent.now.table.now) name.now
+        ((noted_of seen.old).left name.now)) (Some (program_of run.now))) }
+{
+    if none_goes(&seen.left, scope, renamings, name) {
+        add_renamed(&mut seen.names, sent.table, scope, renamings, run)?;
+        return Ok(());
+    }
+    let names = names_left(sent, &seen.left, name)?;
+    let gone = names_that_go(sent.alloc, scope, renamings, &names)?;
+    let kept = names_that_stay(sent.alloc, scope, renamings, &names)?;
+    add_signals(&mut seen.names, &gone)?;
+    add_renamed(&mut seen.names, sent.table, scope, renamings, run)?;
+    seen.left.insert(run.name.as_bytes(), kept)?;
     Ok(())
 }
 
-/// Whether a run is of a module of which all that it emits is noted, and renames nothing.
-fn is_passed(seen: &Notes<'_>, name: &Identifier, renamings: &[Renaming]) -> bool
-    ensures { result ≡ (is_plain (map renaming_view renamings.now) && has seen.now.whole
-        name.now) }
+/// Notes what a run emits, if its module is there.
+fn note_run<'a>(
+    seen: &mut Notes<'a>,
+    sent: &Sent<'a>,
+    scope: &Scope<'_>,
+    name: &Identifier,
+    renamings: &[Renaming],
+) -> Result<(), AllocError>
+    ensures { OnOk result (noted_of seen.new ≡ noted_behind (map program_of sent.now.heads.now)
+        (emitted_of sent.now.table.now) (noted_of seen.old) (record
+        { act = runs name.now (map renaming_view renamings.now); round = binders_of scope.now })) }
 {
-    is_plain(renamings) && seen.whole.contains(name)
+    match head_named(sent.heads, name) {
+        Some(run) => note_found(seen, sent, scope, name, renamings, run),
+        None => Ok(()),
+    }
 }
 
 /// Notes what a statement emits.
@@ -246,45 +238,18 @@ fn note_emission(
     Ok(())
 }
 
-/// Notes what a run emits. One without renamings of a module that was run so before, with no `signal` round it, adds
-/// nothing, wherever it stands, and costs one look-up.
-fn note_run<'a>(
-    seen: &mut Notes<'a>,
-    sent: &Sent<'a>,
-    kept: &OpenNames,
-    scope: &Scope<'_>,
-    name: &Identifier,
-    renamings: &[Renaming],
-) -> Result<(), AllocError>
-    requires { AreOpen (sent_by (map program_of sent.now.heads.now) (emitted_of
-        sent.now.table.now)) (binders_of scope.now) (opens_of kept.now) }
-    ensures { OnOk result (noted_of seen.new ≡ noted_behind (map program_of sent.now.heads.now)
-        (emitted_of sent.now.table.now) (noted_of seen.old) (record
-        { act = runs name.now (map renaming_view renamings.now); round = binders_of scope.now })) }
-{
-    if is_passed(seen, name, renamings) {
-        return Ok(());
-    }
-    let run = head_named(sent.heads, name);
-    add_run(&mut seen.names, sent, kept, scope, name, renamings, run)?;
-    add_whole(&mut seen.whole, scope, renamings, run)?;
-    Ok(())
-}
-
 /// Notes what a module emits.
 #[derive(Clone, Copy)]
 struct Sent<'a> {
+    alloc: Global,
     heads: &'a [Head<'a>],
     table: &'a [Emission],
 }
 
 impl<'a> Visitor for Sent<'a> {
-    ghost use Rattle.std.specs.Prelude.{map};
+    ghost use Rattle.std.specs.Prelude.{[], map};
     ghost use Rattle.est_modules.specs.Modules.{program_of};
     ghost use Rattle.est_checks.specs.Emissions.{emitted_of};
-    ghost use Rattle.est_checks.specs.Inner.Emitted.{sent_by};
-    ghost use Rattle.est_modules.specs.OpenNames.{AreOpen, opens_of};
-    ghost use Rattle.est_checks.specs.Inner.Emitted.{sent_by};
     ghost use Rattle.est_checks.specs.Inner.Noted.{Noted, noted_of, noted_behind};
 
     type Seen = Notes<'a>;
@@ -293,14 +258,14 @@ impl<'a> Visitor for Sent<'a> {
 
     ghost state = { λ seen. noted_of seen };
 
-    ghost base = { λ v. sent_by (map program_of v.heads.now) (emitted_of v.table.now) };
+    ghost base = { λ v m. [] };
 
     ghost after = { λ v. noted_behind (map program_of v.heads.now) (emitted_of v.table.now) };
 
     fn visit(
         &self,
         seen: &mut Notes<'a>,
-        kept: &OpenNames,
+        _kept: &OpenNames,
         act: &Act<'_>,
         scope: &Scope<'_>,
     ) -> Result<(), AllocError> {
@@ -309,7 +274,7 @@ impl<'a> Visitor for Sent<'a> {
             Act::Tests(_) => Ok(()),
             Act::Exits(_) => Ok(()),
             Act::Binds(_) => Ok(()),
-            Act::Runs(name, renamings) => note_run(seen, self, kept, scope, name, renamings),
+            Act::Runs(name, renamings) => note_run(seen, self, scope, name, renamings),
         }
     }
 }
@@ -330,14 +295,14 @@ pub fn emissions_of<'a>(
         (emitted_of table.now) s) (occurrences [] (program_of home.now).body)) }
 {
     let names = Vec::new(alloc);
-    let whole = NameSet::new(alloc);
-    let mut seen = Notes { names, whole };
+    let left = BTreeMap::new(alloc);
+    let mut seen = Notes { names, left };
     let sent = Sent {
+        alloc,
         heads: &*heads,
         table: &*table,
     };
-    let kept = emitted_names(alloc, &*heads, &*table, home)?;
-    walk_body(&sent, &mut seen, &kept, home.body)?;
+    walk_body(&sent, &mut seen, &OpenNames::new(alloc), home.body)?;
     Ok(seen.names)
 }
 

@@ -1,16 +1,13 @@
 //! Which interface names the modules emit that a module runs.
-ghost use Rattle.std.specs.Prelude.{◌≡◌, ℕ, List, [], filter, map, IfOk, OnOk};
+ghost use Rattle.std.specs.Prelude.{◌≡◌, ℕ, List, filter, map, IfOk};
 ghost use Rattle.est_checks.specs.Emissions.{emitted_of};
 ghost use Rattle.est_checks.specs.Inner.Emitted.{sent_by};
 ghost use Rattle.est_modules.specs.Modules.{program_of};
 ghost use Rattle.est_modules.specs.NameSets.{has};
-ghost use Rattle.est_modules.specs.OpenNames.{AreOpen, opens_of};
 
 use crate::emission::Emission;
 use est_modules::head::{Declared, Head, head_named};
-use est_modules::module_order::places_run;
 use est_modules::name_set::NameSet;
-use est_modules::open_names::{Kept, OpenNames};
 use est_text::identifier::Identifier;
 use std::alloc::{AllocError, Global};
 
@@ -64,8 +61,12 @@ fn emitted_in(
     Ok(names)
 }
 
-/// The interface names that the module of a name emits.
-fn emitted_run(
+/// The interface names that the module of a name emits, as the table says.
+///
+/// # Errors
+///
+/// `AllocError` where memory is refused for names.
+pub fn emitted_run(
     alloc: Global,
     heads: &[Head<'_>],
     table: &[Emission],
@@ -78,52 +79,4 @@ fn emitted_run(
         Some(run) => emitted_in(alloc, table, name, &run.interface),
         None => Ok(Vec::new(alloc)),
     }
-}
-
-/// Keeps those of the module of a name.
-fn add_emitted(
-    alloc: Global,
-    heads: &[Head<'_>],
-    table: &[Emission],
-    kept: &mut OpenNames,
-    name: &Identifier,
-) -> Result<(), AllocError>
-    requires { AreOpen (sent_by (map program_of heads.now) (emitted_of table.now)) []
-        (opens_of kept.old) }
-    ensures { OnOk result (AreOpen (sent_by (map program_of heads.now) (emitted_of table.now)) []
-        (opens_of kept.new)) }
-{
-    let names = emitted_run(alloc, heads, table, name)?;
-    kept.push(Kept {
-        module_name: *name,
-        names,
-    })?;
-    Ok(())
-}
-
-/// The modules that a module runs, each with its interface names that it emits, as the table says.
-///
-/// # Errors
-///
-/// `AllocError` where memory is refused for names.
-pub fn emitted_names<'a>(
-    alloc: Global,
-    heads: &'a [Head<'a>],
-    table: &[Emission],
-    home: &Head<'_>,
-) -> Result<OpenNames, AllocError>
-    ensures { IfOk result (λ kept. AreOpen (sent_by (map program_of heads.now) (emitted_of
-        table.now)) [] (opens_of kept)) }
-{
-    let places = places_run(alloc, &*heads, home)?;
-    let mut met = NameSet::new(alloc);
-    let mut kept = OpenNames::new(alloc);
-    for place in &places {
-        if let Some(run) = heads.get(*place) {
-            if met.insert(&run.name)? {
-                add_emitted(alloc, &*heads, table, &mut kept, &run.name)?;
-            }
-        }
-    }
-    Ok(kept)
 }

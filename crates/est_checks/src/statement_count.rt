@@ -4,17 +4,20 @@
 //! The functions call each other once for each unit that is open, of which the reader lets at most 128 be so at once. A run is no call: its
 //! module was counted before.
 ghost use Rattle.std.specs.Prelude.{◌≡◌, ℕ, ◌+◌, ◌<◌, ◌≤◌, List, Some, length, map, min, slice_get, IfOk};
-ghost use Rattle.est_syntax.specs.Views.{unit_view, branches_view, sequence_view, statement_view};
+ghost use Rattle.est_syntax.specs.Views.{test_view, unit_view, branches_view};
+ghost use Rattle.est_syntax.specs.Views.{sequence_view, statement_view};
 ghost use Rattle.est_modules.specs.Derived.{unit_derived, branches_derived, sequence_derived, statement_derived};
 ghost use Rattle.est_modules.specs.Modules.{Program, program_of};
 ghost use Rattle.est_checks.specs.Counting.{counted, IsCountOf};
 ghost use Rattle.est_modules.specs.ModuleOrders.{IsOrderOf};
+ghost use Rattle.est_modules.specs.Tests.{test_words};
 ghost use Rattle.est_checks.specs.Inner.Numbers.{number_of, numbers_of, IsFilled};
 
+use crate::word_count::test_words;
 use est_modules::head::Head;
 use est_modules::module_order::place_named;
 use est_modules::place_order::Order;
-use est_syntax::tree::{Branches, Sequence, Statement, Unit};
+use est_syntax::tree::{Branches, Sequence, Statement, Test, Unit};
 use est_text::identifier::Identifier;
 use std::alloc::{AllocError, Global};
 
@@ -22,7 +25,7 @@ use std::alloc::{AllocError, Global};
 pub const MOST_STATEMENTS: u16 = 2048;
 
 /// One more: where a number would be larger, it is this one.
-const TOO_MANY: u16 = MOST_STATEMENTS + 1;
+pub const TOO_MANY: u16 = MOST_STATEMENTS + 1;
 
 /// The modules, and the numbers of statements of those that were counted, each at its module's place.
 #[derive(Clone, Copy)]
@@ -84,7 +87,8 @@ fn count_body(heads: &[Head<'_>], numbers: &[u16], place: usize) -> u16
     count_statement(&Numbers { heads, numbers }, head.body)
 }
 
-fn sum(first: u16, second: u16) -> u16
+/// A sum, cut.
+pub fn sum(first: u16, second: u16) -> u16
     requires first { first ≤ TOO_MANY }
     requires second { second ≤ TOO_MANY }
     ensures { result ≡ min TOO_MANY (first + second) }
@@ -114,36 +118,50 @@ fn count_unit(numbers: &Numbers<'_>, unit: &Unit) -> u16
         (unit_derived (unit_view unit.now))) }
 {
     match unit {
-        Unit::Present(_, branches) => count_test(numbers, branches),
-        Unit::Suspend(body, _, _)
-        | Unit::Abort(body, _, _)
-        | Unit::WeakAbort(body, _, _)
-        | Unit::Loop(body, _)
-        | Unit::LoopEach(body, _)
-        | Unit::Every(_, body, _)
-        | Unit::Trap(_, body, _)
-        | Unit::Signal(_, body, _) => sum(count_statement(numbers, body), 1),
+        Unit::Await(delay) => sum(test_words(&delay.test), 1),
+        Unit::Present(test, branches) => count_test(numbers, test, branches),
+        Unit::Suspend(body, delay, _)
+        | Unit::Abort(body, delay, _)
+        | Unit::WeakAbort(body, delay, _)
+        | Unit::Every(delay, body, _) => count_watched(numbers, &delay.test, body),
+        Unit::LoopEach(body, test) => count_watched(numbers, test, body),
+        Unit::Loop(body, _) | Unit::Trap(_, body, _) | Unit::Signal(_, body, _) => {
+            sum(count_statement(numbers, body), 1)
+        }
         Unit::Run(name, _) => number_of_module(numbers, name),
         Unit::Group(body) => count_statement(numbers, body),
         _ => 1,
     }
 }
 
+/// The statements of a unit with a body and a test.
+#[cycle(count)]
+#[tactic(auto, using(crate::proofs::Sums::capped))]
+fn count_watched(numbers: &Numbers<'_>, test: &Test, body: &Statement) -> u16
+    ensures { result ≡ min TOO_MANY (test_words (test_view test.now) + counted
+        (numbers_of numbers.now) (statement_derived (statement_view body.now)) + 1) }
+{
+    sum(sum(test_words(test), count_statement(numbers, body)), 1)
+}
+
 /// The statements of a test, with its branches.
 #[cycle(count)]
 #[tactic(auto, using(crate::proofs::Sums::capped))]
-fn count_test(numbers: &Numbers<'_>, branches: &Branches) -> u16
-    ensures { (s : List ℕ) → result ≡ min TOO_MANY (counted (numbers_of numbers.now)
-        (branches_derived s (branches_view branches.now))) }
+fn count_test(numbers: &Numbers<'_>, test: &Test, branches: &Branches) -> u16
+    ensures { result ≡ min TOO_MANY (counted (numbers_of numbers.now)
+        (branches_derived (test_view test.now) (branches_view branches.now))) }
 {
+    let words = test_words(test);
     match branches {
-        Branches::Then(body, _) | Branches::Else(body, _) => sum(count_statement(numbers, body), 1),
+        Branches::Then(body, _) | Branches::Else(body, _) => {
+            sum(sum(words, count_statement(numbers, body)), 1)
+        }
         Branches::Both(body, other, _) => {
             let both = sum(
                 count_statement(numbers, body),
                 count_statement(numbers, other),
             );
-            sum(both, 1)
+            sum(sum(words, both), 1)
         }
     }
 }

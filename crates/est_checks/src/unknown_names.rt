@@ -72,7 +72,7 @@ fn find_unrenamed<'a>(renamings: &[Renaming], names: &'a [Identifier]) -> Option
 }
 
 /// The first name of a list that is not renamed.
-fn first_unrenamed(renamings: &[Renaming], names: &[Identifier]) -> Option<Identifier>
+pub(crate) fn first_unrenamed(renamings: &[Renaming], names: &[Identifier]) -> Option<Identifier>
     ensures { result ≡ find (λ n. not (is_renamed (map renaming_view renamings.now) n)) names.now }
 {
     match find_unrenamed(renamings, names) {

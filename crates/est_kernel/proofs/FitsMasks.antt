@@ -1,46 +1,34 @@
--- A statement that is closed and within the limits has its numbers' bits in masks.
+-- In a closed statement within the limits, each number has its bit in a mask.
 use Rattle.std.proofs.Common.{◌≡◌, ◌≤◌, ℕ, ◌+◌, None, List, arith}
 use Rattle.std.specs.Prelude.{if◌then◌else◌, nat_lt, Some}
 use Rattle.std.proofs.lemmas.Bool.Decides.{nat_tests}
 use Rattle.est_kernel.specs.Limits.{statement_count, loop_depth, trap_depth, local_depth, limit_passed}
-use Rattle.est_kernel.specs.Masks.{HasSignalBit, HasTestBit, FitsMasks}
-use Rattle.est_kernel.specs.Scope.{IsAsked, IsClosed, IsEmitted, IsVisible}
-use Rattle.est_kernel.specs.View.{name_of, query_of, term_of}
+use Rattle.est_kernel.specs.Masks.{HasNameBit, FitsMasks}
+use Rattle.est_kernel.specs.Scope.{IsClosed, IsEmitted}
+use Rattle.est_kernel.specs.Term.{Name, outer, inner}
+use Rattle.est_kernel.specs.View.{name_of, term_of}
 use Rattle.est_kernel.specs.declared.interface.Declaration.{Declaration}
 use Rattle.est_kernel.specs.declared.limits.Limit.TheVariants.{Statements, Loops, Traps, Locals}
 use Rattle.est_kernel.specs.declared.limits.TheConstants.{MOST_STATEMENTS, MOST_LOOPS, MOST_TRAPS, MOST_LOCALS}
-use Rattle.est_kernel.specs.declared.statement.Signal.{Signal}
-use Rattle.est_kernel.specs.declared.statement.Signal.TheVariants.{Interface, Local}
-use Rattle.est_kernel.specs.declared.statement.Test.{Test}
-use Rattle.est_kernel.specs.declared.statement.Test.TheVariants.{Tick, Status}
 use Rattle.est_kernel.specs.declared.statement.Statement.{Statement}
-use Rattle.est_kernel.specs.declared.statement.Statement.TheVariants.{Nothing, Pause, Emit, Present', Suspend', Seq', Loop', Par', Trap', Exit, Local' as Binder'}
+use Rattle.est_kernel.specs.declared.statement.Statement.TheVariants.{Nothing, Pause, Emit, Present', Suspend', Seq'}
+use Rattle.est_kernel.specs.declared.statement.Statement.TheVariants.{Loop', Par', Trap', Exit, Local' as Binder'}
 
-visible_bit : (i : List Declaration) (locals : ℕ) (s : Signal) → IsVisible i locals (name_of s) → locals ≤ 64 → HasSignalBit s
-visible_bit i locals (Interface s) h l = tt
-visible_bit i locals (Local s) h l = omega (arith, h, l)
+emitted_bit : (i : List Declaration) (locals : ℕ) → locals ≤ 64 → (s : Name) → IsEmitted i locals s → HasNameBit s
+emitted_bit i locals l (outer n) h = tt
+emitted_bit i locals l (inner n) h = omega (arith, h, l)
 
-emitted_bit : (i : List Declaration) (locals : ℕ) (s : Signal) → IsEmitted i locals (name_of s) → locals ≤ 64 → HasSignalBit s
-emitted_bit i locals (Interface s) h l = tt
-emitted_bit i locals (Local s) h l = omega (arith, h, l)
-
-test_bit : (i : List Declaration) (locals : ℕ) (t : Test) → IsAsked i locals (query_of t) → locals ≤ 64 → HasTestBit t
-test_bit i locals Tick h l = tt
-test_bit i locals (Status s) h l = visible_bit i locals s h l
-
--- where few binders lie round each other, each number has its bit
+-- where few binders are nested, each number has its bit
 pub few_binders : (i : List Declaration) (traps locals : ℕ) (s : Statement) → IsClosed i traps locals (term_of s)
     → traps + trap_depth (term_of s) ≤ 62 → locals + local_depth (term_of s) ≤ 64 → FitsMasks s
 few_binders i traps locals Nothing h t l = tt
 few_binders i traps locals (Pause n) h t l = tt
-few_binders i traps locals (Emit s) h t l = emitted_bit i locals s h (omega (arith, l))
+few_binders i traps locals (Emit s) h t l = emitted_bit i locals (omega (arith, l)) (name_of s) h
 few_binders i traps locals (Present' k x p y q) h t l = (
-  test_bit i locals k h.0 (omega (arith, l)),
   few_binders i traps locals p h.1 (omega (arith, t)) (omega (arith, l)),
   few_binders i traps locals q h.2 (omega (arith, t)) (omega (arith, l)),
 )
-few_binders i traps locals (Suspend' k x p) h t l =
-    (test_bit i locals k h.0 (omega (arith, l)), few_binders i traps locals p h.1 t l)
+few_binders i traps locals (Suspend' k x p) h t l = few_binders i traps locals p h.1 t l
 few_binders i traps locals (Seq' x p y q) h t l = (
   few_binders i traps locals p h.0 (omega (arith, t)) (omega (arith, l)),
   few_binders i traps locals q h.1 (omega (arith, t)) (omega (arith, l)),
@@ -63,7 +51,7 @@ depths_kept : (statements loops traps locals : ℕ)
     → (traps ≤ MOST_TRAPS) × (locals ≤ MOST_LOCALS)
 depths_kept statements loops traps locals h = (grind (arith, nat_tests), grind (arith, nat_tests))
 
--- a closed statement within the limits has its numbers' bits in masks
+-- in a closed statement within the limits, each number has its bit in a mask
 pub fits_within_limits : (i : List Declaration) (s : Statement) → IsClosed i 0 0 (term_of s)
     → limit_passed (term_of s) ≡ None → FitsMasks s
 fits_within_limits i s h l =

@@ -1,27 +1,26 @@
 -- Interfaces, a declaration at a time.
-use Rattle.std.proofs.Common.{◌≡◌, ◌≢◌, ◌<◌, ◌≤◌, ◌+◌, ℕ, zero, suc, Bool, true, false, ◌&&◌, ◌||◌, nat_lt, List, [], ◌∷◌, ◌++◌, length, refl, sym, ◌∙◌, inl, inr, arith, get_or}
+use Rattle.std.proofs.Common.{◌≡◌, ◌≢◌, ◌<◌, ◌≤◌, ◌+◌, ℕ, zero, suc, Bool, true, false, ◌&&◌, ◌||◌, nat_lt, List, []}
+use Rattle.std.proofs.Common.{◌∷◌, ◌++◌, length, refl, inl, inr, arith, get_or}
 use Rattle.std.proofs.lemmas.Bool.{cases_eq, cases_lt}
 use Rattle.std.proofs.lemmas.Bool.Decides.{nat_tests}
 use Rattle.std.specs.List.{IsDistinct, AllByRecursion, list_any}
-use Rattle.est_kernel.specs.Interfaces.{same_kind, declares}
+use Rattle.est_kernel.specs.Interfaces.{declares}
 use Rattle.est_kernel.specs.declared.interface.Kind.{Kind}
-use Rattle.est_kernel.specs.contracts.interface.Kind.{the_type}
-use denote.Enum.Bare.{sameb}
-use Rattle.est_kernel.specs.declared.interface.Kind.TheVariants.{Input, Output}
 use Rattle.est_kernel.specs.declared.interface.Declaration.{Declaration}
 
 -- nothing is declared past the end
-pub declares_beyond : (kind : Kind) (ds : List Declaration) (n : ℕ) → length ds ≤ n → declares kind ds n ≡ false
-declares_beyond kind [] n h = refl
-declares_beyond kind (d ∷ ds) zero h = absurd (omega arith)
-declares_beyond kind (d ∷ ds) (suc n) h = declares_beyond kind ds n (omega arith)
+pub declares_beyond : (passes : Kind → Bool) (ds : List Declaration) (n : ℕ) → length ds ≤ n
+    → declares passes ds n ≡ false
+declares_beyond passes [] n h = refl
+declares_beyond passes (d ∷ ds) zero h = absurd (omega arith)
+declares_beyond passes (d ∷ ds) (suc n) h = declares_beyond passes ds n (omega arith)
 
--- a place is of the kind of its declaration
-pub declares_at : (kind : Kind) (ds : List Declaration) (n : ℕ) (d : Declaration) → n < length ds
-    → declares kind ds n ≡ same_kind (get_or ds n d).kind kind
-declares_at kind [] n d h = absurd (omega arith)
-declares_at kind (e ∷ ds) zero d h = refl
-declares_at kind (e ∷ ds) (suc n) d h = declares_at kind ds n d (omega arith)
+-- whether a place passes a test of kinds is told by its declaration
+pub declares_at : (passes : Kind → Bool) (ds : List Declaration) (n : ℕ) (d : Declaration) → n < length ds
+    → declares passes ds n ≡ passes (get_or ds n d).kind
+declares_at passes [] n d h = absurd (omega arith)
+declares_at passes (e ∷ ds) zero d h = refl
+declares_at passes (e ∷ ds) (suc n) d h = declares_at passes ds n d (omega arith)
 
 -- one more place is looked at, and put in
 pub with_next : (f g all : ℕ → Bool) (i : ℕ) → g i ≡ true → ((n : ℕ) → n ≢ i → g n ≡ f n) → all i ≡ true
@@ -39,32 +38,16 @@ without_next f all i is before n = elim (cases_eq n i) [
   | inr d ↦ rw (before n) (grind (arith, nat_tests))
 ]
 
--- kinds are the same where `==` says so
-pub same_as_told : (a b : Kind) → same_kind a b ≡ sameb the_type a b
-same_as_told Input Input = refl
-same_as_told Input Output = refl
-same_as_told Output Input = refl
-same_as_told Output Output = refl
-
-same_refl : (kind : Kind) → same_kind kind kind ≡ true
-same_refl Input = refl
-same_refl Output = refl
-
--- a declaration is of its own kind
-pub declares_its_kind : (ds : List Declaration) (n : ℕ) (d : Declaration) → n < length ds → d ≡ get_or ds n d
-    → declares d.kind ds n ≡ true
-declares_its_kind ds n d h e = declares_at d.kind ds n d h ∙ rw (sym e) (same_refl d.kind)
-
 -- no place is looked at
 pub none_looked_at : (x b : Bool) (n : ℕ) → x ≡ false → x ≡ (nat_lt n 0 && b)
 none_looked_at x b n h = grind (arith, nat_tests)
 
 -- the places that were looked at are all there are
-pub all_looked_at : (kind : Kind) (ds : List Declaration) (f : ℕ → Bool) (i : ℕ) → length ds ≤ i
-    → ((n : ℕ) → f n ≡ (nat_lt n i && declares kind ds n)) → (n : ℕ) → f n ≡ declares kind ds n
-all_looked_at kind ds f i h before n = elim (cases_lt n i) [
+pub all_looked_at : (passes : Kind → Bool) (ds : List Declaration) (f : ℕ → Bool) (i : ℕ) → length ds ≤ i
+    → ((n : ℕ) → f n ≡ (nat_lt n i && declares passes ds n)) → (n : ℕ) → f n ≡ declares passes ds n
+all_looked_at passes ds f i h before n = elim (cases_lt n i) [
   | inl l ↦ rw (before n) (grind (arith, nat_tests))
-  | inr g ↦ rw (before n, declares_beyond kind ds n (omega arith)) (grind (arith, nat_tests))
+  | inr g ↦ rw (before n, declares_beyond passes ds n (omega arith)) (grind (arith, nat_tests))
 ]
 
 apart_push : {K : Type 0} (eq : K → K → Bool) (x : K) (xs : List K) (y : K) → AllByRecursion (λ z. eq x z ≡ false) xs
@@ -76,7 +59,7 @@ neither : (a b : Bool) → (a || b) ≡ false → (a ≡ false) × (b ≡ false)
 neither false b h = (refl, h)
 neither true b h = cc
 
--- one more that none is, at the end
+-- one more, equal to none of them, at the end
 pub distinct_push : {K : Type 0} (eq : K → K → Bool) (xs : List K) (y : K) → IsDistinct eq xs
     → list_any (λ x. eq x y) xs ≡ false → IsDistinct eq (xs ++ y ∷ [])
 unfolding IsDistinct

@@ -1,14 +1,17 @@
 -- The bits of masks.
-use Rattle.std.proofs.Common.{◌≡◌, ◌<◌, ◌≤◌, ℕ, zero, suc, ◌-◌, ◌*◌, ◌/◌, ◌%◌, ◌^◌, max, min, Bool, true, false, not, ◌&&◌, ◌||◌, nat_eq, refl, ap, sym, ◌∙◌, arith, w64}
+use Rattle.std.proofs.Common.{◌≡◌, ◌<◌, ◌≤◌, ℕ, zero, suc, ◌-◌, ◌*◌, ◌/◌, ◌%◌, ◌^◌, max, min, Bool, true, false, not}
+use Rattle.std.proofs.Common.{◌&&◌, ◌||◌, nat_eq, refl, ap, sym, ◌∙◌, arith, w64}
 use Rattle.std.specs.Prelude.{bit_and, bit_or}
 use Rattle.std.specs.Int.{bit_at}
-use Rattle.std.proofs.lemmas.Nat.Bits.{bit_at_or, bit_at_and, bit_at_not, bit_at-lt, shr_and_one, bit_at-pow_same, bit_at-pow_other, bit_at-zero, bit_at-suc}
+use Rattle.std.proofs.lemmas.Nat.Bits.{bit_at_or, bit_at_and, bit_at_not, bit_at-lt, shr_and_one, bit_at-pow_same}
+use Rattle.std.proofs.lemmas.Nat.Bits.{bit_at-pow_other, bit_at-zero, bit_at-suc}
 use Rattle.std.proofs.lemmas.Bool.{eq-eqb, ne_eqb, cases_eq, cases_lt}
 use Rattle.std.proofs.Common.{inl, inr}
 use Rattle.std.proofs.lemmas.Nat.Bits.{bit_at_above, bit_at_mask_inside, bit_at_mask_below, bit_at-trailing_zeros}
 use Rattle.std.specs.Int.{trailing_zeros}
 use mathlib.Core.Path.{fun_ext}
-use Rattle.est_kernel.specs.Codes.{no_codes, code, either_code, but_zero, max_codes, codes_out_of_trap, Codes, some_up_to}
+use Rattle.est_kernel.specs.Codes.{no_codes, code, either_code, but_zero, max_codes, codes_out_of_trap, Codes}
+use Rattle.est_kernel.specs.Codes.{some_up_to}
 use Rattle.est_kernel.specs.Bits.{bits}
 
 max_one : (x y : ℕ) → x < 2 → y < 2 → nat_eq (max x y) 1 ≡ (nat_eq x 1 || nat_eq y 1)
@@ -184,7 +187,8 @@ up_to_from s k (suc n) e l = elim (cases_eq k (suc n)) [
 ]
 
 -- the mask from the least bit on
-pub least_bits : (a n : ℕ) → 0 < a → a < 2 ^ 64 → n < 64 → bits (2 ^ 64 - 2 ^ trailing_zeros w64 a) n ≡ some_up_to (bits a) n
+pub least_bits : (a n : ℕ) → 0 < a → a < 2 ^ 64 → n < 64
+    → bits (2 ^ 64 - 2 ^ trailing_zeros w64 a) n ≡ some_up_to (bits a) n
 unfolding bits
 least_bits a n p q l =
     let low = bit_at-trailing_zeros w64 a p q in
@@ -211,7 +215,7 @@ max_bits a b fa fb p q h k = fun_ext (λ n. elim (cases_lt n 64) [
   ) refl
 ])
 
--- a mask leaves what lies past the width
+-- past the width, a mask of 64 bits changes nothing
 pub bits_and_above : (x y n : ℕ) → x < 2 ^ 64 → 64 ≤ n → bits (bit_and x y) n ≡ bits x n
 bits_and_above x y n p q = rw (bits_and x y n, bits_above x n p q) refl
 
@@ -225,7 +229,8 @@ unfolding bits
 bits_not b n q l = ap (λ y. nat_eq y 1) (bit_at_not w64 b n q l) ∙ not_one (bit_at b n) (bit_at-lt b n)
 
 -- the bits of one mask that are not in another
-pub bits_minus : (a b n : ℕ) → a < 2 ^ 64 → b < 2 ^ 64 → bits (bit_and a (2 ^ 64 - 1 - b)) n ≡ (bits a n && not (bits b n))
+pub bits_minus : (a b n : ℕ) → a < 2 ^ 64 → b < 2 ^ 64 → bits (bit_and a (2 ^ 64 - 1 - b)) n
+    ≡ (bits a n && not (bits b n))
 bits_minus a b n p q = bits_and a (2 ^ 64 - 1 - b) n ∙ elim (cases_lt n 64) [
   | inl l ↦ ap (λ x. bits a n && x) (bits_not b n q l)
   | inr g ↦ rw (bits_above a n p g) refl

@@ -1,5 +1,6 @@
 -- Words of bits.
-use Rattle.std.proofs.Common.{◌≡◌, ◌≢◌, ◌<◌, ℕ, ◌/◌, ◌%◌, Bool, false, List, length, refl, inl, inr, arith, get_or-set_same, get_or-set_other}
+use Rattle.std.proofs.Common.{◌≡◌, ◌≢◌, ◌<◌, ℕ, ◌/◌, ◌%◌, Bool, false, List, length, refl, inl, inr, arith}
+use Rattle.std.proofs.Common.{get_or-set_same, get_or-set_other}
 use Rattle.std.specs.Prelude.{slice_set, slice_index}
 use Rattle.std.proofs.lemmas.Bool.{cases_eq}
 use Rattle.std.specs.Prelude.{replicate, zero, suc}
@@ -14,7 +15,8 @@ word_same ws n w b l e = rw get_or-set_same e
 -- the other bits
 pub word_others : (ws : List ℕ) (n w : ℕ) → n / 64 < length ws
     → ((k : ℕ) → k ≢ n % 64 → bits w k ≡ bits (slice_index ws (n / 64)) k)
-    → (i : ℕ) → i ≢ n → bits (slice_index (slice_set ws (n / 64) w) (i / 64)) (i % 64) ≡ bits (slice_index ws (i / 64)) (i % 64)
+    → (i : ℕ) → i ≢ n → bits (slice_index (slice_set ws (n / 64) w) (i / 64)) (i % 64)
+    ≡ bits (slice_index ws (i / 64)) (i % 64)
 word_others ws n w l f i d = elim (cases_eq (i / 64) (n / 64)) [
   | inl e ↦ let r : i % 64 ≢ n % 64 = λ h. d (omega arith) in rw (e, get_or-set_same) (f (i % 64) r)
   | inr g ↦ rw get_or-set_other refl

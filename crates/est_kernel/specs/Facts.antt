@@ -3,13 +3,15 @@ use Rattle.std.specs.Prelude.{ℕ, List, ◌+◌}
 use mathlib.Core.Bool.{Bool-set}
 use Rattle.std.proofs.Math.Nat.{ℕ_set}
 use Rattle.std.specs.Coded.{Unit-prop, le_prop, ×_prop}
-use Rattle.est_kernel.specs.Term.{Name, outer, inner, Query, tick, of, Term, nothing, pause, emit, present, suspend, held, seq, loop, par, trap, exit, signal}
-use Rattle.est_kernel.specs.Scope.{IsVisible, IsAsked, IsEmitted, IsClosed}
+use Rattle.est_kernel.specs.Term.{Name, outer, inner, Query, tick, of, negated, joined, Queries, last, more, Term}
+use Rattle.est_kernel.specs.Term.{nothing, pause, emit, present, suspend, held, seq, loop, par, trap, exit, signal}
+use Rattle.est_kernel.specs.Scope.{IsVisible, EachSignal, EachSignalOfAll, IsEmitted, IsClosed}
 use Rattle.est_kernel.specs.StartCodes.{IsLoopSafe}
 use Rattle.est_kernel.specs.PauseNumbers.{HasDistinctPauses}
 use Rattle.est_kernel.specs.declared.interface.Declaration.{Declaration}
 use Rattle.est_kernel.specs.declared.statement.Statement.{Statement}
-use Rattle.est_kernel.specs.declared.statement.Statement.TheVariants.{Nothing, Pause, Emit, Present', Suspend', Seq', Loop', Par', Trap', Exit, Local' as Binder'}
+use Rattle.est_kernel.specs.declared.statement.Statement.TheVariants.{Nothing, Pause, Emit, Present', Suspend', Seq'}
+use Rattle.est_kernel.specs.declared.statement.Statement.TheVariants.{Loop', Par', Trap', Exit, Local' as Binder'}
 
 -- that no two pauses have one number
 pub HasDistinctPauses-prop : (s : Statement) → IsProp (HasDistinctPauses s)
@@ -41,17 +43,25 @@ IsLoopSafe-prop (exit k) = Unit-prop
 IsLoopSafe-prop (signal s p) = IsLoopSafe-prop p
 
 -- that a signal is there
-IsVisible-prop : (i : List Declaration) (n : ℕ) (s : Name) → IsProp (IsVisible i n s)
+pub IsVisible-prop : (i : List Declaration) (n : ℕ) (s : Name) → IsProp (IsVisible i n s)
 IsVisible-prop i n (outer m) = le_prop
 IsVisible-prop i n (inner m) = le_prop
 
--- that what is asked is there
-IsAsked-prop : (i : List Declaration) (n : ℕ) (s : Query) → IsProp (IsAsked i n s)
-IsAsked-prop i n tick = Unit-prop
-IsAsked-prop i n (of s) = IsVisible-prop i n s
+mutual
+  -- that each signal of a test has a property that has one proof
+  pub EachSignal-prop : (P : Name → Type 0) → ((s : Name) → IsProp (P s)) → (t : Query) → IsProp (EachSignal P t)
+  EachSignal-prop P one tick = Unit-prop
+  EachSignal-prop P one (of s) = one s
+  EachSignal-prop P one (negated t) = EachSignal-prop P one t
+  EachSignal-prop P one (joined c t ts) = hlevel (EachSignal-prop P one t, EachSignalOfAll-prop P one ts)
+
+  EachSignalOfAll-prop : (P : Name → Type 0) → ((s : Name) → IsProp (P s)) → (ts : Queries)
+      → IsProp (EachSignalOfAll P ts)
+  EachSignalOfAll-prop P one (last t) = EachSignal-prop P one t
+  EachSignalOfAll-prop P one (more t ts) = hlevel (EachSignal-prop P one t, EachSignalOfAll-prop P one ts)
 
 -- that a signal may be emitted
-IsEmitted-prop : (i : List Declaration) (n : ℕ) (s : Name) → IsProp (IsEmitted i n s)
+pub IsEmitted-prop : (i : List Declaration) (n : ℕ) (s : Name) → IsProp (IsEmitted i n s)
 IsEmitted-prop i n (outer m) = hlevel Bool-set
 IsEmitted-prop i n (inner m) = le_prop
 
@@ -60,9 +70,11 @@ pub IsClosed-prop : (i : List Declaration) (m n : ℕ) (t : Term) → IsProp (Is
 IsClosed-prop i m n nothing = Unit-prop
 IsClosed-prop i m n pause = Unit-prop
 IsClosed-prop i m n (emit s) = IsEmitted-prop i n s
-IsClosed-prop i m n (present s p q) = hlevel (IsAsked-prop i n s, IsClosed-prop i m n p, IsClosed-prop i m n q)
-IsClosed-prop i m n (suspend s p) = hlevel (IsAsked-prop i n s, IsClosed-prop i m n p)
-IsClosed-prop i m n (held s p) = hlevel (IsAsked-prop i n s, IsClosed-prop i m n p)
+IsClosed-prop i m n (present s p q) =
+    hlevel (EachSignal-prop (IsVisible i n) (IsVisible-prop i n) s, IsClosed-prop i m n p, IsClosed-prop i m n q)
+IsClosed-prop i m n (suspend s p) =
+    hlevel (EachSignal-prop (IsVisible i n) (IsVisible-prop i n) s, IsClosed-prop i m n p)
+IsClosed-prop i m n (held s p) = hlevel (EachSignal-prop (IsVisible i n) (IsVisible-prop i n) s, IsClosed-prop i m n p)
 IsClosed-prop i m n (seq p q) = hlevel (IsClosed-prop i m n p, IsClosed-prop i m n q)
 IsClosed-prop i m n (loop p) = IsClosed-prop i m n p
 IsClosed-prop i m n (par p q) = hlevel (IsClosed-prop i m n p, IsClosed-prop i m n q)

@@ -3,30 +3,41 @@ use Rattle.std.specs.Prelude.{ℕ, zero, suc, ◌≤◌, List, [], ◌∷◌, le
 use Rattle.std.specs.List.{IsDistinct}
 use Rattle.std.specs.Str.{bytes_eq}
 use Rattle.est_kernel.specs.declared.interface.Kind.{Kind}
-use Rattle.est_kernel.specs.declared.interface.Kind.TheVariants.{Input, Output}
+use Rattle.est_kernel.specs.declared.interface.Kind.TheVariants.{Input, Output, InputOutput}
 use Rattle.est_kernel.specs.declared.interface.Declaration.{Declaration}
 use Rattle.est_kernel.specs.declared.interface.TheConstants.{MOST_SIGNALS}
 
--- whether the two are one
-abbrev pub same_kind : Kind → Kind → Bool
-same_kind Input Input = true
-same_kind Output Output = true
-same_kind Input Output = false
-same_kind Output Input = false
+-- whether a signal of this kind may be offered
+abbrev pub can_be_offered : Kind → Bool
+can_be_offered Input = true
+can_be_offered Output = false
+can_be_offered InputOutput = true
 
--- whether the n-th signal of an interface is there and of this kind
-abbrev pub declares : Kind → List Declaration → ℕ → Bool
-declares kind [] n = false
-declares kind (d ∷ ds) zero = same_kind d.kind kind
-declares kind (d ∷ ds) (suc n) = declares kind ds n
+-- whether a signal of this kind may be emitted
+abbrev pub can_be_emitted : Kind → Bool
+can_be_emitted Input = false
+can_be_emitted Output = true
+can_be_emitted InputOutput = true
 
--- the places of the inputs
-abbrev pub inputs_of : List Declaration → ℕ → Bool
-inputs_of ds = declares Input ds
+-- whether a signal of this kind comes from outside alone
+abbrev pub is_input_alone : Kind → Bool
+is_input_alone Input = true
+is_input_alone Output = false
+is_input_alone InputOutput = false
 
--- the places of the outputs
-abbrev pub outputs_of : List Declaration → ℕ → Bool
-outputs_of ds = declares Output ds
+-- whether the n-th signal of an interface is there and of a kind that passes the test
+abbrev pub declares : (Kind → Bool) → List Declaration → ℕ → Bool
+declares passes [] n = false
+declares passes (d ∷ ds) zero = passes d.kind
+declares passes (d ∷ ds) (suc n) = declares passes ds n
+
+-- the places of the signals that may be offered: inputs and inputoutputs
+abbrev pub offerable : List Declaration → ℕ → Bool
+offerable ds = declares can_be_offered ds
+
+-- the places of the signals that may be emitted: outputs and inputoutputs
+abbrev pub emittable : List Declaration → ℕ → Bool
+emittable ds = declares can_be_emitted ds
 
 -- whether a declaration is of this name
 abbrev pub is_named : List ℕ → Declaration → Bool
@@ -36,6 +47,6 @@ is_named name d = bytes_eq d.name name
 abbrev pub HasDistinctNames : List Declaration → Type 0
 HasDistinctNames ds = IsDistinct (λ a b. bytes_eq a.name b.name) ds
 
--- at most so many declarations as an interface has room for, and no two of one name
+-- no more declarations than an interface has room for, and no two of one name
 abbrev pub IsInterface : List Declaration → Type 0
 IsInterface ds = (length ds ≤ MOST_SIGNALS) × HasDistinctNames ds

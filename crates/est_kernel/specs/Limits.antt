@@ -1,18 +1,36 @@
 -- How large a term is, and the limit that it passes (this project's own limits).
 use Rattle.std.specs.Prelude.{ℕ, ◌+◌, max, nat_lt, Option, Some, None, if◌then◌else◌}
-use Rattle.est_kernel.specs.Term.{Term, nothing, pause, emit, present, suspend, held, seq, loop, par, trap, exit, signal}
+use Rattle.est_kernel.specs.Term.{Query, tick, of, negated, joined, Queries, last, more, Joint, Term, nothing, pause}
+use Rattle.est_kernel.specs.Term.{emit, present, suspend, held, seq, loop, par, trap, exit, signal}
 use Rattle.est_kernel.specs.declared.limits.Limit.{Limit}
 use Rattle.est_kernel.specs.declared.limits.Limit.TheVariants.{Statements, Loops, Traps, Locals}
 use Rattle.est_kernel.specs.declared.limits.TheConstants.{MOST_STATEMENTS, MOST_LOOPS, MOST_TRAPS, MOST_LOCALS}
 
--- how many statements a term has, itself included
+abbrev mutual
+  -- how many `not`, `and` and `or` a test has: n operands have n - 1 words between them
+  pub word_count : Query → ℕ
+  word_count tick = 0
+  word_count (of s) = 0
+  word_count (negated t) = word_count t + 1
+  word_count (joined c t ts) = word_count t + later_word_count ts
+
+  -- the same for further operands, each with the word before it
+  pub later_word_count : Queries → ℕ
+  later_word_count (last t) = word_count t + 1
+  later_word_count (more t ts) = word_count t + 1 + later_word_count ts
+
+-- the same for operands
+abbrev pub joint_word_count : Joint → ℕ
+joint_word_count o = word_count o.first + later_word_count o.later
+
+-- how many statements a term has, itself included; each `not`, `and` and `or` of a test is one
 abbrev pub statement_count : Term → ℕ
 statement_count nothing = 1
 statement_count pause = 1
 statement_count (emit s) = 1
-statement_count (present s p q) = statement_count p + statement_count q + 1
-statement_count (suspend s p) = statement_count p + 1
-statement_count (held s p) = statement_count p + 1
+statement_count (present s p q) = word_count s + statement_count p + statement_count q + 1
+statement_count (suspend s p) = word_count s + statement_count p + 1
+statement_count (held s p) = word_count s + statement_count p + 1
 statement_count (seq p q) = statement_count p + statement_count q + 1
 statement_count (loop p) = statement_count p + 1
 statement_count (par p q) = statement_count p + statement_count q + 1
@@ -20,7 +38,7 @@ statement_count (trap p) = statement_count p + 1
 statement_count (exit k) = 1
 statement_count (signal s p) = statement_count p + 1
 
--- how many loops lie in one another
+-- how deep loops are nested
 abbrev pub loop_depth : Term → ℕ
 loop_depth nothing = 0
 loop_depth pause = 0
@@ -35,7 +53,7 @@ loop_depth (trap p) = loop_depth p
 loop_depth (exit k) = 0
 loop_depth (signal s p) = loop_depth p
 
--- how many traps lie in one another
+-- how deep traps are nested
 abbrev pub trap_depth : Term → ℕ
 trap_depth nothing = 0
 trap_depth pause = 0
@@ -50,7 +68,7 @@ trap_depth (trap p) = trap_depth p + 1
 trap_depth (exit k) = 0
 trap_depth (signal s p) = trap_depth p
 
--- how many local signals lie in one another
+-- how deep local signals are nested
 abbrev pub local_depth : Term → ℕ
 local_depth nothing = 0
 local_depth pause = 0

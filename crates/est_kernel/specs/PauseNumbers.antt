@@ -1,7 +1,8 @@
 -- The numbers of a statement's pauses (this project's own form).
 use Rattle.std.specs.Prelude.{◌≡◌, ℕ, Bool, true, false, ◌||◌, nat_eq, ◌+◌, ◌≤◌, ◌<◌}
 use Rattle.est_kernel.specs.declared.statement.Statement.{Statement}
-use Rattle.est_kernel.specs.declared.statement.Statement.TheVariants.{Nothing, Pause, Emit, Present', Suspend', Seq', Loop', Par', Trap', Exit, Local' as Binder'}
+use Rattle.est_kernel.specs.declared.statement.Statement.TheVariants.{Nothing, Pause, Emit, Present', Suspend', Seq'}
+use Rattle.est_kernel.specs.declared.statement.Statement.TheVariants.{Loop', Par', Trap', Exit, Local' as Binder'}
 
 -- whether the statement has this pause
 abbrev pub has_pause : Statement → ℕ → Bool

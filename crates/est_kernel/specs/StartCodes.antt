@@ -1,8 +1,9 @@
--- The completion codes with which a term can be begun, and loops whose bodies take time.
--- (Berry, The Constructive Semantics of Pure Esterel, instantaneous loops; the codes by cases are this project's own form)
+-- The completion codes with which a term can be begun, and loops whose bodies take time. (Berry, The Constructive
+-- Semantics of Pure Esterel, instantaneous loops; the codes by cases are this project's own form)
 use Rattle.std.specs.Prelude.{◌≡◌, ◌+◌, false, cond}
 use Rattle.est_kernel.specs.Codes.{Codes, code, either_code, but_zero, max_codes, codes_out_of_trap}
-use Rattle.est_kernel.specs.Term.{Term, nothing, pause, emit, present, suspend, held, seq, loop, par, trap, exit, signal}
+use Rattle.est_kernel.specs.Term.{Term, nothing, pause, emit, present, suspend, held, seq, loop, par, trap, exit}
+use Rattle.est_kernel.specs.Term.{signal}
 
 -- the codes with which a term can be begun, both branches of each test taken
 abbrev pub start_codes : Term → Codes

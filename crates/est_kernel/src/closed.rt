@@ -1,25 +1,27 @@
-//! Whether each name of a statement has its binder.
+//! Whether every name of a statement is bound.
 
-ghost use Rattle.std.specs.Prelude.{◌↔◌, ℕ, IsTrue};
-ghost use Rattle.est_kernel.specs.Inner.Counting.{Counts, TellsClosed};
-ghost use Rattle.est_kernel.specs.Scope.{IsAsked, IsClosed, IsEmitted, IsVisible};
-ghost use Rattle.est_kernel.specs.View.{name_of, query_of, term_of};
+ghost use Rattle.std.specs.Prelude.{◌≡◌, ◌↔◌, ℕ, IsTrue};
+ghost use Rattle.est_kernel.specs.Inner.Counting.{Counts, TellsClosed, each_signal};
+ghost use Rattle.est_kernel.specs.Inner.Counting.{each_signal_of_joint, is_seen};
+ghost use Rattle.est_kernel.specs.Scope.{IsAsked, IsClosed, IsEmitted};
+ghost use Rattle.est_kernel.specs.View.{joint_of, name_of, query_of, term_of};
 
 use crate::interface::Interface;
 use crate::mask;
-use crate::statement::{Signal, Statement, Test};
+use crate::statement::{Operands, Signal, Statement, Test};
 
-/// Whether each signal is of the interface or of a binder round it, no input is emitted, each exit has its trap, and each
-/// local signal's number is the number of those round its binder.
+/// Whether every name is bound: each signal by the interface or by a `signal` around it, each
+/// `exit` by a trap around it. No signal that is an input alone is emitted. A local signal's number
+/// is the number of local signals around its binder.
 pub fn is_closed(interface: &Interface, s: &Statement) -> bool
     ensures { IsTrue result ↔ IsClosed interface.now 0 0 (term_of s.now) }
 {
     is_closed_within(interface, 0, 0, s)
 }
 
-/// Whether the signal is of the interface, or of one of so many local signals.
-fn is_visible(interface: &Interface, locals: u32, s: Signal) -> bool
-    ensures { (l : ℕ) → Counts l locals → IsTrue result ↔ IsVisible interface.now l (name_of s) }
+/// Whether the signal is of the interface, or one of n local signals.
+fn is_seen(interface: &Interface, locals: u32, s: Signal) -> bool
+    ensures { (l : ℕ) → Counts l locals → result ≡ is_seen interface.now l (name_of s) }
 {
     match s {
         Signal::Interface(s) => (s.index as usize) < interface.len(),
@@ -27,28 +29,55 @@ fn is_visible(interface: &Interface, locals: u32, s: Signal) -> bool
     }
 }
 
-/// Whether what is asked is `tick` or a visible signal.
-fn is_asked(interface: &Interface, locals: u32, test: Test) -> bool
-    ensures { (l : ℕ) → Counts l locals → IsTrue result ↔ IsAsked interface.now l (query_of test) }
+/// Whether each signal of a test is visible.
+fn is_asked(interface: &Interface, locals: u32, test: &Test) -> bool
+    ensures { (l : ℕ) → Counts l locals → IsTrue result
+        ↔ IsAsked interface.now l (query_of test.now) }
+{
+    asks_visible(interface, locals, test)
+}
+
+/// The same, as a test of each signal.
+#[cycle(asks)]
+fn asks_visible(interface: &Interface, locals: u32, test: &Test) -> bool
+    ensures { (l : ℕ) → Counts l locals → result
+        ≡ each_signal (is_seen interface.now l) (query_of test.now) }
 {
     match test {
         Test::Tick => true,
-        Test::Status(s) => is_visible(interface, locals, s),
+        Test::Status(s) => is_seen(interface, locals, *s),
+        Test::Not(t) => asks_visible(interface, locals, t),
+        Test::Joined(_, operands) => all_ask_visible(interface, locals, operands),
     }
 }
 
-/// Whether the signal is an output, or of one of so many local signals.
+/// The same for operands.
+#[cycle(asks)]
+fn all_ask_visible(interface: &Interface, locals: u32, operands: &Operands) -> bool
+    ensures { (l : ℕ) → Counts l locals
+        → result ≡ each_signal_of_joint (is_seen interface.now l) (joint_of operands.now) }
+{
+    let mut all = asks_visible(interface, locals, &operands.first)
+        && asks_visible(interface, locals, &operands.second);
+    for test in &operands.later {
+        all = all && asks_visible(interface, locals, test);
+    }
+    all
+}
+
+/// Whether the signal is an output or an inputoutput, or one of n local signals.
 fn is_emitted(interface: &Interface, locals: u32, s: Signal) -> bool
     ensures { (l : ℕ) → Counts l locals → IsTrue result ↔ IsEmitted interface.now l (name_of s) }
 {
     match s {
-        Signal::Interface(s) => mask::has(interface.outputs(), s.index),
+        Signal::Interface(s) => mask::has(interface.emittable(), s.index),
         Signal::Local(s) => (s.index as u32) < locals,
     }
 }
 
-/// The same, within so many traps and local signals. Counts stop at the largest `u32`, which no number of a statement reaches. It goes as
-/// deep as the statement is: at most 2,048 levels where that keeps the limit on statements.
+/// The same for a statement with n traps and m local signals around it. The counts stop at the
+/// largest `u32`; no number in a statement is that large. Recursion is as deep as the statement: at
+/// most 2,048 levels for one within the limit on statements.
 fn is_closed_within(interface: &Interface, traps: u32, locals: u32, s: &Statement) -> bool
     ensures { TellsClosed result interface.now traps locals (term_of s.now) }
 {
@@ -56,12 +85,12 @@ fn is_closed_within(interface: &Interface, traps: u32, locals: u32, s: &Statemen
         Statement::Nothing | Statement::Pause(_) => true,
         Statement::Emit(s) => is_emitted(interface, locals, *s),
         Statement::Present(t, p, q) => {
-            is_asked(interface, locals, *t)
+            is_asked(interface, locals, t)
                 && is_closed_within(interface, traps, locals, p)
                 && is_closed_within(interface, traps, locals, q)
         }
         Statement::Suspend(t, p) => {
-            is_asked(interface, locals, *t) && is_closed_within(interface, traps, locals, p)
+            is_asked(interface, locals, t) && is_closed_within(interface, traps, locals, p)
         }
         Statement::Seq(p, q) | Statement::Par(p, q) => {
             is_closed_within(interface, traps, locals, p)

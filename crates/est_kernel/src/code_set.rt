@@ -2,7 +2,8 @@
 
 ghost use Rattle.std.specs.Prelude.{◌≡◌, ◌<◌, ℕ};
 ghost use Rattle.est_kernel.specs.Bits.{bits};
-ghost use Rattle.est_kernel.specs.Codes.{no_codes, code, either_code, but_zero, max_codes, codes_out_of_trap, some_up_to};
+ghost use Rattle.est_kernel.specs.Codes.{no_codes, code, either_code, but_zero, max_codes};
+ghost use Rattle.est_kernel.specs.Codes.{codes_out_of_trap, some_up_to};
 ghost use Rattle.est_kernel.specs.CodeViews.{code_of, codes_of};
 
 use crate::completion::Completion;
@@ -50,7 +51,7 @@ impl CodeSet {
         }
     }
 
-    /// The codes but 0.
+    /// The codes without 0.
     pub fn without_zero(self) -> Self
         ensures { codes_of result ≡ but_zero (codes_of self) }
     {
@@ -59,7 +60,7 @@ impl CodeSet {
         }
     }
 
-    /// What is left of the codes outside a trap: 0 and 2 become 0, 1 stays, larger ones fall by 1.
+    /// The codes as they are seen outside a trap: 0 and 2 become 0, 1 stays, larger ones fall by 1.
     pub fn out_of_trap(self) -> Self
         ensures { codes_of result ≡ codes_out_of_trap (codes_of self) }
     {
@@ -90,14 +91,14 @@ fn place_of(completion: Completion) -> u8
     }
 }
 
-/// The numbers of a mask but 0.
+/// The numbers of a mask without 0.
 fn but_lowest(a: u64) -> u64
     ensures { bits result ≡ but_zero (bits a) }
 {
     a >> 1 << 1
 }
 
-/// The codes of a mask as they are outside a trap.
+/// The codes of a mask as they are seen outside a trap.
 fn out_of_trap(a: u64) -> u64
     ensures { bits result ≡ codes_out_of_trap (bits a) }
 {
@@ -111,7 +112,7 @@ fn greater_of_pairs(a: u64, b: u64) -> u64
     a & from_least(b) | b & from_least(a)
 }
 
-/// The numbers from the least one of a mask on.
+/// All numbers from the least one of a mask on.
 fn from_least(a: u64) -> u64
     ensures { (n : ℕ) → n < 64 → bits result n ≡ some_up_to (bits a) n }
 {

@@ -13,7 +13,7 @@ pub enum Completion {
     End,
     /// It pauses: code 1.
     Pause,
-    /// It exits the trap that lies so many traps outwards: code 2, and one more for each trap between.
+    /// It exits the trap that lies k traps further out: code k + 2.
     Exit(TrapIndex),
 }
 
@@ -38,7 +38,7 @@ impl Completion {
         }
     }
 
-    /// The one of the greater code.
+    /// The one with the greater code.
     pub fn greater(self, other: Completion) -> Completion
         ensures { code_of result ≡ max (code_of self) (code_of other) }
     {
@@ -57,7 +57,8 @@ impl Completion {
         }
     }
 
-    /// What it is outside a trap: the trap's own exit ends it, an outer exit comes one nearer.
+    /// The same as it is seen outside a trap: the trap's own exit ends it, the exit of an outer
+    /// trap is one trap nearer.
     pub fn out_of_trap(self) -> Completion
         ensures { code_of result ≡ code_out_of_trap (code_of self) }
     {

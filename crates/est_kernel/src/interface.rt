@@ -1,9 +1,11 @@
-//! The interface of a module: its signals in declaration order, each an input or an output.
+//! The interface of a module: its signals in declaration order, each an input, an output or both.
 
-ghost use Rattle.std.specs.Prelude.{◌≡◌, ◌++◌, ◌∷◌, [], ◌≤◌, ◌<◌, length, IfOk, IfErr, IfSome, OnErr, option_map, IsTrue, ◌↔◌, true, false, Some, slice_get};
+ghost use Rattle.std.specs.Prelude.{◌≡◌, ◌++◌, ◌∷◌, [], ◌≤◌, ◌<◌, length, IfOk, IfSome, OnErr};
+ghost use Rattle.std.specs.Prelude.{option_map, IsTrue, ◌↔◌, Bool, false, Some, slice_get};
 ghost use Rattle.std.specs.List.{position, list_any};
 ghost use Rattle.est_kernel.specs.Bits.{bits};
-ghost use Rattle.est_kernel.specs.Interfaces.{declares, inputs_of, outputs_of, is_named, HasDistinctNames};
+ghost use Rattle.est_kernel.specs.Interfaces.{declares, offerable, emittable, is_named};
+ghost use Rattle.est_kernel.specs.Interfaces.{HasDistinctNames};
 
 use crate::mask;
 use crate::statement::InterfaceSignal;
@@ -14,13 +16,49 @@ use std::marker::Model;
 /// The most signals of an interface.
 pub const MOST_SIGNALS: usize = 64;
 
-/// Whether a signal comes from outside or goes there.
+/// Whether a signal comes from outside, goes there, or both.
 #[derive(Clone, Copy, PartialEq, Eq, Debug)]
 pub enum Kind {
     /// It may be offered, and isn't emitted.
     Input,
     /// It may be emitted, and isn't offered.
     Output,
+    /// It may be offered and emitted.
+    InputOutput,
+}
+
+impl Kind {
+    ghost use Rattle.est_kernel.specs.Interfaces.{can_be_offered, can_be_emitted, is_input_alone};
+
+    /// Whether a signal of this kind may be offered.
+    pub fn can_be_offered(self) -> bool
+        ensures { result ≡ can_be_offered self }
+    {
+        match self {
+            Kind::Input | Kind::InputOutput => true,
+            Kind::Output => false,
+        }
+    }
+
+    /// Whether a signal of this kind may be emitted.
+    pub fn can_be_emitted(self) -> bool
+        ensures { result ≡ can_be_emitted self }
+    {
+        match self {
+            Kind::Input => false,
+            Kind::Output | Kind::InputOutput => true,
+        }
+    }
+
+    /// Whether a signal of this kind comes from outside alone.
+    pub fn is_input_alone(self) -> bool
+        ensures { result ≡ is_input_alone self }
+    {
+        match self {
+            Kind::Input => true,
+            Kind::Output | Kind::InputOutput => false,
+        }
+    }
 }
 
 /// A signal of an interface.
@@ -28,11 +66,12 @@ pub enum Kind {
 pub struct Declaration {
     /// Its name.
     pub name: Identifier,
-    /// Whether it is an input or an output.
+    /// Whether it is an input, an output or both.
     pub kind: Kind,
 }
 
-/// At most `MOST_SIGNALS` signals with names of their own. A contract sees the list of their declarations.
+/// At most `MOST_SIGNALS` signals with names of their own. A contract sees the list of their
+/// declarations.
 #[derive(Drop)]
 pub struct Interface {
     declarations: Vec<Declaration>,
@@ -144,35 +183,36 @@ impl Interface {
     /// The kind of a signal.
     pub fn kind(&self, signal: InterfaceSignal) -> Kind
         requires { signal.index < length self.now }
-        ensures { declares result self.now signal.index ≡ true }
+        ensures { (passes : Kind → Bool) → declares passes self.now signal.index ≡ passes result }
     {
         self.declarations[signal.index as usize].kind
     }
 
-    /// The signals of a kind, as a mask.
-    fn of_kind(&self, kind: Kind) -> u64
-        ensures { bits result ≡ declares kind self.now }
+    /// The signals that may be offered, inputs and inputoutputs: a bit for each signal, in
+    /// declaration order.
+    pub fn offerable(&self) -> u64
+        ensures { bits result ≡ offerable self.now }
     {
         let mut signals = 0;
         for (place, declaration) in self.declarations.iter().enumerate() {
-            if declaration.kind == kind {
+            if declaration.kind.can_be_offered() {
                 signals = mask::with(signals, place as u8);
             }
         }
         signals
     }
 
-    /// The inputs: a bit for each signal, in declaration order.
-    pub fn inputs(&self) -> u64
-        ensures { bits result ≡ inputs_of self.now }
+    /// The signals that may be emitted, outputs and inputoutputs: a bit for each signal, in
+    /// declaration order.
+    pub fn emittable(&self) -> u64
+        ensures { bits result ≡ emittable self.now }
     {
-        self.of_kind(Kind::Input)
-    }
-
-    /// The outputs: a bit for each signal, in declaration order.
-    pub fn outputs(&self) -> u64
-        ensures { bits result ≡ outputs_of self.now }
-    {
-        self.of_kind(Kind::Output)
+        let mut signals = 0;
+        for (place, declaration) in self.declarations.iter().enumerate() {
+            if declaration.kind.can_be_emitted() {
+                signals = mask::with(signals, place as u8);
+            }
+        }
+        signals
     }
 }

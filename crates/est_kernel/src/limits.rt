@@ -1,19 +1,21 @@
-//! How large a kernel may be: its statements, and the nesting of its loops, traps and local signals.
+//! How large a kernel may be: how many statements it has, and how deep its loops, traps and local
+//! signals are nested.
 
-ghost use Rattle.std.specs.Prelude.{◌≡◌, ◌≤◌};
+ghost use Rattle.std.specs.Prelude.{◌≡◌, ◌≤◌, ◌+◌};
 ghost use Rattle.est_kernel.specs.Inner.Counting.{LeavesRoom};
-ghost use Rattle.est_kernel.specs.View.{term_of};
-ghost use Rattle.est_kernel.specs.Limits.{statement_count, loop_depth, trap_depth, local_depth, limit_passed};
+ghost use Rattle.est_kernel.specs.View.{joint_of, query_of, term_of};
+ghost use Rattle.est_kernel.specs.Limits.{joint_word_count, statement_count, word_count};
+ghost use Rattle.est_kernel.specs.Limits.{loop_depth, trap_depth, local_depth, limit_passed};
 
-use crate::statement::Statement;
+use crate::statement::{Operands, Statement, Test};
 
 /// The most statements of a kernel.
 pub const MOST_STATEMENTS: u16 = 2048;
-/// The most loops in one another.
+/// How deep loops may be nested.
 pub const MOST_LOOPS: u16 = 16;
-/// The most traps in one another.
+/// How deep traps may be nested.
 pub const MOST_TRAPS: u16 = 16;
-/// The most local signals in one another.
+/// How deep local signals may be nested.
 pub const MOST_LOCALS: u16 = 6;
 
 /// What a kernel has too many of.
@@ -21,15 +23,15 @@ pub const MOST_LOCALS: u16 = 6;
 pub enum Limit {
     /// Statements, over `MOST_STATEMENTS`.
     Statements,
-    /// Loops in one another, over `MOST_LOOPS`.
+    /// Nested loops, over `MOST_LOOPS`.
     Loops,
-    /// Traps in one another, over `MOST_TRAPS`.
+    /// Nested traps, over `MOST_TRAPS`.
     Traps,
-    /// Local signals in one another, over `MOST_LOCALS`.
+    /// Nested local signals, over `MOST_LOCALS`.
     Locals,
 }
 
-/// How deep the binders and the loops of a statement lie in one another.
+/// How deep the loops, traps and local signals of a statement are nested.
 #[derive(Clone, Copy)]
 struct Depths {
     loops: u16,
@@ -59,7 +61,8 @@ impl Depths {
     }
 }
 
-/// How deep loops, traps and local signals lie in one another. It goes as deep as the statement is, which has at most 2,048 statements.
+/// How deep loops, traps and local signals are nested. Recursion is as deep as the statement, which
+/// has at most 2,048 nodes.
 #[tactic(auto, using(crate::proofs::Counts::loops_are_statements, crate::proofs::Counts::traps_are_statements, crate::proofs::Counts::locals_are_statements))]
 fn nesting_of(s: &Statement) -> Depths
     requires { statement_count (term_of s.now) ≤ MOST_STATEMENTS }
@@ -99,7 +102,42 @@ fn nesting_of(s: &Statement) -> Depths
     }
 }
 
-/// What is left of a room for statements, if they fit. It goes no deeper than the room, whatever statement comes.
+/// What is left of a room for statements after the words of a test (`not`, `and`, `or`), if they
+/// fit. Recursion is no deeper than the room.
+#[cycle(words)]
+#[tactic(auto, using(crate::proofs::Tests::some_word))]
+fn room_after_test(t: &Test, room: u16) -> Option<u16>
+    ensures { LeavesRoom result room (word_count (query_of t.now)) }
+{
+    match t {
+        Test::Tick | Test::Status(_) => Some(room),
+        Test::Not(t) => room_after_test(t, room.checked_sub(1)?),
+        Test::Joined(_, operands) => {
+            if room == 0 {
+                None
+            } else {
+                room_after_operands(operands, room - 1)
+            }
+        }
+    }
+}
+
+/// The same for operands, whose first connective is counted already.
+#[cycle(words)]
+#[tactic(auto, using(crate::proofs::Tests::operands_words))]
+fn room_after_operands(operands: &Operands, room: u16) -> Option<u16>
+    ensures { LeavesRoom result (room + 1) (joint_word_count (joint_of operands.now)) }
+{
+    let first = room_after_test(&operands.first, room)?;
+    let mut left = room_after_test(&operands.second, first)?;
+    for test in &operands.later {
+        left = room_after_test(test, left.checked_sub(1)?)?;
+    }
+    Some(left)
+}
+
+/// What is left of a room for statements after this statement, if it fits. Recursion is no deeper
+/// than the room, whatever the statement.
 fn room_after(s: &Statement, room: u16) -> Option<u16>
     ensures { LeavesRoom result room (statement_count (term_of s.now)) }
 {
@@ -111,13 +149,13 @@ fn room_after(s: &Statement, room: u16) -> Option<u16>
         Statement::Nothing | Statement::Pause(_) | Statement::Emit(_) | Statement::Exit(_) => {
             Some(room)
         }
-        Statement::Present(_, p, q) | Statement::Seq(p, q) | Statement::Par(p, q) => {
+        Statement::Present(t, p, q) => {
+            let room = room_after_test(t, room)?;
             room_after(q, room_after(p, room)?)
         }
-        Statement::Suspend(_, p)
-        | Statement::Loop(p)
-        | Statement::Trap(p)
-        | Statement::Local(_, p) => room_after(p, room),
+        Statement::Suspend(t, p) => room_after(p, room_after_test(t, room)?),
+        Statement::Seq(p, q) | Statement::Par(p, q) => room_after(q, room_after(p, room)?),
+        Statement::Loop(p) | Statement::Trap(p) | Statement::Local(_, p) => room_after(p, room),
     }
 }
 

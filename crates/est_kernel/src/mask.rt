@@ -51,7 +51,7 @@ pub fn common(a: u64, b: u64) -> u64
     a & b
 }
 
-/// The numbers of the first set that aren't in the second.
+/// The numbers of the first set that are not in the second.
 pub fn minus(a: u64, b: u64) -> u64
     ensures { (n : ℕ) → bits result n ≡ (bits a n && not (bits b n)) }
 {

@@ -10,8 +10,9 @@ use crate::code_set::CodeSet;
 use crate::completion::Completion;
 use crate::statement::Statement;
 
-/// The codes with which a statement can be begun, if no loop in it has a body that can end at once. It goes as deep as the statement is: at
-/// most 2,048 levels from `Kernel::build`, which counts the statements first.
+/// The codes with which a statement can be begun, if no loop in it has a body that can end at once.
+/// Recursion is as deep as the statement: at most 2,048 levels from `Kernel::build`, which counts
+/// the statements first.
 pub fn start_codes(s: &Statement) -> Option<CodeSet>
     requires fits { FitsMasks s.now }
     ensures { MatchOption result (¬ IsLoopSafe (term_of s.now))

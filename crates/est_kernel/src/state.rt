@@ -9,7 +9,7 @@ pub enum State {
     Fresh,
     /// It has ended.
     Done,
-    /// It has paused at these pauses, of which there is at least one.
+    /// It has paused at these pauses. There is at least one.
     Paused(PauseSet),
 }
 
@@ -32,6 +32,7 @@ pub struct Outcome {
 /// Why there is no reaction.
 #[derive(Clone, Copy, PartialEq, Eq, Debug)]
 pub struct Stuck {
-    /// The outputs whose status is not decided: a bit for each signal of the interface, in declaration order.
+    /// The outputs whose status is not decided: a bit for each signal of the interface, in
+    /// declaration order.
     pub undecided: u64,
 }

@@ -12,7 +12,7 @@ use Rattle.est_modules.specs.Derived.{Derived}
 use Rattle.est_checks.specs.FirstFaults.{ByNames, ByRuns, IsFirstFault, IsFirstRecursion, recursive_run}
 use Rattle.est_link.specs.FlatModules.{IsFlatOf}
 use Rattle.est_checks.specs.LinkFaults.{fault_before_order}
-use Rattle.est_link.specs.Linking.{linked, bound, signal_at, interface_bound, interface_run, locals_round}
+use Rattle.est_link.specs.Linking.{linked, bound, asked_at, interface_bound, interface_run, locals_round}
 use Rattle.est_link.specs.MainModule.{IsRelation, AreRelations, declarations_of}
 use Rattle.est_modules.specs.Modules.{Program, program_named, first_in_bodies}
 use Rattle.est_modules.specs.Occurrences.{Binder, signals, a_trap}
@@ -45,13 +45,20 @@ linked_same ps f g P Q p bs (derived.emit s) h k e = refl
 linked_same ps f g P Q p bs (derived.sustain s) h k e = refl
 linked_same ps f g P Q p bs (derived.exit t) h k e = refl
 linked_same ps f g P Q p bs (derived.await d) h k e = refl
-linked_same ps f g P Q p bs (derived.present s q r) h k e = same_pair (present (signal_at p bs s)) (linked ps f p bs q) (linked ps f p bs r) (linked ps g p bs q) (linked ps g p bs r) (linked_same ps f g P Q p bs q h.0 k.0 e.0) (linked_same ps f g P Q p bs r h.1 k.1 e.1)
-linked_same ps f g P Q p bs (derived.suspend q d) h k e = ap (suspend d.immediate (signal_at p bs d.signal)) (linked_same ps f g P Q p bs q h k e)
-linked_same ps f g P Q p bs (derived.abort q d) h k e = ap (abort d.immediate (signal_at p bs d.signal)) (linked_same ps f g P Q p bs q h k e)
-linked_same ps f g P Q p bs (derived.weak_abort q d) h k e = ap (weak_abort d.immediate (signal_at p bs d.signal)) (linked_same ps f g P Q p bs q h k e)
+linked_same ps f g P Q p bs (derived.present s q r) h k e = same_pair (present (asked_at p bs s))
+    (linked ps f p bs q) (linked ps f p bs r) (linked ps g p bs q) (linked ps g p bs r)
+    (linked_same ps f g P Q p bs q h.0 k.0 e.0) (linked_same ps f g P Q p bs r h.1 k.1 e.1)
+linked_same ps f g P Q p bs (derived.suspend q d) h k e = ap (suspend d.immediate (asked_at p bs d.test))
+    (linked_same ps f g P Q p bs q h k e)
+linked_same ps f g P Q p bs (derived.abort q d) h k e = ap (abort d.immediate (asked_at p bs d.test))
+    (linked_same ps f g P Q p bs q h k e)
+linked_same ps f g P Q p bs (derived.weak_abort q d) h k e = ap (weak_abort d.immediate (asked_at p bs d.test))
+    (linked_same ps f g P Q p bs q h k e)
 linked_same ps f g P Q p bs (derived.repeat q) h k e = ap repeat (linked_same ps f g P Q p bs q h k e)
-linked_same ps f g P Q p bs (derived.repeat_each q s) h k e = ap (repeat_each (signal_at p bs s)) (linked_same ps f g P Q p bs q h k e)
-linked_same ps f g P Q p bs (derived.every d q) h k e = ap (every d.immediate (signal_at p bs d.signal)) (linked_same ps f g P Q p bs q h k e)
+linked_same ps f g P Q p bs (derived.repeat_each q s) h k e = ap (repeat_each (asked_at p bs s))
+    (linked_same ps f g P Q p bs q h k e)
+linked_same ps f g P Q p bs (derived.every d q) h k e = ap (every d.immediate (asked_at p bs d.test))
+    (linked_same ps f g P Q p bs q h k e)
 linked_same ps f g P Q p bs (derived.trap t q) h k e = ap trap (linked_same ps f g P Q p (a_trap t ∷ bs) q h k e)
 linked_same ps f g P Q p bs (derived.signal ns q) h k e = ap (signal (length (ns.first ∷ ns.later))) (linked_same ps f g P Q p (signals ns ∷ bs) q h k e)
 linked_same ps f g P Q p bs (derived.run m rs) h k e = ap (bound (interface_bound p bs rs (interface_run (program_named ps m))) (locals_round bs)) (e h k)

@@ -1,23 +1,46 @@
 -- A body whose names are bound stays so where it is run.
-use Rattle.std.proofs.Common.{◌≡◌, ℕ, ◌+◌, List, get_or, subst, arith}
-use Rattle.est_kernel.specs.Term.{Name, outer, inner, Query, tick, of}
+use Rattle.std.proofs.Common.{◌≡◌, ℕ, ◌+◌, List, [], ◌∷◌, map, get_or, refl, ap, subst, arith}
+use Rattle.est_kernel.specs.View.{queries_of}
+use Rattle.est_reduce.specs.Views.{bound_query as query_view}
+use Rattle.est_reduce.specs.declared.body.BoundTest.{BoundTest}
+use Rattle.est_kernel.specs.Scope.{EachSignalOfAll}
+use Rattle.est_kernel.specs.Term.{Name, outer, inner, Query, tick, of, negated, joined, Queries, last, more}
+use Rattle.est_kernel.proofs.Tests.{each_implies}
 use Rattle.est_reduce.specs.Bodies.{Body, nothing, pause, halt, emit, sustain, exit, await, present, suspend, abort, weak_abort, repeat, repeat_each, every, trap, signal, seq, par}
-use Rattle.est_link.specs.Linking.{bound, bound_name, bound_query, emitted}
-use Rattle.est_link.specs.Bodies.{MayEmit, MayAsk, IsBody, AreBindings}
+use Rattle.est_link.specs.Linking.{bound, bound_name, bound_query, bound_queries, emitted}
+use Rattle.est_link.specs.Bodies.{MayEmit, MayAsk, IsThere, IsBody, AreBindings}
+
+more_there : (m l k : ℕ) (s : Name) → IsThere m l s → IsThere m (l + k) s
+more_there m l k (outer i) a = a
+more_there m l k (inner j) a = omega (arith, a)
 
 pub more_asked : (m l k : ℕ) (q : Query) → MayAsk m l q → MayAsk m (l + k) q
-more_asked m l k tick a = tt
-more_asked m l k (of (outer i)) a = a
-more_asked m l k (of (inner j)) a = omega (arith, a)
+more_asked m l k q a = each_implies (IsThere m l) (IsThere m (l + k)) (more_there m l k) q a
 
 pub more_sent : (m : ℕ) (may : ℕ → Type 0) (l k : ℕ) (s : Name) → MayEmit m may l s → MayEmit m may (l + k) s
 more_sent m may l k (outer i) a = a
 more_sent m may l k (inner j) a = omega (arith, a)
 
-asked_bound : (n : ℕ) (may : ℕ → Type 0) (m : ℕ) (callers : ℕ → Type 0) (k : ℕ) (qs : List Query) → AreBindings n may m callers k qs → (l : ℕ) (q : Query) → MayAsk n l q → MayAsk m (k + l) (bound_query qs k q)
-asked_bound n may m callers k qs b l tick a = tt
-asked_bound n may m callers k qs b l (of (outer i)) a = more_asked m k l (get_or qs i tick) (b.asked i a)
-asked_bound n may m callers k qs b l (of (inner j)) a = omega (arith, a)
+name_bound : (n : ℕ) (may : ℕ → Type 0) (m : ℕ) (callers : ℕ → Type 0) (k : ℕ) (qs : List Query)
+    → AreBindings n may m callers k qs → (l : ℕ) (s : Name) → IsThere n l s → MayAsk m (k + l) (bound_name qs k s)
+name_bound n may m callers k qs b l (outer i) a = more_asked m k l (get_or qs i tick) (b.asked i a)
+name_bound n may m callers k qs b l (inner j) a = omega (arith, a)
+
+mutual
+  asked_bound : (n : ℕ) (may : ℕ → Type 0) (m : ℕ) (callers : ℕ → Type 0) (k : ℕ) (qs : List Query)
+      → AreBindings n may m callers k qs → (l : ℕ) (q : Query) → MayAsk n l q → MayAsk m (k + l) (bound_query qs k q)
+  asked_bound n may m callers k qs b l tick a = tt
+  asked_bound n may m callers k qs b l (of s) a = name_bound n may m callers k qs b l s a
+  asked_bound n may m callers k qs b l (negated t) a = asked_bound n may m callers k qs b l t a
+  asked_bound n may m callers k qs b l (joined c t ts) a =
+      (asked_bound n may m callers k qs b l t a.0, all_asked_bound n may m callers k qs b l ts a.1)
+
+  all_asked_bound : (n : ℕ) (may : ℕ → Type 0) (m : ℕ) (callers : ℕ → Type 0) (k : ℕ) (qs : List Query)
+      → AreBindings n may m callers k qs → (l : ℕ) (ts : Queries) → EachSignalOfAll (IsThere n l) ts
+      → EachSignalOfAll (IsThere m (k + l)) (bound_queries qs k ts)
+  all_asked_bound n may m callers k qs b l (last t) a = asked_bound n may m callers k qs b l t a
+  all_asked_bound n may m callers k qs b l (more t ts) a =
+      (asked_bound n may m callers k qs b l t a.0, all_asked_bound n may m callers k qs b l ts a.1)
 
 sent_bound : (n : ℕ) (may : ℕ → Type 0) (m : ℕ) (callers : ℕ → Type 0) (k : ℕ) (qs : List Query) → AreBindings n may m callers k qs → (l : ℕ) (s : Name) → MayEmit n may l s → MayEmit m callers (k + l) (emitted (bound_name qs k s))
 sent_bound n may m callers k qs b l (outer i) a = more_sent m callers k l (emitted (get_or qs i tick)) (b.sent i a.0 a.1)
@@ -45,3 +68,14 @@ bound_body n may m callers k qs b t l (signal j p) h =
     subst P e (bound_body n may m callers k qs b t (l + j) p h)
 bound_body n may m callers k qs b t l (seq p q) h = (bound_body n may m callers k qs b t l p h.0, bound_body n may m callers k qs b t l q h.1)
 bound_body n may m callers k qs b t l (par p q) h = (bound_body n may m callers k qs b t l p h.0, bound_body n may m callers k qs b t l q h.1)
+
+-- ---- tests of the code
+
+-- a test of the code, so bound
+abbrev pub test_bound : List Query → ℕ → BoundTest → Query
+test_bound qs k t = bound_query qs k (query_view t)
+
+pub listed_bound : (qs : List Query) (k : ℕ) (q : Query) (ts : List BoundTest)
+    → bound_queries qs k (queries_of q (map query_view ts)) ≡ queries_of (bound_query qs k q) (map (test_bound qs k) ts)
+listed_bound qs k q [] = refl
+listed_bound qs k q (t ∷ ts) = ap (more (bound_query qs k q)) (listed_bound qs k (query_view t) ts)

@@ -9,7 +9,7 @@ use Rattle.est_checks.specs.Emissions.{refused_at, is_refused, emits_by}
 use Rattle.est_link.specs.Inner.Tables.{AreMade, none, next, IsMade, has_body, bodies_of, body_linked}
 use Rattle.est_link.specs.Linking.{linked, bound, interface_bound, interface_run, locals_round, signal_at, emitted}
 use Rattle.est_modules.specs.Modules.{Program, program_named}
-use Rattle.est_modules.specs.Occurrences.{Binder, signals, a_trap, emits, runs, Occurrence, occurrences, first_of}
+use Rattle.est_modules.specs.Occurrences.{Binder, signals, a_trap, emits, runs, Occurrence, tested, occurrences, first_of}
 use Rattle.est_checks.specs.UnknownNames.{unknown_at, unless}
 use Rattle.est_modules.specs.Visible.{is_local, is_trap, is_visible}
 use Rattle.est_link.specs.declared.flatten.Linked.{Linked}
@@ -17,7 +17,7 @@ use Rattle.std.specs.Str.{bytes_eq}
 use Rattle.est_syntax.specs.Tree.{RenamingTree}
 use Rattle.est_link.proofs.Binding.{bound_body}
 use Rattle.est_link.proofs.Made.{kept, new_last, last_body, old_or_last}
-use Rattle.est_link.proofs.Naming.{IsFine, asked_at, traps_round, trap_within, sent_at, run_bindings}
+use Rattle.est_link.proofs.Naming.{IsFine, test_at, traps_round, trap_within, sent_at, run_bindings}
 use Rattle.est_modules.proofs.Testing.{or_left, or_right, and_both, not_true, same_bytes, equal_bytes, or_none_parts, all_parts}
 use Rattle.est_link.proofs.RunModules.{more_runs}
 use Rattle.est_reduce.specs.Bodies.{Body, nothing, pause, halt, emit, sustain, exit, await, present, suspend, abort, weak_abort, repeat, repeat_each, every, trap, signal, seq, par}
@@ -102,16 +102,37 @@ linked_bound ps em p b bs derived.halt h r = tt
 linked_bound ps em p b bs (derived.emit s) h r = fine_emission ps em p bs s h.0
 linked_bound ps em p b bs (derived.sustain s) h r = fine_emission ps em p bs s h.0
 linked_bound ps em p b bs (derived.exit t) h r = trap_within bs t (known_name (is_trap bs t) t h.0.known)
-linked_bound ps em p b bs (derived.await d) h r = asked_at p bs d.signal
+linked_bound ps em p b bs (derived.await d) h r = test_at p bs d.test
 linked_bound ps em p b bs (derived.present s q e) h r =
-    let parts = all_parts (IsFine ps em p) (occurrences bs q) (occurrences bs e) h.1 in
-    (asked_at p bs s, linked_bound ps em p b bs q parts.0 r.0, linked_bound ps em p b bs e parts.1 r.1)
-linked_bound ps em p b bs (derived.suspend q d) h r = (asked_at p bs d.signal, linked_bound ps em p b bs q (all_parts (IsFine ps em p) (occurrences bs q) _ h).0 r)
-linked_bound ps em p b bs (derived.abort q d) h r = (asked_at p bs d.signal, linked_bound ps em p b bs q (all_parts (IsFine ps em p) (occurrences bs q) _ h).0 r)
-linked_bound ps em p b bs (derived.weak_abort q d) h r = (asked_at p bs d.signal, linked_bound ps em p b bs q (all_parts (IsFine ps em p) (occurrences bs q) _ h).0 r)
+    let behind = all_parts (IsFine ps em p) (tested bs s) (occurrences bs q ++ occurrences bs e) h in
+    let parts = all_parts (IsFine ps em p) (occurrences bs q) (occurrences bs e) behind.1 in
+    (test_at p bs s, linked_bound ps em p b bs q parts.0 r.0, linked_bound ps em p b bs e parts.1 r.1)
+linked_bound ps em p b bs (derived.suspend q d) h r = (
+  test_at p bs d.test,
+  linked_bound ps em p b bs q (all_parts
+      (IsFine ps em p) (occurrences bs q) _ h).0 r,
+)
+linked_bound ps em p b bs (derived.abort q d) h r = (
+  test_at p bs d.test,
+  linked_bound ps em p b bs q (all_parts
+      (IsFine ps em p) (occurrences bs q) _ h).0 r,
+)
+linked_bound ps em p b bs (derived.weak_abort q d) h r = (
+  test_at p bs d.test,
+  linked_bound ps em p b bs q
+      (all_parts (IsFine ps em p) (occurrences bs q) _ h).0 r,
+)
 linked_bound ps em p b bs (derived.repeat q) h r = linked_bound ps em p b bs q h r
-linked_bound ps em p b bs (derived.repeat_each q s) h r = (asked_at p bs s, linked_bound ps em p b bs q (all_parts (IsFine ps em p) (occurrences bs q) _ h).0 r)
-linked_bound ps em p b bs (derived.every d q) h r = (asked_at p bs d.signal, linked_bound ps em p b bs q h.1 r)
+linked_bound ps em p b bs (derived.repeat_each q s) h r = (
+  test_at p bs s,
+  linked_bound ps em p b bs q (all_parts
+      (IsFine ps em p) (occurrences bs q) _ h).0 r,
+)
+linked_bound ps em p b bs (derived.every d q) h r = (
+  test_at p bs d.test,
+  linked_bound ps em p b bs q (all_parts
+      (IsFine ps em p) (tested bs d.test) (occurrences bs q) h).1 r,
+)
 linked_bound ps em p b bs (derived.trap t q) h r = linked_bound ps em p b (a_trap t ∷ bs) q h r
 linked_bound ps em p b bs (derived.signal ns q) h r = linked_bound ps em p b (signals ns ∷ bs) q h.1 r
 linked_bound ps em p b bs (derived.run m rs) h r = run_bound ps em p bs m rs (program_named ps m) (b m) refl h.0 r

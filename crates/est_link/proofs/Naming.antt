@@ -6,12 +6,14 @@ use Rattle.std.proofs.lemmas.List.Quantifiers.{position-Some}
 use Rattle.std.proofs.lemmas.Option.{slice_get-get_or}
 use Rattle.std.specs.List.{find, list_any, position, slice_get}
 use Rattle.std.specs.Str.{bytes_eq}
-use Rattle.est_syntax.specs.Tree.{RenamingTree}
+use Rattle.est_syntax.specs.Tree.{RenamingTree, TestTree}
+use Rattle.est_link.proofs.Asked.{test_each}
 use Rattle.est_kernel.specs.Term.{Query, tick}
-use Rattle.est_link.specs.Bodies.{MayEmit, MayAsk, AreBindings, IsSent}
+use Rattle.est_link.specs.Bodies.{MayEmit, MayAsk, IsThere, AreBindings, IsSent}
 use Rattle.est_checks.specs.Emissions.{is_refused, is_refused_in_run, refused_in_run, refused_act, emits_by, emits_in_run}
 use Rattle.est_modules.specs.Renamings.{renamed, callers_name, is_renamed}
 use Rattle.est_modules.specs.Modules.{is_input}
+use Rattle.est_link.specs.Linking as linking
 use Rattle.est_link.specs.Linking.{signal_at, locals_round, trap_at, of_interface, of_list, emitted, interface_bound}
 use Rattle.est_modules.specs.Modules.{Program, program_named, is_declared, is_input_kind}
 use Rattle.est_modules.specs.Occurrences.{Binder, signals, a_trap, runs, Occurrence}
@@ -41,6 +43,11 @@ pub asked_at : (p : Program) (bs : List Binder) (s : List ℕ) → MayAsk (lengt
 asked_at p [] s = of_interface_asked (length p.interface) (position (λ (d : Declared). bytes_eq d.name s) p.interface) (λ i e. (position-Some (λ (d : Declared). bytes_eq d.name s) p.interface i nobody e).0)
 asked_at p (signals ns ∷ bs) s = of_list_asked (length p.interface) (locals_round bs) (length (ns.first ∷ ns.later)) (position (λ n. bytes_eq n s) (ns.first ∷ ns.later)) (signal_at p bs s) (λ i e. (position-Some (λ n. bytes_eq n s) (ns.first ∷ ns.later) i [] e).0) (asked_at p bs s)
 asked_at p (a_trap t ∷ bs) s = asked_at p bs s
+
+-- each test asks what may be asked
+pub test_at : (p : Program) (bs : List Binder) (t : TestTree)
+    → MayAsk (length p.interface) (locals_round bs) (linking.asked_at p bs t)
+test_at p bs t = test_each (IsThere (length p.interface) (locals_round bs)) (signal_at p bs) (asked_at p bs) t
 
 -- ---- traps
 

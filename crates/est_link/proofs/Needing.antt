@@ -14,13 +14,13 @@ use Rattle.est_modules.specs.Derived.{Derived, missing, nothing, pause, halt, em
 use Rattle.est_checks.specs.Duplicates.{first_duplicate}
 use Rattle.est_link.specs.Inner.Needs.{IsClosed, IsClosedFrom, HasFront}
 use Rattle.est_modules.specs.Modules.{Program, program_named, first_in_bodies}
-use Rattle.est_modules.specs.Occurrences.{Binder, signals, a_trap, runs, Occurrence, occurrences, first_of}
+use Rattle.est_modules.specs.Occurrences.{Binder, signals, a_trap, runs, Occurrence, occurrences, first_of, tested}
 use Rattle.est_modules.specs.ModuleOrders.{IsOrderOf, run_rows, places_run}
 use Rattle.est_checks.specs.MissingModules.{missing_at}
 use Rattle.est_modules.proofs.Ordering.{IsRunOf, run_is_run}
 use Rattle.est_modules.proofs.Testing.{or_left, or_right, some_same, equal_bytes, same_bytes, found_passes}
 use Rattle.est_modules.specs.RunRows.{IsRun}
-use Rattle.est_modules.proofs.SolutionLemmas.{each_stands, places_are_there}
+use Rattle.est_modules.proofs.OrderPlaces.{each_stands, places_are_there}
 use Rattle.est_modules.proofs.Standing.{first_none, found_place}
 use Rattle.est_checks.proofs.OneName.{first_of_name}
 use Rattle.est_checks.proofs.RunsThere.{run_is_there}
@@ -37,15 +37,15 @@ runs_among P bs (sustain s) h = tt
 runs_among P bs (exit t) h = tt
 runs_among P bs (await d) h = tt
 runs_among P bs (present s p q) h = (
-  runs_among P bs p (λ o x. h o (Contains-append_right (_ ∷ []) (occurrences bs p ++ occurrences bs q) o (Contains-append_left (occurrences bs p) (occurrences bs q) o x))),
-  runs_among P bs q (λ o x. h o (Contains-append_right (_ ∷ []) (occurrences bs p ++ occurrences bs q) o (Contains-append_right (occurrences bs p) (occurrences bs q) o x))),
+  runs_among P bs p (λ o x. h o (Contains-append_right (tested bs s) (occurrences bs p ++ occurrences bs q) o (Contains-append_left (occurrences bs p) (occurrences bs q) o x))),
+  runs_among P bs q (λ o x. h o (Contains-append_right (tested bs s) (occurrences bs p ++ occurrences bs q) o (Contains-append_right (occurrences bs p) (occurrences bs q) o x))),
 )
 runs_among P bs (suspend p d) h = runs_among P bs p (λ o x. h o (Contains-append_left (occurrences bs p) _ o x))
 runs_among P bs (abort p d) h = runs_among P bs p (λ o x. h o (Contains-append_left (occurrences bs p) _ o x))
 runs_among P bs (weak_abort p d) h = runs_among P bs p (λ o x. h o (Contains-append_left (occurrences bs p) _ o x))
 runs_among P bs (repeat p) h = runs_among P bs p h
 runs_among P bs (repeat_each p s) h = runs_among P bs p (λ o x. h o (Contains-append_left (occurrences bs p) _ o x))
-runs_among P bs (every d p) h = runs_among P bs p (λ o x. h o (Contains-append_right (_ ∷ []) (occurrences bs p) o x))
+runs_among P bs (every d p) h = runs_among P bs p (λ o x. h o (Contains-append_right (tested bs d.test) (occurrences bs p) o x))
 runs_among P bs (trap t p) h = runs_among P (a_trap t ∷ bs) p h
 runs_among P bs (signal ns p) h = runs_among P (signals ns ∷ bs) p (λ o x. h o (Contains-append_right (_ ∷ []) (occurrences (signals ns ∷ bs) p) o x))
 runs_among P bs (run m rs) h = h (record { act = runs m rs; round = bs }) (Contains-push [] (record { act = runs m rs; round = bs })) m refl

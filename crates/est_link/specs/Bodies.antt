@@ -3,7 +3,8 @@
 use Rattle.std.specs.Prelude.{◌≡◌, ℕ, ◌+◌, ◌<◌, Bool, true, List, [], length, take, get_or, Some, None, false}
 use Rattle.std.specs.List.{list_any, slice_get}
 use Rattle.std.specs.Str.{bytes_eq}
-use Rattle.est_kernel.specs.Term.{Name, outer, inner, Query, tick, of}
+use Rattle.est_kernel.specs.Scope.{EachSignal}
+use Rattle.est_kernel.specs.Term.{Name, outer, inner, Query, tick}
 use Rattle.est_modules.specs.Derived as derived
 use Rattle.est_modules.specs.Derived.{Derived}
 use Rattle.est_modules.specs.Modules.{Program, program_named, is_input_kind}
@@ -65,11 +66,14 @@ abbrev pub MayEmit : (n : ℕ) → (may : ℕ → Type 0) → (locals : ℕ) →
 MayEmit n may l (outer i) = (i < n) × may i
 MayEmit n may l (inner k) = k < l
 
--- what may be asked there
+-- a signal that is there
+abbrev pub IsThere : (n : ℕ) → (locals : ℕ) → Name → Type 0
+IsThere n l (outer i) = i < n
+IsThere n l (inner k) = k < l
+
+-- what may be asked there: a test of signals that are there
 abbrev pub MayAsk : (n : ℕ) → (locals : ℕ) → Query → Type 0
-MayAsk n l tick = Unit {0}
-MayAsk n l (of (outer i)) = i < n
-MayAsk n l (of (inner k)) = k < l
+MayAsk n l q = EachSignal (IsThere n l) q
 
 -- each name is bound in a module of n interface signals, of which those of the set may be emitted, with so many traps and so
 -- many local signals round the whole

@@ -4,8 +4,9 @@
 use Rattle.std.specs.Prelude.{◌≡◌, ℕ, ◌+◌, List, [], ◌∷◌, length, map, get_or, Option, Some, None, if◌then◌else◌}
 use Rattle.std.specs.List.{position}
 use Rattle.std.specs.Str.{bytes_eq}
-use Rattle.est_syntax.specs.Tree.{RenamingTree}
-use Rattle.est_kernel.specs.Term.{Name, outer, inner, Query, tick, of}
+use Rattle.est_syntax.specs.Tree.{RenamingTree, TestTree}
+use Rattle.est_link.specs.Asking.{test_asked}
+use Rattle.est_kernel.specs.Term.{Name, outer, inner, Query, tick, of, negated, joined, Queries, last, more}
 use Rattle.est_modules.specs.Derived as derived
 use Rattle.est_modules.specs.Derived.{Derived}
 use Rattle.est_modules.specs.Occurrences.{Binder, signals, a_trap}
@@ -47,20 +48,28 @@ trap_at (a_trap u ∷ bs) t = if bytes_eq u t then 0 else trap_at bs t + 1
 
 -- ---- a module's body, with its interface names bound
 
--- the signal that an emission means; `tick` is never emitted
+-- the signal that an emission means; `tick` is never emitted, and a name asks for no more than a signal
 abbrev pub emitted : Query → Name
-emitted tick = outer 0
 emitted (of n) = n
+emitted _ = outer 0
 
 -- what a signal becomes where the interface signals stand for those of a list, inside l local signals
 abbrev pub bound_name : List Query → ℕ → Name → Query
 bound_name qs l (outer i) = get_or qs i tick
 bound_name qs l (inner k) = of (inner (l + k))
 
--- what is asked, so bound
-abbrev pub bound_query : List Query → ℕ → Query → Query
-bound_query qs l tick = tick
-bound_query qs l (of n) = bound_name qs l n
+abbrev mutual
+  -- what is asked, so bound: each name of it
+  pub bound_query : List Query → ℕ → Query → Query
+  bound_query qs l tick = tick
+  bound_query qs l (of n) = bound_name qs l n
+  bound_query qs l (negated t) = negated (bound_query qs l t)
+  bound_query qs l (joined c t ts) = joined c (bound_query qs l t) (bound_queries qs l ts)
+
+  -- the same of one test or more
+  pub bound_queries : List Query → ℕ → Queries → Queries
+  bound_queries qs l (last t) = last (bound_query qs l t)
+  bound_queries qs l (more t ts) = more (bound_query qs l t) (bound_queries qs l ts)
 
 -- a statement, so bound
 abbrev pub bound : List Query → ℕ → Body → Body
@@ -92,6 +101,10 @@ abbrev pub interface_run : Option Program → List Declared
 interface_run None = []
 interface_run (Some q) = q.interface
 
+-- what a test asks in the module p inside binders
+abbrev pub asked_at : Program → List Binder → TestTree → Query
+asked_at p bs t = test_asked (signal_at p bs) t
+
 -- the flat statement of a statement of the module p, where each module m has the flat body (bodies m)
 abbrev pub linked : List Program → (List ℕ → Body) → Program → List Binder → Derived → Body
 linked ps bodies p bs derived.missing = nothing
@@ -101,20 +114,20 @@ linked ps bodies p bs derived.halt = halt
 linked ps bodies p bs (derived.emit s) = emit (emitted (signal_at p bs s))
 linked ps bodies p bs (derived.sustain s) = sustain (emitted (signal_at p bs s))
 linked ps bodies p bs (derived.exit t) = exit (trap_at bs t)
-linked ps bodies p bs (derived.await d) = await d.immediate (signal_at p bs d.signal)
+linked ps bodies p bs (derived.await d) = await d.immediate (asked_at p bs d.test)
 linked ps bodies p bs (derived.present s q r) =
-    present (signal_at p bs s) (linked ps bodies p bs q) (linked ps bodies p bs r)
+    present (asked_at p bs s) (linked ps bodies p bs q) (linked ps bodies p bs r)
 linked ps bodies p bs (derived.suspend q d) =
-    suspend d.immediate (signal_at p bs d.signal) (linked ps bodies p bs q)
+    suspend d.immediate (asked_at p bs d.test) (linked ps bodies p bs q)
 linked ps bodies p bs (derived.abort q d) =
-    abort d.immediate (signal_at p bs d.signal) (linked ps bodies p bs q)
+    abort d.immediate (asked_at p bs d.test) (linked ps bodies p bs q)
 linked ps bodies p bs (derived.weak_abort q d) =
-    weak_abort d.immediate (signal_at p bs d.signal) (linked ps bodies p bs q)
+    weak_abort d.immediate (asked_at p bs d.test) (linked ps bodies p bs q)
 linked ps bodies p bs (derived.repeat q) = repeat (linked ps bodies p bs q)
 linked ps bodies p bs (derived.repeat_each q s) =
-    repeat_each (signal_at p bs s) (linked ps bodies p bs q)
+    repeat_each (asked_at p bs s) (linked ps bodies p bs q)
 linked ps bodies p bs (derived.every d q) =
-    every d.immediate (signal_at p bs d.signal) (linked ps bodies p bs q)
+    every d.immediate (asked_at p bs d.test) (linked ps bodies p bs q)
 linked ps bodies p bs (derived.trap t q) = trap (linked ps bodies p (a_trap t ∷ bs) q)
 linked ps bodies p bs (derived.signal ns q) =
     signal (length (ns.first ∷ ns.later)) (linked ps bodies p (signals ns ∷ bs) q)

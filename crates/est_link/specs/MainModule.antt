@@ -10,14 +10,15 @@ use Rattle.est_kernel.specs.declared.interface.Kind.TheVariants as variants
 use Rattle.est_modules.specs.Modules.{Program}
 use Rattle.est_modules.specs.declared.head.Declared.{Declared}
 use Rattle.est_modules.specs.declared.head.Kind.{Kind}
-use Rattle.est_modules.specs.declared.head.Kind.TheVariants.{Input, Output}
+use Rattle.est_modules.specs.declared.head.Kind.TheVariants.{Input, Output, InputOutput}
 use Rattle.est_relations.specs.declared.relations.Relation.{Relation}
 use Rattle.est_relations.specs.declared.relations.Relation.TheVariants.{Exclusion, Implication}
 
--- input or output
+-- input, output or both
 abbrev pub kernel_kind : Kind → kernel.Kind
 kernel_kind Input = variants.Input
 kernel_kind Output = variants.Output
+kernel_kind InputOutput = variants.InputOutput
 
 -- a signal of an interface
 abbrev pub declaration_of : Declared → Declaration

@@ -3,21 +3,23 @@
 //! What goes over a flat body calls itself as deep as that is: at most 2,048 levels, since the statements of the main module, with all that
 //! it runs, are counted before any is made flat.
 ghost use Rattle.std.specs.Prelude.{◌≡◌, ◌+◌, IfOk};
-ghost use Rattle.est_reduce.specs.Views.{bound_name as name_view, bound_query as query_view, body_of};
-ghost use Rattle.est_link.specs.Linking.{bound, bound_name, bound_query, emitted};
+ghost use Rattle.est_kernel.specs.Term.{joined};
+ghost use Rattle.est_reduce.specs.Views.{bound_joint as joint_view, bound_name as name_view, bound_query as query_view, body_of};
+ghost use Rattle.est_link.specs.Linking.{bound, bound_name, bound_queries, bound_query, emitted};
 ghost use Rattle.est_link.specs.Inner.Binds.{binding_of};
 
 use crate::bindings::{Binding, interface_bound, sum};
-use est_reduce::body::{Body, BoundSignal, BoundTest, Wait};
+use est_kernel::statement::Connective;
+use est_reduce::body::{Body, BoundOperands, BoundSignal, BoundTest, Wait};
 use std::alloc::AllocError;
 
-/// The signal that an emission means; `tick` is never emitted.
+/// The signal that an emission means; `tick` is never emitted, and a name asks for no more than a signal.
 pub fn emitted(test: BoundTest) -> BoundSignal
     ensures { name_view result ≡ emitted (query_view test) }
 {
     match test {
-        BoundTest::Tick => BoundSignal::Outer(0),
         BoundTest::Of(signal) => signal,
+        _ => BoundSignal::Outer(0),
     }
 }
 
@@ -42,26 +44,51 @@ fn bind_sent(binding: &Binding<'_>, signal: BoundSignal) -> Result<BoundSignal, 
     Ok(emitted(bind_signal(binding, signal)?))
 }
 
-/// What is asked in place of a test of the body.
-fn bind_test(binding: &Binding<'_>, test: BoundTest) -> Result<BoundTest, AllocError>
+/// What is asked in place of a test of the body: each name of it is bound. It goes as deep as the expressions lie in one
+/// another.
+#[cycle(test)]
+fn bind_test(binding: &Binding<'_>, test: &BoundTest) -> Result<BoundTest, AllocError>
     ensures { IfOk result (λ t. query_view t ≡ bound_query (binding_of binding.now)
-        binding.now.locals (query_view test)) }
+        binding.now.locals (query_view test.now)) }
 {
     match test {
         BoundTest::Tick => Ok(BoundTest::Tick),
-        BoundTest::Of(signal) => bind_signal(binding, signal),
+        BoundTest::Of(signal) => bind_signal(binding, *signal),
+        BoundTest::Not(inner) => BoundTest::negated(binding.alloc, bind_test(binding, inner)?),
+        BoundTest::Joined(connective, operands) => bind_joined(binding, *connective, operands),
     }
 }
 
+/// The same of operands with this connective between them.
+#[cycle(test)]
+fn bind_joined(
+    binding: &Binding<'_>,
+    connective: Connective,
+    operands: &BoundOperands,
+) -> Result<BoundTest, AllocError>
+    ensures { IfOk result (λ t. query_view t ≡ joined connective
+        (bound_query (binding_of binding.now) binding.now.locals (joint_view operands.now).first)
+        (bound_queries (binding_of binding.now) binding.now.locals
+        (joint_view operands.now).later)) }
+{
+    let mut later = Vec::new(binding.alloc);
+    for test in &operands.later {
+        later.push(bind_test(binding, test)?)?;
+    }
+    let first = bind_test(binding, &operands.first)?;
+    let second = bind_test(binding, &operands.second)?;
+    BoundTest::joined(binding.alloc, connective, first, second, later)
+}
+
 /// What is waited for in place of a wait of the body.
-fn bind_wait(binding: &Binding<'_>, wait: Wait) -> Result<Wait, AllocError>
-    ensures immediate { IfOk result (λ w. w.immediate ≡ wait.immediate) }
+fn bind_wait(binding: &Binding<'_>, wait: &Wait) -> Result<Wait, AllocError>
+    ensures immediate { IfOk result (λ w. w.immediate ≡ wait.now.immediate) }
     ensures test { IfOk result (λ w. query_view w.test
-        ≡ bound_query (binding_of binding.now) binding.now.locals (query_view wait.test)) }
+        ≡ bound_query (binding_of binding.now) binding.now.locals (query_view wait.now.test)) }
 {
     Ok(Wait {
         immediate: wait.immediate,
-        test: bind_test(binding, wait.test)?,
+        test: bind_test(binding, &wait.test)?,
     })
 }
 
@@ -78,17 +105,17 @@ pub fn bind_body(run: &Binding<'_>, flat: &Body) -> Result<Body, AllocError>
         Body::Exit(trap) => Ok(Body::Exit(*trap)),
         Body::Emit(signal) => Ok(Body::Emit(bind_sent(run, *signal)?)),
         Body::Sustain(signal) => Ok(Body::Sustain(bind_sent(run, *signal)?)),
-        Body::Await(wait) => Ok(Body::Await(bind_wait(run, *wait)?)),
-        Body::Suspend(wait, p) => Ok(Body::Suspend(bind_wait(run, *wait)?, bind_box(run, p)?)),
-        Body::Abort(wait, p) => Ok(Body::Abort(bind_wait(run, *wait)?, bind_box(run, p)?)),
-        Body::WeakAbort(wait, p) => Ok(Body::WeakAbort(bind_wait(run, *wait)?, bind_box(run, p)?)),
-        Body::Every(wait, p) => Ok(Body::Every(bind_wait(run, *wait)?, bind_box(run, p)?)),
+        Body::Await(wait) => Ok(Body::Await(bind_wait(run, wait)?)),
+        Body::Suspend(wait, p) => Ok(Body::Suspend(bind_wait(run, wait)?, bind_box(run, p)?)),
+        Body::Abort(wait, p) => Ok(Body::Abort(bind_wait(run, wait)?, bind_box(run, p)?)),
+        Body::WeakAbort(wait, p) => Ok(Body::WeakAbort(bind_wait(run, wait)?, bind_box(run, p)?)),
+        Body::Every(wait, p) => Ok(Body::Every(bind_wait(run, wait)?, bind_box(run, p)?)),
         Body::Present(test, p, q) => {
-            let test = bind_test(run, *test)?;
+            let test = bind_test(run, test)?;
             Ok(Body::Present(test, bind_box(run, p)?, bind_box(run, q)?))
         }
         Body::Loop(p) => Ok(Body::Loop(bind_box(run, p)?)),
-        Body::LoopEach(test, p) => Ok(Body::LoopEach(bind_test(run, *test)?, bind_box(run, p)?)),
+        Body::LoopEach(test, p) => Ok(Body::LoopEach(bind_test(run, test)?, bind_box(run, p)?)),
         Body::Trap(p) => Ok(Body::Trap(bind_box(run, p)?)),
         Body::Signal(count, p) => Ok(Body::Signal(*count, bind_box(run, p)?)),
         Body::Seq(p, q) => Ok(Body::Seq(bind_box(run, p)?, bind_box(run, q)?)),

@@ -5,11 +5,11 @@
 ghost use Rattle.std.specs.Prelude.{◌≡◌, IfOk, map, option_map};
 ghost use Rattle.std.specs.List.{find};
 ghost use Rattle.std.specs.Str.{bytes_eq};
-ghost use Rattle.est_syntax.specs.Views.{unit_view, branches_view, sequence_view, statement_view, renaming_view};
+ghost use Rattle.est_syntax.specs.Views.{test_view, unit_view, branches_view, sequence_view, statement_view, renaming_view};
 ghost use Rattle.est_modules.specs.Derived.{unit_derived, branches_derived, sequence_derived, statement_derived};
 ghost use Rattle.est_modules.specs.Scopes.{binders_of};
 ghost use Rattle.est_modules.specs.Modules.{program_of, program_named};
-ghost use Rattle.est_link.specs.Linking.{linked, interface_bound, interface_run, bound, emitted, locals_round, signal_at};
+ghost use Rattle.est_link.specs.Linking.{linked, interface_bound, interface_run, bound, asked_at, emitted, locals_round, signal_at};
 ghost use Rattle.est_link.specs.Inner.Tables.{bodies_of};
 ghost use Rattle.est_link.specs.Inner.Joins.{joined_by};
 ghost use Rattle.est_reduce.specs.Bodies.{seq, par};
@@ -17,10 +17,11 @@ ghost use Rattle.est_reduce.specs.Views.{body_of, bound_name as name_view, bound
 
 use crate::bindings::{Binding, count, locals_round, signal_at, trap_at};
 use crate::bound_bodies::{bind_body, emitted};
+use crate::found_tests::find_test;
 use est_modules::head::{Declared, Head, head_named};
 use est_modules::scope::Scope;
 use est_reduce::body::{Body, BoundSignal, BoundTest, Wait};
-use est_syntax::tree::{Branches, Delay, Renaming, Sequence, Statement, Unit};
+use est_syntax::tree::{Branches, Delay, Renaming, Sequence, Statement, Test, Unit};
 use est_text::identifier::Identifier;
 use std::alloc::{AllocError, Global};
 
@@ -101,7 +102,7 @@ pub struct Place<'a> {
 }
 
 /// The signal that a name means.
-fn find_test(place: &Place<'_>, name: &Identifier) -> Result<BoundTest, AllocError>
+pub fn find_signal(place: &Place<'_>, name: &Identifier) -> Result<BoundTest, AllocError>
     ensures { IfOk result (λ t. query_view t ≡ signal_at (program_of place.now.linker.now.home.now)
         (binders_of place.now.scope.now) name.now) }
 {
@@ -113,19 +114,19 @@ fn find_sent(place: &Place<'_>, name: &Identifier) -> Result<BoundSignal, AllocE
     ensures { IfOk result (λ n. name_view n ≡ emitted (signal_at
         (program_of place.now.linker.now.home.now) (binders_of place.now.scope.now) name.now)) }
 {
-    Ok(emitted(find_test(place, name)?))
+    Ok(emitted(find_signal(place, name)?))
 }
 
 /// What is waited for.
-fn find_wait(place: &Place<'_>, delay: Delay) -> Result<Wait, AllocError>
-    ensures immediate { IfOk result (λ w. w.immediate ≡ delay.immediate) }
+fn find_wait(place: &Place<'_>, delay: &Delay) -> Result<Wait, AllocError>
+    ensures immediate { IfOk result (λ w. w.immediate ≡ delay.now.immediate) }
     ensures test { IfOk result (λ w. query_view w.test
-        ≡ signal_at (program_of place.now.linker.now.home.now) (binders_of place.now.scope.now)
-        delay.signal) }
+        ≡ asked_at (program_of place.now.linker.now.home.now) (binders_of place.now.scope.now)
+        (test_view delay.now.test)) }
 {
     Ok(Wait {
         immediate: delay.immediate,
-        test: find_test(place, &delay.signal)?,
+        test: find_test(place, &delay.test)?,
     })
 }
 
@@ -143,17 +144,17 @@ fn flat_unit(at: &Place<'_>, unit: &Unit) -> Result<Body, AllocError>
         Unit::Emit(name) => Ok(Body::Emit(find_sent(at, name)?)),
         Unit::Sustain(name) => Ok(Body::Sustain(find_sent(at, name)?)),
         Unit::Exit(name) => Ok(Body::Exit(trap_at(at.scope, name)?)),
-        Unit::Await(delay) => Ok(Body::Await(find_wait(at, *delay)?)),
-        Unit::Present(name, branches) => flat_test(at, *name, branches),
-        Unit::Suspend(p, delay, _) => Ok(Body::Suspend(find_wait(at, *delay)?, box_body(at, p)?)),
-        Unit::Abort(p, delay, _) => Ok(Body::Abort(find_wait(at, *delay)?, box_body(at, p)?)),
+        Unit::Await(delay) => Ok(Body::Await(find_wait(at, delay)?)),
+        Unit::Present(test, branches) => flat_test(at, test, branches),
+        Unit::Suspend(p, delay, _) => Ok(Body::Suspend(find_wait(at, delay)?, box_body(at, p)?)),
+        Unit::Abort(p, delay, _) => Ok(Body::Abort(find_wait(at, delay)?, box_body(at, p)?)),
         Unit::WeakAbort(p, delay, _) => Ok(Body::WeakAbort(
-            find_wait(at, *delay)?,
+            find_wait(at, delay)?,
             box_body(at, p)?,
         )),
         Unit::Loop(p, _) => Ok(Body::Loop(box_body(at, p)?)),
-        Unit::LoopEach(p, name) => Ok(Body::LoopEach(find_test(at, name)?, box_body(at, p)?)),
-        Unit::Every(delay, p, _) => Ok(Body::Every(find_wait(at, *delay)?, box_body(at, p)?)),
+        Unit::LoopEach(p, test) => Ok(Body::LoopEach(find_test(at, test)?, box_body(at, p)?)),
+        Unit::Every(delay, p, _) => Ok(Body::Every(find_wait(at, delay)?, box_body(at, p)?)),
         Unit::Trap(name, p, _) => {
             let scope = Scope::Trap(*name, &*at.scope);
             Ok(Body::Trap(box_inside(at, &scope, p)?))
@@ -167,14 +168,15 @@ fn flat_unit(at: &Place<'_>, unit: &Unit) -> Result<Body, AllocError>
     }
 }
 
-/// The flat statement of a test of a signal, with its branches.
+/// The flat statement of a test, with its branches.
 #[cycle(flat)]
-fn flat_test(at: &Place<'_>, name: Identifier, branches: &Branches) -> Result<Body, AllocError>
+fn flat_test(at: &Place<'_>, test: &Test, branches: &Branches) -> Result<Body, AllocError>
     ensures { IfOk result (λ f. body_of f ≡ linked (map program_of at.now.linker.now.heads.now)
         (bodies_of at.now.linker.now.bodies.now) (program_of at.now.linker.now.home.now)
-        (binders_of at.now.scope.now) (branches_derived name (branches_view branches.now))) }
+        (binders_of at.now.scope.now) (branches_derived (test_view test.now)
+        (branches_view branches.now))) }
 {
-    let test = find_test(at, &name)?;
+    let test = find_test(at, test)?;
     match branches {
         Branches::Then(body, _) => {
             let first = box_body(at, body)?;

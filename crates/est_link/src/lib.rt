@@ -9,6 +9,7 @@ mod bindings;
 mod body_table;
 mod bound_bodies;
 mod flatten;
+mod found_tests;
 pub mod laws;
 pub mod link;
 pub mod linked_module;

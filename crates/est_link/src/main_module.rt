@@ -21,13 +21,14 @@ use est_syntax::tree;
 use est_text::identifier::Identifier;
 use std::alloc::{AllocError, Global};
 
-/// Input or output.
+/// Input, output or both.
 fn kernel_kind(kind: Kind) -> KernelKind
     ensures { result ≡ kernel_kind kind }
 {
     match kind {
         Kind::Input => KernelKind::Input,
         Kind::Output => KernelKind::Output,
+        Kind::InputOutput => KernelKind::InputOutput,
     }
 }
 

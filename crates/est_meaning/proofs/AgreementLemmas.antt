@@ -6,7 +6,8 @@ use Rattle.est_kernel.specs.View.{term_of, query_of}
 use Rattle.est_meaning.specs.States.{term_at, is_live, IsExclusive}
 use Rattle.est_kernel.specs.Term.{held, seq, loop, trap, signal}
 use Rattle.est_kernel.specs.declared.statement.Statement.{Statement}
-use Rattle.est_kernel.specs.declared.statement.Statement.TheVariants.{Nothing, Pause, Emit, Present', Suspend', Seq', Loop', Par', Trap', Exit, Local' as Binder'}
+use Rattle.est_kernel.specs.declared.statement.Statement.TheVariants.{Nothing, Pause, Emit, Present', Suspend', Seq'}
+use Rattle.est_kernel.specs.declared.statement.Statement.TheVariants.{Loop', Par', Trap', Exit, Local' as Binder'}
 
 -- the same on the pauses of s
 abbrev pub Agree : Statement → (ℕ → Bool) → (ℕ → Bool) → Type 0
@@ -16,20 +17,23 @@ or_true : (x y : Bool) → y ≡ true → (x || y) ≡ true
 or_true true y e = refl
 or_true false y e = e
 
--- two sides
-pub left_of : (p q : Statement) (a b : ℕ → Bool) → ((i : ℕ) → (has_pause p i || has_pause q i) ≡ true → a i ≡ b i) → Agree p a b
+-- what agrees on both sides agrees on the left one
+pub left_of : (p q : Statement) (a b : ℕ → Bool) → ((i : ℕ) → (has_pause p i || has_pause q i) ≡ true → a i ≡ b i)
+    → Agree p a b
 left_of p q a b f i h = f i (rw h refl)
 
 -- what agrees on both sides agrees on the right one
-pub right_of : (p q : Statement) (a b : ℕ → Bool) → ((i : ℕ) → (has_pause p i || has_pause q i) ≡ true → a i ≡ b i) → Agree q a b
+pub right_of : (p q : Statement) (a b : ℕ → Bool) → ((i : ℕ) → (has_pause p i || has_pause q i) ≡ true → a i ≡ b i)
+    → Agree q a b
 right_of p q a b f i h = f i (or_true (has_pause p i) (has_pause q i) h)
 
--- whether a pause is set
+-- whether one of its pauses is set
 pub live_same : (s : Statement) (a b : ℕ → Bool) → Agree s a b → is_live s a ≡ is_live s b
 live_same Nothing a b f = refl
 live_same (Pause n) a b f = f n.index (eq-eqb n.index n.index refl)
 live_same (Emit s) a b f = refl
-live_same (Present' t x p y q) a b f = rw (live_same p a b (left_of p q a b f), live_same q a b (right_of p q a b f)) refl
+live_same (Present' t x p y q) a b f = rw (live_same p a b (left_of p q a b f), live_same q a b (right_of p q a b f))
+    refl
 live_same (Suspend' t x p) a b f = live_same p a b f
 live_same (Seq' x p y q) a b f = rw (live_same p a b (left_of p q a b f), live_same q a b (right_of p q a b f)) refl
 live_same (Loop' x p) a b f = live_same p a b f
@@ -60,7 +64,7 @@ at_same (Trap' x p) a b f = ap (λ u. trap u) (at_same p a b f)
 at_same (Exit k) a b f = refl
 at_same (Binder' s x p) a b f = ap (λ u. signal s.index u) (at_same p a b f)
 
--- that no two sides are set
+-- that no two sides are set at once
 pub exclusive_same : (s : Statement) (a b : ℕ → Bool) → Agree s a b → IsExclusive s a → IsExclusive s b
 exclusive_same Nothing a b f h = tt
 exclusive_same (Pause n) a b f h = tt
@@ -121,11 +125,13 @@ cleared_dead (Exit k) a f = refl
 cleared_dead (Binder' s x p) a f = cleared_dead p a f
 
 -- a change of q alone leaves p
-pub apart_left : (p q : Statement) (a b : ℕ → Bool) → AreApart p q → ((i : ℕ) → has_pause q i ≡ false → b i ≡ a i) → Agree p a b
+pub apart_left : (p q : Statement) (a b : ℕ → Bool) → AreApart p q → ((i : ℕ) → has_pause q i ≡ false → b i ≡ a i)
+    → Agree p a b
 apart_left p q a b d f i h = sym (f i (d i h))
 
 -- a change of p alone leaves q
-pub apart_right : (p q : Statement) (a b : ℕ → Bool) → AreApart p q → ((i : ℕ) → has_pause p i ≡ false → b i ≡ a i) → Agree q a b
+pub apart_right : (p q : Statement) (a b : ℕ → Bool) → AreApart p q → ((i : ℕ) → has_pause p i ≡ false → b i ≡ a i)
+    → Agree q a b
 apart_right p q a b d f i h = sym (f i (go (has_pause p i) refl))
   where
     go : (x : Bool) → has_pause p i ≡ x → x ≡ false

@@ -3,7 +3,8 @@ use Rattle.std.specs.Prelude.{◌≡◌, ◌≢◌, ℕ, zero, suc, ◌≤◌, �
 use Rattle.std.proofs.Common.{inl, inr, sym, ◌∙◌, refl, arith}
 use Rattle.std.proofs.lemmas.Bool.{eq-eqb, ne_eqb, eqb-true, cases_eq, or_cases, and_parts, cases_lt}
 use mathlib.Core.Path.{fun_ext}
-use Rattle.est_kernel.specs.Codes.{Codes, no_codes, code, either_code, but_zero, max_codes, some_up_to, codes_out_of_trap, code_out_of_trap}
+use Rattle.est_kernel.specs.Codes.{Codes, no_codes, code, either_code, but_zero, max_codes, some_up_to}
+use Rattle.est_kernel.specs.Codes.{codes_out_of_trap, code_out_of_trap}
 
 -- a code alone, as a test
 pub code_at : (k n : ℕ) → code k n ≡ nat_eq k n
@@ -116,7 +117,8 @@ out_of_trap_code i = fun_ext (λ k. out_of_trap_at i k)
 -- after an end, the later code alone
 pub later_code : (k : ℕ) → either_code (but_zero (code 0)) (code k) ≡ code k
 unfolding either_code but_zero
-later_code k = fun_ext (elim [ zero ↦ refl | suc n ↦ rw (code_at 0 (suc n), ne_eqb 0 (suc n) (λ e. absurd (omega arith))) refl ])
+later_code k =
+    fun_ext (elim [ zero ↦ refl | suc n ↦ rw (code_at 0 (suc n), ne_eqb 0 (suc n) (λ e. absurd (omega arith))) refl ])
 
 -- a code up to k can be found
 pub up_to_found : (a : Codes) (k : ℕ) → some_up_to a k ≡ true → (j : ℕ) × (j ≤ k) × (a j ≡ true)
@@ -133,7 +135,7 @@ up_to_mono a b (suc k) f h = elim (or_cases (some_up_to a k) (a (suc k)) h) [
   | inr g ↦ both_true (some_up_to b k) (b (suc k)) (f (suc k) g)
 ]
 
--- of larger sets the greater codes are more
+-- the greater codes of larger sets are more
 pub max_mono : (a b a' b' : Codes) (k : ℕ) → ((i : ℕ) → a i ≡ true → a' i ≡ true)
     → ((i : ℕ) → b i ≡ true → b' i ≡ true) → max_codes a b k ≡ true → max_codes a' b' k ≡ true
 unfolding max_codes
@@ -143,11 +145,12 @@ max_mono a b a' b' k f g h = elim (or_cases (a k && some_up_to b k) (b k && some
       both_true (a' k && some_up_to b' k) _ (rw (g k p.0, up_to_mono a a' k f p.1) refl)
 ]
 
--- of a larger set more is left outside a trap
+-- of a larger set, more is seen outside a trap
 pub out_of_trap_mono : (a b : Codes) (k : ℕ) → ((i : ℕ) → a i ≡ true → b i ≡ true) → codes_out_of_trap a k ≡ true
     → codes_out_of_trap b k ≡ true
 unfolding codes_out_of_trap
-out_of_trap_mono a b zero f h = elim (or_cases (a 0) (a 2) h) [ inl g ↦ rw (f 0 g) refl | inr g ↦ both_true (b 0) (b 2) (f 2 g) ]
+out_of_trap_mono a b zero f h = elim (or_cases (a 0) (a 2) h)
+    [ inl g ↦ rw (f 0 g) refl | inr g ↦ both_true (b 0) (b 2) (f 2 g) ]
 out_of_trap_mono a b (suc zero) f h = f 1 h
 out_of_trap_mono a b (suc (suc k)) f h = f (suc (suc (suc k))) h
 

@@ -2,19 +2,23 @@
 use Rattle.std.specs.Prelude.{◌≡◌, ◌≢◌, ℕ, zero, suc, ◌+◌, Bool, true, false, cond, ◌&&◌, max}
 use Rattle.std.proofs.Common.{inl, inr, ap, sym, ◌∙◌, refl, arith}
 use Rattle.std.proofs.lemmas.Bool.{eq-eqb, or_cases, and_parts, both_ways}
-use Rattle.est_kernel.specs.Term.{inner, Query, Term, nothing, pause, emit, present, suspend, held, seq, loop, par, trap, exit, signal}
-use Rattle.est_kernel.specs.Codes.{Codes, no_codes, code, either_code, but_zero, max_codes, some_up_to, codes_out_of_trap, code_out_of_trap}
+use Rattle.est_kernel.specs.Term.{inner, Query, Term, nothing, pause, emit, present, suspend, held, seq, loop, par}
+use Rattle.est_kernel.specs.Term.{trap, exit, signal}
+use Rattle.est_kernel.specs.Codes.{Codes, no_codes, code, either_code, but_zero, max_codes, some_up_to}
+use Rattle.est_kernel.specs.Codes.{codes_out_of_trap, code_out_of_trap}
 use Rattle.est_meaning.specs.Signals.{Signals, no_signals, only, union, without}
 use Rattle.est_meaning.specs.declared.status.Status.{Status}
 use Rattle.est_meaning.specs.declared.status.Status.TheVariants.{Present, Absent, Unknown}
 use Rattle.est_meaning.specs.Status.{Env, status_of, with_local, verdict, by_status}
 use Rattle.est_meaning.specs.MustCan.{Acts, no_acts, just_code, must_then, sure, must, can, status_within, env_within}
 use Rattle.est_kernel.specs.StartCodes.{start_codes, IsLoopSafe}
-use Rattle.est_meaning.specs.Rules.{Gives, HasNoRule, rest_of, takes_first, takes_second, is_held, is_resumed, goes_on, ends_then}
+use Rattle.est_meaning.specs.Rules.{Gives, HasNoRule, rest_of, takes_first, takes_second, is_held, is_resumed, goes_on}
+use Rattle.est_meaning.specs.Rules.{ends_then}
 use Rattle.est_meaning.specs.Laws.{just, HasRule, HasNoCode}
-use Rattle.est_meaning.proofs.CodeSetLemmas.{both_true, code_at, code_zero, max_of_codes, out_of_trap_code, later_code, up_to_found, max_mono, out_of_trap_mono, code_true, none_true}
+use Rattle.est_meaning.proofs.CodeSetLemmas.{both_true, code_at, code_zero, max_of_codes, out_of_trap_code, later_code}
+use Rattle.est_meaning.proofs.CodeSetLemmas.{up_to_found, max_mono, out_of_trap_mono, code_true, none_true}
 
--- the rules against Must
+-- where the rules react, Must gives just that
 pub gives_must : (t : Term) (e : Env) (o : Signals) (k : ℕ) (u : Term) → Gives t e o k u → must t e ≡ just o k
 gives_must nothing e o k u g = rw (g.signals, g.code) refl
 gives_must pause e o k u g = rw (g.signals, g.code) refl
@@ -26,7 +30,8 @@ gives_must (suspend s p) e o k u g = gives_must p e o k g.left g.gives
 gives_must (held s p) e o k u (is_held v g) = rw (v, g.signals, g.code) refl
 gives_must (held s p) e o k u (is_resumed v g) = rw v (gives_must p e o k g.left g.gives)
 gives_must (seq p q) e o k u (goes_on d g) = rw (gives_must p e o k g.left g.gives, code_zero k d) refl
-gives_must (seq p q) e o k u (ends_then a b v x y z) = rw (gives_must p e a 0 v x, gives_must q e b k u y, code_at 0 0, z) refl
+gives_must (seq p q) e o k u (ends_then a b v x y z) = rw
+    (gives_must p e a 0 v x, gives_must q e b k u y, code_at 0 0, z) refl
 gives_must (loop p) e o k u g = gives_must p e o k g.inside.left g.inside.gives
 gives_must (par p q) e o k u g =
     rw (
@@ -36,10 +41,12 @@ gives_must (par p q) e o k u g =
       g.signals,
       g.code,
     ) refl
-gives_must (trap p) e o k u g = rw (gives_must p e o g.body_code g.left g.gives, out_of_trap_code g.body_code, g.code) refl
-gives_must (signal s p) e o k u g = rw (gives_must p (env_within sure s p e) g.body_signals k g.left g.gives, g.signals) refl
+gives_must (trap p) e o k u g = rw (gives_must p e o g.body_code g.left g.gives, out_of_trap_code g.body_code, g.code)
+    refl
+gives_must (signal s p) e o k u g = rw (gives_must p (env_within sure s p e) g.body_signals k g.left g.gives, g.signals)
+    refl
 
--- the rules against Can
+-- where the rules react, Can gives just that
 pub gives_can : (t : Term) (e : Env) (o : Signals) (k : ℕ) (u : Term) → Gives t e o k u → can t sure e ≡ just o k
 gives_can nothing e o k u g = rw (g.signals, g.code) refl
 gives_can pause e o k u g = rw (g.signals, g.code) refl
@@ -62,8 +69,10 @@ gives_can (par p q) e o k u g =
       g.signals,
       g.code,
     ) refl
-gives_can (trap p) e o k u g = rw (gives_can p e o g.body_code g.left g.gives, out_of_trap_code g.body_code, g.code) refl
-gives_can (signal s p) e o k u g = rw (gives_can p (env_within sure s p e) g.body_signals k g.left g.gives, g.signals) refl
+gives_can (trap p) e o k u g = rw (gives_can p e o g.body_code g.left g.gives, out_of_trap_code g.body_code, g.code)
+    refl
+gives_can (signal s p) e o k u g = rw (gives_can p (env_within sure s p e) g.body_signals k g.left g.gives, g.signals)
+    refl
 
 chosen_starts : (v : Status) (a b : Acts) (c d : Codes) (k : ℕ) → (a.codes k ≡ true → c k ≡ true)
     → (b.codes k ≡ true → d k ≡ true)
@@ -80,7 +89,8 @@ held_starts Present a c k f h = both_true (c k) (code 1 k) h
 held_starts Absent a c k f h = rw (f h) refl
 held_starts Unknown a c k f h = cc
 
-seq_starts : (a b : Acts) (c d : Codes) (k : ℕ) → ((i : ℕ) → a.codes i ≡ true → c i ≡ true) → (b.codes k ≡ true → d k ≡ true)
+seq_starts : (a b : Acts) (c d : Codes) (k : ℕ) → ((i : ℕ) → a.codes i ≡ true → c i ≡ true)
+    → (b.codes k ≡ true → d k ≡ true)
     → (must_then a b).codes k ≡ true → cond (c 0) (either_code (but_zero c) d) c k ≡ true
 unfolding either_code but_zero
 seq_starts a b c d k f g h = go (a.codes 0) refl h
@@ -121,7 +131,8 @@ present_has s p q e k Absent d f g h = let r = g h in
     record { signals = r.signals; rest = r.rest; gives = takes_second d r.gives }
 present_has s p q e k Unknown d f g h = none_true k h
 
-held_has : (s : Query) (p : Term) (e : Env) (k : ℕ) (v : Status) → status_of e s ≡ v → ((must p e).codes k ≡ true → HasRule p e k)
+held_has : (s : Query) (p : Term) (e : Env) (k : ℕ) (v : Status) → status_of e s ≡ v
+    → ((must p e).codes k ≡ true → HasRule p e k)
     → (by_status v (just_code 1) (must p e) no_acts).codes k ≡ true → HasRule (held s p) e k
 held_has s p e k Present d f h = record {
   signals = no_signals;
@@ -220,7 +231,14 @@ signal_has : (s : ℕ) (p : Term) (e : Env) (k : ℕ) → HasRule p (env_within 
 signal_has s p e k r = record {
   signals = without s r.signals;
   rest = rest_of k (signal s r.rest);
-  gives = record { decided = known; body_signals = r.signals; left = r.rest; gives = r.gives; signals = refl; rest = refl };
+  gives = record {
+    decided = known;
+    body_signals = r.signals;
+    left = r.rest;
+    gives = r.gives;
+    signals = refl;
+    rest = refl;
+  };
 }
   where
     known : status_within sure s p e ≢ Unknown
@@ -240,9 +258,19 @@ inside_of p e k around t f r =
 -- where Must has a code, the rules react with it
 pub must_gives : (t : Term) (e : Env) (k : ℕ) → IsLoopSafe t → (must t e).codes k ≡ true → HasRule t e k
 must_gives nothing e k i h =
-    record { signals = no_signals; rest = nothing; gives = record { signals = refl; code = code_true 0 k h; rest = refl } }
+    record {
+      signals = no_signals;
+      rest = nothing;
+      gives =
+          record { signals = refl; code = code_true 0 k h; rest = refl };
+    }
 must_gives pause e k i h =
-    record { signals = no_signals; rest = nothing; gives = record { signals = refl; code = code_true 1 k h; rest = refl } }
+    record {
+      signals = no_signals;
+      rest = nothing;
+      gives =
+          record { signals = refl; code = code_true 1 k h; rest = refl };
+    }
 must_gives (emit s) e k i h =
     record { signals = only s; rest = nothing; gives = record { signals = refl; code = code_true 0 k h; rest = refl } }
 must_gives (exit n) e k i h = record {
@@ -250,22 +278,26 @@ must_gives (exit n) e k i h = record {
   rest = nothing;
   gives = record { signals = refl; code = code_true (n + 2) k h; rest = refl };
 }
-must_gives (present s p q) e k i h = present_has s p q e k (status_of e s) refl (must_gives p e k i.0) (must_gives q e k i.1) h
+must_gives (present s p q) e k i h = present_has s p q e k (status_of e s) refl (must_gives p e k i.0)
+    (must_gives q e k i.1) h
 must_gives (suspend s p) e k i h = inside_of p e k (λ t. held s t) (suspend s p)
     (λ o v g. record { left = v; gives = g; rest = refl }) (must_gives p e k i h)
 must_gives (held s p) e k i h = held_has s p e k (status_of e s) refl (must_gives p e k i) h
-must_gives (seq p q) e k i h = seq_has p q e k ((must p e).codes 0) refl (λ j. must_gives p e j i.0) (must_gives q e k i.1) h
+must_gives (seq p q) e k i h = seq_has p q e k ((must p e).codes 0) refl (λ j. must_gives p e j i.0)
+    (must_gives q e k i.1) h
 must_gives (loop p) e k i h =
     let not_ended : k ≢ 0 = λ z. both_ways (start_codes p 0) i.1 (must_starts p e 0 (rw z at h)) in
     inside_of p e k (λ t. seq t (loop p)) (loop p)
-    (λ o v g. record { not_ended = not_ended; inside = record { left = v; gives = g; rest = refl } }) (must_gives p e k i.0 h)
+    (λ o v g. record { not_ended = not_ended; inside = record { left = v; gives = g; rest = refl } })
+    (must_gives p e k i.0 h)
 must_gives (par p q) e k i h = par_has p q e k (λ j. must_gives p e j i.0) (λ j. must_gives q e j i.1) h
 must_gives (trap p) e k i h = trap_has p e k (λ j. must_gives p e j i) h
 must_gives (signal s p) e k i h = signal_has s p e k (must_gives p (env_within sure s p e) k i h)
 
 -- where the rules react with a code, Must has it
 pub rule_has_code : (t : Term) (e : Env) (k : ℕ) → HasRule t e k → (must t e).codes k ≡ true
-rule_has_code t e k r = ap (λ (a : Acts). a.codes k) (gives_must t e r.signals k r.rest r.gives) ∙ (code_at k k ∙ eq-eqb k k refl)
+rule_has_code t e k r = ap (λ (a : Acts). a.codes k) (gives_must t e r.signals k r.rest r.gives)
+    ∙ (code_at k k ∙ eq-eqb k k refl)
 
 -- where the rules give nothing, Must has no code
 pub must_silent : (t : Term) (e : Env) → IsLoopSafe t → HasNoRule t e → HasNoCode (must t e)

@@ -2,13 +2,19 @@
 use Rattle.std.specs.Prelude.{◌≡◌, ℕ, zero, suc, ◌+◌, Bool, true, false, not, cond, ◌&&◌, max}
 use Rattle.std.proofs.Common.{inl, inr, ap, sym, ◌∙◌, refl, arith, subst}
 use Rattle.std.proofs.lemmas.Bool.{or_cases, and_parts, both_ways}
-use Rattle.est_kernel.specs.Term.{inner, Query, tick, of, Term, nothing, pause, emit, present, suspend, held, seq, loop, par, trap, exit, signal}
-use Rattle.est_kernel.specs.Codes.{Codes, no_codes, code, either_code, but_zero, max_codes, some_up_to, codes_out_of_trap, code_out_of_trap}
+use Rattle.est_kernel.specs.Term.{inner, Query, tick, of, negated, joined, Queries, last, more, Term, nothing, pause}
+use Rattle.est_kernel.specs.Term.{emit, present, suspend, held, seq, loop, par, trap, exit, signal}
+use Rattle.est_kernel.specs.Codes.{Codes, no_codes, code, either_code, but_zero, max_codes, some_up_to}
+use Rattle.est_kernel.specs.Codes.{codes_out_of_trap, code_out_of_trap}
+use Rattle.est_kernel.specs.declared.statement.Connective.{Connective}
+use Rattle.est_kernel.specs.declared.statement.Connective.TheVariants.{And, Or}
 use Rattle.est_meaning.specs.Signals.{Signals, no_signals, union, without, same_name}
 use Rattle.est_meaning.specs.declared.status.Status.{Status}
 use Rattle.est_meaning.specs.declared.status.Status.TheVariants.{Present, Absent, Unknown}
-use Rattle.est_meaning.specs.Status.{Env, status_of, with_local, verdict, by_status}
-use Rattle.est_meaning.specs.MustCan.{Acts, no_acts, just_code, either, together, acts_out_of_trap, hide, may_stay, must_then, can_then, Mode, sure, maybe, next_mode, must, can, env_within}
+use Rattle.est_meaning.specs.Status.{Env, opposite, and_status, or_status, joint_status, status_of, status_of_all}
+use Rattle.est_meaning.specs.Status.{with_local, verdict, by_status}
+use Rattle.est_meaning.specs.MustCan.{Acts, no_acts, just_code, either, together, acts_out_of_trap, hide, may_stay}
+use Rattle.est_meaning.specs.MustCan.{must_then, can_then, Mode, sure, maybe, next_mode, must, can, env_within}
 use Rattle.est_meaning.specs.Knowledge.{IsBelow, KnowsLess, IsIn, IsWithin}
 use Rattle.est_meaning.proofs.CodeSetLemmas.{both_true, max_mono, out_of_trap_mono, up_to_found, code_true}
 
@@ -24,11 +30,13 @@ none_within a = record { signals = λ x h. cc; codes = λ x h. cc }
 
 union_in : (a b c d : Signals) → IsIn a c → IsIn b d → IsIn (union a b) (union c d)
 unfolding union
-union_in a b c d f g x h = elim (or_cases (a x) (b x) h) [ inl l ↦ rw (f x l) refl | inr l ↦ both_true (c x) (d x) (g x l) ]
+union_in a b c d f g x h = elim (or_cases (a x) (b x) h)
+    [ inl l ↦ rw (f x l) refl | inr l ↦ both_true (c x) (d x) (g x l) ]
 
 either_in : (a b c d : Codes) → IsIn a c → IsIn b d → IsIn (either_code a b) (either_code c d)
 unfolding either_code
-either_in a b c d f g x h = elim (or_cases (a x) (b x) h) [ inl l ↦ rw (f x l) refl | inr l ↦ both_true (c x) (d x) (g x l) ]
+either_in a b c d f g x h = elim (or_cases (a x) (b x) h)
+    [ inl l ↦ rw (f x l) refl | inr l ↦ both_true (c x) (d x) (g x l) ]
 
 left_in : (a b : Codes) → IsIn a (either_code a b)
 unfolding either_code
@@ -56,7 +64,8 @@ unfolding without
 without_in s a b f x h = let p = and_parts (not (same_name (inner s) x)) (a x) h in rw (p.0, f x p.1) refl
 
 either_within : (a b c d : Acts) → IsWithin a c → IsWithin b d → IsWithin (either a b) (either c d)
-either_within a b c d f g = record { signals = union_in _ _ _ _ f.signals g.signals; codes = either_in _ _ _ _ f.codes g.codes }
+either_within a b c d f g =
+    record { signals = union_in _ _ _ _ f.signals g.signals; codes = either_in _ _ _ _ f.codes g.codes }
 
 together_within : (a b c d : Acts) → IsWithin a c → IsWithin b d → IsWithin (together a b) (together c d)
 together_within a b c d f g = record {
@@ -110,7 +119,8 @@ max_found a b k h = elim (or_cases (a k && some_up_to b k) (b k && some_up_to a 
       (f.0, k, f.2, x.0, omega (arith, f.1))
 ]
 
-out_of_trap_found : (a : Codes) (k : ℕ) → codes_out_of_trap a k ≡ true → (i : ℕ) × (a i ≡ true) × (k ≡ code_out_of_trap i)
+out_of_trap_found : (a : Codes) (k : ℕ) → codes_out_of_trap a k ≡ true
+    → (i : ℕ) × (a i ≡ true) × (k ≡ code_out_of_trap i)
 unfolding codes_out_of_trap
 out_of_trap_found a zero h = elim (or_cases (a 0) (a 2) h) [ inl l ↦ (0, l, refl) | inr l ↦ (2, l, refl) ]
 out_of_trap_found a (suc zero) h = (1, h, refl)
@@ -156,7 +166,8 @@ must_one (trap p) e = one_out_of_trap _ (must_one p e)
 must_one (signal s p) e = must_one p _
 
 -- what goes on after the first part
-must_then_within : (a b c d : Acts) → IsOne c.codes → IsWithin a c → IsWithin b d → IsWithin (must_then a b) (must_then c d)
+must_then_within : (a b c d : Acts) → IsOne c.codes → IsWithin a c → IsWithin b d
+    → IsWithin (must_then a b) (must_then c d)
 must_then_within a b c d one f g = go (a.codes 0) (c.codes 0) refl refl
   where
     go : (x y : Bool) → a.codes 0 ≡ x → c.codes 0 ≡ y
@@ -182,9 +193,13 @@ can_then_within a b c d f g = go (a.codes 0) (c.codes 0) refl refl
         → IsWithin (cond x (record {
           signals = union a.signals b.signals;
           codes = either_code (but_zero a.codes) b.codes;
-        }) a) (cond y (record { signals = union c.signals d.signals; codes = either_code (but_zero c.codes) d.codes }) c)
+        }) a) (cond y (record { signals = union c.signals d.signals; codes = either_code (but_zero c.codes) d.codes })
+        c)
     go true true p q =
-        record { signals = union_in _ _ _ _ f.signals g.signals; codes = either_in _ _ _ _ (but_zero_in _ _ f.codes) g.codes }
+        record {
+          signals = union_in _ _ _ _ f.signals g.signals;
+          codes = either_in _ _ _ _ (but_zero_in _ _ f.codes) g.codes;
+        }
     go true false p q = absurd (both_ways (c.codes 0) q (f.codes 0 p))
     go false true p q = record {
       signals = λ x h. left_union _ _ x (f.signals x h);
@@ -192,7 +207,8 @@ can_then_within a b c d f g = go (a.codes 0) (c.codes 0) refl refl
     }
     go false false p q = f
 
-must_can_then : (a b c d : Acts) → IsWithin a c → (a.codes 0 ≡ true → IsWithin b d) → IsWithin (must_then a b) (can_then c d)
+must_can_then : (a b c d : Acts) → IsWithin a c → (a.codes 0 ≡ true → IsWithin b d)
+    → IsWithin (must_then a b) (can_then c d)
 must_can_then a b c d f g = go (a.codes 0) (c.codes 0) refl refl
   where
     go : (x y : Bool) → a.codes 0 ≡ x → c.codes 0 ≡ y
@@ -249,9 +265,61 @@ in_doubt : (t : Term) → Monotone t → (m : Mode) (e : Env) → IsWithin (can 
 in_doubt t h sure e = h.eased e
 in_doubt t h maybe e = same_within _
 
-query_below : (e f : Env) (s : Query) → KnowsLess e f → IsBelow (status_of e s) (status_of f s)
-query_below e f tick k = inr refl
-query_below e f (of s) k = k s
+-- with more known of the sides, more is known of a test
+opposite_below : (v w : Status) → IsBelow v w → IsBelow (opposite v) (opposite w)
+opposite_below v w (inl h) = inl (ap opposite h)
+opposite_below v w (inr h) = inr (ap opposite h)
+
+and_below : (v w x y : Status) → IsBelow v w → IsBelow x y → IsBelow (and_status v x) (and_status w y)
+and_below v w x y (inr h) (inr i) = inr (rw (h, i) refl)
+and_below v w x y (inr h) (inl i) = rw (h, i) (unknown_side w)
+  where
+    unknown_side : (w : Status) → IsBelow (and_status w Unknown) (and_status w y)
+    unknown_side Present = inl refl
+    unknown_side Absent = inr refl
+    unknown_side Unknown = inl refl
+and_below v w x y (inl h) (inr i) = rw (h, i) (unknown_first y)
+  where
+    unknown_first : (y : Status) → IsBelow (and_status Unknown y) (and_status w y)
+    unknown_first Present = inl refl
+    unknown_first Absent = inr (sym (both w))
+      where
+        both : (w : Status) → and_status w Absent ≡ Absent
+        both Present = refl
+        both Absent = refl
+        both Unknown = refl
+    unknown_first Unknown = inl refl
+and_below v w x y (inl h) (inl i) = rw (h, i) (inl refl)
+
+or_is_and : (v w : Status) → or_status v w ≡ opposite (and_status (opposite v) (opposite w))
+or_is_and Present w = refl
+or_is_and Absent Present = refl
+or_is_and Absent Absent = refl
+or_is_and Absent Unknown = refl
+or_is_and Unknown Present = refl
+or_is_and Unknown Absent = refl
+or_is_and Unknown Unknown = refl
+
+or_below : (v w x y : Status) → IsBelow v w → IsBelow x y → IsBelow (or_status v x) (or_status w y)
+or_below v w x y h i = rw (or_is_and v x, or_is_and w y)
+    (opposite_below _ _ (and_below _ _ _ _ (opposite_below v w h) (opposite_below x y i)))
+
+joint_below : (c : Connective) (v w x y : Status) → IsBelow v w → IsBelow x y
+    → IsBelow (joint_status c v x) (joint_status c w y)
+joint_below And v w x y h i = and_below v w x y h i
+joint_below Or v w x y h i = or_below v w x y h i
+
+mutual
+  query_below : (e f : Env) (t : Query) → KnowsLess e f → IsBelow (status_of e t) (status_of f t)
+  query_below e f tick k = inr refl
+  query_below e f (of s) k = k s
+  query_below e f (negated t) k = opposite_below _ _ (query_below e f t k)
+  query_below e f (joined c t ts) k = joint_below c _ _ _ _ (query_below e f t k) (queries_below c e f ts k)
+
+  queries_below : (c : Connective) (e f : Env) (ts : Queries) → KnowsLess e f
+      → IsBelow (status_of_all c e ts) (status_of_all c f ts)
+  queries_below c e f (last t) k = query_below e f t k
+  queries_below c e f (more t ts) k = joint_below c _ _ _ _ (query_below e f t k) (queries_below c e f ts k)
 
 -- of a choice
 must_chosen : (v w : Status) (a b c d : Acts) → IsBelow v w → IsWithin a c → IsWithin b d
@@ -293,7 +361,8 @@ pub less_same : (e : Env) → KnowsLess e e
 less_same e s = inr refl
 
 modes : (m : Mode) (b b' : Bool) → (b ≡ true → b' ≡ true) → (q : Term) (e : Env)
-    → ((e : Env) → IsWithin (can q sure e) (can q maybe e)) → IsWithin (can q (next_mode m b') e) (can q (next_mode m b) e)
+    → ((e : Env) → IsWithin (can q sure e) (can q maybe e))
+    → IsWithin (can q (next_mode m b') e) (can q (next_mode m b) e)
 modes sure true b' f q e h = rw (f refl) (same_within _)
 modes sure false true f q e h = h e
 modes sure false false f q e h = same_within _
@@ -322,19 +391,25 @@ signal_down s p P maybe e f k =
     ((P.can_down maybe (with_local e s Unknown) (with_local f s Unknown) kk).signals (inner s))
     (λ h. no_true h))))
 
-signal_eased : (s : ℕ) (p : Term) → Monotone p → (e : Env) → IsWithin (can (signal s p) sure e) (can (signal s p) maybe e)
+signal_eased : (s : ℕ) (p : Term) → Monotone p → (e : Env)
+    → IsWithin (can (signal s p) sure e) (can (signal s p) maybe e)
 signal_eased s p P e =
-    hide_within s _ _ (then_within (P.eased _) (P.can_down maybe _ _ (local_below e e s _ _ (less_same e) (verdict_below _ _ _ _
+    hide_within s _ _
+    (then_within (P.eased _) (P.can_down maybe _ _ (local_below e e s _ _ (less_same e) (verdict_below _ _ _ _
     (λ h. no_true h)
     ((P.eased (with_local e s Unknown)).signals (inner s))
     ((must_can p (with_local e s Unknown)).signals (inner s))))))
 
 -- all of it, by induction on the term
 pub monotone : (t : Term) → Monotone t
-monotone nothing = record { must_up = λ e f k. same_within _; can_down = λ m e f k. same_within _; eased = λ e. same_within _ }
-monotone pause = record { must_up = λ e f k. same_within _; can_down = λ m e f k. same_within _; eased = λ e. same_within _ }
-monotone (emit s) = record { must_up = λ e f k. same_within _; can_down = λ m e f k. same_within _; eased = λ e. same_within _ }
-monotone (exit n) = record { must_up = λ e f k. same_within _; can_down = λ m e f k. same_within _; eased = λ e. same_within _ }
+monotone nothing =
+    record { must_up = λ e f k. same_within _; can_down = λ m e f k. same_within _; eased = λ e. same_within _ }
+monotone pause =
+    record { must_up = λ e f k. same_within _; can_down = λ m e f k. same_within _; eased = λ e. same_within _ }
+monotone (emit s) =
+    record { must_up = λ e f k. same_within _; can_down = λ m e f k. same_within _; eased = λ e. same_within _ }
+monotone (exit n) =
+    record { must_up = λ e f k. same_within _; can_down = λ m e f k. same_within _; eased = λ e. same_within _ }
 monotone (present s p q) =
     let P = monotone p in
     let Q = monotone q in
@@ -346,7 +421,8 @@ monotone (present s p q) =
           (either_within _ _ _ _ (P.can_down maybe e f k) (Q.can_down maybe e f k))
           (then_within (P.can_down m e f k) (then_within (in_doubt p P m e) (left_within _ _)))
           (then_within (Q.can_down m e f k) (then_within (in_doubt q Q m e) (right_within _ _)));
-      eased = λ e. can_chosen (status_of e s) (status_of e s) _ _ _ _ _ _ (inr refl) (P.eased e) (Q.eased e) (same_within _)
+      eased = λ e. can_chosen (status_of e s) (status_of e s) _ _ _ _ _ _ (inr refl) (P.eased e) (Q.eased e)
+          (same_within _)
           (then_within (P.eased e) (left_within _ _)) (then_within (Q.eased e) (right_within _ _));
     }
 monotone (suspend s p) = let P = monotone p in record { must_up = P.must_up; can_down = P.can_down; eased = P.eased }

@@ -10,3 +10,4 @@ pub mod RoundsComeToRest
 pub mod SafeLoopLemmas
 pub mod SettledLemmas
 pub mod SteppingLemmas
+pub mod TestLemmas

@@ -1,5 +1,6 @@
 -- Every set of numbers below `MOST_STATEMENTS` is a set of pauses.
-use Rattle.std.proofs.Common.{◌≡◌, ◌≤◌, ◌<◌, ℕ, zero, suc, ◌+◌, ◌*◌, ◌/◌, ◌%◌, ◌^◌, Bool, true, false, cond, ◌||◌, nat_eq, List, [], ◌∷◌, length, inl, inr, refl, ap, sym, ◌∙◌, arith}
+use Rattle.std.proofs.Common.{◌≡◌, ◌≤◌, ◌<◌, ℕ, zero, suc, ◌+◌, ◌*◌, ◌/◌, ◌%◌, ◌^◌, Bool, true, false, cond, ◌||◌}
+use Rattle.std.proofs.Common.{nat_eq, List, [], ◌∷◌, length, inl, inr, refl, ap, sym, ◌∙◌, arith}
 use Rattle.std.specs.Prelude.{bit_or, slice_index, All}
 use Rattle.std.proofs.Math.Pow.{pow-lt}
 use Rattle.std.proofs.lemmas.List.Elements.{All-nil, All-cons}
@@ -13,7 +14,8 @@ use Rattle.est_kernel.proofs.Masks.{bits_or, bits_pow, bits_zero}
 use Rattle.est_kernel.specs.declared.limits.TheConstants.{MOST_STATEMENTS}
 use Rattle.est_kernel.specs.declared.statement.Statement.{Statement}
 use Rattle.est_meaning.specs.Laws.{IsWordSet}
-use Rattle.est_kernel.specs.declared.statement.Statement.TheVariants.{Nothing, Pause, Emit, Present', Suspend', Seq', Loop', Par', Trap', Exit, Local' as Binder'}
+use Rattle.est_kernel.specs.declared.statement.Statement.TheVariants.{Nothing, Pause, Emit, Present', Suspend', Seq'}
+use Rattle.est_kernel.specs.declared.statement.Statement.TheVariants.{Loop', Par', Trap', Exit, Local' as Binder'}
 
 -- the mask of the first n places
 abbrev pub word_of : (ℕ → Bool) → ℕ → ℕ
@@ -68,7 +70,7 @@ word_fits : (f : ℕ → Bool) (n k : ℕ) → n ≤ k → word_of f n < 2 ^ k
 word_fits f zero k l = pow_pos k
 word_fits f (suc n) k l = one_more (f n) (word_of f n) n k l (word_fits f n k (omega (arith, l)))
 
--- so many words, from word i on
+-- m words, from word i on
 abbrev pub words_from : (ℕ → Bool) → ℕ → ℕ → List ℕ
 words_from f i zero = []
 words_from f i (suc m) = word_of (λ b. f (i * 64 + b)) 64 ∷ words_from f (suc i) m
@@ -108,7 +110,8 @@ has_members f out = fun_ext (λ n. elim (cases_lt n MOST_STATEMENTS) [
       let i : n / 64 < 32 = omega (arith, l) in
       let b : n % 64 < 64 = omega arith in
       let e : (0 + n / 64) * 64 + n % 64 ≡ n = omega arith in
-      ap (λ w. bits w (n % 64)) (word_at f 0 32 (n / 64) i) ∙ (word_below (λ b. f ((0 + n / 64) * 64 + b)) 64 (n % 64) b ∙ ap f e)
+      ap (λ w. bits w (n % 64)) (word_at f 0 32 (n / 64) i)
+      ∙ (word_below (λ b. f ((0 + n / 64) * 64 + b)) 64 (n % 64) b ∙ ap f e)
   | inr g ↦
       let i : 32 ≤ n / 64 = omega (arith, g) in
       ap (λ w. bits w (n % 64)) (no_word f 0 32 (n / 64) i) ∙ (bits_zero (n % 64) ∙ sym (out n g))
@@ -125,9 +128,11 @@ no_pause_above (Emit s) i l = refl
 no_pause_above (Present' t x p y q) i l =
     either_false (has_pause p i) (has_pause q i) (no_pause_above p i l) (no_pause_above q i l)
 no_pause_above (Suspend' t x p) i l = no_pause_above p i l
-no_pause_above (Seq' x p y q) i l = either_false (has_pause p i) (has_pause q i) (no_pause_above p i l) (no_pause_above q i l)
+no_pause_above (Seq' x p y q) i l = either_false (has_pause p i) (has_pause q i) (no_pause_above p i l)
+    (no_pause_above q i l)
 no_pause_above (Loop' x p) i l = no_pause_above p i l
-no_pause_above (Par' x p y q) i l = either_false (has_pause p i) (has_pause q i) (no_pause_above p i l) (no_pause_above q i l)
+no_pause_above (Par' x p y q) i l = either_false (has_pause p i) (has_pause q i) (no_pause_above p i l)
+    (no_pause_above q i l)
 no_pause_above (Trap' x p) i l = no_pause_above p i l
 no_pause_above (Exit k) i l = refl
 no_pause_above (Binder' s x p) i l = no_pause_above p i l

@@ -1,12 +1,14 @@
 -- Where the rules react, some set of pauses stands for what is left.
-use Rattle.std.proofs.Common.{ap, ◌≡◌, ◌≢◌, ℕ, zero, suc, Bool, true, false, ◌&&◌, ◌||◌, cond, nat_eq, max, refl, sym, ◌∙◌, inl, inr, subst, arith}
+use Rattle.std.proofs.Common.{ap, ◌≡◌, ◌≢◌, ℕ, zero, suc, Bool, true, false, ◌&&◌, ◌||◌, cond, nat_eq, max, refl, sym}
+use Rattle.std.proofs.Common.{◌∙◌, inl, inr, subst, arith}
 use Rattle.std.proofs.lemmas.Bool.{ne_eqb, eq-eqb, or_parts, both_ways, cases_eq}
 use Rattle.est_kernel.specs.Codes.{code_out_of_trap}
 use Rattle.est_kernel.specs.PauseNumbers.{has_pause, HasDistinctPauses, AreApart}
 use Rattle.est_kernel.specs.View.{term_of, query_of}
 use Rattle.est_kernel.specs.Term.{Term, nothing, suspend, held, seq, loop, par, trap, signal}
 use Rattle.est_kernel.specs.declared.statement.Statement.{Statement}
-use Rattle.est_kernel.specs.declared.statement.Statement.TheVariants.{Nothing, Pause, Emit, Present', Suspend', Seq', Loop', Par', Trap', Exit, Local' as Binder'}
+use Rattle.est_kernel.specs.declared.statement.Statement.TheVariants.{Nothing, Pause, Emit, Present', Suspend', Seq'}
+use Rattle.est_kernel.specs.declared.statement.Statement.TheVariants.{Loop', Par', Trap', Exit, Local' as Binder'}
 use Rattle.est_kernel.specs.declared.statement.LocalSignal.{LocalSignal}
 use Rattle.est_meaning.specs.Signals.{Signals, no_signals, union, without}
 use Rattle.est_meaning.specs.declared.status.Status.TheVariants.{Unknown}
@@ -22,7 +24,9 @@ use Rattle.est_kernel.specs.declared.state.State.TheVariants.{Fresh, Done, Pause
 use Rattle.est_meaning.proofs.PauseWordLemmas.{words_from, has_members, is_word_set, no_pause_above}
 use Rattle.est_meaning.proofs.OneReactionAtMost.{unique}
 use Rattle.est_meaning.proofs.AgreementLemmas.{dead_exclusive, cleared_dead}
-use Rattle.est_meaning.proofs.SteppingLemmas.{steps_same, rest_in, seq_stays, seq_goes, seq_second, loop_again, present_on, present_off, present_first, present_second, par_pauses, par_ends, stays_held}
+use Rattle.est_meaning.proofs.SteppingLemmas.{steps_same, rest_in, seq_stays, seq_goes, seq_second, loop_again}
+use Rattle.est_meaning.proofs.SteppingLemmas.{present_on, present_off, present_first, present_second, par_pauses}
+use Rattle.est_meaning.proofs.SteppingLemmas.{par_ends, stays_held}
 
 -- the pauses after a step, none of them outside of the statement
 pub record Next (s : Statement) (t : Term) (e : Env) (o : Signals) (k : ℕ) : Type 0 where
@@ -103,7 +107,8 @@ out_of_trap_live (suc (suc zero)) = ne_eqb 2 1 (λ h. absurd (omega arith))
 out_of_trap_live (suc (suc (suc i))) =
     ne_eqb (suc (suc (suc i))) 1 (λ h. absurd (omega arith)) ∙ sym (ne_eqb (suc (suc i)) 1 (λ h. absurd (omega arith)))
 
-out_of_trap_rest : (i : ℕ) (x : Term) → rest_of (code_out_of_trap i) (trap x) ≡ rest_of (code_out_of_trap i) (trap (rest_of i x))
+out_of_trap_rest : (i : ℕ) (x : Term) → rest_of (code_out_of_trap i) (trap x)
+    ≡ rest_of (code_out_of_trap i) (trap (rest_of i x))
 out_of_trap_rest zero x = refl
 out_of_trap_rest (suc zero) x = refl
 out_of_trap_rest (suc (suc zero)) x = refl
@@ -159,7 +164,8 @@ sides {a = a} {b = b} {p = p} {q = q} {t = t} {u = u} {e = e} {o = o} {o' = o'} 
       }
       | inr many ↦ record {
         next = λ _. false;
-        steps = par_ends many left right (cleared_dead p (λ _. false) (λ _ _. refl)) (cleared_dead q (λ _. false) (λ _ _. refl));
+        steps = par_ends many left right (cleared_dead p (λ _. false) (λ _ _. refl))
+            (cleared_dead q (λ _. false) (λ _ _. refl));
         own = λ _ _. refl;
       }
     ]
@@ -179,15 +185,18 @@ sides {a = a} {b = b} {p = p} {q = q} {t = t} {u = u} {e = e} {o = o} {o' = o'} 
     in_right false y h = refl
 
     right : StepsTo q u e o' j both
-    right = steps_same q u e o' j n.next both (λ x h. in_right (m.next x) (n.next x) (m.own x (turned p q apart x h))) n.steps
+    right = steps_same q u e o' j n.next both (λ x h. in_right (m.next x) (n.next x) (m.own x (turned p q apart x h)))
+        n.steps
 
 -- a statement that begins
 pub begins : (s : Statement) → HasDistinctPauses s → (e : Env) (o : Signals) (k : ℕ) (u : Term)
     → Gives (term_of s) e o k u → Next s (term_of s) e o k
 begins Nothing num e o k u g =
-    quiet_at Nothing _ e o k (not_one k g.code) refl (record { signals = g.signals; code = g.code; rest = rw g.code refl })
+    quiet_at Nothing _ e o k (not_one k g.code) refl
+    (record { signals = g.signals; code = g.code; rest = rw g.code refl })
 begins (Emit s) num e o k u g =
-    quiet_at (Emit s) _ e o k (not_one k g.code) refl (record { signals = g.signals; code = g.code; rest = rw g.code refl })
+    quiet_at (Emit s) _ e o k (not_one k g.code) refl
+    (record { signals = g.signals; code = g.code; rest = rw g.code refl })
 begins (Exit n) num e o k u g = quiet_at (Exit n) _ e o k (λ h. absurd (omega (arith, h, g.code))) refl
     (record { signals = g.signals; code = g.code; rest = gone k (λ h. absurd (omega (arith, h, g.code))) })
 begins (Pause n) num e o k u g = record {
@@ -249,10 +258,12 @@ side_goes s b e o k u false l f g = quiet_at s nothing e o k (not_one k g.code)
     (cleared_dead s (λ _. false) (λ _ _. refl)) (record { signals = g.signals; code = g.code; rest = rw g.code refl })
 
 present_goes : {a c : _} {y : _} (p q : Statement) → AreApart p q
-    → (b : ℕ → Bool) (e : Env) (o : Signals) (k : ℕ) (u : Term) (x : Bool) → is_live p b ≡ x → (is_live p b || is_live q b) ≡ true
+    → (b : ℕ → Bool) (e : Env) (o : Signals) (k : ℕ) (u : Term) (x : Bool) → is_live p b ≡ x
+    → (is_live p b || is_live q b) ≡ true
     → (is_live p b ≡ true → Gives (term_at p b) e o k u → Next p (term_at p b) e o k)
     → (is_live q b ≡ true → Gives (term_at q b) e o k u → Next q (term_at q b) e o k)
-    → Gives (cond x (term_at p b) (term_at q b)) e o k u → Next (Present' y a p c q) (cond x (term_at p b) (term_at q b)) e o k
+    → Gives (cond x (term_at p b) (term_at q b)) e o k u → Next (Present' y a p c q)
+    (cond x (term_at p b) (term_at q b)) e o k
 present_goes p q apart b e o k u true l live f h g =
     let n = f l g in
     record {
@@ -269,7 +280,8 @@ present_goes p q apart b e o k u false l live f h g =
     }
 
 seq_on : {a c : _} (p q : Statement) → HasDistinctPauses q → AreApart p q
-    → (b : ℕ → Bool) (e : Env) (o : Signals) (k : ℕ) (u : Term) (x : Bool) → is_live p b ≡ x → (is_live p b || is_live q b) ≡ true
+    → (b : ℕ → Bool) (e : Env) (o : Signals) (k : ℕ) (u : Term) (x : Bool) → is_live p b ≡ x
+    → (is_live p b || is_live q b) ≡ true
     → (is_live p b ≡ true → (o : Signals) (k : ℕ) (u : Term) → Gives (term_at p b) e o k u → Next p (term_at p b) e o k)
     → (is_live q b ≡ true → Gives (term_at q b) e o k u → Next q (term_at q b) e o k)
     → Gives (cond x (seq (term_at p b) (term_of q)) (term_at q b)) e o k u
@@ -386,22 +398,26 @@ resumes (Par' a p c q) num b l x e o k u g =
     (λ h. resumes q num.1 b h x.1 e g.right_signals g.right_code g.right_rest) g.right_gives in
     let t = par (cond (is_live p b) (term_at p b) nothing) (cond (is_live q b) (term_at q b) nothing) in
     subst (λ (z : ℕ). Next (Par' a p c q) t e o z) (sym g.code)
-    (subst (λ (z : Signals). Next (Par' a p c q) t e z (max g.left_code g.right_code)) (sym g.signals) (sides num.2 m n))
+    (subst (λ (z : Signals). Next (Par' a p c q) t e z (max g.left_code g.right_code)) (sym g.signals)
+    (sides num.2 m n))
 resumes (Trap' a p) num b l x e o k u g = traps g.code (resumes p num b l x e o g.body_code g.left g.gives)
-resumes (Binder' y a p) num b l x e o k u g = binds g.decided g.signals (resumes p num b l x _ g.body_signals k g.left g.gives)
+resumes (Binder' y a p) num b l x e o k u g = binds g.decided g.signals
+    (resumes p num b l x _ g.body_signals k g.left g.gives)
 
 same_paused : (s : Statement) (a b : ℕ → Bool) → a ≡ b → HasPausedAt s a → HasPausedAt s b
 same_paused s a b e h = subst (λ f. HasPausedAt s f) e h
 
 -- the state after a step of code 1
-paused_after : (s : Statement) (t : Term) (e : Env) (o : Signals) (u : Term) → Gives t e o 1 u → Next s t e o 1 → SomeStateFor s u
+paused_after : (s : Statement) (t : Term) (e : Env) (o : Signals) (u : Term) → Gives t e o 1 u → Next s t e o 1
+    → SomeStateFor s u
 paused_after s t e o u g n =
     let members = sym (has_members n.next (λ i l. n.own i (no_pause_above s i l))) in
     record {
       state = Paused (record { words = words_from n.next 0 32 });
       can_be_held = is_word_set n.next;
       stands = record {
-        is_state = same_paused s n.next _ members (record { live = n.steps.live; exclusive = n.steps.exclusive; own = n.own });
+        is_state =
+            same_paused s n.next _ members (record { live = n.steps.live; exclusive = n.steps.exclusive; own = n.own });
         term = ap (λ f. term_at s f) (sym members) ∙ (unique t e o 1 (term_at s n.next) o 1 u n.steps.gives g).rest;
       };
     }
@@ -414,7 +430,8 @@ state_after : (s : Statement) (t : Term) (e : Env) (o : Signals) (k : ℕ) (u : 
     → Next s t e o k → SomeStateFor s u
 state_after s t e o zero u g n = done_for s u (unique t e o 0 nothing o 0 u n.steps.gives g).rest
 state_after s t e o (suc zero) u g n = paused_after s t e o u g n
-state_after s t e o (suc (suc k)) u g n = done_for s u (unique t e o (suc (suc k)) nothing o (suc (suc k)) u n.steps.gives g).rest
+state_after s t e o (suc (suc k)) u g n =
+    done_for s u (unique t e o (suc (suc k)) nothing o (suc (suc k)) u n.steps.gives g).rest
 
 -- what is left of a state's term has a state
 next_stands : (s : Statement) → HasDistinctPauses s → (x : State) → IsState s x
@@ -427,4 +444,5 @@ next_stands s num (Paused p) h e o k u g =
 -- what is left of the term that a state stands for has a state
 pub goes_on_from : (s : Statement) → HasDistinctPauses s → (x : State) (t : Term) → IsStateFor s x t
     → (e : Env) (o : Signals) (k : ℕ) (u : Term) → Gives t e o k u → SomeStateFor s u
-goes_on_from s num x t h e o k u g = next_stands s num x h.is_state e o k u (subst (λ (v : Term). Gives v e o k u) (sym h.term) g)
+goes_on_from s num x t h e o k u g = next_stands s num x h.is_state e o k u
+    (subst (λ (v : Term). Gives v e o k u) (sym h.term) g)

@@ -1,18 +1,18 @@
 -- Rounds only learn, and there are enough of them.
-use Rattle.std.proofs.Common.{◌≡◌, ◌≤◌, ◌<◌, ℕ, zero, suc, ◌+◌, Bool, true, false, cond, ◌&&◌, inl, inr, refl, ap, sym, ◌∙◌, arith, List, length}
+use Rattle.std.proofs.Common.{◌≡◌, ◌≤◌, ◌<◌, ℕ, zero, suc, ◌+◌, Bool, true, false, not, cond, ◌&&◌, inl, inr, refl, ap}
+use Rattle.std.proofs.Common.{sym, ◌∙◌, arith, List, length}
 use Rattle.std.proofs.lemmas.Bool.{and_parts, both_ways, cases_eq, cases_lt}
 use mathlib.Core.Path.{fun_ext}
 use Rattle.est_kernel.proofs.Interfaces.{declares_beyond}
-use Rattle.est_kernel.specs.Interfaces.{outputs_of}
+use Rattle.est_kernel.specs.Interfaces.{can_be_emitted, emittable}
 use Rattle.est_kernel.specs.Term.{outer, inner, Term}
 use Rattle.est_kernel.specs.declared.interface.Declaration.{Declaration}
-use Rattle.est_kernel.specs.declared.interface.Kind.TheVariants.{Output}
 use Rattle.est_meaning.specs.declared.status.Status.{Status}
 use Rattle.est_meaning.specs.declared.status.Status.TheVariants.{Present, Absent, Unknown}
 use Rattle.est_meaning.specs.Status.{Env, verdict, is_unknown}
 use Rattle.est_meaning.specs.MustCan.{sure, must, can}
 use Rattle.est_meaning.specs.Knowledge.{IsBelow, KnowsLess}
-use Rattle.est_meaning.specs.Rounds.{JudgedSignals, judged_outputs, first_env, round, env_after, how_many, last_env}
+use Rattle.est_meaning.specs.Rounds.{JudgedSignals, judged_signals, first_env, round, env_after, how_many, last_env}
 use Rattle.est_meaning.specs.Laws.{IsWithinPlaces}
 use Rattle.est_meaning.proofs.KnowledgeIsMonotone.{verdict_below, monotone, must_can}
 use Rattle.est_meaning.proofs.SettledLemmas.{settled}
@@ -22,7 +22,8 @@ round_grows : (j : JudgedSignals) (t : Term) (e f : Env) → KnowsLess e f → K
 unfolding round
 round_grows j t e f k (outer n) = go (j.has n)
   where
-    go : (b : Bool) → IsBelow (cond b (verdict ((must t e).signals (outer n)) ((can t sure e).signals (outer n))) (e (outer n)))
+    go : (b : Bool)
+        → IsBelow (cond b (verdict ((must t e).signals (outer n)) ((can t sure e).signals (outer n))) (e (outer n)))
         (cond b (verdict ((must t f).signals (outer n)) ((can t sure f).signals (outer n))) (f (outer n)))
     go true = verdict_below _ _ _ _
         (((monotone t).must_up e f k).signals (outer n))
@@ -31,7 +32,8 @@ round_grows j t e f k (outer n) = go (j.has n)
     go false = k (outer n)
 round_grows j t e f k (inner n) = k (inner n)
 
-first_below : (j : JudgedSignals) (inputs : ℕ → Bool) (t : Term) → KnowsLess (first_env j inputs) (round j t (first_env j inputs))
+first_below : (j : JudgedSignals) (inputs : ℕ → Bool) (t : Term)
+    → KnowsLess (first_env j inputs) (round j t (first_env j inputs))
 unfolding round first_env
 first_below j inputs t (outer n) = go (j.has n) _
   where
@@ -63,7 +65,7 @@ fewer f g s (suc p) =
     let b = bit_le (f p) (g p) (s p) in
     omega (arith, a, b)
 
--- as many members as a larger set has: the same members
+-- a subset with as many members has the same members
 as_many : (f g : ℕ → Bool) → ((n : ℕ) → g n ≡ true → f n ≡ true) → (p : ℕ) → how_many f p ≤ how_many g p → (n : ℕ)
     → n < p → f n ≡ g n
 as_many f g s zero h n l = absurd (omega (arith, l))
@@ -118,7 +120,8 @@ changes_nothing j w t e k h = fun_ext (elim [ outer n ↦ at n (j.has n) refl | 
   where
     at : (n : ℕ) (b : Bool) → j.has n ≡ b → round j t e (outer n) ≡ e (outer n)
     at n true d =
-        let same = as_many (open_in j e) (open_in j (round j t e)) (open_fewer j e (round j t e) k) j.places h n (w n d) in
+        let same = as_many (open_in j e) (open_in j (round j t e)) (open_fewer j e (round j t e) k) j.places h n
+        (w n d) in
         sym (known_same (e (outer n)) (round j t e (outer n)) (k (outer n))
         (when_has (j.has n) (is_unknown (e (outer n))) (is_unknown (round j t e (outer n))) d same))
     at n false d = kept j t e n d
@@ -133,7 +136,8 @@ enough j w inputs t zero n h =
 enough j w inputs t (suc k) n h =
     elim (cases_lt k (how_many (open_in j (env_after (suc n) j t (first_env j inputs))) j.places)) [
       | inl l ↦
-          let still = changes_nothing j w t (env_after n j t (first_env j inputs)) (learns j inputs t n) (omega (arith, h, l)) in
+          let still = changes_nothing j w t (env_after n j t (first_env j inputs)) (learns j inputs t n)
+          (omega (arith, h, l)) in
           let same = settled (suc k + n) n (omega arith) j t (first_env j inputs) still in
           ap (round j t) (sym same) ∙ (still ∙ same)
       | inr l ↦
@@ -152,9 +156,12 @@ settles j w inputs t m l =
     let still = rw c at (enough j w inputs t rounds 0 few) in
     sym (settled m rounds l j t (first_env j inputs) still)
 
--- the outputs of an interface have places of it
-pub outputs_within : (interface : List Declaration) → IsWithinPlaces (judged_outputs interface)
-outputs_within interface n h = elim (cases_lt n (length interface)) [
+-- the judged signals of an interface have places in it
+pub judged_within : (interface : List Declaration) (inputs : ℕ → Bool)
+    → IsWithinPlaces (judged_signals interface inputs)
+judged_within interface inputs n h = elim (cases_lt n (length interface)) [
   | inl l ↦ l
-  | inr g ↦ absurd (both_ways (outputs_of interface n) (declares_beyond Output interface n g) h)
+  | inr g ↦
+      absurd (both_ways (emittable interface n) (declares_beyond can_be_emitted interface n g)
+      (and_parts (emittable interface n) (not (inputs n)) h).0)
 ]

@@ -3,12 +3,14 @@ use Rattle.std.specs.Prelude.{◌≡◌, ℕ, zero, suc, Bool, true, false, cond
 use Rattle.std.proofs.Common.{subst}
 use Rattle.est_kernel.specs.Pauses.{pauses_of}
 use Rattle.est_kernel.specs.StartCodes.{IsLoopSafe}
-use Rattle.est_kernel.specs.Term.{Term, nothing, pause, emit, present, suspend, held, seq, loop, par, trap, exit, signal}
+use Rattle.est_kernel.specs.Term.{Term, nothing, pause, emit, present, suspend, held, seq, loop, par, trap, exit}
+use Rattle.est_kernel.specs.Term.{signal}
 use Rattle.est_kernel.specs.View.{term_of}
 use Rattle.est_kernel.specs.declared.state.State.{State}
 use Rattle.est_kernel.specs.declared.state.State.TheVariants.{Fresh, Done, Paused}
 use Rattle.est_kernel.specs.declared.statement.Statement.{Statement}
-use Rattle.est_kernel.specs.declared.statement.Statement.TheVariants.{Nothing, Pause, Emit, Present', Suspend', Seq', Loop', Par', Trap', Exit, Local' as Binder'}
+use Rattle.est_kernel.specs.declared.statement.Statement.TheVariants.{Nothing, Pause, Emit, Present', Suspend', Seq'}
+use Rattle.est_kernel.specs.declared.statement.Statement.TheVariants.{Loop', Par', Trap', Exit, Local' as Binder'}
 use Rattle.est_meaning.specs.Laws.{IsStateFor}
 use Rattle.est_meaning.specs.MustCan.{sure, env_within}
 use Rattle.est_meaning.specs.Rules.{Gives, rest_of, takes_first, takes_second, is_held, is_resumed, goes_on, ends_then}
@@ -21,7 +23,7 @@ safe_rest zero u v e h = rw e tt
 safe_rest (suc zero) u v e h = rw e h
 safe_rest (suc (suc k)) u v e h = rw e tt
 
--- what is left after a step
+-- so they do in what is left after a step
 pub safe_after : (t : Term) (e : Env) (o : Signals) (k : ℕ) (u : Term) → IsLoopSafe t → Gives t e o k u → IsLoopSafe u
 safe_after nothing e o k u i g = rw g.rest tt
 safe_after pause e o k u i g = rw g.rest tt
@@ -31,8 +33,10 @@ safe_after (present s p q) e o k u i (takes_first v g) = safe_after p e o k u i.
 safe_after (present s p q) e o k u i (takes_second v g) = safe_after q e o k u i.1 g
 safe_after (suspend s p) e o k u i g = safe_rest k (held s g.left) u g.rest (safe_after p e o k g.left i g.gives)
 safe_after (held s p) e o k u i (is_held v g) = rw g.rest i
-safe_after (held s p) e o k u i (is_resumed v g) = safe_rest k (held s g.left) u g.rest (safe_after p e o k g.left i g.gives)
-safe_after (seq p q) e o k u i (goes_on d g) = safe_rest k (seq g.left q) u g.rest (safe_after p e o k g.left i.0 g.gives, i.1)
+safe_after (held s p) e o k u i (is_resumed v g) = safe_rest k (held s g.left) u g.rest
+    (safe_after p e o k g.left i g.gives)
+safe_after (seq p q) e o k u i (goes_on d g) = safe_rest k (seq g.left q) u g.rest
+    (safe_after p e o k g.left i.0 g.gives, i.1)
 safe_after (seq p q) e o k u i (ends_then a b v x y z) = safe_after q e b k u i.1 y
 safe_after (loop p) e o k u i g =
     safe_rest k (seq g.inside.left (loop p)) u g.inside.rest (safe_after p e o k g.inside.left i.0 g.inside.gives, i)
@@ -49,7 +53,7 @@ safe_choice : (b : Bool) (t u : Term) → IsLoopSafe t → IsLoopSafe u → IsLo
 safe_choice true t u h g = h
 safe_choice false t u h g = g
 
--- the term that set pauses stand for
+-- so they do in the term that set pauses stand for
 safe_paused : (s : Statement) (bits : ℕ → Bool) → IsLoopSafe (term_of s) → IsLoopSafe (term_at s bits)
 safe_paused Nothing bits i = tt
 safe_paused (Pause n) bits i = tt
@@ -69,7 +73,7 @@ safe_paused (Par' x p y q) bits i = (
 safe_paused (Trap' x p) bits i = safe_paused p bits i
 safe_paused (Binder' s x p) bits i = safe_paused p bits i
 
--- the term of a state
+-- so they do in the term of a state
 safe_state : (s : Statement) → IsLoopSafe (term_of s) → (x : State) → IsLoopSafe (state_term s x)
 safe_state s i Fresh = i
 safe_state s i Done = tt

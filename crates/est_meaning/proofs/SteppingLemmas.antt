@@ -1,5 +1,6 @@
 -- Steps of a statement from those of its parts.
-use Rattle.std.proofs.Common.{inl, inr, ◌≡◌, ◌≢◌, ℕ, zero, suc, Bool, true, false, ◌&&◌, ◌||◌, cond, nat_eq, max, refl, ap, sym, ◌∙◌, subst, arith, Option, Some, None, IfSome, IfNone}
+use Rattle.std.proofs.Common.{inl, inr, ◌≡◌, ◌≢◌, ℕ, zero, suc, Bool, true, false, ◌&&◌, ◌||◌, cond, nat_eq, max, refl}
+use Rattle.std.proofs.Common.{ap, sym, ◌∙◌, subst, arith, Option, Some, None, IfSome, IfNone}
 use Rattle.est_kernel.specs.PauseNumbers.{has_pause, HasDistinctPauses, AreApart}
 use Rattle.est_kernel.specs.View.{term_of, query_of}
 use Rattle.est_meaning.specs.States.{term_at, is_live, IsExclusive}
@@ -13,7 +14,8 @@ use Rattle.est_meaning.specs.Rules.{Gives, HasNoRule, rest_of, takes_first, take
 use Rattle.est_meaning.proofs.OneReactionAtMost.{unique}
 use Rattle.std.proofs.lemmas.Bool.{cases_eq, ne_eqb, or_parts}
 use Rattle.est_meaning.specs.Steps.{StepsTo}
-use Rattle.est_meaning.proofs.AgreementLemmas.{Agree, live_same, at_same, exclusive_same, dead_exclusive, apart_left, apart_right}
+use Rattle.est_meaning.proofs.AgreementLemmas.{Agree, live_same, at_same, exclusive_same, dead_exclusive, apart_left}
+use Rattle.est_meaning.proofs.AgreementLemmas.{apart_right}
 
 -- the same step, over pauses that agree on s
 pub steps_same : (s : Statement) (t : Term) (e : Env) (o : Signals) (k : ℕ) (a b : ℕ → Bool) → Agree s a b
@@ -79,7 +81,8 @@ seq_goes {p = p} {q = q} {t = t} {e = e} {o = o} {o' = o'} {k = k} {m = m} {n = 
 }
 
 -- what the second part needs after a step of the first
-pub ready : (p q p' q' : Statement) (m n : ℕ → Bool) → p' ≡ p → q' ≡ q → HasDistinctPauses p × HasDistinctPauses q × AreApart p q
+pub ready : (p q p' q' : Statement) (m n : ℕ → Bool) → p' ≡ p → q' ≡ q
+    → HasDistinctPauses p × HasDistinctPauses q × AreApart p q
     → (is_live p m || is_live q m) ≡ false → ((i : ℕ) → has_pause p' i ≡ false → n i ≡ m i) → HasDistinctPauses q'
     × (is_live q' n ≡ false)
 ready p q p' q' m n ep eq num dead f =
@@ -87,13 +90,15 @@ ready p q p' q' m n ep eq num dead f =
     rw eq (num.1, sym (live_same q m n (apart_right p q m n num.2 f')) ∙ (or_parts (is_live p m) (is_live q m) dead).1)
 
 -- what the first part is after a step of the second
-pub stays_dead : (p q q' : Statement) (m n : ℕ → Bool) → q' ≡ q → HasDistinctPauses p × HasDistinctPauses q × AreApart p q
+pub stays_dead : (p q q' : Statement) (m n : ℕ → Bool) → q' ≡ q
+    → HasDistinctPauses p × HasDistinctPauses q × AreApart p q
     → is_live p m ≡ false → ((i : ℕ) → has_pause q' i ≡ false → n i ≡ m i) → is_live p n ≡ false
 stays_dead p q q' m n eq num dead f =
     sym (live_same p m n (apart_left p q m n num.2 (λ i h. f i (rw eq h)))) ∙ dead
 
 -- the first part stays without pauses
-pub first_dead : (p q q' : Statement) (m n : ℕ → Bool) → q' ≡ q → HasDistinctPauses p × HasDistinctPauses q × AreApart p q
+pub first_dead : (p q q' : Statement) (m n : ℕ → Bool) → q' ≡ q
+    → HasDistinctPauses p × HasDistinctPauses q × AreApart p q
     → (is_live p m || is_live q m) ≡ false → ((i : ℕ) → has_pause q' i ≡ false → n i ≡ m i) → is_live p n ≡ false
 first_dead p q q' m n eq num dead f = stays_dead p q q' m n eq num (or_parts (is_live p m) (is_live q m) dead).0 f
 
@@ -128,7 +133,8 @@ pub present_on : {a b : _} {s : _} {p q : Statement} {e : Env} {o : Signals} {k 
     → StepsTo (Present' s a p b q) (present (query_of s) (term_of p) (term_of q)) e o k n
 present_on {p = p} {q = q} {e = e} {o = o} {k = k} {n = n} d h dead = record {
   gives = takes_first (sym d) (subst (λ u. Gives (term_of p) e o k u)
-      (rest_in (λ u. u) k (term_at p n) ∙ sym (rest_chosen (λ u. u) k (is_live p n) (term_at p n) (term_at q n) h.live)) h.gives);
+      (rest_in (λ u. u) k (term_at p n) ∙ sym (rest_chosen (λ u. u) k (is_live p n) (term_at p n) (term_at q n) h.live))
+      h.gives);
   live = rw (dead, or_false (is_live p n)) h.live;
   exclusive = (h.exclusive, dead_exclusive q n dead, rw (dead, and_false (is_live p n)) refl);
 }
@@ -145,7 +151,8 @@ present_off {p = p} {q = q} {e = e} {o = o} {k = k} {n = n} d h dead = record {
 
 -- both sides, where one pauses and none leaves
 pub par_pauses : {a b : _} {p q : Statement} {t u : Term} {e : Env} {o o' : Signals} {i j : ℕ} {n : ℕ → Bool}
-    → max i j ≡ 1 → StepsTo p t e o i n → StepsTo q u e o' j n → StepsTo (Par' a p b q) (par t u) e (union o o') (max i j) n
+    → max i j ≡ 1 → StepsTo p t e o i n → StepsTo q u e o' j n
+    → StepsTo (Par' a p b q) (par t u) e (union o o') (max i j) n
 par_pauses {p = p} {q = q} {t = t} {u = u} {e = e} {o = o} {o' = o'} {i = i} {j = j} {n = n} one h g = record {
   gives = record {
     left_signals = o;
@@ -179,30 +186,32 @@ par_pauses {p = p} {q = q} {t = t} {u = u} {e = e} {o = o} {o' = o'} {i = i} {j 
 pub par_ends : {a b : _} {p q : Statement} {t u : Term} {e : Env} {o o' : Signals} {i j : ℕ} {n m : ℕ → Bool}
     → (max i j ≡ 1 → ⊥) → StepsTo p t e o i n → StepsTo q u e o' j n → is_live p m ≡ false → is_live q m ≡ false
     → StepsTo (Par' a p b q) (par t u) e (union o o') (max i j) m
-par_ends {p = p} {q = q} {t = t} {u = u} {e = e} {o = o} {o' = o'} {i = i} {j = j} {n = n} {m = m} d h g dp dq = record {
-  gives = record {
-    left_signals = o;
-    left_code = i;
-    left_rest = rest_of i (term_at p n);
-    left_gives = h.gives;
-    right_signals = o';
-    right_code = j;
-    right_rest = rest_of j (term_at q n);
-    right_gives = g.gives;
-    signals = refl;
-    code = refl;
-    rest = rest_other (max i j) _ _ d;
-  };
-  live = rw (dp, dq) (sym (ne_eqb (max i j) 1 d));
-  exclusive = (dead_exclusive p m dp, dead_exclusive q m dq);
-}
+par_ends {p = p} {q = q} {t = t} {u = u} {e = e} {o = o} {o' = o'} {i = i} {j = j} {n = n} {m = m} d h g dp dq =
+    record {
+      gives = record {
+        left_signals = o;
+        left_code = i;
+        left_rest = rest_of i (term_at p n);
+        left_gives = h.gives;
+        right_signals = o';
+        right_code = j;
+        right_rest = rest_of j (term_at q n);
+        right_gives = g.gives;
+        signals = refl;
+        code = refl;
+        rest = rest_other (max i j) _ _ d;
+      };
+      live = rw (dp, dq) (sym (ne_eqb (max i j) 1 d));
+      exclusive = (dead_exclusive p m dp, dead_exclusive q m dq);
+    }
 
 -- going on in one side of a `present` or a `;`
 pub present_first : {a b : _} {s : _} {p q : Statement} {t : Term} {e : Env} {o : Signals} {k : ℕ} {n : ℕ → Bool}
     → StepsTo p t e o k n → is_live q n ≡ false → StepsTo (Present' s a p b q) t e o k n
 present_first {p = p} {q = q} {t = t} {e = e} {o = o} {k = k} {n = n} h dead = record {
   gives = subst (λ u. Gives t e o k u)
-      (rest_in (λ u. u) k (term_at p n) ∙ sym (rest_chosen (λ u. u) k (is_live p n) (term_at p n) (term_at q n) h.live)) h.gives;
+      (rest_in (λ u. u) k (term_at p n) ∙ sym (rest_chosen (λ u. u) k (is_live p n) (term_at p n) (term_at q n) h.live))
+      h.gives;
   live = rw (dead, or_false (is_live p n)) h.live;
   exclusive = (h.exclusive, dead_exclusive q n dead, rw (dead, and_false (is_live p n)) refl);
 }
@@ -266,9 +275,13 @@ stays_held {s = s} {p = p} {n = n} b m d live excl f =
 -- a side that has ended takes a step that does nothing
 pub idle : (p : Statement) (e : Env) (n : ℕ → Bool) → is_live p n ≡ false → StepsTo p nothing e no_signals 0 n
 idle p e n dead =
-    record { gives = record { signals = refl; code = refl; rest = refl }; live = dead; exclusive = dead_exclusive p n dead }
+    record {
+      gives = record { signals = refl; code = refl; rest = refl };
+      live = dead;
+      exclusive = dead_exclusive p n dead;
+    }
 
--- both sides, where the pauses of the whole are kept just where it pauses
+-- both sides, where the pauses of the whole are kept exactly where it pauses
 pub par_settles : {a b : _} {p q : Statement} {t u : Term} {e : Env} {o o' : Signals} {i j : ℕ} {n m : ℕ → Bool}
     → StepsTo p t e o i n → StepsTo q u e o' j n → (max i j ≡ 1 → (x : ℕ) → m x ≡ n x)
     → (max i j ≢ 1 → is_live p m ≡ false) → (max i j ≢ 1 → is_live q m ≡ false)

@@ -1,7 +1,8 @@
--- The laws of the meaning, as the functions of the module of laws promise them (after Berry, The Constructive Semantics of
--- Pure Esterel; the rounds and the states of fixed size are this project's own form).
-use Rattle.std.specs.Prelude.{◌≡◌, ◌≢◌, ◌≤◌, ◌<◌, ◌^◌, ◌↔◌, ℕ, suc, Bool, true, false, List, length, All}
+-- The laws of the meaning, as the functions of the module of laws promise them (after Berry, The Constructive Semantics
+-- of Pure Esterel; the rounds and the states of fixed size are this project's own form).
+use Rattle.std.specs.Prelude.{◌≡◌, ◌≢◌, ◌≤◌, ◌<◌, ◌^◌, ◌↔◌, ℕ, suc, Bool, true, false, ◌||◌, List, length, All}
 use Rattle.est_kernel.specs.Codes.{code}
+use Rattle.est_kernel.specs.Interfaces.{emittable}
 use Rattle.est_kernel.specs.StartCodes.{IsLoopSafe}
 use Rattle.est_kernel.specs.Term.{outer, inner, Term, signal}
 use Rattle.est_kernel.specs.PauseNumbers.{HasDistinctPauses}
@@ -14,7 +15,7 @@ use Rattle.est_kernel.specs.declared.statement.Statement.{Statement}
 use Rattle.est_meaning.specs.Knowledge.{KnowsLess, IsWithin}
 use Rattle.est_meaning.specs.MustCan.{Acts, Mode, sure, maybe, must, can, env_within}
 use Rattle.est_meaning.specs.Reaction.{Reacts}
-use Rattle.est_meaning.specs.Rounds.{JudgedSignals, judged_outputs, first_env, env_after, how_many, last_env}
+use Rattle.est_meaning.specs.Rounds.{JudgedSignals, judged_signals, first_env, env_after, how_many, last_env}
 use Rattle.est_meaning.specs.Rules.{Gives, HasNoRule}
 use Rattle.est_meaning.specs.Signals.{Signals, without}
 use Rattle.est_meaning.specs.States.{IsState, state_term}
@@ -36,10 +37,11 @@ pub record HasRule (t : Term) (e : Env) (k : ℕ) : Type 0 where
 abbrev pub HasNoCode : Acts → Type 0
 HasNoCode a = (k : ℕ) → a.codes k ≡ false
 
--- Decided by Must. Why care: whether a step is refused, and what it shows, depends on nothing but what must be emitted. No guess
--- is ever tried, and a refused step is one in which the program itself leaves something open.
--- In every environment: in a term whose loops' bodies take time the rules react just where Must has a code, with that code; they
--- have none just where Must has none; and where they react, Must, and Can too, is that reaction and nothing else
+-- Decided by Must. Why care: whether a step is refused, and what it shows, depends on nothing but what must be emitted.
+-- No guess is ever tried, and a refused step is one in which the program itself leaves something open. In every
+-- environment, for a term whose loops' bodies take time: the rules react with a code exactly where Must has that code,
+-- and they give nothing exactly where Must has none. Where they react, Must is that reaction and nothing else, and so
+-- is Can
 pub record DecidedByMust : Type 0 where
   pub reacts : (t : Term) (e : Env) → IsLoopSafe t → (k : ℕ)
       → HasRule t e k ↔ ((must t e).codes k ≡ true)
@@ -60,10 +62,10 @@ pub record IsSameReaction (outputs : ℕ → Bool) (u : Term) (outputs' : ℕ �
   pub shown : outputs ≡ outputs'
   pub next : u ≡ u'
 
--- One reaction at most. Why care: the same program with the same inputs shows the same outputs, in this instant and in all that
--- follow, whichever engine runs it.
--- In one environment a term reacts with one set of signals, one code and one next term at most, and so to the inputs of an
--- instant; and a next term's loops take time again, so that the laws which ask for that hold from instant to instant
+-- One reaction at most. Why care: the same program with the same inputs shows the same outputs, in this instant and in
+-- all that follow, whichever engine runs it. In one environment a term reacts with one set of signals, one code and one
+-- next term at most. So it has one reaction at most to the inputs of an instant. The loops of the next term take time
+-- again, so that the laws which ask for that hold from instant to instant
 pub record OneReactionAtMost : Type 0 where
   pub same : (t : Term) (e : Env)
       (o : Signals) (k : ℕ) (u : Term) (o' : Signals) (k' : ℕ) (u' : Term)
@@ -75,10 +77,10 @@ pub record OneReactionAtMost : Type 0 where
   pub safe_again : (t : Term) (e : Env) (o : Signals) (k : ℕ) (u : Term)
       → IsLoopSafe t → Gives t e o k u → IsLoopSafe u
 
--- Knowledge is monotone. Why care: what an engine has found out stays true, in whatever order it looks, and nothing that it
--- shows has to be taken back.
--- With more known, more must and less can be done, surely reached or in doubt; what must be done can be done; and what can be
--- done where a term is surely reached can be done where that is in doubt
+-- Knowledge is monotone. Why care: what an engine has found out stays true, in whatever order it looks, and nothing
+-- that it shows has to be taken back. With more known, more must be done and less can be done, surely reached or in
+-- doubt. What must be done can be done. What can be done where a term is surely reached can be done where that is in
+-- doubt
 pub record KnowledgeIsMonotone : Type 0 where
   pub must_grows : (t : Term) (e f : Env) → KnowsLess e f → IsWithin (must t e) (must t f)
   pub can_shrinks : (t : Term) (m : Mode) (e f : Env)
@@ -94,25 +96,26 @@ IsWithinPlaces j = (n : ℕ) → j.has n ≡ true → n < j.places
 abbrev pub known_after : ℕ → JudgedSignals → (ℕ → Bool) → Term → Env
 known_after n j inputs t = env_after n j t (first_env j inputs)
 
--- Rounds come to rest. Why care: an instant takes a bounded number of rounds, and an output that is called undecided is one
--- that no further look at the program would decide.
--- From the first environment on a round never takes back what was decided; after as many rounds as there are judged signals
--- nothing changes; and the outputs of an interface are signals that may be judged so
+-- Rounds come to rest. Why care: an instant takes a bounded number of rounds, and an output that is called undecided is
+-- one that no further look at the program would decide. From the first environment on, no round takes back what was
+-- decided. After as many rounds as there are judged signals, nothing changes. The signals that are judged of an
+-- interface may be judged so
 pub record RoundsComeToRest : Type 0 where
   pub learns : (j : JudgedSignals) (inputs : ℕ → Bool) (t : Term) (n : ℕ)
       → KnowsLess (known_after n j inputs t) (known_after (suc n) j inputs t)
   pub settles : (j : JudgedSignals) → IsWithinPlaces j → (inputs : ℕ → Bool) (t : Term) (m : ℕ)
       → how_many j.has j.places ≤ m → known_after m j inputs t ≡ last_env j inputs t
-  pub outputs : (interface : List Declaration) → IsWithinPlaces (judged_outputs interface)
+  pub judged : (interface : List Declaration) (inputs : ℕ → Bool) → IsWithinPlaces (judged_signals interface inputs)
 
--- a status says whether a signal is there: it is decided, present exactly where the signal is there, absent exactly where not
+-- a status says whether a signal is there: it is decided, present exactly where the signal is there, absent exactly
+-- where not
 pub record IsDecidedAs (v : Status) (is_there : Bool) : Type 0 where
   pub decided : v ≢ Unknown
   pub present : (v ≡ Present) ↔ (is_there ≡ true)
   pub absent : (v ≡ Absent) ↔ (is_there ≡ false)
 
--- that `signal s in p` emits o and gives code k is a reaction of its body p, in the environment in which s has its own status;
--- and there s is present exactly where this reaction of the body emits it
+-- that `signal s in p` emits o and gives code k is a reaction of its body p, in the environment in which s has its own
+-- status; and there s is present exactly where this reaction of the body emits it
 pub record IsDecidedWithin (s : ℕ) (p : Term) (e : Env) (o : Signals) (k : ℕ) : Type 0 where
   pub emitted : Signals
   pub left : Term
@@ -133,6 +136,9 @@ pub record EmittedIsPresent : Type 0 where
       → IsDecidedAs (last_env j inputs t (outer n)) (outputs n)
   pub offered : (j : JudgedSignals) (inputs : ℕ → Bool) (t : Term) (n : ℕ)
       → j.has n ≡ false → IsDecidedAs (last_env j inputs t (outer n)) (inputs n)
+  pub either : (interface : List Declaration) (inputs : ℕ → Bool) (t : Term) (outputs : ℕ → Bool) (u : Term)
+      → Reacts (judged_signals interface inputs) inputs t outputs u → (n : ℕ) → emittable interface n ≡ true
+      → IsDecidedAs (last_env (judged_signals interface inputs) inputs t (outer n)) (inputs n || outputs n)
   pub within : (s : ℕ) (p : Term) (e : Env) (o : Signals) (k : ℕ) (u : Term)
       → Gives (signal s p) e o k u → IsDecidedWithin s p e o k
 
@@ -158,10 +164,10 @@ pub record SomeStateFor (s : Statement) (t : Term) : Type 0 where
   pub can_be_held : CanBeHeld state
   pub stands : IsStateFor s state t
 
--- Pauses are enough. Why care: what a running module has left to do is kept in one bit for each of its pauses, however long it
--- runs, so a slot never grows and a step asks for no memory.
--- Where no two pauses of a statement have one number: wherever the term of a state reacts, in whatever environment and with
--- whatever code, some state stands for what is left, and the program can hold it. In a state loops' bodies still take time
+-- Pauses are enough. Why care: what a running module has left to do is kept in one bit for each of its pauses, however
+-- long it runs, so a slot never grows and a step asks for no memory. Where no two pauses of a statement have one
+-- number: wherever the term of a state reacts, in whatever environment and with whatever code, some state stands for
+-- what is left, and the program can hold it. In a state loops' bodies still take time
 pub record PausesAreEnough : Type 0 where
   pub goes_on : (s : Statement) → HasDistinctPauses s → (x : State) (t : Term) → IsStateFor s x t
       → (e : Env) (o : Signals) (k : ℕ) (u : Term) → Gives t e o k u → SomeStateFor s u

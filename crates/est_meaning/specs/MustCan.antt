@@ -1,6 +1,7 @@
 -- What a term must do, and what it can do (Berry, The Constructive Semantics of Pure Esterel).
 use Rattle.std.specs.Prelude.{ℕ, ◌+◌, Bool, true, false, cond}
-use Rattle.est_kernel.specs.Term.{inner, Term, nothing, pause, emit, present, suspend, held, seq, loop, par, trap, exit, signal}
+use Rattle.est_kernel.specs.Term.{inner, Term, nothing, pause, emit, present, suspend, held, seq, loop, par, trap, exit}
+use Rattle.est_kernel.specs.Term.{signal}
 use Rattle.est_kernel.specs.Codes.{Codes, no_codes, code, either_code, but_zero, max_codes, codes_out_of_trap}
 use Rattle.est_meaning.specs.Signals.{Signals, no_signals, only, union, without}
 use Rattle.est_meaning.specs.declared.status.Status.{Status}
@@ -46,7 +47,8 @@ must_then a b = cond (a.codes 0) (record { signals = union a.signals b.signals; 
 
 -- what can be done in sequence: the second part is begun where the first can end
 abbrev pub can_then : Acts → Acts → Acts
-can_then a b = cond (a.codes 0) (record { signals = union a.signals b.signals; codes = either_code (but_zero a.codes) b.codes }) a
+can_then a b =
+    cond (a.codes 0) (record { signals = union a.signals b.signals; codes = either_code (but_zero a.codes) b.codes }) a
 
 -- how surely a statement is reached: it must be, or it is not known
 pub data Mode : Type 0 where
@@ -59,7 +61,8 @@ next_mode sure true = sure
 next_mode sure false = maybe
 next_mode maybe must_end = maybe
 
--- the status of a local signal, by what its body must do and can do while it is unknown; a body in doubt decides no presence
+-- the status of a local signal, by what its body must do and can do while it is unknown; a body in doubt decides no
+-- presence
 abbrev pub local_status : Mode → ℕ → Acts → Acts → Status
 local_status sure s must_do can_do = verdict (must_do.signals (inner s)) (can_do.signals (inner s))
 local_status maybe s must_do can_do = verdict false (can_do.signals (inner s))

@@ -1,5 +1,5 @@
--- The reaction of a term to the inputs of an instant (Berry, The Constructive Semantics of Pure Esterel; that the outputs are
--- decided by rounds is this project's own form).
+-- The reaction of a term to the inputs of an instant (Berry, The Constructive Semantics of Pure Esterel; that the
+-- outputs are decided by rounds is this project's own form).
 use Rattle.std.specs.Prelude.{◌≡◌, ℕ, Bool, ◌&&◌}
 use Rattle.est_kernel.specs.Term.{outer, Term}
 use Rattle.est_meaning.specs.Signals.{Signals}
@@ -7,8 +7,9 @@ use Rattle.est_meaning.specs.Status.{is_unknown}
 use Rattle.est_meaning.specs.Rules.{Gives, HasNoRule}
 use Rattle.est_meaning.specs.Rounds.{JudgedSignals, last_env}
 
--- t reacts to the inputs: in the last round's environment the rules give signals, of which the interface sees the outputs, a
--- code, and the next term u. There is one such set of signals, one code and one next term at most (`OneReactionAtMost`)
+-- t reacts to the inputs: in the last round's environment the rules give signals, of which the interface sees the
+-- outputs, a code, and the next term u. There is one such set of signals, one code and one next term at most
+-- (`OneReactionAtMost`)
 pub record Reacts (j : JudgedSignals) (inputs : ℕ → Bool) (t : Term) (outputs : ℕ → Bool) (u : Term) : Type 0 where
   pub signals : Signals
   pub code : ℕ

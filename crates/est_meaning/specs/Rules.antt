@@ -1,7 +1,9 @@
--- The behaviour rules: how a term reacts once an environment is decided (Berry, The Constructive Semantics of Pure Esterel).
+-- The behaviour rules: how a term reacts once an environment is decided (Berry, The Constructive Semantics of Pure
+-- Esterel).
 use Rattle.std.specs.Prelude.{◌≡◌, ◌≢◌, ℕ, zero, suc, ◌+◌, max}
 use Rattle.est_kernel.specs.Codes.{code_out_of_trap}
-use Rattle.est_kernel.specs.Term.{Query, Term, nothing, pause, emit, present, suspend, held, seq, loop, par, trap, exit, signal}
+use Rattle.est_kernel.specs.Term.{Query, Term, nothing, pause, emit, present, suspend, held, seq, loop, par, trap, exit}
+use Rattle.est_kernel.specs.Term.{signal}
 use Rattle.est_meaning.specs.Signals.{Signals, no_signals, only, union, without}
 use Rattle.est_meaning.specs.declared.status.Status.{Status}
 use Rattle.est_meaning.specs.declared.status.Status.TheVariants.{Present, Absent, Unknown}

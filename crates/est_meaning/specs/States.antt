@@ -1,12 +1,13 @@
--- The term that the set pauses of a statement stand for, and the states of a running statement (this project's own form of
--- the residual statements in Berry, The Constructive Semantics of Pure Esterel).
+-- The term that the set pauses of a statement stand for, and the states of a running statement (this project's own form
+-- of the residual statements in Berry, The Constructive Semantics of Pure Esterel).
 use Rattle.std.specs.Prelude.{◌≡◌, ℕ, Bool, true, false, cond, ◌&&◌, ◌||◌}
 use Rattle.est_kernel.specs.Term.{Term, nothing, seq, loop, par, trap, signal, held}
 use Rattle.est_kernel.specs.PauseNumbers.{has_pause}
 use Rattle.est_kernel.specs.View.{term_of, query_of}
 use Rattle.est_kernel.specs.Pauses.{pauses_of}
 use Rattle.est_kernel.specs.declared.statement.Statement.{Statement}
-use Rattle.est_kernel.specs.declared.statement.Statement.TheVariants.{Nothing, Pause, Emit, Present', Suspend', Seq', Loop', Par', Trap', Exit, Local' as Binder'}
+use Rattle.est_kernel.specs.declared.statement.Statement.TheVariants.{Nothing, Pause, Emit, Present', Suspend', Seq'}
+use Rattle.est_kernel.specs.declared.statement.Statement.TheVariants.{Loop', Par', Trap', Exit, Local' as Binder'}
 use Rattle.est_kernel.specs.declared.state.State.{State}
 use Rattle.est_kernel.specs.declared.state.State.TheVariants.{Fresh, Done, Paused}
 

@@ -1,8 +1,9 @@
 //! The meaning of kernel terms, after Berry's constructive semantics of Pure Esterel.
 //!
-//! The definitions stand in `specs/`: environments and what is known of a signal, what a term must and can do, the behaviour
-//! rules, the rounds over the outputs, the reaction to the inputs of an instant, and the term that a state stands for.
-//! The functions of `laws` promise that these fit together.
+//! The definitions stand in `specs/`: environments and what is known of a signal, what a term must
+//! and can do, the behaviour rules, the rounds over the outputs, the reaction to the inputs of an
+//! instant, and the term that a state stands for. The functions of `laws` promise that these fit
+//! together.
 #![tactic(auto)]
 
 pub mod laws;

@@ -3,11 +3,11 @@ pub mod Lists
 pub mod NameSets
 pub mod Opening
 pub mod OrderLemmas
+pub mod OrderPlaces
 pub mod Ordering
-pub mod PartLemmas
 pub mod Passing
 pub mod Positions
 pub mod SearchLemmas
-pub mod SolutionLemmas
 pub mod Standing
 pub mod Testing
+pub mod TestPassing

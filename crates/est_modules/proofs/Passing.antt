@@ -1,16 +1,17 @@
 -- What is known behind statements and lists.
-use Rattle.std.proofs.Common.{◌≡◌, List, [], ◌∷◌, ◌++◌, map, refl, ap, sym, ◌∙◌, rules}
+use Rattle.std.proofs.Common.{◌≡◌, ℕ, List, [], ◌∷◌, ◌++◌, map, refl, ap, sym, ◌∙◌, rules}
 use Rattle.std.specs.List.{fold}
 use Rattle.est_syntax.specs.Views.{unit_view, sequence_view, statement_view, units_of, sequences_of}
-use Rattle.est_syntax.specs.Tree.{sequence, statement}
+use Rattle.est_syntax.specs.Tree.{TestTree, sequence, statement}
 use Rattle.est_syntax.specs.declared.tree.Unit.{Unit}
 use Rattle.est_syntax.specs.declared.tree.Sequence.{Sequence}
 use Rattle.est_syntax.specs.declared.tree.Statement.{Statement}
 use Rattle.est_syntax.specs.declared.tree.Branches.TheViews.{out-Sequence, out-Statement}
 use Rattle.est_syntax.specs.declared.tree.Branches.TheFolds.{the_lemmas}
 use Rattle.est_modules.specs.Derived.{Derived, missing, nothing, pause, halt, emit, sustain, exit, await, present, suspend, abort, weak_abort, repeat, repeat_each, every, trap, signal, run, seq, par, unit_derived, sequence_derived, statement_derived, then_units, beside_sequences}
-use Rattle.est_modules.specs.Occurrences.{Binder, signals, a_trap, tests, binds, Occurrence, occurrences}
-use Rattle.est_modules.specs.Walks.{past, passed}
+use Rattle.est_modules.specs.Occurrences.{Binder, signals, a_trap, tests, binds, Occurrence, tested, occurrences}
+use Rattle.est_modules.specs.Tests.{test_names}
+use Rattle.est_modules.specs.Walks.{past, past_names, past_test, passed}
 
 pub fold_append : {A B : Type 0} (f : B → A → B) (k : B) (xs ys : List A) → fold f k (xs ++ ys) ≡ fold f (fold f k xs) ys
 fold_append f k [] ys = refl
@@ -18,6 +19,16 @@ fold_append f k (x ∷ xs) ys = fold_append f (f k x) xs ys
 
 two : {S : Type 0} (f : S → Occurrence → S) (xs ys : List Occurrence) (k : S) {m n : S} → m ≡ fold f k xs → n ≡ fold f m ys → n ≡ fold f k (xs ++ ys)
 two f xs ys k d e = e ∙ ap (λ m. fold f m ys) d ∙ sym (fold_append f k xs ys)
+
+-- what is known behind the names of tests is what is known behind their places
+names_fold : {S : Type 0} (f : S → Occurrence → S) (bs : List Binder) (ns : List (List ℕ)) (k : S)
+    → past_names f bs ns k ≡ fold f k (map (λ (n : List ℕ). record { act = tests n; round = bs }) ns)
+names_fold f bs [] k = refl
+names_fold f bs (n ∷ ns) k = names_fold f bs ns (past f bs (tests n) k)
+
+test_fold : {S : Type 0} (f : S → Occurrence → S) (bs : List Binder) (t : TestTree) (k : S)
+    → past_test f bs t k ≡ fold f k (tested bs t)
+test_fold f bs t k = names_fold f bs (test_names t) k
 
 -- what is known behind a statement is what is known behind its occurrences
 pub passed_fold : {S : Type 0} (f : S → Occurrence → S) (bs : List Binder) (p : Derived) (k : S) → passed f bs p k ≡ fold f k (occurrences bs p)
@@ -28,14 +39,23 @@ passed_fold f bs halt k = refl
 passed_fold f bs (emit s) k = refl
 passed_fold f bs (sustain s) k = refl
 passed_fold f bs (exit t) k = refl
-passed_fold f bs (await d) k = refl
-passed_fold f bs (present s p q) k = two f (occurrences bs p) (occurrences bs q) (past f bs (tests s) k) (passed_fold f bs p (past f bs (tests s) k)) (passed_fold f bs q (passed f bs p (past f bs (tests s) k)))
-passed_fold f bs (suspend p d) k = two f (occurrences bs p) (_ ∷ []) k (passed_fold f bs p k) refl
-passed_fold f bs (abort p d) k = two f (occurrences bs p) (_ ∷ []) k (passed_fold f bs p k) refl
-passed_fold f bs (weak_abort p d) k = two f (occurrences bs p) (_ ∷ []) k (passed_fold f bs p k) refl
+passed_fold f bs (await d) k = test_fold f bs d.test k
+passed_fold f bs (present t p q) k =
+    two f (tested bs t) (occurrences bs p ++ occurrences bs q) k (test_fold f bs t k)
+    (two f (occurrences bs p) (occurrences bs q) (past_test f bs t k) (passed_fold f bs p (past_test f bs t k))
+    (passed_fold f bs q (passed f bs p (past_test f bs t k))))
+passed_fold f bs (suspend p d) k =
+    two f (occurrences bs p) (tested bs d.test) k (passed_fold f bs p k) (test_fold f bs d.test (passed f bs p k))
+passed_fold f bs (abort p d) k =
+    two f (occurrences bs p) (tested bs d.test) k (passed_fold f bs p k) (test_fold f bs d.test (passed f bs p k))
+passed_fold f bs (weak_abort p d) k =
+    two f (occurrences bs p) (tested bs d.test) k (passed_fold f bs p k) (test_fold f bs d.test (passed f bs p k))
 passed_fold f bs (repeat p) k = passed_fold f bs p k
-passed_fold f bs (repeat_each p s) k = two f (occurrences bs p) (_ ∷ []) k (passed_fold f bs p k) refl
-passed_fold f bs (every d p) k = passed_fold f bs p (past f bs (tests d.signal) k)
+passed_fold f bs (repeat_each p t) k =
+    two f (occurrences bs p) (tested bs t) k (passed_fold f bs p k) (test_fold f bs t (passed f bs p k))
+passed_fold f bs (every d p) k =
+    two f (tested bs d.test) (occurrences bs p) k (test_fold f bs d.test k)
+    (passed_fold f bs p (past_test f bs d.test k))
 passed_fold f bs (trap t p) k = passed_fold f (a_trap t ∷ bs) p k
 passed_fold f bs (signal ns p) k = passed_fold f (signals ns ∷ bs) p (past f bs (binds ns) k)
 passed_fold f bs (run m rs) k = refl

@@ -1,5 +1,5 @@
 -- What stands at a place of a list, and in an order of modules.
-use Rattle.std.proofs.Common.{◌≡◌, ℕ, zero, suc, ◌+◌, ◌<◌, List, [], ◌∷◌, ◌++◌, length, slice_index, Bool, true, false, cond, if◌then◌else◌, Option, Some, None, option_map, refl, ap, sym, ◌∙◌, arith}
+use Rattle.std.proofs.Common.{◌≡◌, ℕ, zero, suc, ◌+◌, ◌<◌, List, [], ◌∷◌, length, slice_index, Bool, true, false, cond, Option, Some, None, option_map, refl, ap, sym, ◌∙◌, arith}
 use Rattle.std.proofs.lemmas.Option.{none-some}
 use Rattle.std.proofs.lemmas.List.{length-map}
 use Rattle.std.specs.List.{find, position, slice_get}
@@ -8,7 +8,7 @@ use Rattle.est_modules.specs.Occurrences.{first_of}
 use Rattle.est_modules.specs.ModuleOrders.{IsOrderOf, run_rows, places_run}
 use Rattle.est_modules.proofs.Positions.{position_cons}
 use Rattle.est_modules.proofs.Testing.{or_none_parts, some_same}
-use Rattle.est_modules.proofs.SolutionLemmas.{places_are_there}
+use Rattle.est_modules.proofs.OrderPlaces.{places_are_there}
 
 pub first_none : {X A : Type 0} (f : X → Option A) (xs : List X) (i : ℕ) (x : X) → first_of f xs ≡ None → slice_get xs i ≡ Some x → f x ≡ None
 first_none f [] i x h at = absurd (none-some x at)

@@ -1,7 +1,8 @@
 -- Statements without what only spells them: brackets, closing words, lists (Berry, The Esterel v5 Language Primer).
 use Rattle.std.specs.Prelude.{ℕ, List}
 use Rattle.est_syntax.specs.Tree as tree
-use Rattle.est_syntax.specs.Tree.{DelayTree, NamesTree, RenamingTree, UnitTree, BranchesTree, SequenceTree, UnitsTree, StatementTree, SequencesTree}
+use Rattle.est_syntax.specs.Tree.{TestTree, DelayTree, NamesTree, RenamingTree, UnitTree, BranchesTree}
+use Rattle.est_syntax.specs.Tree.{SequenceTree, UnitsTree, StatementTree, SequencesTree}
 
 -- a statement; `missing` is a branch that is left out
 pub data Derived : Type 0 where
@@ -13,12 +14,12 @@ pub data Derived : Type 0 where
   sustain : List ℕ → Derived
   exit : List ℕ → Derived
   await : DelayTree → Derived
-  present : List ℕ → Derived → Derived → Derived
+  present : TestTree → Derived → Derived → Derived
   suspend : Derived → DelayTree → Derived
   abort : Derived → DelayTree → Derived
   weak_abort : Derived → DelayTree → Derived
   repeat : Derived → Derived
-  repeat_each : Derived → List ℕ → Derived
+  repeat_each : Derived → TestTree → Derived
   every : DelayTree → Derived → Derived
   trap : List ℕ → Derived → Derived
   signal : NamesTree → Derived → Derived
@@ -48,8 +49,8 @@ abbrev mutual
   unit_derived (tree.run m rs) = run m rs
   unit_derived (tree.group p) = statement_derived p
 
-  -- a test of a signal
-  pub branches_derived : List ℕ → BranchesTree → Derived
+  -- a test
+  pub branches_derived : TestTree → BranchesTree → Derived
   branches_derived s (tree.then_only p c) = present s (statement_derived p) missing
   branches_derived s (tree.else_only q c) = present s missing (statement_derived q)
   branches_derived s (tree.both p q c) = present s (statement_derived p) (statement_derived q)

@@ -9,6 +9,6 @@ pub mod PlaceOrders
 pub mod Renamings
 pub mod RunRows
 pub mod Scopes
-pub mod Solutions
+pub mod Tests
 pub mod Visible
 pub mod Walks

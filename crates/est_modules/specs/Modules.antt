@@ -2,14 +2,15 @@
 use Rattle.std.specs.Prelude.{ℕ, List, [], ◌∷◌, map, Bool, true, false, Option}
 use Rattle.std.specs.List.{list_any, find, flat_map}
 use Rattle.std.specs.Str.{bytes_eq}
-use Rattle.est_syntax.specs.Tree.{NamesTree, RelationTree, DeclarationTree, input, output, relations, ModuleTree, LibraryTree}
+use Rattle.est_syntax.specs.Tree.{NamesTree, RelationTree, ModuleTree, LibraryTree}
+use Rattle.est_syntax.specs.Tree.{DeclarationTree, input, output, inputoutput, relations}
 use Rattle.est_syntax.specs.Views.{declaration_view, statement_view}
 use Rattle.est_modules.specs.Derived.{Derived, statement_derived}
 use Rattle.est_modules.specs.Occurrences.{Occurrence, occurrences, first_of}
 use Rattle.est_modules.specs.declared.head.Head.{Head}
 use Rattle.est_modules.specs.declared.head.Declared.{Declared}
 use Rattle.est_modules.specs.declared.head.Kind.{Kind}
-use Rattle.est_modules.specs.declared.head.Kind.TheVariants.{Input, Output}
+use Rattle.est_modules.specs.declared.head.Kind.TheVariants.{Input, Output, InputOutput}
 use Rattle.std.specs.Prelude.{◌&&◌}
 
 -- a module: its name; its interface signals and its relations, each in the order of the text; its body
@@ -19,10 +20,17 @@ pub record Program : Type 0 where
   pub relations : List RelationTree
   pub body : Derived
 
--- an input
+-- an input alone: it may not be emitted
 abbrev pub is_input_kind : Kind → Bool
 is_input_kind Input = true
 is_input_kind Output = false
+is_input_kind InputOutput = false
+
+-- an input or an inputoutput: it may be offered
+abbrev pub is_offered_kind : Kind → Bool
+is_offered_kind Input = true
+is_offered_kind Output = false
+is_offered_kind InputOutput = true
 
 -- the names of one declaration, all of one kind
 abbrev pub with_kind : Kind → NamesTree → List Declared
@@ -32,6 +40,7 @@ with_kind k ns = map (λ n. record { name = n; kind = k }) (ns.first ∷ ns.late
 abbrev pub declared_by : DeclarationTree → List Declared
 declared_by (input ns) = with_kind Input ns
 declared_by (output ns) = with_kind Output ns
+declared_by (inputoutput ns) = with_kind InputOutput ns
 declared_by (relations r rs) = []
 
 -- the interface signals of declarations (The Esterel v5 Language Primer, interface declarations)
@@ -42,6 +51,7 @@ interface_of ds = flat_map declared_by ds
 abbrev pub related_by : DeclarationTree → List RelationTree
 related_by (input ns) = []
 related_by (output ns) = []
+related_by (inputoutput ns) = []
 related_by (relations r rs) = r ∷ rs
 
 -- the relations of declarations
@@ -72,6 +82,10 @@ is_declared ds s = list_any (λ (d : Declared). bytes_eq d.name s) ds
 abbrev pub first_in_bodies : {A : Type 0} → (Program → Occurrence → Option A) → List Program → Option A
 first_in_bodies f ps = first_of (λ (p : Program). first_of (f p) (occurrences [] p.body)) ps
 
--- the interface has an input of this name
+-- the interface has an input of this name, and no inputoutput
 unfoldable pub is_input : List Declared → List ℕ → Bool
 is_input ds s = list_any (λ (d : Declared). bytes_eq d.name s && is_input_kind d.kind) ds
+
+-- the interface has a signal of this name that may be offered
+unfoldable pub is_offerable : List Declared → List ℕ → Bool
+is_offerable ds s = list_any (λ (d : Declared). bytes_eq d.name s && is_offered_kind d.kind) ds

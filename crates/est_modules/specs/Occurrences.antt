@@ -1,8 +1,9 @@
 -- Where names stand in the body of a module, in the order of the text, and what the statements round them bind
 -- (this project's own form).
-use Rattle.std.specs.Prelude.{ℕ, List, [], ◌∷◌, ◌++◌, Option, None}
+use Rattle.std.specs.Prelude.{ℕ, List, [], ◌∷◌, ◌++◌, map, Option, None}
 use Rattle.std.specs.Option.{option_or}
-use Rattle.est_syntax.specs.Tree.{NamesTree, RenamingTree}
+use Rattle.est_syntax.specs.Tree.{NamesTree, RenamingTree, TestTree}
+use Rattle.est_modules.specs.Tests.{test_names}
 use Rattle.est_modules.specs.Derived.{Derived, missing, nothing, pause, halt, emit, sustain, exit, await, present, suspend, abort, weak_abort, repeat, repeat_each, every, trap, signal, run, seq, par}
 
 -- what a statement binds inside it
@@ -23,6 +24,10 @@ pub record Occurrence : Type 0 where
   pub act : Act
   pub round : List Binder
 
+-- the places of a test where names stand, in the order of the text
+abbrev pub tested : List Binder → TestTree → List Occurrence
+tested bs t = map (λ n. record { act = tests n; round = bs }) (test_names t)
+
 -- the places of a statement where names stand, in the order of the text
 abbrev pub occurrences : List Binder → Derived → List Occurrence
 occurrences bs missing = []
@@ -32,14 +37,14 @@ occurrences bs halt = []
 occurrences bs (emit s) = record { act = emits s; round = bs } ∷ []
 occurrences bs (sustain s) = record { act = emits s; round = bs } ∷ []
 occurrences bs (exit t) = record { act = exits t; round = bs } ∷ []
-occurrences bs (await d) = record { act = tests d.signal; round = bs } ∷ []
-occurrences bs (present s p q) = record { act = tests s; round = bs } ∷ (occurrences bs p ++ occurrences bs q)
-occurrences bs (suspend p d) = occurrences bs p ++ record { act = tests d.signal; round = bs } ∷ []
-occurrences bs (abort p d) = occurrences bs p ++ record { act = tests d.signal; round = bs } ∷ []
-occurrences bs (weak_abort p d) = occurrences bs p ++ record { act = tests d.signal; round = bs } ∷ []
+occurrences bs (await d) = tested bs d.test
+occurrences bs (present t p q) = tested bs t ++ (occurrences bs p ++ occurrences bs q)
+occurrences bs (suspend p d) = occurrences bs p ++ tested bs d.test
+occurrences bs (abort p d) = occurrences bs p ++ tested bs d.test
+occurrences bs (weak_abort p d) = occurrences bs p ++ tested bs d.test
 occurrences bs (repeat p) = occurrences bs p
-occurrences bs (repeat_each p s) = occurrences bs p ++ record { act = tests s; round = bs } ∷ []
-occurrences bs (every d p) = record { act = tests d.signal; round = bs } ∷ occurrences bs p
+occurrences bs (repeat_each p t) = occurrences bs p ++ tested bs t
+occurrences bs (every d p) = tested bs d.test ++ occurrences bs p
 occurrences bs (trap t p) = occurrences (a_trap t ∷ bs) p
 occurrences bs (signal ns p) = record { act = binds ns; round = bs } ∷ occurrences (signals ns ∷ bs) p
 occurrences bs (run m rs) = record { act = runs m rs; round = bs } ∷ []

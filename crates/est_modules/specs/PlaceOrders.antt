@@ -1,8 +1,8 @@
 -- Orders of modules in which each stands after those that it runs (a topological order; Knuth, The Art of Computer
 -- Programming, 2.2.3).
-use Rattle.std.specs.Prelude.{◌≡◌, ◌⊎◌, ℕ, ◌<◌, ⊤, List, length, take, slice_index, All, Contains, IsPermutation}
+use Rattle.std.specs.Prelude.{ℕ, ◌<◌, ⊤, List, length, slice_index, IsPermutation}
 use Rattle.std.specs.List.{range_with_len}
-use Rattle.est_modules.specs.RunRows.{IsRun, Leads, IsRecursive}
+use Rattle.est_modules.specs.RunRows.{IsRun, IsRecursive}
 use Rattle.est_modules.specs.declared.order_fault.OrderFault.{OrderFault}
 use Rattle.est_modules.specs.declared.order_fault.OrderFault.TheVariants.{Recursive, Memory}
 
@@ -26,9 +26,3 @@ NoneIsRecursive rows = (place : ℕ) → IsRecursive rows place → ⊥
 abbrev pub IsFaultOf : List (List ℕ) → OrderFault → Type 0
 IsFaultOf rows (Recursive place) = IsFirstRecursive rows place
 IsFaultOf rows Memory = ⊤
-
--- a module and all that it leads to, each after those that it runs
-pub record IsPartFor (rows : List (List ℕ)) (place : ℕ) (part : List ℕ) : Type 0 where
-  pub has : Contains part place
-  pub needed : All (λ other. (other ≡ place) ⊎ Leads rows place other) part
-  pub after_runs : (i run : ℕ) → i < length part → IsRun rows (slice_index part i) run → Contains (take i part) run

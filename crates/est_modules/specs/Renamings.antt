@@ -1,5 +1,5 @@
 -- Renamings of a run (The Esterel v5 Language Primer, `run`): the caller's name stands left, that of the module right.
-use Rattle.std.specs.Prelude.{ℕ, List, Bool, not, ◌||◌, Option, Some, None}
+use Rattle.std.specs.Prelude.{ℕ, List, Bool, Option, Some, None}
 use Rattle.std.specs.List.{list_any, find}
 use Rattle.std.specs.Str.{bytes_eq}
 use Rattle.est_syntax.specs.Tree.{RenamingTree}

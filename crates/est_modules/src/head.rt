@@ -7,13 +7,15 @@ ghost use Rattle.est_modules.specs.Modules.{program_of, program_named, is_declar
 use est_syntax::tree::{Declaration, Statement};
 use est_text::identifier::Identifier;
 
-/// Whether a signal comes from outside or goes there.
+/// Whether a signal comes from outside, goes there, or both.
 #[derive(Clone, Copy, PartialEq, Eq, Debug)]
 pub enum Kind {
     /// `input`
     Input,
     /// `output`
     Output,
+    /// `inputoutput`
+    InputOutput,
 }
 
 /// A signal of an interface.
@@ -21,7 +23,7 @@ pub enum Kind {
 pub struct Declared {
     /// Its name.
     pub name: Identifier,
-    /// Whether it is an input or an output.
+    /// Whether it is an input, an output or both.
     pub kind: Kind,
 }
 

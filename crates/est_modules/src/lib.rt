@@ -6,12 +6,10 @@
 //!
 //! `module_order` puts the modules into an order in which each stands after all that it runs, or answers the first from
 //! which a chain of runs leads back to it. Under it lies the same question over plain numbers (`place_order`), which
-//! takes time for each module and each run that can be reached from it, and no stack beyond its own; `laws` says what
-//! such an order is good for.
+//! takes time for each module and each run that can be reached from it, and no stack beyond its own.
 #![tactic(auto)]
 
 pub mod head;
-pub mod laws;
 pub mod library_heads;
 pub mod module_order;
 pub mod name_set;
@@ -22,6 +20,7 @@ mod reach;
 pub mod relations;
 pub mod renamings;
 pub mod scope;
+mod test_walk;
 pub mod visibility;
 pub mod visit;
 pub mod walk;

@@ -28,6 +28,7 @@ fn add_signals(interface: &mut Vec<Declared>, declaration: &Declaration) -> Resu
     match declaration {
         Declaration::Input(names) => add_names(interface, Kind::Input, names),
         Declaration::Output(names) => add_names(interface, Kind::Output, names),
+        Declaration::InputOutput(names) => add_names(interface, Kind::InputOutput, names),
         Declaration::Relations(_, _) => Ok(()),
     }
 }

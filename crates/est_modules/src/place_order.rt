@@ -1,9 +1,9 @@
 //! The order of modules.
-ghost use Rattle.std.specs.Prelude.{◌≡◌, ℕ, ◌<◌, IfOk, IfErr, OnOk, length, map, filter, IsPermutation};
+ghost use Rattle.std.specs.Prelude.{◌≡◌, IfOk, IfErr, OnOk, length, map, IsPermutation};
 ghost use Rattle.std.specs.List.Sorted.{IsNonDecreasingBy};
 ghost use Rattle.est_modules.specs.RunRows.{rows_of};
-ghost use Rattle.est_modules.specs.PlaceOrders.{IsBottomUp, NoneIsRecursive, IsFaultOf, IsPartFor};
-ghost use Rattle.est_modules.specs.Inner.Reached.{AreRanked, is_needed};
+ghost use Rattle.est_modules.specs.PlaceOrders.{IsBottomUp, NoneIsRecursive, IsFaultOf};
+ghost use Rattle.est_modules.specs.Inner.Reached.{AreRanked};
 
 use crate::order_fault::OrderFault;
 use crate::reach::{count, reach};
@@ -93,48 +93,4 @@ fn places_of(alloc: Global, ranked: &[Ranked]) -> Result<Vec<usize>, AllocError>
         places.push(module.place)?;
     }
     Ok(places)
-}
-
-/// The module at a place and all that it leads to, in an order of all modules: what has to be worked out for that
-/// module, and no more.
-///
-/// # Errors
-/// Memory was refused.
-pub fn part_for(
-    alloc: Global,
-    runs: &[Vec<usize>],
-    order: &Order,
-    place: usize,
-) -> Result<Vec<usize>, AllocError>
-    requires there { place < length runs.now }
-    requires order { IsBottomUp (rows_of runs.now) order.now }
-    ensures { IfOk result (λ part. IsPartFor (rows_of runs.now) place part.items) }
-{
-    let set = reach(alloc, runs, place)?;
-    let part = keep_needed(alloc, order.places(), &set, place)?;
-    Ok(part)
-}
-
-fn is_needed(set: &[bool], place: usize, other: usize) -> bool
-    ensures { result ≡ is_needed set.now place other }
-{
-    other == place || (other < set.len() && set[other])
-}
-
-// Those of the places that are needed.
-fn keep_needed(
-    alloc: Global,
-    places: &[usize],
-    set: &[bool],
-    place: usize,
-) -> Result<Vec<usize>, AllocError>
-    ensures { IfOk result (λ part. part.items ≡ filter (is_needed set.now place) places.now) }
-{
-    let mut part = Vec::new(alloc);
-    for other in places {
-        if is_needed(set, place, *other) {
-            part.push(*other)?;
-        }
-    }
-    Ok(part)
 }

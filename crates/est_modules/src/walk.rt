@@ -4,18 +4,19 @@
 //! open at once (`est_syntax`, `MOST_OPEN_UNITS`), so that they are at most four times as deep. A run is no call.
 ghost use Rattle.std.specs.Prelude.{◌≡◌, [], OnOk};
 ghost use Rattle.std.specs.List.{fold};
-ghost use Rattle.est_syntax.specs.Views.{unit_view, branches_view, sequence_view, statement_view};
+ghost use Rattle.est_syntax.specs.Views.{test_view, unit_view, branches_view};
+ghost use Rattle.est_syntax.specs.Views.{sequence_view, statement_view};
 ghost use Rattle.est_modules.specs.Derived.{unit_derived, branches_derived, sequence_derived, statement_derived};
-ghost use Rattle.est_modules.specs.Occurrences.{occurrences, tests};
+ghost use Rattle.est_modules.specs.Occurrences.{occurrences};
 ghost use Rattle.est_modules.specs.OpenNames.{AreOpen, opens_of};
 ghost use Rattle.est_modules.specs.Scopes.{binders_of};
-ghost use Rattle.est_modules.specs.Walks.{passed, passed_branches, past};
+ghost use Rattle.est_modules.specs.Walks.{passed, passed_branches, past_test};
 
 use crate::open_names::OpenNames;
 use crate::scope::{Act, Scope};
+use crate::test_walk::walk_test;
 use crate::visit::Visitor;
-use est_syntax::tree::{Branches, Sequence, Statement, Unit};
-use est_text::identifier::Identifier;
+use est_syntax::tree::{Branches, Sequence, Statement, Test, Unit};
 use std::alloc::AllocError;
 
 /// Visits the places of a unit.
@@ -37,19 +38,19 @@ fn walk_unit<V: Visitor>(
             visitor.visit(seen, kept, &Act::Emits(*signal), scope)
         }
         Unit::Exit(trap) => visitor.visit(seen, kept, &Act::Exits(*trap), scope),
-        Unit::Await(delay) => visitor.visit(seen, kept, &Act::Tests(delay.signal), scope),
-        Unit::Present(signal, branches) => {
-            visitor.visit(seen, kept, &Act::Tests(*signal), scope)?;
+        Unit::Await(delay) => walk_test(visitor, seen, kept, scope, &delay.test),
+        Unit::Present(test, branches) => {
+            walk_test(visitor, seen, kept, scope, test)?;
             walk_branches(visitor, seen, kept, scope, branches)
         }
         Unit::Suspend(body, delay, _)
         | Unit::Abort(body, delay, _)
         | Unit::WeakAbort(body, delay, _) => {
-            walk_watched(visitor, seen, kept, scope, body, delay.signal)
+            walk_watched(visitor, seen, kept, scope, body, &delay.test)
         }
         Unit::Loop(body, _) | Unit::Group(body) => walk_statement(visitor, seen, kept, scope, body),
-        Unit::LoopEach(body, signal) => walk_watched(visitor, seen, kept, scope, body, *signal),
-        Unit::Every(delay, body, _) => walk_behind(visitor, seen, kept, scope, delay.signal, body),
+        Unit::LoopEach(body, test) => walk_watched(visitor, seen, kept, scope, body, test),
+        Unit::Every(delay, body, _) => walk_behind(visitor, seen, kept, scope, &delay.test, body),
         Unit::Trap(trap, body, _) => {
             let inside = Scope::Trap(*trap, &*scope);
             walk_statement(visitor, seen, kept, &inside, body)
@@ -79,15 +80,15 @@ fn walk_watched<V: Visitor>(
     kept: &OpenNames,
     scope: &Scope<'_>,
     body: &Statement,
-    signal: Identifier,
+    test: &Test,
 ) -> Result<(), AllocError>
     requires { AreOpen (V.base visitor.now) (binders_of scope.now) (opens_of kept.now) }
-    ensures { OnOk result (V.state seen.new ≡ past (V.after visitor.now) (binders_of scope.now)
-        (tests signal) (passed (V.after visitor.now) (binders_of scope.now)
+    ensures { OnOk result (V.state seen.new ≡ past_test (V.after visitor.now) (binders_of scope.now)
+        (test_view test.now) (passed (V.after visitor.now) (binders_of scope.now)
         (statement_derived (statement_view body.now)) (V.state seen.old))) }
 {
     walk_statement(visitor, seen, kept, scope, body)?;
-    visitor.visit(seen, kept, &Act::Tests(signal), scope)
+    walk_test(visitor, seen, kept, scope, test)
 }
 
 /// Visits the test behind which a body begins, and then the places of the body.
@@ -97,15 +98,15 @@ fn walk_behind<V: Visitor>(
     seen: &mut V::Seen,
     kept: &OpenNames,
     scope: &Scope<'_>,
-    signal: Identifier,
+    test: &Test,
     body: &Statement,
 ) -> Result<(), AllocError>
     requires { AreOpen (V.base visitor.now) (binders_of scope.now) (opens_of kept.now) }
     ensures { OnOk result (V.state seen.new ≡ passed (V.after visitor.now) (binders_of scope.now)
-        (statement_derived (statement_view body.now)) (past (V.after visitor.now)
-        (binders_of scope.now) (tests signal) (V.state seen.old))) }
+        (statement_derived (statement_view body.now)) (past_test (V.after visitor.now)
+        (binders_of scope.now) (test_view test.now) (V.state seen.old))) }
 {
-    visitor.visit(seen, kept, &Act::Tests(signal), scope)?;
+    walk_test(visitor, seen, kept, scope, test)?;
     walk_statement(visitor, seen, kept, scope, body)
 }
 

@@ -24,7 +24,8 @@ one_fault p InstantLoop Memory h k = inr (inr refl)
 one_fault p Memory b h k = inr (inl refl)
 
 -- where a body has a kernel, it has no fault
-pub never_both : (interface : List Declaration) (p : Body) (a : Kernel) (b : ReduceFault) → IsKernelOf interface p a → IsFaultOf p b → b ≡ Memory
+pub never_both : (interface : List Declaration) (p : Body) (a : Kernel) (b : ReduceFault) → IsKernelOf interface p a
+    → IsFaultOf p b → b ≡ Memory
 never_both interface p a (TooLarge l) h k = absurd (none-some l (sym h.within_limits ∙ k))
 never_both interface p a InstantLoop h k = absurd (k.1 h.loop_safe)
 never_both interface p a Memory h k = refl

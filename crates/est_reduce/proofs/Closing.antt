@@ -4,11 +4,13 @@ use Rattle.est_kernel.specs.Term as kernel
 use Rattle.est_kernel.specs.Term.{Term, Query, tick, of, Name, outer, inner}
 use Rattle.est_kernel.specs.Scope.{IsAsked, IsClosed}
 use Rattle.est_kernel.specs.declared.interface.Declaration.{Declaration}
-use Rattle.est_reduce.specs.Bodies.{Body, nothing, pause, halt, emit, sustain, exit, await, present, suspend, abort, weak_abort, repeat, repeat_each, every, trap, signal, seq, par}
-use Rattle.est_reduce.specs.Reductions.{reduced, binders, past_named, past_fresh, watching, awaiting, aborting, weakly_aborting, looping_each, doing_every, halting}
+use Rattle.est_reduce.specs.Bodies.{Body, nothing, pause, halt, emit, sustain, exit, await, present, suspend, abort}
+use Rattle.est_reduce.specs.Bodies.{weak_abort, repeat, repeat_each, every, trap, signal, seq, par}
+use Rattle.est_reduce.specs.Reductions.{reduced, binders, past_named, past_fresh, watching, awaiting, aborting}
+use Rattle.est_reduce.specs.Reductions.{weakly_aborting, looping_each, doing_every, halting}
 use Rattle.est_reduce.specs.Bound.{IsBound}
 
--- exits of so many traps lead to as many of the kernel
+-- exits of t traps lead to u traps of the kernel
 abbrev Leads : (ℕ → ℕ) → (traps kernel_traps : ℕ) → Type 0
 Leads r t u = (k : ℕ) → k < t → r k < u
 
@@ -31,7 +33,8 @@ closed_aborting : (i : List Declaration) (u l : ℕ) (s : Query) (p : Term) → 
     → IsClosed i u l (aborting false s p)
 closed_aborting i u l s p a h = (((a, h), first_trap u), closed_watching i u l false s a)
 
-closed_awaiting : (i : List Declaration) (u l : ℕ) (now : Bool) (s : Query) → IsAsked i l s → IsClosed i u l (awaiting now s)
+closed_awaiting : (i : List Declaration) (u l : ℕ) (now : Bool) (s : Query) → IsAsked i l s
+    → IsClosed i u l (awaiting now s)
 closed_awaiting i u l false s a = closed_watching i u l false s a
 closed_awaiting i u l true s a = closed_watching i u l true s a
 
@@ -50,7 +53,8 @@ closed_doing_every i u l false s p a h = (closed_awaiting i u l false s a, close
 closed_doing_every i u l true s p a h = (closed_awaiting i u l true s a, closed_each i u l s p a h)
 
 closed_binders : (i : List Declaration) (u l n : ℕ) (p : Term) → IsClosed i u (l + n) p → IsClosed i u l (binders l n p)
-closed_binders i u l zero p h = let P : ℕ → Type 0 = λ m. IsClosed i u m p in let e : l + 0 ≡ l = omega arith in subst P e h
+closed_binders i u l zero p h = let P : ℕ → Type 0 = λ m. IsClosed i u m p in let e : l + 0 ≡ l = omega arith in
+    subst P e h
 closed_binders i u l (suc n) p h =
     let P : ℕ → Type 0 = λ m. IsClosed i u m p in
     let e : l + suc n ≡ (l + 1) + n = omega arith in
@@ -85,6 +89,7 @@ reduced_closed i r t u l h (repeat_each s p) b = closed_each i u l s (reduced (p
 reduced_closed i r t u l h (every now s p) b = closed_doing_every i u l now s (reduced (past_fresh r) l p) b.0
     (reduced_closed i (past_fresh r) t (u + 1) l (fresh_leads r t u h) p b.1)
 reduced_closed i r t u l h (trap p) b = reduced_closed i (past_named r) (t + 1) (u + 1) l (named_leads r t u h) p b
-reduced_closed i r t u l h (signal n p) b = closed_binders i u l n (reduced r (l + n) p) (reduced_closed i r t u (l + n) h p b)
+reduced_closed i r t u l h (signal n p) b = closed_binders i u l n (reduced r (l + n) p)
+    (reduced_closed i r t u (l + n) h p b)
 reduced_closed i r t u l h (seq p q) b = (reduced_closed i r t u l h p b.0, reduced_closed i r t u l h q b.1)
 reduced_closed i r t u l h (par p q) b = (reduced_closed i r t u l h p b.0, reduced_closed i r t u l h q b.1)

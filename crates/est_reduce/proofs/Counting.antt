@@ -3,14 +3,15 @@ use Rattle.std.proofs.Common.{◌≡◌, ℕ, zero, suc, ◌+◌, ◌≤◌, ◌
 use Rattle.std.proofs.lemmas.Bool.{cases_lt, false≢true}
 use Rattle.std.proofs.Common.{◌⊎◌, inl, inr}
 use Rattle.est_kernel.specs.Term as kernel
-use Rattle.est_kernel.specs.Term.{Term, Query, tick, of, Name, outer, inner}
+use Rattle.est_kernel.specs.Term.{Term, Query, Name, outer, inner}
 use Rattle.est_kernel.specs.Limits.{statement_count, trap_depth, local_depth}
-use Rattle.est_kernel.specs.Interfaces.{outputs_of}
+use Rattle.est_kernel.specs.Interfaces.{can_be_emitted, emittable}
 use Rattle.est_kernel.proofs.Interfaces.{declares_beyond}
-use Rattle.est_kernel.specs.Scope.{IsAsked, IsEmitted, IsClosed}
+use Rattle.est_kernel.specs.Scope.{IsAsked, IsEmitted, IsClosed, IsVisible}
+use Rattle.est_kernel.proofs.Tests.{each_implies}
 use Rattle.est_kernel.specs.declared.interface.Declaration.{Declaration}
-use Rattle.est_kernel.specs.declared.interface.Kind.TheVariants.{Output}
-use Rattle.est_reduce.specs.Bodies.{Body, nothing, pause, halt, emit, sustain, exit, await, present, suspend, abort, weak_abort, repeat, repeat_each, every, trap, signal, seq, par}
+use Rattle.est_reduce.specs.Bodies.{Body, nothing, pause, halt, emit, sustain, exit, await, present, suspend, abort}
+use Rattle.est_reduce.specs.Bodies.{weak_abort, repeat, repeat_each, every, trap, signal, seq, par}
 use Rattle.est_reduce.specs.Inner.Sizes.{reduced_statements, IsSmall, IsSmallName, IsSmallQuery}
 use Rattle.est_reduce.specs.Reductions.{reduced, binders, past_named, past_fresh}
 
@@ -25,8 +26,8 @@ count_reduced r l halt = refl
 count_reduced r l (emit s) = refl
 count_reduced r l (sustain s) = refl
 count_reduced r l (exit k) = refl
-count_reduced r l (await false s) = refl
-count_reduced r l (await true s) = refl
+count_reduced r l (await false s) = omega arith
+count_reduced r l (await true s) = omega arith
 count_reduced r l (present s p q) = omega (arith, count_reduced r l p, count_reduced r l q)
 count_reduced r l (suspend false s p) = omega (arith, count_reduced r l p)
 count_reduced r l (suspend true s p) = omega (arith, count_reduced r l p)
@@ -45,18 +46,22 @@ count_reduced r l (par p q) = omega (arith, count_reduced r l p, count_reduced r
 
 -- ---- within the limits each number is small
 
-output_within : (i : List Declaration) (n : ℕ) → outputs_of i n ≡ true → (n < length i) ⊎ (length i ≤ n) → n < length i
+output_within : (i : List Declaration) (n : ℕ) → emittable i n ≡ true → (n < length i) ⊎ (length i ≤ n) → n < length i
 output_within i n h (inl lt) = lt
-output_within i n h (inr le) = absurd (false≢true (sym (declares_beyond Output i n le) ∙ h))
+output_within i n h (inr le) = absurd (false≢true (sym (declares_beyond can_be_emitted i n le) ∙ h))
 
-small_emitted : (i : List Declaration) (l : ℕ) → length i ≤ 64 → l ≤ 65536 → (s : Name) → IsEmitted i l s → IsSmallName s
+small_emitted : (i : List Declaration) (l : ℕ) → length i ≤ 64 → l ≤ 65536 → (s : Name) → IsEmitted i l s
+    → IsSmallName s
 small_emitted i l h k (outer n) e = let lt = output_within i n e (cases_lt n (length i)) in omega (arith, lt)
 small_emitted i l h k (inner n) e = omega (arith, e)
 
-small_asked : (i : List Declaration) (l : ℕ) → length i ≤ 64 → l ≤ 65536 → (s : Query) → IsAsked i l s → IsSmallQuery s
-small_asked i l h k tick a = tt
-small_asked i l h k (of (outer n)) a = omega (arith, a)
-small_asked i l h k (of (inner n)) a = omega (arith, a)
+small_visible : (i : List Declaration) (l : ℕ) → length i ≤ 64 → l ≤ 65536 → (s : Name) → IsVisible i l s
+    → IsSmallName s
+small_visible i l h k (outer n) a = omega (arith, a)
+small_visible i l h k (inner n) a = omega (arith, a)
+
+small_asked : (i : List Declaration) (l : ℕ) → length i ≤ 64 → l ≤ 65536 → (t : Query) → IsAsked i l t → IsSmallQuery t
+small_asked i l h k t a = each_implies (IsVisible i l) IsSmallName (small_visible i l h k) t a
 
 pub closed_small : (i : List Declaration) (u l : ℕ) (p : Term) → length i ≤ 64 → u + trap_depth p ≤ 65536
     → l + local_depth p ≤ 65536 → IsClosed i u l p → IsSmall p
@@ -68,7 +73,8 @@ closed_small i u l (kernel.present s p q) a b c d = (
   closed_small i u l p a (omega arith) (omega arith) d.1,
   closed_small i u l q a (omega arith) (omega arith) d.2,
 )
-closed_small i u l (kernel.suspend s p) a b c d = (small_asked i l a (omega arith) s d.0, closed_small i u l p a b c d.1)
+closed_small i u l (kernel.suspend s p) a b c d =
+    (small_asked i l a (omega arith) s d.0, closed_small i u l p a b c d.1)
 closed_small i u l (kernel.held s p) a b c d = (small_asked i l a (omega arith) s d.0, closed_small i u l p a b c d.1)
 closed_small i u l (kernel.seq p q) a b c d =
     (closed_small i u l p a (omega arith) (omega arith) d.0, closed_small i u l q a (omega arith) (omega arith) d.1)

@@ -1,11 +1,10 @@
 -- Interfaces, copied a declaration at a time.
-use Rattle.std.proofs.Common.{◌≡◌, ◌<◌, ℕ, zero, suc, Bool, true, false, ◌||◌, List, [], ◌∷◌, length, take, get_or, refl, sym, ◌∙◌, ◌≤◌, arith}
+use Rattle.std.proofs.Common.{◌≡◌, ◌<◌, ℕ, zero, suc, Bool, true, false, ◌||◌, List, [], ◌∷◌, length, take, get_or}
+use Rattle.std.proofs.Common.{refl, sym, ◌∙◌, ◌≤◌, arith}
 use Rattle.std.proofs.lemmas.Bool.{false≢true}
 use Rattle.std.specs.Str.{bytes_eq}
 use Rattle.std.specs.List.{IsDistinct, AllByRecursion, list_any}
-use Rattle.est_kernel.specs.Interfaces.{is_named, outputs_of, HasDistinctNames}
-use Rattle.est_kernel.specs.declared.interface.Kind.TheVariants.{Output}
-use Rattle.est_kernel.proofs.Interfaces.{declares_beyond}
+use Rattle.est_kernel.specs.Interfaces.{is_named, HasDistinctNames}
 use Rattle.est_kernel.specs.declared.interface.Declaration.{Declaration}
 
 apart_at : (d : Declaration) (ds : List Declaration) (n : ℕ) (e : Declaration)
@@ -25,8 +24,5 @@ pub new_before : (ds : List Declaration) (n : ℕ) (e : Declaration) → HasDist
 unfolding IsDistinct
 new_before [] n e h k = absurd (omega arith)
 new_before (d ∷ ds) zero e h k = refl
-new_before (d ∷ ds) (suc n) e h k = neither _ _ (apart_at d ds n e h.0 (omega arith)) (new_before ds n e h.1 (omega arith))
-
--- no output is declared past the end
-pub no_output_beyond : (ds : List Declaration) (n : ℕ) → length ds ≤ n → outputs_of ds n ≡ true → ⊥
-no_output_beyond ds n h o = false≢true (sym (declares_beyond Output ds n h) ∙ o)
+new_before (d ∷ ds) (suc n) e h k = neither _ _ (apart_at d ds n e h.0 (omega arith))
+    (new_before ds n e h.1 (omega arith))

@@ -5,3 +5,4 @@ pub mod Interfaces
 pub mod Reduced
 pub mod Lifts
 pub mod Answering
+pub mod Tests

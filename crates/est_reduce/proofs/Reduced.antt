@@ -25,7 +25,7 @@ use Rattle.est_reduce.proofs.Counting.{count_reduced, closed_small}
 pub closed_term : (i : List Declaration) (f : Body) → IsBound i 0 0 f → IsClosed i 0 0 (kernel_term f)
 closed_term i f b = reduced_closed i (λ k. k) 0 0 0 (λ k lt. lt) f b
 
--- and where it has few statements, its numbers fit their types
+-- and where it has at most 2,048 statements, its numbers fit their types
 pub small_term : (i : List Declaration) (f : Body) → length i ≤ 64 → reduced_statements f ≤ 2048 → IsBound i 0 0 f
     → IsSmall (kernel_term f)
 small_term i f few h b =
@@ -39,9 +39,10 @@ passes_first : (n most : ℕ) (later : Option Limit) → most < n
     → (if nat_lt most n then Some Statements else later) ≡ Some Statements
 passes_first n most later h = grind (arith, nat_tests)
 
--- a term of too many statements passes the limit on them
+-- a term of more than 2,048 statements passes the limit on them
 pub too_many : (f : Body) → 2048 < reduced_statements f → limit_passed (kernel_term f) ≡ Some Statements
-too_many f h = passes_first (statement_count (kernel_term f)) MOST_STATEMENTS _ (omega (arith, h, count_reduced (λ k. k) 0 f))
+too_many f h = passes_first (statement_count (kernel_term f)) MOST_STATEMENTS _
+    (omega (arith, h, count_reduced (λ k. k) 0 f))
 
 -- the fault of the kernel is the module's
 pub fault_is : (f : Body) (e : LoadFault)

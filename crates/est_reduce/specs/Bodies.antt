@@ -1,9 +1,10 @@
--- The statements of Pure Esterel whose names are bound: signals by the numbers of their binders, traps by how many lie between
--- (Berry, The Esterel v5 Language Primer, the statements of Pure Esterel; the numbers are this project's own form).
+-- The statements of Pure Esterel whose names are bound: signals by the numbers of their binders, traps by how many lie
+-- between (Berry, The Esterel v5 Language Primer, the statements of Pure Esterel; the numbers are this project's own
+-- form).
 use Rattle.std.specs.Prelude.{ℕ, Bool}
 use Rattle.est_kernel.specs.Term.{Name, Query}
 
--- a statement; `now` says that `immediate` is written, and `signal n p` declares n signals round p
+-- a statement; `now` says that `immediate` is written, and `signal n p` declares n signals around p
 pub data Body : Type 0 where
   nothing : Body
   pause : Body

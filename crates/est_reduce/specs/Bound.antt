@@ -1,12 +1,13 @@
--- Bodies in which each name is bound (Berry, The Esterel v5 Language Primer, scopes of signals and traps; the numbers are
--- this project's own form).
+-- Bodies in which every name is bound (Berry, The Esterel v5 Language Primer, scopes of signals and traps; the numbers
+-- are this project's own form).
 use Rattle.std.specs.Prelude.{ℕ, ◌+◌, ◌<◌, List}
 use Rattle.est_kernel.specs.Scope.{IsAsked, IsEmitted}
 use Rattle.est_kernel.specs.declared.interface.Declaration.{Declaration}
-use Rattle.est_reduce.specs.Bodies.{Body, nothing, pause, halt, emit, sustain, exit, await, present, suspend, abort, weak_abort, repeat, repeat_each, every, trap, signal, seq, par}
+use Rattle.est_reduce.specs.Bodies.{Body, nothing, pause, halt, emit, sustain, exit, await, present, suspend, abort}
+use Rattle.est_reduce.specs.Bodies.{weak_abort, repeat, repeat_each, every, trap, signal, seq, par}
 
--- each signal is of the interface or of a `signal` round it, no input is emitted, and each exit has its trap,
--- with so many traps and so many local signals round the whole
+-- Every name is bound, with these many traps and local signals around the whole: each signal by the interface or by a
+-- `signal` around it, each `exit` by a trap around it. No signal that is an input alone is emitted.
 abbrev pub IsBound : List Declaration → (traps locals : ℕ) → Body → Type 0
 IsBound i traps locals nothing = Unit {0}
 IsBound i traps locals pause = Unit {0}

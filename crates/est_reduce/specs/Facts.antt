@@ -1,25 +1,14 @@
 -- That a body's names are bound has one proof, so that it can be kept in a flat module (this project's own form).
 use Rattle.std.specs.Prelude.{ℕ, List, ◌+◌}
-use mathlib.Core.Bool.{Bool-set}
 use Rattle.std.specs.Coded.{Unit-prop, le_prop}
-use Rattle.est_kernel.specs.Term.{Name, outer, inner, Query, tick, of}
-use Rattle.est_kernel.specs.Scope.{IsAsked, IsEmitted}
+use Rattle.est_kernel.specs.Facts.{EachSignal-prop, IsEmitted-prop, IsVisible-prop}
+use Rattle.est_kernel.specs.Scope.{IsVisible}
 use Rattle.est_kernel.specs.declared.interface.Declaration.{Declaration}
-use Rattle.est_reduce.specs.Bodies.{Body, nothing, pause, halt, emit, sustain, exit, await, present, suspend, abort, weak_abort, repeat, repeat_each, every, trap, signal, seq, par}
+use Rattle.est_reduce.specs.Bodies.{Body, nothing, pause, halt, emit, sustain, exit, await, present, suspend, abort}
+use Rattle.est_reduce.specs.Bodies.{weak_abort, repeat, repeat_each, every, trap, signal, seq, par}
 use Rattle.est_reduce.specs.Bound.{IsBound}
 
--- that what is asked is there
-IsAsked-prop : (i : List Declaration) (n : ℕ) (s : Query) → IsProp (IsAsked i n s)
-IsAsked-prop i n tick = Unit-prop
-IsAsked-prop i n (of (outer m)) = le_prop
-IsAsked-prop i n (of (inner m)) = le_prop
-
--- that a signal may be emitted
-IsEmitted-prop : (i : List Declaration) (n : ℕ) (s : Name) → IsProp (IsEmitted i n s)
-IsEmitted-prop i n (outer m) = hlevel Bool-set
-IsEmitted-prop i n (inner m) = le_prop
-
--- that each name is bound
+-- that every name is bound
 pub IsBound-prop : (i : List Declaration) (m n : ℕ) (p : Body) → IsProp (IsBound i m n p)
 IsBound-prop i m n nothing = Unit-prop
 IsBound-prop i m n pause = Unit-prop
@@ -27,14 +16,20 @@ IsBound-prop i m n halt = Unit-prop
 IsBound-prop i m n (emit s) = IsEmitted-prop i n s
 IsBound-prop i m n (sustain s) = IsEmitted-prop i n s
 IsBound-prop i m n (exit k) = le_prop
-IsBound-prop i m n (await now s) = IsAsked-prop i n s
-IsBound-prop i m n (present s p q) = hlevel (IsAsked-prop i n s, IsBound-prop i m n p, IsBound-prop i m n q)
-IsBound-prop i m n (suspend now s p) = hlevel (IsAsked-prop i n s, IsBound-prop i m n p)
-IsBound-prop i m n (abort now s p) = hlevel (IsAsked-prop i n s, IsBound-prop i m n p)
-IsBound-prop i m n (weak_abort now s p) = hlevel (IsAsked-prop i n s, IsBound-prop i m n p)
+IsBound-prop i m n (await now s) = EachSignal-prop (IsVisible i n) (IsVisible-prop i n) s
+IsBound-prop i m n (present s p q) =
+    hlevel (EachSignal-prop (IsVisible i n) (IsVisible-prop i n) s, IsBound-prop i m n p, IsBound-prop i m n q)
+IsBound-prop i m n (suspend now s p) =
+    hlevel (EachSignal-prop (IsVisible i n) (IsVisible-prop i n) s, IsBound-prop i m n p)
+IsBound-prop i m n (abort now s p) =
+    hlevel (EachSignal-prop (IsVisible i n) (IsVisible-prop i n) s, IsBound-prop i m n p)
+IsBound-prop i m n (weak_abort now s p) =
+    hlevel (EachSignal-prop (IsVisible i n) (IsVisible-prop i n) s, IsBound-prop i m n p)
 IsBound-prop i m n (repeat p) = IsBound-prop i m n p
-IsBound-prop i m n (repeat_each s p) = hlevel (IsAsked-prop i n s, IsBound-prop i m n p)
-IsBound-prop i m n (every now s p) = hlevel (IsAsked-prop i n s, IsBound-prop i m n p)
+IsBound-prop i m n (repeat_each s p) =
+    hlevel (EachSignal-prop (IsVisible i n) (IsVisible-prop i n) s, IsBound-prop i m n p)
+IsBound-prop i m n (every now s p) =
+    hlevel (EachSignal-prop (IsVisible i n) (IsVisible-prop i n) s, IsBound-prop i m n p)
 IsBound-prop i m n (trap p) = IsBound-prop i (m + 1) n p
 IsBound-prop i m n (signal k p) = IsBound-prop i m (n + k) p
 IsBound-prop i m n (seq p q) = hlevel (IsBound-prop i m n p, IsBound-prop i m n q)

@@ -1,8 +1,10 @@
--- Terms put into one more trap (this project's own form): what the rows with a fresh trap do to the exits of their parts.
+-- Terms put into one more trap (this project's own form): what the rows with a fresh trap do to the exits of their
+-- parts.
 use Rattle.std.specs.Prelude.{ℕ, zero, suc}
-use Rattle.est_kernel.specs.Term.{Term, nothing, pause, emit, present, suspend, held, seq, loop, par, trap, exit, signal}
+use Rattle.est_kernel.specs.Term.{Term, nothing, pause, emit, present, suspend, held, seq, loop, par, trap, exit}
+use Rattle.est_kernel.specs.Term.{signal}
 
--- an exit inside d traps of the part itself: one that leaves them all goes one trap further
+-- an exit inside d traps of the part itself: one that leaves all of them goes one trap further out
 abbrev pub past : (d k : ℕ) → ℕ
 past zero k = suc k
 past (suc d) zero = zero

@@ -1,12 +1,13 @@
--- The table of reductions: what each statement is in the kernel (Berry, The Esterel v5 Language Primer, derived statements; the
--- exact reductions, `suspend .. when immediate` among them, are this project's own choice). In a row p is a kernel term already,
--- and T is a trap that stands in no text, the innermost one round what is written there.
+-- The table of reductions: what each statement is in the kernel (Berry, The Esterel v5 Language Primer, derived
+-- statements; the exact reductions, `suspend .. when immediate` among them, are this project's own choice). In a row, p
+-- is a kernel term already, and T is a trap that stands in no text: the innermost one around what is written there.
 use Rattle.std.specs.Prelude.{ℕ, zero, suc, ◌+◌, Bool, true, false}
 use Rattle.est_kernel.specs.Term as kernel
 use Rattle.est_kernel.specs.Term.{Name, Query, Term}
-use Rattle.est_reduce.specs.Bodies.{Body, nothing, pause, halt, emit, sustain, exit, await, present, suspend, abort, weak_abort, repeat, repeat_each, every, trap, signal, seq, par}
+use Rattle.est_reduce.specs.Bodies.{Body, nothing, pause, halt, emit, sustain, exit, await, present, suspend, abort}
+use Rattle.est_reduce.specs.Bodies.{weak_abort, repeat, repeat_each, every, trap, signal, seq, par}
 
--- `present S then exit T end`, T being the innermost trap
+-- `present S then exit T end`, where T is the innermost trap
 abbrev pub leave_when : Query → Term
 leave_when s = kernel.present s (kernel.exit 0) kernel.nothing
 
@@ -62,7 +63,7 @@ abbrev pub doing_every : (immediate : Bool) → Query → Term → Term
 doing_every false s p = kernel.seq (awaiting false s) (looping_each s p)
 doing_every true s p = kernel.seq (awaiting true s) (looping_each s p)
 
--- `signal A in signal B in p end end`, of n signals, with l local signals round them
+-- `signal A in signal B in p end end`, of n signals, with l local signals around them
 abbrev pub binders : (l n : ℕ) → Term → Term
 binders l zero p = p
 binders l (suc n) p = kernel.signal l (binders (l + 1) n p)
@@ -76,8 +77,8 @@ abbrev pub past_named : (ℕ → ℕ) → ℕ → ℕ
 past_named leads zero = 0
 past_named leads (suc k) = leads k + 1
 
--- what a statement is in the kernel; its k-th trap outwards is the (leads k)-th of the kernel, which counts the fresh traps round
--- it too, and l local signals lie round it
+-- what a statement is in the kernel. Its k-th trap outwards is the (leads k)-th of the kernel, which counts the fresh
+-- traps around it too. l local signals lie around it
 abbrev pub reduced : (leads : ℕ → ℕ) → (l : ℕ) → Body → Term
 reduced leads l nothing = kernel.nothing
 reduced leads l pause = kernel.pause

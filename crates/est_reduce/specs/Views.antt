@@ -1,22 +1,41 @@
 -- The statement that a body is (this project's own form).
-use Rattle.est_kernel.specs.Term.{Name, outer, inner, Query, tick, of}
-use Rattle.est_reduce.specs.Bodies.{Body, nothing, pause, halt, emit, sustain, exit, await, present, suspend, abort, weak_abort, repeat, repeat_each, every, trap, signal, seq, par}
+use Rattle.est_kernel.specs.Term.{Name, outer, inner, Query, tick, of, negated, joined, Joint}
+use Rattle.est_kernel.specs.View.{queries_of}
+use Rattle.est_reduce.specs.Bodies.{Body, nothing, pause, halt, emit, sustain, exit, await, present, suspend, abort}
+use Rattle.est_reduce.specs.Bodies.{weak_abort, repeat, repeat_each, every, trap, signal, seq, par}
 use Rattle.est_reduce.specs.declared.body.BoundSignal.{BoundSignal}
 use Rattle.est_reduce.specs.declared.body.BoundSignal.TheVariants.{Outer, Inner}
-use Rattle.est_reduce.specs.declared.body.BoundTest.{BoundTest}
-use Rattle.est_reduce.specs.declared.body.BoundTest.TheVariants.{Tick, Of}
+use Rattle.est_reduce.specs.declared.body.BoundTest.{BoundTest, fold-BoundTest}
+use Rattle.est_reduce.specs.declared.body.BoundOperands.{BoundOperands, fold-BoundOperands}
+use Rattle.est_reduce.specs.declared.body.BoundTest.TheOpen.{BoundTest-F, BoundOperands-F}
 use Rattle.est_reduce.specs.declared.body.Body.{Body as BodyValue}
-use Rattle.est_reduce.specs.declared.body.Body.TheVariants.{Nothing, Pause, Halt, Emit, Sustain, Exit, Await, Present', Suspend', Abort', WeakAbort', Loop', LoopEach', Every', Trap', Signal', Seq', Par'}
+use Rattle.est_reduce.specs.declared.body.Body.TheVariants.{Nothing, Pause, Halt, Emit, Sustain, Exit, Await, Present'}
+use Rattle.est_reduce.specs.declared.body.Body.TheVariants.{Suspend', Abort', WeakAbort', Loop', LoopEach', Every'}
+use Rattle.est_reduce.specs.declared.body.Body.TheVariants.{Trap', Signal', Seq', Par'}
 
 -- the name by which a statement means a signal
 abbrev pub bound_name : BoundSignal → Name
 bound_name (Outer n) = outer n
 bound_name (Inner n) = inner n
 
+-- what a test asks, from what its parts ask
+abbrev pub bound_test_step : BoundTest-F Query Joint → Query
+bound_test_step BoundTest-F.Tick = tick
+bound_test_step (BoundTest-F.Of s) = of (bound_name s)
+bound_test_step (BoundTest-F.Not t) = negated t.value
+bound_test_step (BoundTest-F.Joined c operands) = joined c operands.first operands.later
+
+-- what operands ask, from what each of them asks
+abbrev pub bound_operands_step : BoundOperands-F Query Joint → Joint
+bound_operands_step o = record { first = o.first.value; later = queries_of o.second.value o.later.items }
+
 -- what a test asks
 abbrev pub bound_query : BoundTest → Query
-bound_query Tick = tick
-bound_query (Of s) = of (bound_name s)
+bound_query = fold-BoundTest Query Joint bound_test_step bound_operands_step
+
+-- what operands ask
+abbrev pub bound_joint : BoundOperands → Joint
+bound_joint = fold-BoundOperands Query Joint bound_test_step bound_operands_step
 
 -- the statement
 abbrev pub body_of : BodyValue → Body

@@ -11,7 +11,8 @@ use crate::pieces;
 use est_kernel::statement::Statement;
 use std::alloc::{AllocError, Global};
 
-/// The traps round a statement, the innermost first: those of the text, and those that reductions put round it.
+/// The traps around a statement, the innermost first: those of the text, and those that reductions
+/// put around it.
 #[derive(Clone, Copy)]
 pub enum Exits<'a> {
     /// None.
@@ -22,7 +23,8 @@ pub enum Exits<'a> {
     Fresh(&'a Exits<'a>),
 }
 
-/// How many traps of the kernel lie between an exit and its trap. It goes as deep as there are traps, which are statements.
+/// How many traps of the kernel lie between an exit and its trap. Recursion is as deep as there are
+/// traps, which are statements.
 fn exit_index(exits: &Exits<'_>, trap: u32) -> u16
     requires { leads exits.now trap < 65536 }
     ensures { result ≡ leads exits.now trap }
@@ -40,7 +42,7 @@ fn exit_index(exits: &Exits<'_>, trap: u32) -> u16
     }
 }
 
-/// The statement inside so many binders, which it goes as deep as.
+/// The statement inside n binders. Recursion is n deep.
 fn inside_binders(
     alloc: Global,
     locals: u32,
@@ -62,14 +64,14 @@ fn inside_binders(
 pub struct Place<'a> {
     /// Where memory for its statement is taken.
     pub alloc: Global,
-    /// The traps round it.
+    /// The traps around it.
     pub exits: &'a Exits<'a>,
-    /// How many local signals lie round it.
+    /// How many local signals lie around it.
     pub locals: u32,
 }
 
-/// The kernel statement of a body at a place. It goes as deep as the body is, which comes to at most 2,048 kernel statements
-/// when `reduce` asks.
+/// The kernel statement of a body at a place. Recursion is as deep as the body, which comes to at
+/// most 2,048 kernel statements when `reduce` asks.
 #[cycle(statement)]
 pub fn statement(place: &Place<'_>, body: &Body) -> Result<Statement, AllocError>
     requires room { place.now.locals ≤ 65536 }
@@ -86,17 +88,17 @@ pub fn statement(place: &Place<'_>, body: &Body) -> Result<Statement, AllocError
         Body::Emit(signal) => Ok(Statement::Emit(pieces::signal(*signal))),
         Body::Sustain(signal) => pieces::sustain(alloc, pieces::signal(*signal)),
         Body::Exit(trap) => Ok(Statement::exit(exit_index(place.exits, *trap))),
-        Body::Await(wait) => pieces::wait(alloc, *wait),
+        Body::Await(wait) => pieces::wait(alloc, wait),
         Body::Present(test, p, q) => {
-            let test = pieces::test(*test);
+            let test = pieces::test(alloc, test)?;
             Statement::present(alloc, test, statement(place, p)?, statement(place, q)?)
         }
-        Body::Suspend(wait, p) => pieces::suspend(alloc, *wait, statement(place, p)?),
-        Body::Abort(wait, p) => pieces::abort(alloc, *wait, reduce_in_fresh(place, p)?),
-        Body::WeakAbort(wait, p) => pieces::weak_abort(alloc, *wait, reduce_in_fresh(place, p)?),
+        Body::Suspend(wait, p) => pieces::suspend(alloc, wait, statement(place, p)?),
+        Body::Abort(wait, p) => pieces::abort(alloc, wait, reduce_in_fresh(place, p)?),
+        Body::WeakAbort(wait, p) => pieces::weak_abort(alloc, wait, reduce_in_fresh(place, p)?),
         Body::Loop(p) => Statement::repeat(alloc, statement(place, p)?),
-        Body::LoopEach(test, p) => pieces::loop_each(alloc, *test, reduce_in_fresh(place, p)?),
-        Body::Every(wait, p) => pieces::every(alloc, *wait, reduce_in_fresh(place, p)?),
+        Body::LoopEach(test, p) => pieces::loop_each(alloc, test, reduce_in_fresh(place, p)?),
+        Body::Every(wait, p) => pieces::every(alloc, wait, reduce_in_fresh(place, p)?),
         Body::Trap(p) => Statement::trap(alloc, reduce_in_trap(place, p)?),
         Body::Signal(count, p) => {
             let inner = reduce_in_signals(place, *count, p)?;
@@ -107,7 +109,7 @@ pub fn statement(place: &Place<'_>, body: &Body) -> Result<Statement, AllocError
     }
 }
 
-/// The kernel statement of a body with a fresh trap round it.
+/// The kernel statement of a body with a fresh trap around it.
 #[cycle(statement)]
 fn reduce_in_fresh(place: &Place<'_>, body: &Body) -> Result<Statement, AllocError>
     requires room { place.now.locals ≤ 65536 }
@@ -125,7 +127,7 @@ fn reduce_in_fresh(place: &Place<'_>, body: &Body) -> Result<Statement, AllocErr
     statement(&inside, body)
 }
 
-/// The kernel statement of a body with a trap of the text round it.
+/// The kernel statement of a body with a trap of the text around it.
 #[cycle(statement)]
 fn reduce_in_trap(place: &Place<'_>, body: &Body) -> Result<Statement, AllocError>
     requires room { place.now.locals ≤ 65536 }
@@ -143,7 +145,7 @@ fn reduce_in_trap(place: &Place<'_>, body: &Body) -> Result<Statement, AllocErro
     statement(&inside, body)
 }
 
-/// The kernel statement of a body with so many local signals more round it.
+/// The kernel statement of a body with n more local signals around it.
 #[cycle(statement)]
 fn reduce_in_signals(place: &Place<'_>, count: u32, body: &Body) -> Result<Statement, AllocError>
     requires room { place.now.locals + count ≤ 65536 }

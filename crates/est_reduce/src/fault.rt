@@ -6,7 +6,7 @@ use std::alloc::AllocError;
 /// Why a flat module has no kernel.
 #[derive(Clone, Copy, PartialEq, Eq, Debug)]
 pub enum ReduceFault {
-    /// Its kernel term passes a limit, of which the first is named.
+    /// Its kernel term passes a limit. The first one is named.
     TooLarge(Limit),
     /// The body of a loop can end in the instant in which it begins.
     InstantLoop,

@@ -19,6 +19,7 @@ pub struct Flat {
     pub body: Body,
     /// Each signal of a relation is an input.
     pub ghost over_inputs: { AreOverInputs interface relations },
-    /// Each name of the body is bound.
-    pub ghost bound: { IsBound interface 0 0 (body_of body) } by { IsBound-prop interface 0 0 (body_of body) },
+    /// Every name of the body is bound.
+    pub ghost bound: { IsBound interface 0 0 (body_of body) } by { IsBound-prop
+        interface 0 0 (body_of body) },
 }

@@ -25,10 +25,13 @@ fn copied(alloc: Global, interface: &Interface) -> Result<Interface, AllocError>
     Ok(copy)
 }
 
-/// The kernel of a flat module: its interface, and the kernel term of its body by the table of reductions. A term past a limit
-/// is TooLarge with the first limit that it passes, statements before all; else one with a loop that takes no time is
-/// InstantLoop. The kernel statements are counted before one is built, so no term over the limit is ever built, and what goes
-/// over the body and the term recurses at most 2,048 levels deep.
+/// The kernel of a flat module: its interface, and the kernel term of its body by the table of
+/// reductions.
+///
+/// A term past a limit is `TooLarge`, with the first limit that it passes, statements before the
+/// others. Else a term with a loop that takes no time is `InstantLoop`. The kernel statements are
+/// counted before any is built, so no term over the limit is ever built, and recursion over the
+/// body and the term is at most 2,048 levels deep.
 pub fn reduce(alloc: Global, flat: &Flat) -> Result<Kernel, ReduceFault>
     ensures { Reduces flat.now.interface (body_of flat.now.body) result }
 {

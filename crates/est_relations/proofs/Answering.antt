@@ -1,5 +1,6 @@
 -- The answers to an offer, and to whether an instant may take the pending inputs.
-use Rattle.std.proofs.Common.{◌≡◌, ◌∙◌, ◌<◌, inl, inr, ℕ, zero, suc, Bool, true, false, not, ◌&&◌, nat_eq, nat_lt, cond, List, [], ◌∷◌, length, get_or, None, refl, sym, ap, arith}
+use Rattle.std.proofs.Common.{◌≡◌, ◌∙◌, ◌<◌, inl, inr, ℕ, zero, suc, Bool, true, false, not, ◌&&◌, nat_eq, nat_lt, cond}
+use Rattle.std.proofs.Common.{List, [], ◌∷◌, length, get_or, None, refl, sym, ap, arith}
 use Rattle.std.specs.Prelude.{Some, Ok, Err, position, slice_get}
 use Rattle.std.specs.List.{list_all, position_or_len}
 use Rattle.std.proofs.lemmas.Bool.{cases_lt, false≢true}
@@ -9,17 +10,17 @@ use Rattle.std.proofs.lemmas.List.Sums.{position_or_len_is}
 use Rattle.std.proofs.lemmas.Option.{same_Some}
 use Rattle.refusal_rules.proofs.RuleLemmas.{refuse, pass}
 use Rattle.est_kernel.specs.Bits.{bits}
-use Rattle.est_kernel.specs.Interfaces.{inputs_of, outputs_of, same_kind}
+use Rattle.est_kernel.specs.Interfaces.{can_be_offered, offerable}
 use Rattle.est_kernel.specs.declared.interface.Declaration.{Declaration}
-use Rattle.est_kernel.specs.declared.interface.Kind.{Kind}
-use Rattle.est_kernel.specs.declared.interface.Kind.TheVariants.{Input, Output}
 use Rattle.est_kernel.proofs.Interfaces.{declares_beyond}
 use Rattle.est_kernel.proofs.Masks.{bits_zero}
 use Rattle.est_relations.specs.Inner.Names.{IsNewInput, RefusesName}
 use Rattle.est_relations.specs.Keeping.{keeps, keeps_exclusion, has_one_at_most, is_within, AreOverInputs}
-use Rattle.est_relations.specs.Offers.{PendingInputs, place_of, with_place, KeepsExclusions, IsSignalName, IsOutputName, IsPendingName, IsFirstBroken, IsFirstLacking, OfferAnswer, ReadyAnswer}
+use Rattle.est_relations.specs.Offers.{PendingInputs, place_of, with_place, KeepsExclusions, IsSignalName, IsOutputName}
+use Rattle.est_relations.specs.Offers.{IsPendingName, IsFirstBroken, IsFirstLacking, OfferAnswer, ReadyAnswer}
 use Rattle.est_relations.specs.declared.refusal.Refusal.{Refusal}
-use Rattle.est_relations.specs.declared.refusal.Refusal.TheVariants.{UnknownSignal, NotInput, AlreadyOffered, Excluded, Implied}
+use Rattle.est_relations.specs.declared.refusal.Refusal.TheVariants.{UnknownSignal, NotInput, AlreadyOffered, Excluded}
+use Rattle.est_relations.specs.declared.refusal.Refusal.TheVariants.{Implied}
 use Rattle.est_relations.specs.declared.relations.Relation.{Relation}
 use Rattle.est_relations.specs.declared.relations.Relation.TheVariants.{Exclusion, Implication}
 use Rattle.est_relations.proofs.Members.{found_is, one_where, or_true, nat_same}
@@ -35,16 +36,17 @@ position_end keep (y ∷ ys) g =
     position_or_len_is (λ x. not (keep x)) (y ∷ ys) (length (y ∷ ys)) y (omega arith) (λ k lt. g k y lt)
     (λ lt. absurd (omega (arith, lt)))
 
--- where each passes, there is no first that doesn't
+-- where each passes, there is no first one that does not
 none_first : {X : Type 0} (keep : X → Bool) (xs : List X) (n : ℕ) → list_all keep xs ≡ true
     → position (λ x. not (keep x)) xs ≡ Some n → ⊥
-none_first keep xs n h p = at_end (length xs) (position_or_len (λ x. not (keep x)) xs) n (position_end keep xs each) p where
-  each : (k : ℕ) (d : _) → k < length xs → not (keep (get_or xs k d)) ≡ false
-  each k d lt = ap not (kept_at keep xs (length xs) k d (omega arith) lt
-      (ap (list_all keep) (take_all (length xs) xs (omega arith)) ∙ h))
+none_first keep xs n h p = at_end (length xs) (position_or_len (λ x. not (keep x)) xs) n
+    (position_end keep xs each) p where
+      each : (k : ℕ) (d : _) → k < length xs → not (keep (get_or xs k d)) ≡ false
+      each k d lt = ap not (kept_at keep xs (length xs) k d (omega arith) lt
+          (ap (list_all keep) (take_all (length xs) xs (omega arith)) ∙ h))
 
-  at_end : (l at n : ℕ) → at ≡ l → cond (nat_lt at l) (Some at) None ≡ Some n → ⊥
-  at_end l at n e p = grind (arith, nat_tests)
+      at_end : (l at n : ℕ) → at ≡ l → cond (nat_lt at l) (Some at) None ≡ Some n → ⊥
+      at_end l at n e p = grind (arith, nat_tests)
 
 and_first : (a b : Bool) → (a && b) ≡ true → a ≡ true
 and_first true b h = refl
@@ -63,21 +65,14 @@ all_there test (y ∷ ys) (suc n) x h s = all_there test ys n x (and_second (tes
 
 -- ---- signals
 
-pub input_within : (i : List Declaration) (n : ℕ) → inputs_of i n ≡ true → n < length i
+pub input_within : (i : List Declaration) (n : ℕ) → offerable i n ≡ true → n < length i
 input_within i n h = elim (cases_lt n (length i)) [
   | inl lt ↦ lt
-  | inr le ↦ absurd (false≢true (sym (declares_beyond Input i n le) ∙ h))
+  | inr le ↦ absurd (false≢true (sym (declares_beyond can_be_offered i n le) ∙ h))
 ]
 
-no_input_and_output : (i : List Declaration) (n : ℕ) → inputs_of i n ≡ true → outputs_of i n ≡ true → ⊥
-no_input_and_output [] n h o = false≢true h
-no_input_and_output (d ∷ ds) zero h o = kinds d.kind h o where
-  kinds : (k : Kind) → same_kind k Input ≡ true → same_kind k Output ≡ true → ⊥
-  kinds Input h o = false≢true o
-  kinds Output h o = false≢true h
-no_input_and_output (d ∷ ds) (suc n) h o = no_input_and_output ds n h o
-
-same_place : (i : List Declaration) (name : List ℕ) (m n : ℕ) → place_of i name ≡ Some m → place_of i name ≡ Some n → m ≡ n
+same_place : (i : List Declaration) (name : List ℕ) (m n : ℕ) → place_of i name ≡ Some m → place_of i name ≡ Some n
+    → m ≡ n
 same_place i name m n p q = same_Some m n (sym p ∙ q)
 
 -- ---- what is pending
@@ -106,30 +101,32 @@ kept_with i rs mask place name k new h = record {
   over_inputs = k.over_inputs;
   inputs = λ n b. elim (or_true (bits mask n) (nat_eq place n) (sym (with_bits mask place n) ∙ b)) [
     | inl was ↦ k.inputs n was
-    | inr comes ↦ ap (inputs_of i) (sym (nat_same place n comes)) ∙ new.input
+    | inr comes ↦ ap (offerable i) (sym (nat_same place n comes)) ∙ new.input
   ];
   kept = h;
 }
 
--- the member that is named is a signal
+-- the member that is named is a signal of the interface
 pub member_within : (i : List Declaration) (rs : List Relation) (mask place number m : ℕ) → KeepsExclusions i rs mask
     → IsFirstBroken rs mask place number m → m < length i
-member_within i rs mask place number m k b = input_within i m (k.inputs m (found_is (bits mask) b.members m b.pending).1)
+member_within i rs mask place number m k b = input_within i m
+    (k.inputs m (found_is (bits mask) b.members m b.pending).1)
 
--- so is the one that is missing
+-- so is the signal that is missing
 pub missing_within : (i : List Declaration) (rs : List Relation) (mask number m : ℕ) → AreOverInputs i rs
     → IsFirstLacking rs mask number m → m < length i
 missing_within i rs mask number m h l =
-    let over : (inputs_of i l.condition.index && inputs_of i l.missing.index) ≡ true =
-    all_there (is_within (inputs_of i)) rs l.index (Implication l.condition l.missing) h l.is in
-    input_within i m (ap (inputs_of i) l.place ∙ and_second (inputs_of i l.condition.index) (inputs_of i l.missing.index) over)
+    let over : (offerable i l.condition.index && offerable i l.missing.index) ≡ true =
+    all_there (is_within (offerable i)) rs l.index (Implication l.condition l.missing) h l.is in
+    input_within i m
+    (ap (offerable i) l.place ∙ and_second (offerable i l.condition.index) (offerable i l.missing.index) over)
 
 -- ---- the answers
 
 not_output : (i : List Declaration) (name : List ℕ) (place : ℕ) → place_of i name ≡ Some place
-    → inputs_of i place ≡ true → IsOutputName i name → ⊥
+    → offerable i place ≡ true → IsOutputName i name → ⊥
 not_output i name place there input o =
-    no_input_and_output i o.place (ap (inputs_of i) (same_place i name o.place place o.there there) ∙ input) o.output
+    false≢true (sym o.output ∙ (ap (offerable i) (same_place i name o.place place o.there there) ∙ input))
 
 not_pending : (i : List Declaration) (mask : ℕ) (name : List ℕ) (place : ℕ) → place_of i name ≡ Some place
     → bits mask place ≡ false → IsPendingName i mask name → ⊥
@@ -178,7 +175,8 @@ refused_member p name place number m d new broken there =
 
 -- an offer is accepted
 pub accepted : (p : PendingInputs) (name : List ℕ) (place : ℕ) (after : PendingInputs)
-    → IsNewInput p.interface p.mask name place → list_all (keeps_exclusion (bits (with_place p.mask place))) p.relations ≡ true
+    → IsNewInput p.interface p.mask name place → list_all (keeps_exclusion (bits (with_place p.mask place))) p.relations
+    ≡ true
     → after ≡ record { interface = p.interface; relations = p.relations; mask = with_place p.mask place }
     → OfferAnswer p name (Ok (record {})) after
 accepted p name place after new h is =
@@ -205,6 +203,6 @@ not_ready p number m d l there =
       },
     ) refl
 
--- an instant may
+-- an instant may take what is pending
 pub all_hold : (p : PendingInputs) → list_all (keeps (bits p.mask)) p.relations ≡ true → ReadyAnswer p (Ok (record {}))
 all_hold p h = pass (λ e f. none_first (keeps (bits p.mask)) p.relations f.lacking.index h f.lacking.first) (refl, h)

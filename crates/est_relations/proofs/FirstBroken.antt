@@ -1,5 +1,7 @@
 -- The first relation that does not hold.
-use Rattle.std.proofs.Common.{◌≡◌, ◌∙◌, ◌≤◌, ◌<◌, ℕ, zero, suc, ◌+◌, ◌^◌, Bool, true, false, not, ◌&&◌, ◌||◌, nat_eq, nat_lt, cond, List, [], ◌∷◌, length, take, get_or, Option, None, refl, sym, ap, arith, option_map}
+use Rattle.std.proofs.Common.{◌≡◌, ◌∙◌, ◌≤◌, ◌<◌, ℕ, zero, suc, ◌+◌, ◌^◌, Bool, true, false, not, ◌&&◌, ◌||◌, nat_eq}
+use Rattle.std.proofs.Common.{nat_lt, cond, List, [], ◌∷◌, length, take, get_or, Option, None, refl, sym, ap, arith}
+use Rattle.std.proofs.Common.{option_map}
 use Rattle.std.specs.Prelude.{Some, position, MatchOption}
 use Rattle.std.specs.List.{find, list_any, list_all, position_or_len}
 use Rattle.std.proofs.lemmas.Bool.{false≢true}
@@ -16,7 +18,7 @@ use Rattle.est_relations.specs.declared.relations.Relation.{Relation}
 use Rattle.est_relations.specs.declared.relations.Relation.TheVariants.{Exclusion}
 use Rattle.est_relations.proofs.Members.{one_beside, one_alone, not_two, or_second}
 
--- one more bit
+-- the mask with one more bit
 pub with_bits : (mask place n : ℕ) → bits (with_place mask place) n ≡ (bits mask n || nat_eq place n)
 with_bits mask place n = bits_or mask (2 ^ place) n ∙ ap (λ b. bits mask n || b) (bits_pow place n)
 
@@ -37,13 +39,15 @@ pub member : (members : List ℕ) (mask place : ℕ) (o : Option InterfaceSignal
 member members mask place None in_it new found =
     one_alone (bits mask) (bits (with_place mask place)) members place (with_bits mask place) (sym found)
 member members mask place (Some m) in_it new found = record {
-  broken = not_two (bits mask) (bits (with_place mask place)) members place m.index (with_bits mask place) new in_it (sym found);
+  broken = not_two (bits mask) (bits (with_place mask place)) members place m.index (with_bits mask place) new in_it
+      (sym found);
   members = members;
   is = refl;
   pending = sym found;
 }
 
-pub implied_missing : (present : ℕ → Bool) (a b : ℕ) → present a ≡ true → present b ≡ false → has_implied present a b ≡ false
+pub implied_missing : (present : ℕ → Bool) (a b : ℕ) → present a ≡ true → present b ≡ false
+    → has_implied present a b ≡ false
 unfolding has_implied
 implied_missing present a b p q = rw (p, q) refl
 
@@ -98,7 +102,8 @@ first_broken rs mask place n m r lt at before e = record {
 }
 
 -- the first relation that does not hold
-pub first_lacking : (rs : List Relation) (mask n : ℕ) (m : InterfaceSignal) (r : Relation) → n < length rs → r ≡ get_or rs n r
+pub first_lacking : (rs : List Relation) (mask n : ℕ) (m : InterfaceSignal) (r : Relation) → n < length rs
+    → r ≡ get_or rs n r
     → list_all (keeps (bits mask)) (take n rs) ≡ true → Lacks r mask m
     → IsFirstLacking rs mask (n + 1) m.index
 first_lacking rs mask n m r lt at before l = record {

@@ -1,5 +1,6 @@
 -- Members by their places, and exclusions of them.
-use Rattle.std.proofs.Common.{◌≡◌, ◌∙◌, ◌⊎◌, inl, inr, ℕ, Bool, true, false, not, ◌&&◌, ◌||◌, nat_eq, cond, List, [], ◌∷◌, map, Option, None, refl, sym, ap, option_map}
+use Rattle.std.proofs.Common.{◌≡◌, ◌∙◌, ◌⊎◌, inl, inr, ℕ, Bool, true, false, not, ◌&&◌, ◌||◌, nat_eq, cond, List, []}
+use Rattle.std.proofs.Common.{◌∷◌, map, Option, None, refl, sym, ap, option_map}
 use Rattle.std.specs.Prelude.{Some}
 use Rattle.std.specs.List.{find, list_any, list_all}
 use Rattle.std.proofs.lemmas.Bool.{cases_eq, cases_Bool, eq-eqb, ne_eqb, false≢true}
@@ -8,10 +9,12 @@ use Rattle.est_relations.specs.Keeping.{has_one_at_most}
 
 -- the first place for which the test is true is that of the first signal for whose place it is
 pub find_place : (p : ℕ → Bool) (xs : List InterfaceSignal)
-    → option_map {T = InterfaceSignal} {U = ℕ} (λ s. s.index) (find (λ s. p s.index) xs) ≡ find p (map (λ s. s.index) xs)
+    → option_map {T = InterfaceSignal} {U = ℕ} (λ s. s.index) (find (λ s. p s.index) xs)
+    ≡ find p (map (λ s. s.index) xs)
 find_place p [] = refl
 find_place p (x ∷ xs) = at_head (p x.index) _ _ (find_place p xs) where
-  at_head : (b : Bool) (o : Option InterfaceSignal) (q : Option ℕ) → option_map {T = InterfaceSignal} {U = ℕ} (λ s. s.index) o ≡ q
+  at_head : (b : Bool) (o : Option InterfaceSignal) (q : Option ℕ)
+      → option_map {T = InterfaceSignal} {U = ℕ} (λ s. s.index) o ≡ q
       → option_map {T = InterfaceSignal} {U = ℕ} (λ s. s.index) (cond b (Some x) o) ≡ cond b (Some x.index) q
   at_head true o q e = refl
   at_head false o q e = e
@@ -21,12 +24,14 @@ pub place_found : (p : ℕ → Bool) (xs : List InterfaceSignal) (o : Option Int
 place_found p xs o h = rw h (find_place p xs)
 
 -- a place is among the places of the signals where some signal has it
-pub any_place : (p : ℕ → Bool) (xs : List InterfaceSignal) → list_any (λ s. p s.index) xs ≡ list_any p (map (λ s. s.index) xs)
+pub any_place : (p : ℕ → Bool) (xs : List InterfaceSignal)
+    → list_any (λ s. p s.index) xs ≡ list_any p (map (λ s. s.index) xs)
 any_place p [] = refl
 any_place p (x ∷ xs) = ap (λ b. p x.index || b) (any_place p xs)
 
 -- so for all
-pub all_places : (p : ℕ → Bool) (xs : List InterfaceSignal) → list_all (λ s. p s.index) xs ≡ list_all p (map (λ s. s.index) xs)
+pub all_places : (p : ℕ → Bool) (xs : List InterfaceSignal)
+    → list_all (λ s. p s.index) xs ≡ list_all p (map (λ s. s.index) xs)
 all_places p [] = refl
 all_places p (x ∷ xs) = ap (λ b. p x.index && b) (all_places p xs)
 
@@ -66,7 +71,8 @@ all_at p (y ∷ ys) x a h = elim (or_true (nat_eq x y) (list_any (nat_eq x) ys) 
   both_second false b h = absurd (false≢true h)
 
 -- what holds of each member holds of all
-pub all_of : (p : ℕ → Bool) (xs : List ℕ) → ((x : ℕ) → list_any (nat_eq x) xs ≡ true → p x ≡ true) → list_all p xs ≡ true
+pub all_of : (p : ℕ → Bool) (xs : List ℕ) → ((x : ℕ) → list_any (nat_eq x) xs ≡ true → p x ≡ true)
+    → list_all p xs ≡ true
 all_of p [] h = refl
 all_of p (y ∷ ys) h = both (p y) (list_all p ys)
     (h y (or_first (nat_eq y y) (list_any (nat_eq y) ys) (eq-eqb y y refl)))
@@ -89,22 +95,26 @@ unpair false y e h p q = absurd (false≢true p)
 
 -- any two members that are present are one
 pub one_means : (present : ℕ → Bool) (ms : List ℕ) → has_one_at_most present ms ≡ true
-    → (a b : ℕ) → list_any (nat_eq a) ms ≡ true → list_any (nat_eq b) ms ≡ true → present a ≡ true → present b ≡ true → a ≡ b
+    → (a b : ℕ) → list_any (nat_eq a) ms ≡ true → list_any (nat_eq b) ms ≡ true → present a ≡ true → present b ≡ true
+    → a ≡ b
 unfolding has_one_at_most
 one_means present ms h a b p q x y =
     nat_same a b (unpair (present a) (present b) (nat_eq a b) (all_at _ ms b (all_at _ ms a h p) q) x y)
 
 pub one_where : (present : ℕ → Bool) (ms : List ℕ)
-    → ((a b : ℕ) → list_any (nat_eq a) ms ≡ true → list_any (nat_eq b) ms ≡ true → present a ≡ true → present b ≡ true → a ≡ b)
+    → ((a b : ℕ) → list_any (nat_eq a) ms ≡ true → list_any (nat_eq b) ms ≡ true → present a ≡ true → present b ≡ true
+    → a ≡ b)
     → has_one_at_most present ms ≡ true
 unfolding has_one_at_most
 one_where present ms h =
-    all_of _ ms (λ a p. all_of _ ms (λ b q. pair (present a) (present b) (nat_eq a b) (λ x y. eq-eqb a b (h a b p q x y))))
+    all_of _ ms
+    (λ a p. all_of _ ms (λ b q. pair (present a) (present b) (nat_eq a b) (λ x y. eq-eqb a b (h a b p q x y))))
 
 -- ---- one more is present
 
 -- the first that is found is a member, and passes
-pub found_is : (p : ℕ → Bool) (ms : List ℕ) (m : ℕ) → find p ms ≡ Some m → (list_any (nat_eq m) ms ≡ true) × (p m ≡ true)
+pub found_is : (p : ℕ → Bool) (ms : List ℕ) (m : ℕ) → find p ms ≡ Some m
+    → (list_any (nat_eq m) ms ≡ true) × (p m ≡ true)
 found_is p [] m h = cc
 found_is p (x ∷ xs) m h = at_head (p x) refl h (found_is p xs m) where
   at_head : (b : Bool) → p x ≡ b → cond b (Some x) (find p xs) ≡ Some m

@@ -1,5 +1,6 @@
--- An accepted offer keeps each exclusion, by the definitions alone.
-use Rattle.std.proofs.Common.{◌≡◌, ◌∙◌, ◌<◌, inl, inr, ℕ, zero, suc, ◌+◌, Bool, true, false, ◌&&◌, nat_lt, cond, List, [], ◌∷◌, length, take, Option, None, refl, sym, ap, arith}
+-- An accepted offer keeps each exclusion: this follows from the definitions alone.
+use Rattle.std.proofs.Common.{◌≡◌, ◌∙◌, ◌<◌, inl, inr, ℕ, zero, suc, ◌+◌, Bool, true, false, ◌&&◌, nat_lt, cond, List}
+use Rattle.std.proofs.Common.{[], ◌∷◌, length, take, Option, None, refl, sym, ap, arith}
 use Rattle.std.specs.Prelude.{Some, Ok, Err, slice_get}
 use Rattle.std.specs.List.{find, list_all, position_or_len}
 use Rattle.std.proofs.lemmas.Bool.{cases_Bool, false≢true}
@@ -7,13 +8,12 @@ use Rattle.std.proofs.lemmas.Bool.Decides.{nat_tests}
 use Rattle.std.proofs.lemmas.Option.{get_or_from_slice_get}
 use Rattle.refusal_rules.proofs.RuleLemmas.{all_passed}
 use Rattle.est_kernel.specs.Bits.{bits}
-use Rattle.est_kernel.specs.Interfaces.{inputs_of, outputs_of, is_named, same_kind}
+use Rattle.est_kernel.specs.Interfaces.{offerable, is_named}
 use Rattle.est_kernel.specs.declared.interface.Declaration.{Declaration}
-use Rattle.est_kernel.specs.declared.interface.Kind.{Kind}
-use Rattle.est_kernel.specs.declared.interface.Kind.TheVariants.{Input, Output}
 use Rattle.est_relations.specs.Inner.Names.{IsNewInput}
 use Rattle.est_relations.specs.Keeping.{has_one_at_most, keeps_exclusion}
-use Rattle.est_relations.specs.Offers.{PendingInputs, place_of, with_place, KeepsExclusions, IsFirstExcluded, OfferAnswer, offer_rules, Adds}
+use Rattle.est_relations.specs.Offers.{PendingInputs, place_of, with_place, KeepsExclusions, IsFirstExcluded}
+use Rattle.est_relations.specs.Offers.{OfferAnswer, offer_rules, Adds}
 use Rattle.est_relations.specs.declared.relations.Relation.{Relation}
 use Rattle.est_relations.specs.declared.relations.Relation.TheVariants.{Exclusion, Implication}
 use Rattle.est_relations.proofs.Members.{one_alone, found_is}
@@ -34,7 +34,8 @@ first_failing keep [] h = absurd (false≢true (sym h))
 first_failing keep (x ∷ xs) h = at_head (keep x) refl h (first_failing keep xs) where
   at_head : (b : Bool) → keep x ≡ b → (b && list_all keep xs) ≡ false
       → (list_all keep xs ≡ false → FirstFailing keep xs) → FirstFailing keep (x ∷ xs)
-  at_head false e h later = record { place = 0; failing = x; within = omega arith; before = refl; there = refl; fails = e }
+  at_head false e h later =
+      record { place = 0; failing = x; within = omega arith; before = refl; there = refl; fails = e }
   at_head true e h later = let rest = later h in record {
     place = suc rest.place;
     failing = rest.failing;
@@ -44,20 +45,9 @@ first_failing keep (x ∷ xs) h = at_head (keep x) refl h (first_failing keep xs
     fails = rest.fails;
   }
 
--- a place that is found lies within
-place_within : (i : List Declaration) (name : List ℕ) (place : ℕ) → place_of i name ≡ Some place → place < length i
-place_within i name place h = within (position_or_len (is_named name) i) (length i) h where
-  within : (at l : ℕ) → cond (nat_lt at l) (Some at) None ≡ Some place → place < l
-  within at l h = grind (arith, nat_tests)
-
--- what is no output is an input
-input_there : (i : List Declaration) (n : ℕ) → n < length i → (outputs_of i n ≡ true → ⊥) → inputs_of i n ≡ true
-input_there [] n h o = absurd (omega arith)
-input_there (d ∷ ds) zero h o = kinds d.kind o where
-  kinds : (k : Kind) → (same_kind k Output ≡ true → ⊥) → same_kind k Input ≡ true
-  kinds Input o = refl
-  kinds Output o = absurd (o refl)
-input_there (d ∷ ds) (suc n) h o = input_there ds n (omega arith) o
+-- a signal that is not refused as an output may be offered
+input_there : (i : List Declaration) (n : ℕ) → (offerable i n ≡ false → ⊥) → offerable i n ≡ true
+input_there i n o = elim (cases_Bool (offerable i n)) [ inl t ↦ t | inr f ↦ absurd (o f) ]
 
 no_fault : {A E : Type 0} (x : A) (e : E) → Ok x ≡ Err e → ⊥
 no_fault x e h = cc
@@ -82,41 +72,44 @@ all_kept : (p : PendingInputs) (name : List ℕ) (place : ℕ) → KeepsExclusio
     → place_of p.interface name ≡ Some place
     → ((number : ℕ) (signal : List ℕ) → IsFirstExcluded p name number signal → ⊥)
     → list_all (keeps_exclusion (bits (with_place p.mask place))) p.relations ≡ true
-all_kept p name place k there none = elim (cases_Bool (list_all (keeps_exclusion (bits (with_place p.mask place))) p.relations)) [
-  | inl t ↦ t
-  | inr f ↦ let first = first_failing (keeps_exclusion (bits (with_place p.mask place))) p.relations f in
-      absurd (breaks first first.failing first.there first.fails)
-] where
-  breaks : (first : FirstFailing (keeps_exclusion (bits (with_place p.mask place))) p.relations) (r : Relation)
-      → slice_get p.relations first.place ≡ Some r
-      → keeps_exclusion (bits (with_place p.mask place)) r ≡ false → ⊥
-  breaks first (Implication a b) at e = false≢true (sym e)
-  breaks first (Exclusion members) at e =
-      let was : has_one_at_most (bits p.mask) members ≡ true =
-      all_there (keeps_exclusion (bits p.mask)) p.relations first.place (Exclusion members) k.kept at in
-      let one = some_pending members p.mask place was e in
-      let signal = k.inputs one.0 (found_is (bits p.mask) members one.0 one.1).1 in
-      let d = declaration_at p.interface one.0 (input_within p.interface one.0 signal) in
-      none (first.place + 1) d.0.name (record {
-        place = place;
-        there = there;
-        member = one.0;
-        broken = record {
-          index = first.place;
-          numbered = refl;
-          first = first_at (keeps_exclusion
-              (bits (with_place p.mask place))) p.relations first.place first.failing first.within first.before
-              (ap (keeps_exclusion (bits (with_place p.mask place)))
-              (get_or_from_slice_get p.relations first.place first.failing first.failing first.there) ∙ first.fails);
-          members = members;
-          is = at;
-          pending = one.1;
-        };
-        named = record { declaration = d.0; there = d.1; named = refl };
-      })
+all_kept p name place k there none =
+    elim (cases_Bool (list_all (keeps_exclusion (bits (with_place p.mask place))) p.relations)) [
+      | inl t ↦ t
+      | inr f ↦ let first = first_failing (keeps_exclusion (bits (with_place p.mask place))) p.relations f in
+          absurd (breaks first first.failing first.there first.fails)
+    ] where
+      breaks : (first : FirstFailing (keeps_exclusion (bits (with_place p.mask place))) p.relations) (r : Relation)
+          → slice_get p.relations first.place ≡ Some r
+          → keeps_exclusion (bits (with_place p.mask place)) r ≡ false → ⊥
+      breaks first (Implication a b) at e = false≢true (sym e)
+      breaks first (Exclusion members) at e =
+          let was : has_one_at_most (bits p.mask) members ≡ true =
+          all_there (keeps_exclusion (bits p.mask)) p.relations first.place (Exclusion members) k.kept at in
+          let one = some_pending members p.mask place was e in
+          let signal = k.inputs one.0 (found_is (bits p.mask) members one.0 one.1).1 in
+          let d = declaration_at p.interface one.0 (input_within p.interface one.0 signal) in
+          none (first.place + 1) d.0.name (record {
+            place = place;
+            there = there;
+            member = one.0;
+            broken = record {
+              index = first.place;
+              numbered = refl;
+              first = first_at (keeps_exclusion
+                  (bits (with_place p.mask place))) p.relations first.place first.failing first.within first.before
+                  (ap (keeps_exclusion (bits (with_place p.mask place)))
+                  (get_or_from_slice_get p.relations first.place first.failing first.failing first.there)
+                  ∙ first.fails);
+              members = members;
+              is = at;
+              pending = one.1;
+            };
+            named = record { declaration = d.0; there = d.1; named = refl };
+          })
 
 -- an accepted offer keeps each exclusion
-pub offer_keeps : (before after : PendingInputs) (name : List ℕ) → KeepsExclusions before.interface before.relations before.mask
+pub offer_keeps : (before after : PendingInputs) (name : List ℕ)
+    → KeepsExclusions before.interface before.relations before.mask
     → OfferAnswer before name (Ok (record {})) after → KeepsExclusions after.interface after.relations after.mask
 offer_keeps before after name k answer =
     let all = all_passed (offer_rules before name) (λ refusal. (Ok (record {}) ≡ Err refusal) × (after ≡ before))
@@ -125,7 +118,7 @@ offer_keeps before after name k answer =
     let adds = all.1.1 in
     let new : IsNewInput before.interface before.mask name adds.place = record {
       there = adds.there;
-      input = input_there before.interface adds.place (place_within before.interface name adds.place adds.there)
+      input = input_there before.interface adds.place
           (λ o. all.0.1.0 (record { place = adds.place; there = adds.there; output = o }));
       new = not_true (bits before.mask adds.place)
           (λ b. all.0.1.1.0 (record { place = adds.place; there = adds.there; pending = b }));

@@ -1,14 +1,17 @@
--- Relations between inputs, and which sets of inputs keep them (Berry, The Esterel v5 Language Primer, input relations).
+-- Relations between inputs, and which sets of inputs keep them (Berry, The Esterel v5 Language Primer, input
+-- relations).
 use Rattle.std.specs.Prelude.{◌≡◌, ℕ, Bool, true, ◌&&◌, ◌||◌, not, nat_eq, List}
 use Rattle.std.specs.List.{list_all}
-use Rattle.est_kernel.specs.Interfaces.{inputs_of}
+use Rattle.est_kernel.specs.Interfaces.{offerable}
 use Rattle.est_kernel.specs.declared.interface.Declaration.{Declaration}
 use Rattle.est_relations.specs.declared.relations.Relation.{Relation}
 use Rattle.est_relations.specs.declared.relations.Relation.TheVariants.{Exclusion, Implication}
 
--- whether at most one of the members is present: any two that are present are one, as is a signal that is written twice
+-- whether at most one of the members is present: any two that are present are the same, so a signal may be written
+-- twice
 unfoldable pub has_one_at_most : (present : ℕ → Bool) → List ℕ → Bool
-has_one_at_most present members = list_all (λ a. list_all (λ b. not (present a && present b) || nat_eq a b) members) members
+has_one_at_most present members = list_all (λ a. list_all (λ b. not (present a && present b) || nat_eq a b) members)
+    members
 
 -- whether the second signal is present where the first is
 unfoldable pub has_implied : (present : ℕ → Bool) → (condition implied : ℕ) → Bool
@@ -35,4 +38,4 @@ is_within signals (Implication condition implied) = signals condition.index && s
 
 -- each signal of each relation is an input
 abbrev pub AreOverInputs : List Declaration → List Relation → Type 0
-AreOverInputs interface relations = list_all (is_within (inputs_of interface)) relations ≡ true
+AreOverInputs interface relations = list_all (is_within (offerable interface)) relations ≡ true

@@ -1,18 +1,22 @@
--- What is pending, and the rules by which an offer, and the begin of an instant, are answered (this project's own form).
-use Rattle.std.specs.Prelude.{◌≡◌, ℕ, ◌+◌, ◌^◌, true, not, List, position, Option, Some, Result, Ok, Err, bit_or, slice_get}
+-- What is pending, and the rules by which an offer and the beginning of an instant are answered (this project's own
+-- form).
+use Rattle.std.specs.Prelude.{◌≡◌, ℕ, ◌+◌, ◌^◌, true, false, not, List, position, Option, Some, Result, Ok, Err, bit_or}
+use Rattle.std.specs.Prelude.{slice_get}
 use Rattle.std.specs.List.{find, list_all}
 use Rattle.refusal_rules.specs.Rules.{Rules, Says, Unless, Naming, accept, ◌▸◌, Answers}
 use Rattle.est_kernel.specs.Bits.{bits}
-use Rattle.est_kernel.specs.Interfaces.{inputs_of, outputs_of, is_named}
+use Rattle.est_kernel.specs.Interfaces.{offerable, is_named}
 use Rattle.est_kernel.specs.declared.interface.Declaration.{Declaration}
 use Rattle.est_kernel.specs.declared.statement.InterfaceSignal.{InterfaceSignal}
 use Rattle.est_relations.specs.Keeping.{keeps, keeps_exclusion, AreLawful, AreOverInputs}
 use Rattle.est_relations.specs.declared.refusal.Refusal.{Refusal}
-use Rattle.est_relations.specs.declared.refusal.Refusal.TheVariants.{UnknownSignal, NotInput, AlreadyOffered, Excluded, Implied}
+use Rattle.est_relations.specs.declared.refusal.Refusal.TheVariants.{UnknownSignal, NotInput, AlreadyOffered, Excluded}
+use Rattle.est_relations.specs.declared.refusal.Refusal.TheVariants.{Implied}
 use Rattle.est_relations.specs.declared.relations.Relation.{Relation}
 use Rattle.est_relations.specs.declared.relations.Relation.TheVariants.{Exclusion, Implication}
 
--- the pending inputs of a module, as a mask over its interface in the order of declaration, with its interface and relations
+-- the pending inputs of a module, as a mask over its interface in the order of declaration, with its interface and
+-- relations
 pub record PendingInputs : Type 0 where
   pub interface : List Declaration
   pub relations : List Relation
@@ -30,10 +34,10 @@ place_of interface name = position (is_named name) interface
 abbrev pub with_place : (mask place : ℕ) → ℕ
 with_place mask place = bit_or mask (2 ^ place)
 
--- the pending inputs are inputs, and they keep each exclusion; and the relations are between inputs
+-- the pending inputs are inputs and keep each exclusion, and the relations are between inputs
 pub record KeepsExclusions (interface : List Declaration) (relations : List Relation) (mask : ℕ) : Type 0 where
   pub over_inputs : AreOverInputs interface relations
-  pub inputs : (n : ℕ) → bits mask n ≡ true → inputs_of interface n ≡ true
+  pub inputs : (n : ℕ) → bits mask n ≡ true → offerable interface n ≡ true
   pub kept : list_all (keeps_exclusion (bits mask)) relations ≡ true
 
 -- a signal of the interface has this name
@@ -41,11 +45,11 @@ pub record IsSignalName (interface : List Declaration) (name : List ℕ) : Type 
   pub place : ℕ
   pub there : place_of interface name ≡ Some place
 
--- the name is that of an output
+-- the name is that of a signal that is an output alone, so may not be offered
 pub record IsOutputName (interface : List Declaration) (name : List ℕ) : Type 0 where
   pub place : ℕ
   pub there : place_of interface name ≡ Some place
-  pub output : outputs_of interface place ≡ true
+  pub output : offerable interface place ≡ false
 
 -- the name is that of a signal that is pending
 pub record IsPendingName (interface : List Declaration) (mask : ℕ) (name : List ℕ) : Type 0 where
@@ -59,8 +63,8 @@ pub record IsNameAt (interface : List Declaration) (place : ℕ) (name : List �
   pub there : slice_get interface place ≡ Some declaration
   pub named : name ≡ declaration.name
 
--- with the signal at this place, the relation of this number, counted from 1, is the first exclusion that would not
--- hold, and this is its first member in written order that is pending
+-- this relation, counted from 1, is the first exclusion that would not hold with the signal at this place; this is its
+-- first pending member, in the order in which they are written
 pub record IsFirstBroken (relations : List Relation) (mask place number member : ℕ) : Type 0 where
   pub index : ℕ
   pub numbered : number ≡ index + 1
@@ -69,7 +73,7 @@ pub record IsFirstBroken (relations : List Relation) (mask place number member :
   pub is : slice_get relations index ≡ Some (Exclusion members)
   pub pending : find (bits mask) members ≡ Some member
 
--- an offer of the name would break the relation of this number first, by its first pending member, which has this name
+-- an offer of the name would break this relation first; its first pending member has this name
 pub record IsFirstExcluded (p : PendingInputs) (name : List ℕ) (number : ℕ) (signal : List ℕ) : Type 0 where
   pub place : ℕ
   pub there : place_of p.interface name ≡ Some place
@@ -77,7 +81,7 @@ pub record IsFirstExcluded (p : PendingInputs) (name : List ℕ) (number : ℕ) 
   pub broken : IsFirstBroken p.relations p.mask place number member
   pub named : IsNameAt p.interface member signal
 
--- the relation of this number, counted from 1, is the first that does not hold, and it is an implication of this signal
+-- this relation, counted from 1, is the first that does not hold, and it is an implication of this signal
 pub record IsFirstLacking (relations : List Relation) (mask number implied : ℕ) : Type 0 where
   pub index : ℕ
   pub numbered : number ≡ index + 1
@@ -87,7 +91,7 @@ pub record IsFirstLacking (relations : List Relation) (mask number implied : ℕ
   pub is : slice_get relations index ≡ Some (Implication condition missing)
   pub place : implied ≡ missing.index
 
--- the pending inputs lack the signal of this name, by the relation of this number
+-- by the relation of this number, the pending inputs lack the signal of this name
 pub record IsFirstImplied (p : PendingInputs) (number : ℕ) (missing : List ℕ) : Type 0 where
   pub implied : ℕ
   pub lacking : IsFirstLacking p.relations p.mask number implied
@@ -106,11 +110,12 @@ offer_rules p name =
 abbrev pub ready_rules : PendingInputs → Rules Refusal
 ready_rules p = Naming {Thing = ℕ × List ℕ} (λ e. Implied e.0 e.1) (λ e. IsFirstImplied p e.0 e.1) ▸ accept
 
--- the signal of the name is pending too
+-- the signal of the name becomes pending too
 pub record Adds (before : PendingInputs) (name : List ℕ) (after : PendingInputs) : Type 0 where
   pub place : ℕ
   pub there : place_of before.interface name ≡ Some place
-  pub added : after ≡ record { interface = before.interface; relations = before.relations; mask = with_place before.mask place }
+  pub added : after
+      ≡ record { interface = before.interface; relations = before.relations; mask = with_place before.mask place }
 
 -- the answer to an offer of the name, and what is pending afterwards: a refusal changes nothing
 abbrev pub OfferAnswer : PendingInputs → List ℕ → Result (Unit {0}) Refusal → PendingInputs → Type 0

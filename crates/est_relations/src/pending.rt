@@ -2,19 +2,21 @@
 ghost use Rattle.std.specs.Prelude.{◌≡◌, MatchResult};
 ghost use Rattle.est_relations.specs.Inner.Names.{IsNewInput, RefusesName, JoinsAs, RefusesOffer};
 ghost use Rattle.est_relations.specs.Keeping.{AreOverInputs};
-ghost use Rattle.est_relations.specs.Offers.{KeepsExclusions, OfferAnswer, ReadyAnswer, pending_inputs, with_place};
+ghost use Rattle.est_relations.specs.Offers.{KeepsExclusions, OfferAnswer, ReadyAnswer};
+ghost use Rattle.est_relations.specs.Offers.{pending_inputs, with_place};
 
 use crate::refusal::Refusal;
 use crate::relations::Relations;
 use crate::violations::{first_broken, first_lacking};
-use est_kernel::interface::{Interface, Kind};
+use est_kernel::interface::Interface;
 use est_kernel::mask;
 use est_kernel::statement::InterfaceSignal;
 use est_text::identifier::Identifier;
 use std::marker::Model;
 
-/// The pending inputs of a module. It borrows the module's interface and relations, takes no memory, and keeps each exclusion at
-/// all times. A contract sees interface, relations, and the mask of the inputs.
+/// The pending inputs of a module. It borrows the module's interface and relations, takes no
+/// memory, and keeps each exclusion at all times. A contract sees interface, relations, and the
+/// mask of the inputs.
 #[derive(Drop)]
 pub struct Pending<'a> {
     interface: &'a Interface,
@@ -27,12 +29,16 @@ impl<'a> Model for Pending<'a> {
 
     ghost Value = { PendingInputs };
 
-    ghost view = { λ p. record { interface = p.interface.now; relations = p.relations.now; mask = p.inputs } };
+    ghost view = { λ p. record {
+      interface = p.interface.now;
+      relations = p.relations.now;
+      mask = p.inputs;
+    } };
 
     ghost invariant = { λ p. KeepsExclusions p.interface.now p.relations.now p.inputs };
 }
 
-/// The input of this name, where it is not pending.
+/// The signal of this name, where it may be offered and is not pending.
 fn offered(
     interface: &Interface,
     pending: u64,
@@ -45,7 +51,7 @@ fn offered(
     let Some(signal) = interface.find(name) else {
         return Err(Refusal::UnknownSignal);
     };
-    if interface.kind(signal) == Kind::Output {
+    if !interface.kind(signal).can_be_offered() {
         return Err(Refusal::NotInput);
     }
     if mask::has(pending, signal.index) {
@@ -61,7 +67,7 @@ fn with_signal(mask: u64, signal: InterfaceSignal) -> u64
     mask | 1 << signal.index
 }
 
-/// The pending inputs with the one of this name, where it may come.
+/// The pending inputs with the input of this name, where it may come.
 fn joined(
     interface: &Interface,
     relations: &Relations,
@@ -84,8 +90,8 @@ fn joined(
 }
 
 impl<'a> Pending<'a> {
-    /// Nothing is pending. That the relations are between inputs of the interface is the caller's condition: a `Flat` of
-    /// `est_reduce` says so of its own.
+    /// No inputs are pending. The caller ensures that the relations are between inputs of the
+    /// interface; a `Flat` of `est_reduce` ensures it of its own.
     pub fn new(interface: &'a Interface, relations: &'a Relations) -> Pending<'a>
         requires { AreOverInputs interface.now relations.now }
         ensures { result ≡ pending_inputs interface.now relations.now 0 }
@@ -97,7 +103,7 @@ impl<'a> Pending<'a> {
         }
     }
 
-    /// These inputs are pending: for an owner that keeps the mask alone, as `inputs` gave it.
+    /// These inputs are pending. For an owner that keeps only the mask, as `inputs` gave it.
     pub fn resume(interface: &'a Interface, relations: &'a Relations, inputs: u64) -> Pending<'a>
         requires { KeepsExclusions interface.now relations.now inputs }
         ensures { result ≡ pending_inputs interface.now relations.now inputs }
@@ -117,9 +123,9 @@ impl<'a> Pending<'a> {
         self.inputs
     }
 
-    /// Makes the input of this name pending, where that keeps each exclusion. It is refused, and nothing changes, by
-    /// the first of these that holds: no signal has the name, it is an output's, its signal is pending already, or an
-    /// exclusion would not hold.
+    /// Makes the input of this name pending, where that keeps each exclusion. The first of these
+    /// that holds refuses it, and then nothing changes: no signal has the name, it is that of an
+    /// output alone, its signal is pending already, or an exclusion would not hold.
     pub fn offer(&mut self, name: &Identifier) -> Result<(), Refusal>
         ensures { OfferAnswer self.old name.now result self.new }
     {
@@ -132,8 +138,8 @@ impl<'a> Pending<'a> {
         }
     }
 
-    /// Whether an instant may take the pending inputs: it may exactly where each relation holds of them. It is refused by the
-    /// first that doesn't, which is an implication.
+    /// Whether an instant may take the pending inputs: it may exactly where each relation holds of
+    /// them. The first relation that does not hold refuses it; that is an implication.
     pub fn ready(&self) -> Result<(), Refusal>
         ensures { ReadyAnswer self.now result }
     {

@@ -1,7 +1,7 @@
 //! The relations of a module, in the order of its text.
 
-ghost use Rattle.std.specs.Prelude.{◌≡◌, ◌++◌, ◌∷◌, [], ◌≤◌, ◌<◌, length, map, IfOk, OnErr, IsTrue, ◌↔◌};
-ghost use Rattle.std.specs.Prelude.{option_map, nat_eq};
+ghost use Rattle.std.specs.Prelude.{◌≡◌, ◌++◌, ◌∷◌, [], ◌≤◌, ◌<◌, length, map, IfOk, OnErr, IsTrue};
+ghost use Rattle.std.specs.Prelude.{◌↔◌, option_map, nat_eq};
 ghost use Rattle.std.specs.List.{find, list_all, list_any};
 ghost use Rattle.est_relations.specs.Keeping.{is_within};
 ghost use Rattle.est_kernel.specs.Bits.{bits};
@@ -15,8 +15,8 @@ use std::marker::Model;
 /// The most relations of a module.
 pub const MOST_RELATIONS: usize = 32;
 
-/// The members of an exclusion, in the order in which they are written; a signal may be written twice. A contract sees the list
-/// of their places in the interface.
+/// The members of an exclusion, in the order in which they are written; a signal may be written
+/// twice. A contract sees the list of their places in the interface.
 #[derive(Drop)]
 pub struct Members {
     signals: Vec<InterfaceSignal>,
@@ -31,7 +31,7 @@ impl Model for Members {
 }
 
 impl Members {
-    /// No member. It takes no memory.
+    /// No members. It takes no memory.
     pub fn new(alloc: Global) -> Members
         ensures { result ≡ [] }
     {
@@ -101,7 +101,7 @@ fn first_among(members: &[InterfaceSignal], signals: u64) -> Option<&InterfaceSi
         .find(|member| mask::has(signals, member.index))
 }
 
-/// A relation between inputs.
+/// A relation between signals that may be offered: it is about the offers alone.
 #[derive(Drop)]
 pub enum Relation {
     /// `A # B # C`: at most one of them is present.
@@ -133,7 +133,8 @@ fn are_within(relations: &[Relation], signals: u64) -> bool
     relations.iter().all(|relation| relation.is_within(signals))
 }
 
-/// At most `MOST_RELATIONS` relations. A contract sees the list of them; the first has the number 1.
+/// At most `MOST_RELATIONS` relations. A contract sees the list of them; the first has the number
+/// 1.
 #[derive(Drop)]
 pub struct Relations {
     relations: Vec<Relation>,
@@ -180,11 +181,11 @@ impl Relations {
         Ok(())
     }
 
-    /// Whether each signal of each relation is an input.
+    /// Whether each signal of each relation may be offered.
     pub fn are_over_inputs(&self, interface: &Interface) -> bool
         ensures { IsTrue result ↔ AreOverInputs interface.now self.now }
     {
-        are_within(&self.relations, interface.inputs())
+        are_within(&self.relations, interface.offerable())
     }
 
     /// The relations, in order.

@@ -1,5 +1,7 @@
 //! The first relation that does not hold.
-ghost use Rattle.std.specs.Prelude.{◌≡◌, ◌≢◌, ◌<◌, ◌≤◌, ◌+◌, length, List, true, false, MatchOption, MatchResult, IfSome, option_map, position, Some, None};
+ghost use Rattle.std.specs.Prelude.{◌≡◌, ◌≢◌, ◌<◌, ◌≤◌, ◌+◌, length, List, true, false};
+ghost use Rattle.std.specs.Prelude.{MatchOption, MatchResult, IfSome, option_map, position, Some};
+ghost use Rattle.std.specs.Prelude.{None};
 ghost use Rattle.std.specs.List.{list_all};
 ghost use Rattle.est_kernel.specs.Bits.{bits};
 ghost use Rattle.est_relations.specs.Keeping.{keeps, keeps_exclusion};
@@ -11,16 +13,16 @@ use crate::relations::Relation;
 use est_kernel::mask;
 use est_kernel::statement::InterfaceSignal;
 
-/// A relation that does not hold, and the signal by which it doesn't.
+/// A relation that does not hold, and the signal that is to blame.
 #[derive(Clone, Copy)]
 pub struct Broken {
     /// Its number, counted from 1.
     pub relation: u8,
-    /// Of an exclusion its first pending member, of an implication the one that is missing.
+    /// Of an exclusion, its first pending member; of an implication, the signal that is missing.
     pub signal: InterfaceSignal,
 }
 
-/// The pending signal that excludes this one, which is not pending, by the relation.
+/// The pending signal that excludes this one by the relation. This one is not pending.
 fn excluded_by(
     relation: &Relation,
     pending: u64,
@@ -44,7 +46,7 @@ fn excluded_by(
     }
 }
 
-/// The first exclusion that would not hold with this signal, which is not pending.
+/// The first exclusion that would not hold with this signal. The signal is not pending.
 pub fn first_broken(relations: &[Relation], pending: u64, signal: InterfaceSignal) -> Option<Broken>
     requires few { length relations.now ≤ MOST_RELATIONS }
     requires kept { list_all (keeps_exclusion (bits pending)) relations.now ≡ true }
@@ -83,7 +85,7 @@ fn lacking_by(relation: &Relation, pending: u64) -> Option<InterfaceSignal>
     }
 }
 
-/// The first relation that does not hold, where each exclusion does.
+/// The first relation that does not hold. Each exclusion holds.
 pub fn first_lacking(relations: &[Relation], pending: u64) -> Option<Broken>
     requires few { length relations.now ≤ MOST_RELATIONS }
     requires kept { list_all (keeps_exclusion (bits pending)) relations.now ≡ true }

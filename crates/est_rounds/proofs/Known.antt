@@ -1,7 +1,9 @@
--- What is known, on masks.
-use Rattle.std.proofs.Common.{◌≡◌, ℕ, Bool, true, false, not, ◌&&◌, ◌||◌, cond, refl, ap, sym, ◌∙◌}
+-- What is known, as masks.
+use Rattle.std.proofs.Common.{◌≡◌, ℕ, Bool, true, false, not, ◌&&◌, ◌||◌, cond, List, refl, ap, sym, ◌∙◌}
 use mathlib.Core.Path.{fun_ext}
 use Rattle.est_kernel.specs.Bits.{bits}
+use Rattle.est_kernel.specs.Interfaces.{emittable}
+use Rattle.est_kernel.specs.declared.interface.Declaration.{Declaration}
 use Rattle.est_kernel.specs.Term.{outer, inner, Term}
 use Rattle.est_kernel.proofs.Masks.{bits_zero}
 use Rattle.est_meaning.specs.Status as meaning
@@ -12,6 +14,12 @@ use Rattle.est_rounds.specs.Views.{set_of, env_of, judged_by}
 use Rattle.est_rounds.specs.declared.judged.JudgedSignals.{JudgedSignals}
 use Rattle.est_rounds.specs.declared.signal_set.Env.{Env}
 use Rattle.est_rounds.specs.declared.signal_set.SignalSet.{SignalSet}
+
+-- the signals that are judged, as a mask
+pub judged_signals_are : (i : List Declaration) (inputs may_be judged : ℕ → Bool) → may_be ≡ emittable i
+    → ((n : ℕ) → judged n ≡ (may_be n && not (inputs n)))
+    → judged ≡ (λ n. emittable i n && not (inputs n))
+judged_signals_are i inputs may_be judged e f = fun_ext (λ n. f n ∙ ap (λ (g : ℕ → Bool). g n && not (inputs n)) e)
 
 first_verdict : (o i : Bool) → meaning.verdict (i && not o) (o || i) ≡ cond o Unknown (meaning.verdict i false)
 first_verdict true true = refl
@@ -29,7 +37,8 @@ pub first_known_is : (j : JudgedSignals) (i p q : ℕ) → ((n : ℕ) → bits p
 unfolding env_of set_of first_env
 first_known_is j i p q f g = fun_ext (elim [
   | outer n ↦ ap (λ x. meaning.verdict x (bits q n)) (f n)
-      ∙ (ap (λ x. meaning.verdict (bits i n && not (bits j.signals n)) x) (g n) ∙ first_verdict (bits j.signals n) (bits i n))
+      ∙ (ap (λ x. meaning.verdict (bits i n && not (bits j.signals n)) x) (g n)
+      ∙ first_verdict (bits j.signals n) (bits i n))
   | inner n ↦ ap (λ x. meaning.verdict x (bits 0 n)) (bits_zero n) ∙ ap (λ x. meaning.verdict false x) (bits_zero n)
 ])
 
@@ -46,16 +55,20 @@ chosen false false false = refl
 -- a mask of which some places are judged again
 pub judged_again_is : (o before now kept found : ℕ) (all : ℕ)
     → ((n : ℕ) → bits kept n ≡ (bits before n && not (bits o n))) → ((n : ℕ) → bits found n ≡ (bits o n && bits now n))
-    → ((n : ℕ) → bits all n ≡ (bits kept n || bits found n)) → (n : ℕ) → bits all n ≡ cond (bits o n) (bits now n) (bits before n)
-judged_again_is o before now kept found all fk ff e n = e n ∙ rw (fk n, ff n) (chosen (bits o n) (bits before n) (bits now n))
+    → ((n : ℕ) → bits all n ≡ (bits kept n || bits found n)) → (n : ℕ)
+    → bits all n ≡ cond (bits o n) (bits now n) (bits before n)
+judged_again_is o before now kept found all fk ff e n =
+    e n ∙ rw (fk n, ff n) (chosen (bits o n) (bits before n) (bits now n))
 
-both_chosen : (o m c p q : Bool) → meaning.verdict (cond o m p) (cond o c q) ≡ cond o (meaning.verdict m c) (meaning.verdict p q)
+both_chosen : (o m c p q : Bool) → meaning.verdict (cond o m p) (cond o c q)
+    ≡ cond o (meaning.verdict m c) (meaning.verdict p q)
 both_chosen true m c p q = refl
 both_chosen false m c p q = refl
 
--- after one more round
+-- what is known after one more round
 pub next_known_is : (j : JudgedSignals) (t : Term) (e : meaning.Env) (ms cs p q : SignalSet) (p' q' : ℕ)
-    → e ≡ env_of (record { present = p; possible = q }) → set_of ms ≡ (must t e).signals → set_of cs ≡ (can t sure e).signals
+    → e ≡ env_of (record { present = p; possible = q }) → set_of ms ≡ (must t e).signals
+    → set_of cs ≡ (can t sure e).signals
     → ((n : ℕ) → bits p' n ≡ cond (bits j.signals n) (bits ms.interface n) (bits p.interface n))
     → ((n : ℕ) → bits q' n ≡ cond (bits j.signals n) (bits cs.interface n) (bits q.interface n))
     → env_of (record {
@@ -66,7 +79,8 @@ unfolding env_of set_of round
 next_known_is j t e ms cs p q p' q' ee em ec fp fq = fun_ext (elim [
   | outer n ↦
       rw (fp n, fq n, ← ap (λ h. h (outer n)) em, ← ap (λ h. h (outer n)) ec, ap (λ h. h (outer n)) ee)
-      (both_chosen (bits j.signals n) (bits ms.interface n) (bits cs.interface n) (bits p.interface n) (bits q.interface n))
+      (both_chosen (bits j.signals n) (bits ms.interface n) (bits cs.interface n) (bits p.interface n)
+      (bits q.interface n))
   | inner n ↦ sym (ap (λ h. h (inner n)) ee)
 ])
 

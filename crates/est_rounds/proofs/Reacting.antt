@@ -44,6 +44,7 @@ unfolding set_of
 ended_reacts j inputs s t e o k n ee d h = record {
   signals = set_of o;
   code = k;
-  gives = subst (λ (u : Term). Gives t (last_env j inputs t) (set_of o) k u) (rest_nothing k (term_at s n) d) (rw ee at h.gives);
+  gives = subst (λ (u : Term). Gives t (last_env j inputs t) (set_of o) k u) (rest_nothing k (term_at s n) d)
+      (rw ee at h.gives);
   seen = λ n. refl;
 }

@@ -1,4 +1,4 @@
--- The going on of a statement from that of its parts.
+-- A statement goes on: its step, from those of its parts.
 use Rattle.std.proofs.Common.{◌≡◌, ◌≢◌, ℕ, Bool, true, false, ◌||◌, cond, max, nat_eq, refl, sym, ◌∙◌}
 use Rattle.std.proofs.lemmas.Bool.{eqb-true, eqb-false}
 use Rattle.est_kernel.specs.CodeViews.{code_of}
@@ -14,7 +14,9 @@ use Rattle.est_meaning.specs.Status.{Env, status_of}
 use Rattle.est_meaning.specs.Rules.{HasNoRule}
 use Rattle.est_meaning.specs.Steps.{StepsTo}
 use Rattle.est_meaning.proofs.AgreementLemmas.{apart_left}
-use Rattle.est_meaning.proofs.SteppingLemmas.{ready, steps_same, present_first, present_second, seq_stays, seq_goes, seq_second, seq_none, loop_again, loop_none, loop_none_in, par_settles, stays_held, idle}
+use Rattle.est_meaning.proofs.SteppingLemmas.{ready, steps_same, present_first, present_second, seq_stays, seq_goes}
+use Rattle.est_meaning.proofs.SteppingLemmas.{seq_second, seq_none, loop_again, loop_none, loop_none_in, par_settles}
+use Rattle.est_meaning.proofs.SteppingLemmas.{stays_held, idle}
 use Rattle.est_rounds.specs.Views.{set_of}
 use Rattle.est_rounds.specs.Steps.{Sleeps, CannotMove, Moves, IsResumed}
 use Rattle.est_rounds.specs.declared.step.Step.{Step}
@@ -29,7 +31,7 @@ code_is k n b e h = eqb-true k n (sym e ∙ h)
 pub code_is_not : (k n : ℕ) (b : Bool) → b ≡ nat_eq k n → b ≡ false → k ≢ n
 code_is_not k n b e h = eqb-false k n (sym e ∙ h)
 
--- what the going on of the second part needs after that of the first
+-- what the second part needs to go on after the first has
 pub ready_to_resume : (p q p' q' : Statement) (a m n : ℕ → Bool) → p' ≡ p → q' ≡ q → HasDistinctPauses p
     × HasDistinctPauses q × AreApart p q → IsExclusive q a
     → (is_live p m || is_live q m) ≡ false → ((i : ℕ) → has_pause p' i ≡ false → n i ≡ m i) → HasDistinctPauses q'
@@ -85,12 +87,14 @@ pub seq_stuck : {x y : _} {p q : Statement} {a : ℕ → Bool} {e : Env} {step :
 seq_stuck z h none = record { live = rw h.live refl; none = rw h.live (seq_none _ _ _ _ _ (ended z h).gives none) }
 
 -- `;`: the first part ends and the second begins
-pub seq_moves : {x y : _} {p q : Statement} {a : ℕ → Bool} {e : Env} {first step : Step} {m n : ℕ → Bool} (second : Step)
+pub seq_moves : {x y : _} {p q : Statement} {a : ℕ → Bool} {e : Env} {first step : Step} {m n : ℕ → Bool}
+    (second : Step)
     → (code_of first.completion) ≡ 0 → Moves p a e first m
     → StepsTo q (term_of q) e (set_of second.signals) (code_of second.completion) n → is_live p n ≡ false
     → set_of step.signals ≡ union (set_of first.signals) (set_of second.signals)
     → (code_of step.completion) ≡ (code_of second.completion) → Moves (Seq' x p y q) a e step n
-seq_moves second z h g dead es ec = record { live = rw h.live refl; steps = rw (h.live, es, ec) (seq_goes (ended z h) g dead) }
+seq_moves second z h g dead es ec =
+    record { live = rw h.live refl; steps = rw (h.live, es, ec) (seq_goes (ended z h) g dead) }
 
 -- `loop`: the body ends and cannot begin again
 pub loop_stuck : {x : _} {p : Statement} {a : ℕ → Bool} {e : Env} {step : Step} {m : ℕ → Bool}
@@ -120,7 +124,7 @@ pub held_moves : {x : _} {s : _} {p : Statement} {e : Env} {n : ℕ → Bool} {s
     → set_of step.signals ≡ no_signals → (code_of step.completion) ≡ 1 → Moves (Suspend' s x p) a e step n
 held_moves a m d live x f es ec = record { live = live; steps = rw (es, ec) (stays_held a m d live x f) }
 
--- a side of a parallel that has ended before, or that moves
+-- a side of a parallel that ended before or that moves
 pub ended_side : (s : Statement) (a : ℕ → Bool) (e : Env) (n : ℕ → Bool) (o : Signals) (k : ℕ) → is_live s a ≡ false
     → is_live s n ≡ false → o ≡ no_signals → k ≡ 0
     → StepsTo s (cond (is_live s a) (term_at s a) nothing) e o k n
@@ -143,7 +147,8 @@ pub par_moves : {x y : _} {p q : Statement} {a : ℕ → Bool} {e : Env} {step :
     → Moves (Par' x p y q) a e step m
 par_moves left right h g live es ec kept dp dq = record {
   live = live;
-  steps = rw (es, ec) (par_settles h g (λ z. kept (ec ∙ z)) (λ z. dp (λ w. z (sym ec ∙ w))) (λ z. dq (λ w. z (sym ec ∙ w))));
+  steps = rw (es, ec)
+      (par_settles h g (λ z. kept (ec ∙ z)) (λ z. dp (λ w. z (sym ec ∙ w))) (λ z. dq (λ w. z (sym ec ∙ w))));
 }
 
 -- `||`: both sides sleep

@@ -16,12 +16,14 @@ unfolding set_of no_signals
 no_signals_set = fun_ext (elim [ outer n ↦ bits_zero n | inner n ↦ bits_zero n ])
 
 -- one signal of the interface
-pub only_outer : (m k : ℕ) → ((n : ℕ) → bits m n ≡ nat_eq k n) → set_of (record { interface = m; local = 0 }) ≡ only (outer k)
+pub only_outer : (m k : ℕ) → ((n : ℕ) → bits m n ≡ nat_eq k n)
+    → set_of (record { interface = m; local = 0 }) ≡ only (outer k)
 unfolding set_of only
 only_outer m k e = fun_ext (elim [ outer n ↦ e n | inner n ↦ bits_zero n ])
 
 -- one local signal
-pub only_inner : (m k : ℕ) → ((n : ℕ) → bits m n ≡ nat_eq k n) → set_of (record { interface = 0; local = m }) ≡ only (inner k)
+pub only_inner : (m k : ℕ) → ((n : ℕ) → bits m n ≡ nat_eq k n)
+    → set_of (record { interface = 0; local = m }) ≡ only (inner k)
 unfolding set_of only
 only_inner m k e = fun_ext (elim [ outer n ↦ bits_zero n | inner n ↦ e n ])
 
@@ -37,7 +39,7 @@ with_member_set i l m k b same other = fun_ext (elim [
   ]
 ])
 
--- a local signal that is out
+-- the set without a local signal
 pub without_is : (a : Signals) (k : ℕ) → with_member a k false ≡ without k a
 unfolding with_member without
 without_is a k = fun_ext (λ t. go (same_name (inner k) t) (a t))
@@ -49,7 +51,8 @@ without_is a k = fun_ext (λ t. go (same_name (inner k) t) (a t))
 -- a local signal that is set in both masks
 pub set_env : (p q p' q' : SignalSet) (k : ℕ) (b c : Bool)
     → set_of p' ≡ with_member (set_of p) k b → set_of q' ≡ with_member (set_of q) k c
-    → env_of (record { present = p'; possible = q' }) ≡ with_local (env_of (record { present = p; possible = q })) k (verdict b c)
+    → env_of (record { present = p'; possible = q' }) ≡ with_local (env_of (record { present = p; possible = q })) k
+    (verdict b c)
 unfolding env_of with_local with_member
 set_env p q p' q' k b c e f =
     fun_ext (λ t. ap (λ g. verdict (g t) (set_of q' t)) e

@@ -1,5 +1,5 @@
--- What is known of a kernel's signals in a state of it, round by round (this project's own form, over the definitions of
--- est_meaning).
+-- What is known of a kernel's signals in a state of it, round by round (this project's own form, over the definitions
+-- of est_meaning).
 use Rattle.std.specs.Prelude.{◌≡◌, ℕ, Bool, not, ◌&&◌}
 use Rattle.est_kernel.specs.Bits.{bits}
 use Rattle.est_kernel.specs.Term.{Term}
@@ -26,7 +26,7 @@ IsRound k x j before after = env_of after ≡ round (judged_by j) (term_left k x
 abbrev pub IsLastRound : Kernel → State → JudgedSignals → ℕ → Known → Type 0
 IsLastRound k x j inputs e = env_of e ≡ last_env (judged_by j) (bits inputs) (term_left k x)
 
--- whether a signal is judged, may be present and isn't known to be
+-- whether a signal is judged and may be present, and is not known to be
 abbrev pub is_left_open : JudgedSignals → Known → ℕ → Bool
 is_left_open j e n = (bits j.signals n && bits e.possible.interface n) && not (bits e.present.interface n)
 

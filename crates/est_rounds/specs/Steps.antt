@@ -1,4 +1,4 @@
--- What the beginning and the going on of a statement answer (this project's own form).
+-- What a statement answers as it begins and as it goes on (this project's own form).
 use Rattle.std.specs.Prelude.{◌≡◌, ℕ, Bool, true, false, ◌||◌, ◌&&◌, cond, max, Option, IfSome}
 use Rattle.est_kernel.specs.CodeViews.{code_of}
 use Rattle.est_kernel.specs.Pauses.{pauses_of}
@@ -39,7 +39,7 @@ IsResumed Asleep s pauses e next = Sleeps s pauses next
 IsResumed Stuck s pauses e next = CannotMove s pauses e
 IsResumed (Moved step) s pauses e next = Moves s pauses e step next
 
--- the same, of the sets of pauses and of what is known
+-- the same for sets of pauses and what is known
 abbrev pub GoesOn : Resumed → Statement → PauseSet → Known → PauseSet → Type 0
 GoesOn answer s pauses e next = IsResumed answer s (pauses_of pauses) (env_of e) (pauses_of next)
 
@@ -55,11 +55,11 @@ greater_code left right = max (code_of left.completion) (code_of right.completio
 abbrev pub IsStep : Step → Statement → Term → Known → PauseSet → Type 0
 IsStep step s t e next = StepsTo s t (env_of e) (set_of step.signals) (code_of step.completion) (pauses_of next)
 
--- s takes this step as it is begun
+-- s takes this step as it begins
 abbrev pub IsFirstStep : Step → Statement → Known → PauseSet → Type 0
 IsFirstStep step s e next = IsStep step s (term_of s) e next
 
--- where there is an answer, it is the step that s takes as it is begun
+-- the answer, if there is one, is the step that s takes as it begins
 abbrev pub IfBegun : Option Step → Statement → Known → PauseSet → Type 0
 IfBegun answer s e next = IfSome answer (λ step. IsFirstStep step s e next)
 
@@ -79,7 +79,7 @@ AreClear p q set = (is_live p (pauses_of set) || is_live q (pauses_of set)) ≡ 
 abbrev pub AreExclusive : Statement → Statement → PauseSet → Type 0
 AreExclusive p q set = IsExclusive p (pauses_of set) × IsExclusive q (pauses_of set)
 
--- and no more than one of the two has a pause in the set
+-- and at most one of the two has a pause in the set
 abbrev pub TakeTurns : Statement → Statement → PauseSet → Type 0
 TakeTurns p q set = IsExclusive p (pauses_of set) × IsExclusive q (pauses_of set)
     × ((is_live p (pauses_of set) && is_live q (pauses_of set)) ≡ false)
@@ -96,6 +96,6 @@ KeepsOthers own old new = (i : ℕ) → own i ≡ false → pauses_of new i ≡ 
 abbrev pub KeepsAllBut : Statement → Statement → PauseSet → PauseSet → Type 0
 KeepsAllBut p q old new = (i : ℕ) → has_pause p i ≡ false → has_pause q i ≡ false → pauses_of new i ≡ pauses_of old i
 
--- of the pauses of s those of `given` are in the new set, and all others are as they were
+-- the new set has those pauses of s that are in `given`; all others are as they were
 abbrev pub TakesOver : Statement → PauseSet → PauseSet → PauseSet → Type 0
 TakesOver s given old new = (i : ℕ) → pauses_of new i ≡ cond (has_pause s i) (pauses_of given i) (pauses_of old i)

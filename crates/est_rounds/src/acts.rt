@@ -3,7 +3,9 @@
 ghost use Rattle.std.specs.Prelude.{◌≡◌, ◌<◌, IsTrue, false};
 ghost use Rattle.est_kernel.specs.CodeViews.{code_of, codes_of};
 ghost use Rattle.est_kernel.specs.Term.{inner};
-ghost use Rattle.est_meaning.specs.MustCan.{just_code, no_acts, either, together, acts_out_of_trap, hide, local_status, may_stay, must_then, can_then, sure};
+ghost use Rattle.est_meaning.specs.MustCan.{just_code, no_acts, either, together, acts_out_of_trap};
+ghost use Rattle.est_meaning.specs.MustCan.{hide, local_status, may_stay, must_then, can_then};
+ghost use Rattle.est_meaning.specs.MustCan.{sure};
 ghost use Rattle.est_meaning.specs.Status.{verdict};
 ghost use Rattle.est_rounds.specs.Views.{acts_of, set_of};
 
@@ -95,7 +97,8 @@ impl Acts {
         }
     }
 
-    /// The status of a local signal whose body can do this while nothing is known of it, in doubt whether it is reached.
+    /// The status of a local signal, where its body can do this while nothing is known of it and it
+    /// is in doubt whether the body is reached.
     pub fn status_in_doubt(self, s: LocalSignal) -> Status
         requires { s.index < 64 }
         ensures { result ≡ verdict false (set_of self.signals (inner s.index)) }
@@ -110,7 +113,7 @@ impl Acts {
         self.codes.has(Completion::End)
     }
 
-    /// What can be done where what follows can be reached.
+    /// What can be done in sequence, where the first part can end.
     pub fn can_then(self, next: Acts) -> Acts
         requires { IsTrue (codes_of self.codes 0) }
         ensures { acts_of result ≡ can_then (acts_of self) (acts_of next) }
@@ -121,7 +124,7 @@ impl Acts {
         }
     }
 
-    /// What must be done where what follows must be reached.
+    /// What must be done in sequence, where the first part must end.
     pub fn must_then(self, next: Acts) -> Acts
         requires { IsTrue (codes_of self.codes 0) }
         ensures { acts_of result ≡ must_then (acts_of self) (acts_of next) }
@@ -176,7 +179,7 @@ impl Judgement {
         }
     }
 
-    /// The status of a local signal whose body is judged so while nothing is known of it.
+    /// The status of a local signal, where this is judged of its body while nothing is known of it.
     pub fn status_of(self, s: LocalSignal) -> Status
         requires { s.index < 64 }
         ensures { result ≡ local_status sure s.index (acts_of self.must) (acts_of self.can) }

@@ -13,8 +13,9 @@ pub trait Engine {
     /// The engine is for this kernel.
     ghost is_for: { Self → KernelValue → Type 0 };
 
-    /// Reacts to the inputs of an instant: answers the outputs and the next state exactly where the kernel has a reaction
-    /// from this state, and else which outputs are undecided. The engine stays for the kernel.
+    /// Reacts to the inputs of an instant. It answers the outputs and the next state exactly where
+    /// the kernel has a reaction from this state, and else which outputs are undecided. The engine
+    /// stays one for the kernel.
     fn react(&mut self, kernel: &Kernel, state: &State, inputs: &Inputs) -> Result<Outcome, Stuck>
         requires engine { is_for self.old kernel.now }
         requires state { IsState kernel.now.root state.now }

@@ -1,10 +1,12 @@
 //! Reactions of kernels.
 //!
-//! `Engine` says what a reaction engine promises: an outcome exactly where the constructive semantics has a reaction,
-//! and else exactly the undecided outputs. `Rounds` keeps that promise for every kernel and takes no memory.
+//! `Engine` says what a reaction engine promises: an outcome exactly where the constructive
+//! semantics has a reaction, and else exactly the undecided outputs. `Rounds` keeps that promise
+//! for every kernel and takes no memory.
 #![tactic(auto)]
 
 mod acts;
+mod answer;
 pub mod engine;
 mod judged;
 mod resume;

@@ -1,16 +1,18 @@
 //! What a statement that goes on from its pauses must do and can do.
 //!
-//! What calls itself here does so on a part of the statement that it was given. The statement is a kernel's, which has at most 2,048, so no
-//! circle of calls goes deeper than that.
+//! Each function calls itself only on a part of its statement. A kernel has at most 2,048
+//! statements, so recursion is no deeper.
 
 ghost use Rattle.std.specs.Prelude.{◌≡◌, ◌<◌};
-ghost use Rattle.est_kernel.specs.Masks.{FitsMasks, HasTestBit};
+ghost use Rattle.est_kernel.specs.Masks.{FitsMasks};
 ghost use Rattle.est_kernel.specs.Pauses.{pauses_of};
-ghost use Rattle.est_kernel.specs.declared.statement.Statement.TheVariants.{Suspend', Seq', Loop', Par', Trap', Local'};
+ghost use Rattle.est_kernel.specs.declared.statement.Statement.TheVariants.{Suspend', Seq', Loop'};
+ghost use Rattle.est_kernel.specs.declared.statement.Statement.TheVariants.{Par', Trap', Local'};
 ghost use Rattle.est_meaning.specs.States.{is_live};
 ghost use Rattle.est_rounds.specs.Judging.{Judges, JudgesInDoubt};
 
 use crate::acts::{Acts, Judgement};
+use crate::answer::answer_to;
 use crate::signal_set::{self, Env};
 use crate::start::{then_start, then_start_maybe};
 use est_kernel::completion::Completion;
@@ -37,7 +39,8 @@ pub fn has_live(s: &Statement, pauses: &PauseSet) -> bool
     }
 }
 
-/// What a statement can do as it goes on, in doubt whether it is reached; none where it has no pause in the set.
+/// What a statement can do as it goes on, in doubt whether it is reached. There is no answer where
+/// it has no pause in the set.
 #[cycle(doubt)]
 pub fn resume_maybe(s: &Statement, pauses: &PauseSet, env: &Env) -> Option<Acts>
     requires fits { FitsMasks s.now }
@@ -57,7 +60,7 @@ pub fn resume_maybe(s: &Statement, pauses: &PauseSet, env: &Env) -> Option<Acts>
             Some(acts) => Some(acts),
             None => resume_maybe(q, pauses, env),
         },
-        Statement::Suspend(t, p) => suspend_maybe(*t, p, pauses, env),
+        Statement::Suspend(t, p) => suspend_maybe(t, p, pauses, env),
         Statement::Seq(p, q) => seq_maybe(p, q, pauses, env),
         Statement::Loop(p) => loop_maybe(p, pauses, env),
         Statement::Par(p, q) => par_maybe(p, q, pauses, env),
@@ -69,11 +72,11 @@ pub fn resume_maybe(s: &Statement, pauses: &PauseSet, env: &Env) -> Option<Acts>
 
 /// What `suspend p when t` can do as it goes on, in doubt whether it is reached.
 #[cycle(doubt)]
-fn suspend_maybe(t: Test, p: &Statement, pauses: &PauseSet, env: &Env) -> Option<Acts>
-    requires fits { HasTestBit t × FitsMasks p.now }
-    ensures { (x : _) → JudgesInDoubt result (Suspend' t x p.now) pauses.now env.now }
+fn suspend_maybe(t: &Test, p: &Statement, pauses: &PauseSet, env: &Env) -> Option<Acts>
+    requires fits { FitsMasks p.now }
+    ensures { (x : _) → JudgesInDoubt result (Suspend' t.now x p.now) pauses.now env.now }
 {
-    match signal_set::answer_to(env, t) {
+    match answer_to(env, t) {
         Status::Present => {
             if has_live(p, pauses) {
                 Some(Acts::just_code(Completion::Pause))
@@ -143,7 +146,8 @@ fn local_maybe(s: LocalSignal, p: &Statement, pauses: &PauseSet, env: &Env) -> O
     Some(resume_maybe(p, pauses, &known)?.hiding(s))
 }
 
-/// What a statement must do and can do as it goes on; none where it has no pause in the set.
+/// What a statement must do and can do as it goes on. There is no answer where it has no pause in
+/// the set.
 #[cycle(sure)]
 pub fn resume_sure(s: &Statement, pauses: &PauseSet, env: &Env) -> Option<Judgement>
     requires fits { FitsMasks s.now }
@@ -163,7 +167,7 @@ pub fn resume_sure(s: &Statement, pauses: &PauseSet, env: &Env) -> Option<Judgem
             Some(judged) => Some(judged),
             None => resume_sure(q, pauses, env),
         },
-        Statement::Suspend(t, p) => suspend_sure(*t, p, pauses, env),
+        Statement::Suspend(t, p) => suspend_sure(t, p, pauses, env),
         Statement::Seq(p, q) => seq_sure(p, q, pauses, env),
         Statement::Loop(p) => loop_sure(p, pauses, env),
         Statement::Par(p, q) => par_sure(p, q, pauses, env),
@@ -175,11 +179,11 @@ pub fn resume_sure(s: &Statement, pauses: &PauseSet, env: &Env) -> Option<Judgem
 
 /// What `suspend p when t` must do and can do as it goes on.
 #[cycle(sure)]
-fn suspend_sure(t: Test, p: &Statement, pauses: &PauseSet, env: &Env) -> Option<Judgement>
-    requires fits { HasTestBit t × FitsMasks p.now }
-    ensures { (x : _) → Judges result (Suspend' t x p.now) pauses.now env.now }
+fn suspend_sure(t: &Test, p: &Statement, pauses: &PauseSet, env: &Env) -> Option<Judgement>
+    requires fits { FitsMasks p.now }
+    ensures { (x : _) → Judges result (Suspend' t.now x p.now) pauses.now env.now }
 {
-    match signal_set::answer_to(env, t) {
+    match answer_to(env, t) {
         Status::Present => {
             if has_live(p, pauses) {
                 Some(Judgement::exactly(Acts::just_code(Completion::Pause)))

@@ -1,16 +1,19 @@
 //! The step of a statement that goes on from its pauses.
 //!
-//! What calls itself here does so on a part of the statement that it was given. The statement is a kernel's, which has at most 2,048, so no
-//! circle of calls goes deeper than that.
+//! Each function calls itself only on a part of its statement. A kernel has at most 2,048
+//! statements, so recursion is no deeper.
 
 ghost use Rattle.std.specs.Prelude.{◌<◌, ◌||◌};
-ghost use Rattle.est_kernel.specs.Masks.{FitsMasks, HasTestBit};
+ghost use Rattle.est_kernel.specs.Masks.{FitsMasks};
 ghost use Rattle.est_kernel.specs.PauseNumbers.{has_pause, HasDistinctPauses, AreApart};
 ghost use Rattle.est_meaning.specs.States.{IsExclusive};
 ghost use Rattle.est_kernel.specs.Pauses.{pauses_of};
-ghost use Rattle.est_kernel.specs.declared.statement.Statement.TheVariants.{Suspend', Seq', Loop', Par', Trap', Local'};
-ghost use Rattle.est_rounds.specs.Steps.{AreClear, AreExclusive, GoesOn, IsClear, KeepsOthers, TakeTurns, TakesOver};
+ghost use Rattle.est_kernel.specs.declared.statement.Statement.TheVariants.{Suspend', Seq', Loop'};
+ghost use Rattle.est_kernel.specs.declared.statement.Statement.TheVariants.{Par', Trap', Local'};
+ghost use Rattle.est_rounds.specs.Steps.{AreClear, AreExclusive, GoesOn, IsClear, KeepsOthers};
+ghost use Rattle.est_rounds.specs.Steps.{TakeTurns, TakesOver};
 
+use crate::answer::answer_to;
 use crate::resume::{has_live, resume_sure};
 use crate::signal_set::{self, Env};
 use crate::step::{Step, both, start_step};
@@ -19,7 +22,7 @@ use est_kernel::pause_set::PauseSet;
 use est_kernel::statement::{LocalSignal, Statement, Test};
 use est_meaning::status::Status;
 
-/// What a statement does that goes on from its pauses.
+/// What a statement does as it goes on from its pauses.
 #[derive(Clone, Copy)]
 pub enum Resumed {
     /// It has no pause in the set.
@@ -30,7 +33,7 @@ pub enum Resumed {
     Moved(Step),
 }
 
-/// Takes the pauses of a statement over from one set into another.
+/// Gives the second set those pauses of the statement that the first has, and no other of them.
 fn keep(s: &Statement, pauses: &PauseSet, next: &mut PauseSet)
     ensures { TakesOver s.now pauses.now next.old next.new }
 {
@@ -64,7 +67,8 @@ fn keep(s: &Statement, pauses: &PauseSet, next: &mut PauseSet)
     }
 }
 
-/// What a statement does from its pauses. Where it moves, the pauses at which it then stands are put into `next`.
+/// What a statement does from its pauses. Where it moves, `next` gets the pauses at which it then
+/// stands.
 #[cycle(resume)]
 pub fn resume_step(s: &Statement, pauses: &PauseSet, env: &Env, next: &mut PauseSet) -> Resumed
     requires fits { FitsMasks s.now }
@@ -89,7 +93,7 @@ pub fn resume_step(s: &Statement, pauses: &PauseSet, env: &Env, next: &mut Pause
             Resumed::Stuck => Resumed::Stuck,
             Resumed::Moved(step) => Resumed::Moved(step),
         },
-        Statement::Suspend(t, p) => resume_suspend(*t, p, pauses, env, next),
+        Statement::Suspend(t, p) => resume_suspend(t, p, pauses, env, next),
         Statement::Seq(p, q) => resume_seq(p, q, pauses, env, next),
         Statement::Loop(p) => resume_loop(p, pauses, env, next),
         Statement::Par(p, q) => resume_par(p, q, pauses, env, next),
@@ -102,20 +106,20 @@ pub fn resume_step(s: &Statement, pauses: &PauseSet, env: &Env, next: &mut Pause
 /// What `suspend p when t` does from its pauses.
 #[cycle(resume)]
 fn resume_suspend(
-    t: Test,
+    t: &Test,
     p: &Statement,
     pauses: &PauseSet,
     env: &Env,
     next: &mut PauseSet,
 ) -> Resumed
-    requires fits { HasTestBit t × FitsMasks p.now }
+    requires fits { FitsMasks p.now }
     requires distinct { HasDistinctPauses p.now }
     requires exclusive { IsExclusive p.now (pauses_of pauses.now) }
     requires clear { IsClear p.now next.old }
-    ensures resumed { (x : _) → GoesOn result (Suspend' t x p.now) pauses.now env.now next.new }
+    ensures resumed { (x : _) → GoesOn result (Suspend' t.now x p.now) pauses.now env.now next.new }
     ensures others { KeepsOthers (has_pause p.now) next.old next.new }
 {
-    match signal_set::answer_to(env, t) {
+    match answer_to(env, t) {
         Status::Absent => resume_step(p, pauses, env, next),
         Status::Present => {
             if has_live(p, pauses) {

@@ -1,4 +1,4 @@
-//! Reactions by rounds over the outputs.
+//! Reactions by rounds over the signals that may be emitted.
 
 ghost use Rattle.std.specs.Prelude.{◌≡◌, IfSome, IfNone, ℕ, cond};
 ghost use Rattle.est_kernel.specs.Bits.{bits};
@@ -9,7 +9,8 @@ ghost use Rattle.est_meaning.specs.States.{IsState};
 ghost use Rattle.est_rounds.specs.Contract.{judged_of};
 ghost use Rattle.est_rounds.specs.Views.{env_of, acts_of, judged_by};
 ghost use Rattle.est_rounds.specs.Judging.{can_by, must_by};
-ghost use Rattle.est_rounds.specs.Learning.{IsKernelStep, IsLastRound, IsRound, is_left_open, term_left};
+ghost use Rattle.est_rounds.specs.Learning.{IsKernelStep, IsLastRound, IsRound, is_left_open};
+ghost use Rattle.est_rounds.specs.Learning.{term_left};
 ghost use Rattle.est_rounds.specs.Steps.{IsClear, IsStuckBy, KeepsOthers};
 
 use crate::acts::{Acts, Judgement};
@@ -26,14 +27,15 @@ use est_kernel::mask;
 use est_kernel::pause_set::PauseSet;
 use est_kernel::state::{Inputs, Outcome, State, Stuck};
 
-/// The signals that are judged for a kernel: its outputs.
-fn judged_signals(kernel: &Kernel) -> JudgedSignals
-    ensures { judged_by result ≡ judged_of kernel.now }
+/// The signals that are judged for a kernel in an instant with these inputs: those that may be
+/// emitted and are not offered.
+fn judged_signals(kernel: &Kernel, inputs: u64) -> JudgedSignals
+    ensures { judged_by result ≡ judged_of kernel.now (bits inputs) }
 {
     let interface = kernel.interface();
     JudgedSignals {
         places: interface.len() as u8,
-        signals: interface.outputs(),
+        signals: mask::minus(interface.emittable(), inputs),
     }
 }
 
@@ -83,7 +85,7 @@ fn judge(kernel: &Kernel, state: &State, env: &Env) -> Judgement
     }
 }
 
-/// The members of a mask that are not judged, with those that are judged and in the other.
+/// Judged signals from `now`, all others from `before`.
 fn judged_again(judged: JudgedSignals, before: u64, now: u64) -> u64
     ensures { (n : ℕ) → bits result n ≡ cond (bits judged.signals n) (bits now n) (bits before n) }
 {
@@ -111,7 +113,7 @@ fn next_known(kernel: &Kernel, state: &State, judged: JudgedSignals, env: &Env) 
     }
 }
 
-/// What is known after the last round. A round that changes nothing is the last that is run.
+/// What is known after the last round. It stops after a round that changes nothing.
 fn last_known(kernel: &Kernel, state: &State, judged: JudgedSignals, inputs: u64) -> Env
     requires { IsState kernel.now.root state.now }
     ensures { IsLastRound kernel.now state.now judged inputs result }
@@ -127,7 +129,7 @@ fn last_known(kernel: &Kernel, state: &State, judged: JudgedSignals, inputs: u64
     env
 }
 
-/// The judged signals that may be present and aren't known to be.
+/// The judged signals that may be present and are not known to be.
 fn undecided_of(judged: JudgedSignals, env: &Env) -> u64
     ensures { (n : ℕ) → bits result n ≡ is_left_open judged env.now n }
 {
@@ -137,7 +139,8 @@ fn undecided_of(judged: JudgedSignals, env: &Env) -> u64
     )
 }
 
-/// The step of a kernel from this state, if the rules give one. The pauses at which it then stands are put into `next`.
+/// The step of a kernel from this state, if the rules give one. `next` gets the pauses at which the
+/// kernel then stands.
 #[tactic(auto, using(est_kernel::proofs::FitsMasks::fits_within_limits))]
 fn step_of(kernel: &Kernel, state: &State, env: &Env, next: &mut PauseSet) -> Option<Step>
     requires state { IsState kernel.now.root state.now }
@@ -157,9 +160,11 @@ fn step_of(kernel: &Kernel, state: &State, env: &Env, next: &mut PauseSet) -> Op
     }
 }
 
-/// The engine that judges all outputs in rounds, each over the whole kernel.
+/// The engine that judges all signals that may be emitted in rounds, each over the whole kernel.
 ///
-/// A round's work grows with each nesting of local signals, at most six deep, and else with the kernel's size.
+/// A round judges each statement at most once, with two exceptions. A `signal` judges its body
+/// twice, so a statement under six local signals is judged 64 times. The body of a loop that starts
+/// again is judged once more.
 #[derive(Clone, Copy)]
 pub struct Rounds {}
 
@@ -176,7 +181,7 @@ impl Engine for Rounds {
     ghost is_for = { λ _ _. Unit {0} };
 
     fn react(&mut self, kernel: &Kernel, state: &State, inputs: &Inputs) -> Result<Outcome, Stuck> {
-        let judged = judged_signals(kernel);
+        let judged = judged_signals(kernel, inputs.signals);
         let env = last_known(kernel, state, judged, inputs.signals);
         let mut next = PauseSet::new();
         match step_of(kernel, state, &env, &mut next) {

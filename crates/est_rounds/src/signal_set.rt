@@ -1,15 +1,16 @@
 //! Sets of signals as masks, and what is known of each signal.
 
 ghost use Rattle.std.specs.Prelude.{◌≡◌, ◌<◌};
-ghost use Rattle.est_kernel.specs.Masks.{HasSignalBit, HasTestBit};
+ghost use Rattle.est_kernel.specs.Bits.{bits};
+ghost use Rattle.est_kernel.specs.Masks.{HasSignalBit};
 ghost use Rattle.est_kernel.specs.Term.{inner};
-ghost use Rattle.est_kernel.specs.View.{name_of, query_of};
+ghost use Rattle.est_kernel.specs.View.{name_of};
 ghost use Rattle.est_meaning.specs.Signals.{no_signals, only, union, without};
-ghost use Rattle.est_meaning.specs.Status.{verdict, status_of, with_local};
+ghost use Rattle.est_meaning.specs.Status.{verdict, with_local};
 ghost use Rattle.est_rounds.specs.Views.{set_of, env_of, with_member};
 
 use est_kernel::mask;
-use est_kernel::statement::{LocalSignal, Signal, Test};
+use est_kernel::statement::{LocalSignal, Signal};
 use est_meaning::status::Status;
 
 /// A set of signals.
@@ -58,7 +59,7 @@ pub fn union_of(a: SignalSet, b: SignalSet) -> SignalSet
     }
 }
 
-/// The members but this local signal.
+/// The members without this local signal.
 pub fn all_but(s: LocalSignal, a: SignalSet) -> SignalSet
     requires { s.index < 64 }
     ensures { set_of result ≡ without s.index (set_of a) }
@@ -77,14 +78,21 @@ pub fn has_local(a: SignalSet, s: LocalSignal) -> bool
     mask::has(a.local, s.index as u8)
 }
 
+/// Whether the number is in the mask. A number without a bit is not.
+#[tactic(auto, using(est_kernel::proofs::Masks::bits_above))]
+fn has_place(mask: u64, n: u16) -> bool
+    ensures { result ≡ bits mask n }
+{
+    n < 64 && mask::has(mask, n as u8)
+}
+
 /// Whether the signal is a member.
 pub fn has_signal(a: SignalSet, s: Signal) -> bool
-    requires { HasSignalBit s }
     ensures { result ≡ set_of a (name_of s) }
 {
     match s {
         Signal::Interface(s) => mask::has(a.interface, s.index),
-        Signal::Local(s) => mask::has(a.local, s.index as u8),
+        Signal::Local(s) => has_place(a.local, s.index),
     }
 }
 
@@ -97,18 +105,14 @@ pub struct Env {
     pub possible: SignalSet,
 }
 
-/// What is known of that which a test asks.
-pub fn answer_to(env: &Env, test: Test) -> Status
-    requires { HasTestBit test }
-    ensures { result ≡ status_of (env_of env.now) (query_of test) }
+/// What is known of a signal. A local signal without a bit is absent.
+pub fn status_of_signal(env: &Env, s: Signal) -> Status
+    ensures { result ≡ env_of env.now (name_of s) }
 {
-    match test {
-        Test::Tick => Status::Present,
-        Test::Status(s) => decide(has_signal(env.present, s), has_signal(env.possible, s)),
-    }
+    decide(has_signal(env.present, s), has_signal(env.possible, s))
 }
 
-/// The verdict on a signal, by whether it must be emitted and whether it can be.
+/// The verdict on a signal, from whether it must be emitted and whether it can be.
 pub fn decide(must_be: bool, can_be: bool) -> Status
     ensures { result ≡ verdict must_be can_be }
 {

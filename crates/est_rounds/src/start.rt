@@ -1,7 +1,7 @@
 //! What a statement that is begun must do and can do.
 //!
-//! What calls itself here does so on a part of the statement that it was given. The statement is a kernel's, which has at most 2,048, so no
-//! circle of calls goes deeper than that.
+//! Each function calls itself only on a part of its statement. A kernel has at most 2,048
+//! statements, so recursion is no deeper.
 
 ghost use Rattle.std.specs.Prelude.{◌≡◌, ◌<◌};
 ghost use Rattle.est_kernel.specs.Masks.{FitsMasks};
@@ -12,6 +12,7 @@ ghost use Rattle.est_meaning.specs.MustCan.{can_then};
 ghost use Rattle.est_rounds.specs.Judging.{can_by, can_follow, may_by, must_by, must_follow};
 
 use crate::acts::{Acts, Judgement};
+use crate::answer::answer_to;
 use crate::signal_set::{self, Env};
 use est_kernel::code_set::CodeSet;
 use est_kernel::completion::Completion;
@@ -31,7 +32,7 @@ pub fn start_maybe(s: &Statement, env: &Env) -> Acts
             signals: signal_set::only_signal(*s),
             codes: CodeSet::single(Completion::End),
         },
-        Statement::Present(t, p, q) => match signal_set::answer_to(env, *t) {
+        Statement::Present(t, p, q) => match answer_to(env, t) {
             Status::Present => start_maybe(p, env),
             Status::Absent => start_maybe(q, env),
             Status::Unknown => start_maybe(p, env).or(start_maybe(q, env)),
@@ -76,7 +77,7 @@ fn local_maybe(s: LocalSignal, p: &Statement, env: &Env) -> Acts
     start_maybe(p, &known).hiding(s)
 }
 
-/// What a first part can do and then a statement that follows it, in doubt whether they are reached.
+/// What a first part can do and then the statement after it, in doubt whether they are reached.
 #[cycle(doubt)]
 pub fn then_start_maybe(first: Acts, q: &Statement, env: &Env) -> Acts
     requires fits { FitsMasks q.now }
@@ -103,7 +104,7 @@ pub fn start_sure(s: &Statement, env: &Env) -> Judgement
             signals: signal_set::only_signal(*s),
             codes: CodeSet::single(Completion::End),
         }),
-        Statement::Present(t, p, q) => match signal_set::answer_to(env, *t) {
+        Statement::Present(t, p, q) => match answer_to(env, t) {
             Status::Present => start_sure(p, env),
             Status::Absent => start_sure(q, env),
             Status::Unknown => Judgement {
@@ -154,7 +155,7 @@ fn local_sure(s: LocalSignal, p: &Statement, env: &Env) -> Judgement
     start_sure(p, &known).hiding(s)
 }
 
-/// What is judged of a first part and of a statement that follows it.
+/// What is judged of a first part and of the statement after it.
 #[cycle(start)]
 pub fn then_start(first: Judgement, q: &Statement, env: &Env) -> Judgement
     requires fits { FitsMasks q.now }

@@ -1,7 +1,8 @@
-//! The step of a statement that is begun: what it emits, its completion code, and the pauses at which it then stands.
+//! The step of a statement that is begun: what it emits, its completion code, and the pauses at
+//! which it then stands.
 //!
-//! What calls itself here does so on a part of the statement that it was given. The statement is a kernel's, which has at most 2,048, so no
-//! circle of calls goes deeper than that.
+//! Each function calls itself only on a part of its statement. A kernel has at most 2,048
+//! statements, so recursion is no deeper.
 
 ghost use Rattle.std.specs.Prelude.{◌≡◌, ◌≢◌, ◌<◌, ℕ, not, ◌&&◌, ◌||◌, nat_eq, max, IfNone};
 ghost use Rattle.est_kernel.specs.Codes.{code_out_of_trap};
@@ -12,11 +13,14 @@ ghost use Rattle.est_kernel.specs.View.{term_of};
 ghost use Rattle.est_meaning.specs.States.{is_live};
 ghost use Rattle.est_kernel.specs.Pauses.{pauses_of};
 ghost use Rattle.est_kernel.specs.Term.{par, seq, signal, trap};
-ghost use Rattle.est_kernel.specs.declared.statement.Statement.TheVariants.{Local', Par', Seq', Trap'};
+ghost use Rattle.est_kernel.specs.declared.statement.Statement.TheVariants.{Local', Par', Seq'};
+ghost use Rattle.est_kernel.specs.declared.statement.Statement.TheVariants.{Trap'};
 ghost use Rattle.est_meaning.specs.Signals.{no_signals, union, without};
 ghost use Rattle.est_rounds.specs.Views.{set_of};
-ghost use Rattle.est_rounds.specs.Steps.{AreClear, HaveSamePauses, IfBegun, IsClear, IsStuckBy, KeepsAllBut, KeepsOthers, emitted, greater_code};
+ghost use Rattle.est_rounds.specs.Steps.{AreClear, HaveSamePauses, IfBegun, IsClear, IsStuckBy};
+ghost use Rattle.est_rounds.specs.Steps.{KeepsAllBut, KeepsOthers, emitted, greater_code};
 
+use crate::answer::answer_to;
 use crate::signal_set::{self, Env, SignalSet};
 use crate::start::start_sure;
 use est_kernel::completion::Completion;
@@ -45,7 +49,7 @@ impl Step {
         }
     }
 
-    /// The step of a part that has ended and of the one that follows it.
+    /// The step of a part that has ended and of the part after it.
     pub fn then(self, next: Step) -> Step
         ensures signals { emitted result ≡ union (emitted self) (emitted next) }
         ensures completion { result.completion ≡ next.completion }
@@ -115,7 +119,8 @@ fn greater(left: Completion, right: Completion) -> Completion
     left.greater(right)
 }
 
-/// The step of both sides of a parallel: where it doesn't pause, a side that has paused is left.
+/// The step of both sides of a parallel. Where it does not pause, a side that has paused is given
+/// up.
 pub fn both(p: &Statement, q: &Statement, left: Step, right: Step, next: &mut PauseSet) -> Step
     requires apart { AreApart p.now q.now }
     requires left { is_live p.now (pauses_of next.old) ≡ nat_eq (code_of left.completion) 1 }
@@ -161,7 +166,7 @@ pub fn start_step(s: &Statement, env: &Env, next: &mut PauseSet) -> Option<Step>
             signals: signal_set::only_signal(*s),
             completion: Completion::End,
         }),
-        Statement::Present(t, p, q) => match signal_set::answer_to(env, *t) {
+        Statement::Present(t, p, q) => match answer_to(env, t) {
             Status::Present => start_step(p, env, next),
             Status::Absent => start_step(q, env, next),
             Status::Unknown => None,

@@ -1,5 +1,6 @@
 -- The place just after a part of a text lies in the line on which the part ends.
-use Rattle.std.proofs.Common.{◌≡◌, ◌∙◌, ⊎_elim, ℕ, suc, ◌+◌, ◌-◌, List, [], ◌∷◌, ◌++◌, length, take, drop, Bool, true, false, cond, not, ap, sym, refl, arith, append_assoc}
+use Rattle.std.proofs.Common.{◌≡◌, ◌∙◌, ⊎_elim, ℕ, suc, ◌+◌, ◌-◌, List, [], ◌∷◌, ◌++◌, length, take, drop, Bool, true}
+use Rattle.std.proofs.Common.{false, cond, not, ap, sym, refl, arith, append_assoc}
 use Rattle.std.specs.Prelude.{if◌then◌else◌, Some, fold, slice_get, All, reverse}
 use Rattle.std.specs.List.{slice_split, onto_first, position_or_len, prefix_len, suffix_len, before_first, after_last}
 use Rattle.std.specs.Option.{unwrap_or}
@@ -21,7 +22,7 @@ IsOneLine line = All (λ b. ends_line b ≡ false) line
 abbrev in_line : ℕ → Bool
 in_line b = not (ends_line b)
 
--- the line on which a part ends, of which these bytes stood before the part
+-- the line on which a part ends, where these bytes stood before the part in its first line
 abbrev last_line : List ℕ → List ℕ → List ℕ
 last_line line [] = line
 last_line line (b ∷ bs) = if ends_line b then last_line [] bs else last_line (line ++ b ∷ []) bs
@@ -34,7 +35,8 @@ ended (b ∷ bs) = if ends_line b then suc (ended bs) else ended bs
 last_line-new : (b : ℕ) (bs line : List ℕ) → ends_line b ≡ true → last_line line (b ∷ bs) ≡ last_line [] bs
 last_line-new b bs line h = ap (λ (x : Bool). if x then last_line [] bs else last_line (line ++ b ∷ []) bs) h
 
-last_line-same : (b : ℕ) (bs line : List ℕ) → ends_line b ≡ false → last_line line (b ∷ bs) ≡ last_line (line ++ b ∷ []) bs
+last_line-same : (b : ℕ) (bs line : List ℕ) → ends_line b ≡ false
+    → last_line line (b ∷ bs) ≡ last_line (line ++ b ∷ []) bs
 last_line-same b bs line h = ap (λ (x : Bool). if x then last_line [] bs else last_line (line ++ b ∷ []) bs) h
 
 ended-new : (b : ℕ) (bs : List ℕ) → ends_line b ≡ true → ended (b ∷ bs) ≡ suc (ended bs)
@@ -60,10 +62,13 @@ place_from : (bs line : List ℕ) (n : ℕ)
     → fold next_place (at n (length line + 1)) bs ≡ at (n + ended bs) (length (last_line line bs) + 1)
 place_from [] line n = same_place _ _ _ _ (omega arith) refl
 place_from (b ∷ bs) line n = ⊎_elim
-    (λ (h : ends_line b ≡ true). ap (λ q. fold next_place q bs) (next_line n (length line + 1) b h) ∙ place_from bs [] (n + 1)
-    ∙ same_place _ _ _ _ (omega (arith, ended-new b bs h)) (ap (λ (l : List ℕ). length l + 1) (sym (last_line-new b bs line h))))
+    (λ (h : ends_line b ≡ true). ap (λ q. fold next_place q bs) (next_line n (length line + 1) b h)
+    ∙ place_from bs [] (n + 1)
+    ∙ same_place _ _ _ _ (omega (arith, ended-new b bs h))
+    (ap (λ (l : List ℕ). length l + 1) (sym (last_line-new b bs line h))))
     (λ (h : ends_line b ≡ false). ap (λ q. fold next_place q bs)
-    (next_column n (length line + 1) b h ∙ same_place _ _ _ _ refl (ap (λ k. k + 1) (sym (length-append line (b ∷ [])))))
+    (next_column n (length line + 1) b h ∙ same_place _ _ _ _ refl
+    (ap (λ k. k + 1) (sym (length-append line (b ∷ [])))))
     ∙ place_from bs (line ++ b ∷ []) n
     ∙ same_place _ _ _ _ (ap (λ k. n + k) (sym (ended-same b bs h)))
     (ap (λ (l : List ℕ). length l + 1) (sym (last_line-same b bs line h))))
@@ -83,7 +88,8 @@ first_line [] = refl
 first_line (b ∷ bs) = ⊎_elim
     (λ (h : ends_line b ≡ true). ap (λ s. slice_get s 0) (slice_split-cons_yes ends_line b bs h)
     ∙ ap (λ (x : Bool). Some (take (cond (not x) (1 + position_or_len ends_line bs) 0) (b ∷ bs))) (sym h))
-    (λ (h : ends_line b ≡ false). ap (λ s. slice_get s 0) (slice_split-cons_no ends_line b bs h) ∙ longer b _ _ (first_line bs)
+    (λ (h : ends_line b ≡ false). ap (λ s. slice_get s 0) (slice_split-cons_no ends_line b bs h)
+    ∙ longer b _ _ (first_line bs)
     ∙ ap (λ n. Some (take n (b ∷ bs))) (one_more (position_or_len ends_line bs))
     ∙ ap (λ (x : Bool). Some (take (cond (not x) (1 + position_or_len ends_line bs) 0) (b ∷ bs))) (sym h))
     (cases_Bool (ends_line b))
@@ -93,14 +99,16 @@ one_line : (line rest : List ℕ) → IsOneLine line
 one_line [] rest h = first_line rest
 one_line (b ∷ bs) rest h =
     ap (λ s. slice_get s 0) (slice_split-cons_no ends_line b (bs ++ rest)
-    (All-head (λ c. ends_line c ≡ false) b bs h)) ∙ longer b _ _ (one_line bs rest (All-tail (λ c. ends_line c ≡ false) b bs h))
+    (All-head (λ c. ends_line c ≡ false) b bs h)) ∙ longer b _ _
+    (one_line bs rest (All-tail (λ c. ends_line c ≡ false) b bs h))
 
 line_from : (bs line rest : List ℕ) → IsOneLine line
     → slice_get (slice_split ends_line (line ++ (bs ++ rest))) (ended bs) ≡ Some
     (last_line line bs ++ before_first ends_line rest)
 line_from [] line rest one = one_line line rest one
 line_from (b ∷ bs) line rest one = ⊎_elim
-    (λ (h : ends_line b ≡ true). ap (λ s. slice_get s (ended (b ∷ bs))) (slice_split_at ends_line line b (bs ++ rest) one h)
+    (λ (h : ends_line b ≡ true). ap (λ s. slice_get s (ended (b ∷ bs)))
+    (slice_split_at ends_line line b (bs ++ rest) one h)
     ∙ ap (λ k. slice_get (line ∷ slice_split ends_line (bs ++ rest)) k) (ended-new b bs h)
     ∙ line_from bs [] rest (All-nil (λ c. ends_line c ≡ false))
     ∙ ap (λ (l : List ℕ). Some (l ++ before_first ends_line rest)) (sym (last_line-new b bs line h)))
@@ -122,11 +130,18 @@ suffix xs ys y h = ap (prefix_len in_line)
     ∙ append_assoc (reverse ys) (y ∷ []) (reverse xs))
     ∙ stops (reverse ys) (reverse xs) y (ap not h)
 
-after_end : (xs ys : List ℕ) (y : ℕ) → ends_line y ≡ true → after_last ends_line (xs ++ y ∷ ys) ≡ after_last ends_line ys
+after_end : (xs ys : List ℕ) (y : ℕ) → ends_line y ≡ true
+    → after_last ends_line (xs ++ y ∷ ys) ≡ after_last ends_line ys
 after_end xs ys y h =
     let long : length (xs ++ y ∷ ys) - suffix_len in_line (xs ++ y ∷ ys) ≡ length (xs ++ y ∷ []) +
     (length ys - suffix_len in_line ys)
-    = omega (arith, suffix xs ys y h, suffix_len-le-length in_line ys, length-append xs (y ∷ ys), length-append xs (y ∷ [])) in
+    = omega (
+      arith,
+      suffix xs ys y h,
+      suffix_len-le-length in_line ys,
+      length-append xs (y ∷ ys),
+      length-append xs (y ∷ []),
+    ) in
     ap (λ n. drop n (xs ++ y ∷ ys)) long
     ∙ ap (λ l. drop (length (xs ++ y ∷ []) + (length ys - suffix_len in_line ys)) l) (sym (append_assoc xs (y ∷ []) ys))
     ∙ drop-append-add (xs ++ y ∷ []) ys (length ys - suffix_len in_line ys)
@@ -144,7 +159,8 @@ last_from (b ∷ bs) line one = ⊎_elim
     (λ (h : ends_line b ≡ true). after_end line bs b h ∙ last_from bs [] (All-nil (λ c. ends_line c ≡ false))
     ∙ sym (last_line-new b bs line h))
     (λ (h : ends_line b ≡ false). ap (after_last ends_line) (sym (append_assoc line (b ∷ []) bs))
-    ∙ last_from bs (line ++ b ∷ []) (All-push (λ c. ends_line c ≡ false) line b one h) ∙ sym (last_line-same b bs line h))
+    ∙ last_from bs (line ++ b ∷ []) (All-push (λ c. ends_line c ≡ false) line b one h)
+    ∙ sym (last_line-same b bs line h))
     (cases_Bool (ends_line b))
 
 -- what is drawn at the place just after a part of a text

@@ -1,7 +1,10 @@
 -- The tree that each unit is.
 use Rattle.std.proofs.Common.{◌≡◌, ℕ, List, Bool, rules}
-use Rattle.est_syntax.specs.Tree.{nothing, pause, halt, emit, sustain, exit, await, present, suspend, abort, weak_abort, repeat, repeat_each, every, trap, signal, group}
-use Rattle.est_syntax.specs.Views.{delay_view, names_view, weak_end_view, unit_view, branches_view, statement_view}
+use Rattle.est_syntax.specs.Tree.{nothing, pause, halt, emit, sustain, exit, await, present, suspend, abort, weak_abort}
+use Rattle.est_syntax.specs.Tree.{repeat, repeat_each, every, trap, signal, group}
+use Rattle.est_syntax.specs.Views.{test_view, delay_view, names_view, weak_end_view, unit_view, branches_view}
+use Rattle.est_syntax.specs.Views.{statement_view}
+use Rattle.est_syntax.specs.declared.tree.Test.{Test}
 use Rattle.est_syntax.specs.declared.tree.Delay.{Delay}
 use Rattle.est_syntax.specs.declared.tree.Names.{Names}
 use Rattle.est_syntax.specs.declared.tree.WeakEnd.{WeakEnd}
@@ -31,14 +34,15 @@ exit_is n = search (rules, the_lemmas)
 pub await_is : (d : Delay) → unit_view (unit.Await d) ≡ await (delay_view d)
 await_is d = search (rules, the_lemmas)
 
-pub present_is : (n : List ℕ) (b : Branches) → unit_view (unit.Present n b) ≡ present n (branches_view b)
+pub present_is : (n : Test) (b : Branches) → unit_view (unit.Present n b) ≡ present (test_view n) (branches_view b)
 present_is n b = search (rules, the_lemmas)
 
 pub suspend_is : (t : Statement) (d : Delay) (c : Bool)
     → unit_view (unit.Suspend t d c) ≡ suspend (statement_view t) (delay_view d) c
 suspend_is t d c = search (rules, the_lemmas)
 
-pub abort_is : (t : Statement) (d : Delay) (c : Bool) → unit_view (unit.Abort t d c) ≡ abort (statement_view t) (delay_view d) c
+pub abort_is : (t : Statement) (d : Delay) (c : Bool) → unit_view (unit.Abort t d c)
+    ≡ abort (statement_view t) (delay_view d) c
 abort_is t d c = search (rules, the_lemmas)
 
 pub weak_abort_is : (t : Statement) (d : Delay) (w : WeakEnd)
@@ -48,10 +52,12 @@ weak_abort_is t d w = search (rules, the_lemmas)
 pub repeat_is : (t : Statement) (c : Bool) → unit_view (unit.Loop t c) ≡ repeat (statement_view t) c
 repeat_is t c = search (rules, the_lemmas)
 
-pub repeat_each_is : (t : Statement) (n : List ℕ) → unit_view (unit.LoopEach t n) ≡ repeat_each (statement_view t) n
+pub repeat_each_is : (t : Statement) (n : Test)
+    → unit_view (unit.LoopEach t n) ≡ repeat_each (statement_view t) (test_view n)
 repeat_each_is t n = search (rules, the_lemmas)
 
-pub every_is : (d : Delay) (t : Statement) (c : Bool) → unit_view (unit.Every d t c) ≡ every (delay_view d) (statement_view t) c
+pub every_is : (d : Delay) (t : Statement) (c : Bool) → unit_view (unit.Every d t c)
+    ≡ every (delay_view d) (statement_view t) c
 every_is d t c = search (rules, the_lemmas)
 
 pub trap_is : (n : List ℕ) (t : Statement) (c : Bool) → unit_view (unit.Trap n t c) ≡ trap n (statement_view t) c

@@ -1,11 +1,14 @@
+pub mod TestRuns
 pub mod Runs
 pub mod Prefixes
 pub mod UnitPrefixes
 pub mod Stops
 pub mod Reading
 pub mod Opening
+pub mod TestParts
 pub mod Parts
 pub mod Libraries
+pub mod UniqueTests
 pub mod Unique
 pub mod Folding
 pub mod Drawings

@@ -1,5 +1,6 @@
--- Modules from the parts that they have: what the functions of the parser answer.
-use Rattle.std.proofs.Common.{◌≡◌, ◌∙◌, ℕ, ◌-◌, ◌≤◌, List, [], ◌∷◌, ◌++◌, Bool, true, length, refl, sym, ap, subst, arith}
+-- Modules from their parts: what the functions of the parser answer.
+use Rattle.std.proofs.Common.{◌≡◌, ◌∙◌, ℕ, ◌-◌, ◌≤◌, List, [], ◌∷◌, ◌++◌, Bool, true, length, refl, sym, ap, subst}
+use Rattle.std.proofs.Common.{arith}
 use Rattle.std.specs.Prelude.{Option, Some}
 use Rattle.std.proofs.lemmas.List.{length-append, length-map}
 use Rattle.est_text.specs.declared.token.Token.{Token}
@@ -17,7 +18,8 @@ use Rattle.est_syntax.specs.Parsing.{Fails, FailsIn, Round, Reads, IsPart}
 use Rattle.est_syntax.specs.declared.parse.TheConstants.{MOST_OPEN_UNITS}
 use Rattle.est_syntax.specs.Modules.{Stops, IsModule, AreModules, AreAllModules, IsLibrary}
 use Rattle.est_syntax.proofs.Reading.{modules_push}
-use Rattle.est_syntax.proofs.Runs.{either, run_library}
+use Rattle.est_syntax.proofs.TestRuns.{either}
+use Rattle.est_syntax.proofs.Runs.{run_library}
 use Rattle.est_syntax.proofs.Stops.{run_wrong, run_deep, syntax_fault, too_deep}
 use Rattle.est_syntax.specs.Faults.{IsSyntaxFault, IsTooDeep}
 
@@ -121,7 +123,8 @@ modules_deeper [] p room h k = omega (arith, h, k)
 modules_deeper (q ∷ ps) p room h k = let d = modules_deeper ps p room (omega (arith, h)) k in omega (arith, d, h)
 
 pub one_more_module : (ps : List ModuleTree) (p : ModuleTree) (old left mid new : List Token)
-    → AreModules ps old left → left ≡ Keyword keyword.Module ∷ mid → IsModule p mid new → AreModules (ps ++ p ∷ []) old new
+    → AreModules ps old left → left ≡ Keyword keyword.Module ∷ mid → IsModule p mid new
+    → AreModules (ps ++ p ∷ []) old new
 one_more_module ps p old left mid new h e k = record {
   spelt = h.spelt ∙ ap (g.modules_onto ps) (e ∙ k.spelt) ∙ sym (modules_push ps p new);
   fits = modules_deeper ps p MOST_OPEN_UNITS h.fits k.fits;
@@ -172,7 +175,8 @@ nothing_more (b ∷ bs) h = refl
 pub library_left : (p : ModuleTree) (ps : List ModuleTree) (left : ℕ) (old mid last new : List Token)
     → old ≡ Keyword keyword.Module ∷ mid → IsModule p mid last → AreAllModules ps last new → left ≡ length new
     → ¬ (left ≡ 0) → run MOST_OPEN_UNITS start old ≡ wrong new
-library_left p ps left old mid last new e h k l n = library_more p old mid last e h ∙ k.passes ∙ nothing_more new (λ z. n (l ∙ z))
+library_left p ps left old mid last new e h k l n = library_more p old mid last e h ∙ k.passes
+    ∙ nothing_more new (λ z. n (l ∙ z))
 
 none_left : (bs : List Token) → length bs ≡ 0 → bs ≡ []
 none_left [] h = refl
@@ -186,7 +190,7 @@ library_part p ps left old mid last new e h k l z = record {
   fits = omega (arith, h.fits, k.fits);
 }
 
--- ---- where a run stops no more tokens are left than there were
+-- ---- where a run stops, no more tokens are left than there were
 
 pub wrong_within : (bs rest : List Token) → run MOST_OPEN_UNITS start bs ≡ wrong rest → length rest ≤ length bs
 wrong_within bs rest h =
@@ -203,10 +207,12 @@ deep_within bs rest h =
 bare_length : (located : List Located) → length (g.tokens_of located) ≡ length located
 bare_length located = length-map located (λ (l : Located). l.token)
 
-pub wrong_in : (located : List Located) (left : ℕ) → Stops start (g.tokens_of located) (Syntax left) → left ≤ length located
+pub wrong_in : (located : List Located) (left : ℕ) → Stops start (g.tokens_of located) (Syntax left)
+    → left ≤ length located
 wrong_in located left h = omega (arith, h.1, wrong_within (g.tokens_of located) h.0 h.2, bare_length located)
 
-pub deep_in : (located : List Located) (left : ℕ) → Stops start (g.tokens_of located) (TooDeep left) → left ≤ length located
+pub deep_in : (located : List Located) (left : ℕ) → Stops start (g.tokens_of located) (TooDeep left)
+    → left ≤ length located
 deep_in located left h = omega (arith, h.1, deep_within (g.tokens_of located) h.0 h.2, bare_length located)
 
 pub wrong_at : (located : List Located) (left : ℕ) → Stops start (g.tokens_of located) (Syntax left)

@@ -38,7 +38,8 @@ begins_to limit xs b more seen e p = (
   p.0,
   more ++ p.1,
   p.2,
-  append_assoc xs (b ∷ []) (more ++ p.1) ∙ sym (append_assoc xs (b ∷ more) p.1) ∙ ap (λ (l : List Token). l ++ p.1) (sym e) ∙ p.3,
+  append_assoc xs (b ∷ []) (more ++ p.1) ∙ sym (append_assoc xs (b ∷ more) p.1)
+      ∙ ap (λ (l : List Token). l ++ p.1) (sym e) ∙ p.3,
 )
 
 loosely : (limit : ℕ) (seen : List Token) → BeginsWithin limit seen → Begins seen
@@ -48,9 +49,11 @@ two_wrong : (limit : ℕ) (tokens : List Token) (at other : ℕ) (f : IsSyntaxFa
     (g : IsSyntaxFault limit tokens other) → TwoFronts f.seen f.rest g.seen g.rest → at ≡ other
 two_wrong limit tokens at other f g (same p q) = f.place ∙ ap (length {A = Token}) p ∙ sym g.place
 two_wrong limit tokens at other f g (longer b more p q) =
-    absurd (f.stuck b (more ++ g.rest) q (loosely limit (f.seen ++ b ∷ []) (begins_to limit f.seen b more g.seen p g.begins)))
+    absurd (f.stuck b (more ++ g.rest) q
+    (loosely limit (f.seen ++ b ∷ []) (begins_to limit f.seen b more g.seen p g.begins)))
 two_wrong limit tokens at other f g (shorter b more p q) =
-    absurd (g.stuck b (more ++ f.rest) q (loosely limit (g.seen ++ b ∷ []) (begins_to limit g.seen b more f.seen p f.begins)))
+    absurd (g.stuck b (more ++ f.rest) q
+    (loosely limit (g.seen ++ b ∷ []) (begins_to limit g.seen b more f.seen p f.begins)))
 
 pub one_syntax_fault : (limit : ℕ) (tokens : List Token) (at other : ℕ) → IsSyntaxFault limit tokens at
     → IsSyntaxFault limit tokens other → at ≡ other
@@ -58,7 +61,8 @@ one_syntax_fault limit tokens at other f g =
     two_wrong limit tokens at other f g (fronts f.seen f.rest g.seen g.rest (sym f.whole ∙ g.whole))
 
 never_past : (limit : ℕ) (tokens : List Token) (at : ℕ) (g : IsTooDeep limit tokens at) (b : Token)
-    (more vs seen : List Token) → seen ≡ g.seen ++ b ∷ more → g.opener ∷ g.later ≡ b ∷ more ++ vs → ¬ (BeginsWithin limit seen)
+    (more vs seen : List Token) → seen ≡ g.seen ++ b ∷ more → g.opener ∷ g.later ≡ b ∷ more ++ vs
+    → ¬ (BeginsWithin limit seen)
 never_past limit tokens at g b more vs seen p q w =
     let one : b ≡ g.opener = cc in
     g.deep (subst (λ (t : Token). BeginsWithin limit (g.seen ++ t ∷ [])) one (begins_to limit g.seen b more seen p w))
@@ -82,9 +86,11 @@ two_kinds limit tokens at other f g (same p q) =
     f.stuck g.opener g.later q (subst (λ (l : List Token). Begins (l ++ g.opener ∷ [])) (sym p) g.begins)
 two_kinds limit tokens at other f g (longer b more p q) = f.stuck b (more ++ g.opener ∷ g.later) q
     (loosely limit (f.seen ++ b ∷ []) (begins_to limit f.seen b more g.seen p g.before))
-two_kinds limit tokens at other f g (shorter b more p q) = never_past limit tokens other g b more f.rest f.seen p q f.begins
+two_kinds limit tokens at other f g (shorter b more p q) =
+    never_past limit tokens other g b more f.rest f.seen p q f.begins
 
-pub one_kind : (limit : ℕ) (tokens : List Token) (at other : ℕ) → IsSyntaxFault limit tokens at → IsTooDeep limit tokens other → ⊥
+pub one_kind : (limit : ℕ) (tokens : List Token) (at other : ℕ) → IsSyntaxFault limit tokens at
+    → IsTooDeep limit tokens other → ⊥
 one_kind limit tokens at other f g =
     two_kinds limit tokens at other f g (fronts f.seen f.rest g.seen (g.opener ∷ g.later) (sym f.whole ∙ g.whole))
 
@@ -92,10 +98,12 @@ whole_or_more : (limit : ℕ) (l : LibraryTree) (at : ℕ) (f : IsSyntaxFault li
     → f.rest ≡ rest → ⊥
 whole_or_more limit l at f [] e = f.short e l refl
 whole_or_more limit l at f (b ∷ later) e =
-    f.stuck b later e (l, later, append_assoc f.seen (b ∷ []) later ∙ ap (λ (r : List Token). f.seen ++ r) (sym e) ∙ sym f.whole)
+    f.stuck b later e
+    (l, later, append_assoc f.seen (b ∷ []) later ∙ ap (λ (r : List Token). f.seen ++ r) (sym e) ∙ sym f.whole)
 
 pub no_syntax_fault : (limit : ℕ) (l : LibraryTree) (at : ℕ) → IsSyntaxFault limit (spelling l) at → ⊥
 no_syntax_fault limit l at f = whole_or_more limit l at f f.rest refl
 
-pub not_too_deep : (limit : ℕ) (l : LibraryTree) (at : ℕ) → library_depth l ≤ limit → IsTooDeep limit (spelling l) at → ⊥
+pub not_too_deep : (limit : ℕ) (l : LibraryTree) (at : ℕ) → library_depth l ≤ limit → IsTooDeep limit (spelling l) at
+    → ⊥
 not_too_deep limit l at fits g = g.deep (l, g.later, fits, append_assoc g.seen (g.opener ∷ []) g.later ∙ sym g.whole)

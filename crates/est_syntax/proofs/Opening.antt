@@ -1,5 +1,6 @@
--- Units that open others, and what is read round them.
-use Rattle.std.proofs.Common.{◌≡◌, ◌∙◌, ℕ, suc, ◌+◌, ◌≤◌, ◌<◌, List, [], ◌∷◌, ◌++◌, Bool, true, false, if◌then◌else◌, nat_le, refl, ap, arith}
+-- Units that open others, and what is read around them.
+use Rattle.std.proofs.Common.{◌≡◌, ◌∙◌, ℕ, suc, ◌+◌, ◌≤◌, ◌<◌, List, [], ◌∷◌, ◌++◌, Bool, true, false, if◌then◌else◌}
+use Rattle.std.proofs.Common.{nat_le, refl, ap, arith}
 use Rattle.std.specs.Prelude.{Option, Some, None}
 use Rattle.est_text.specs.declared.token.Token.{Token}
 use Rattle.est_text.specs.declared.token.Token.TheVariants.{Keyword}
@@ -19,12 +20,13 @@ use Rattle.est_syntax.specs.Machine.{Want, run, Skips, open_count, opens, deep, 
 use Rattle.est_syntax.specs.Frames.{opener_token, opener_wants, head_wants, body_end}
 use Rattle.est_syntax.specs.Parsing.{Fails, EndsSo, FailsBefore, Round, FailsIn}
 use Rattle.est_syntax.specs.declared.parse.TheConstants.{MOST_OPEN_UNITS}
-use Rattle.est_syntax.proofs.Runs.{open_part}
+use Rattle.est_syntax.proofs.TestRuns.{open_part}
 
--- what is wanted leads to something else that fails, by what counts there
+-- what is wanted leads to something else that fails, for the wants that count there
 pub in_leaf : (room : ℕ) (ends : Option Bool) (ws vs : List Want) (f : List Want → List Want) (bs after : List Token)
     (e : Fault) → ((s : List Want) → Round room ends s
-    → run MOST_OPEN_UNITS (ws ++ s) bs ≡ run MOST_OPEN_UNITS (vs ++ f s) after) → Fails vs after e → FailsIn room ends ws bs e
+    → run MOST_OPEN_UNITS (ws ++ s) bs ≡ run MOST_OPEN_UNITS (vs ++ f s) after) → Fails vs after e
+    → FailsIn room ends ws bs e
 in_leaf room ends ws vs f bs after (Syntax n) h k = (k.0, k.1, λ s r. h s r ∙ k.2 (f s))
 in_leaf room ends ws vs f bs after (TooDeep n) h k = (k.0, k.1, λ s r. h s r ∙ k.2 (f s))
 in_leaf room ends ws vs f bs after Memory h k = tt
@@ -47,7 +49,7 @@ in_in room less ends inner ws vs f bs after (Syntax n) q h k = (k.0, k.1, λ s r
 in_in room less ends inner ws vs f bs after (TooDeep n) q h k = (k.0, k.1, λ s r. h s r ∙ k.2 (f s) (q s r))
 in_in room less ends inner ws vs f bs after Memory q h k = tt
 
--- ---- the wants round a part
+-- ---- the wants around a part
 
 pub round_tail : (room : ℕ) (ends : Bool) (s : List Want) → Round room (Some ends) s
     → Round room (Some ends) (m.sequence_tail ∷ s)
@@ -65,10 +67,17 @@ round_any room ends s r = record { fits = r.fits; closing = tt }
 pub round_then : (room : ℕ) (s : List Want) → Round room None s → Round room (Some true) (m.after_then ∷ s)
 round_then room s r = record { fits = r.fits; closing = (m.may (Keyword keyword.Present) ∷ s, refl, λ b. refl) }
 
-pub round_end : (room : ℕ) (t : Token) (s : List Want) → Round room None s → Round room (Some true) (m.one m.kw_end ∷ m.may t ∷ s)
+pub round_end : (room : ℕ) (t : Token) (s : List Want) → Round room None s
+    → Round room (Some true) (m.one m.kw_end ∷ m.may t ∷ s)
 round_end room t s r = record { fits = r.fits; closing = (m.may t ∷ s, refl, λ b. refl) }
 
-pub round_branches : (room : ℕ) (ends : Option Bool) (s : List Want) → Round (suc room) ends s → Round room None (m.leave ∷ s)
+-- the wants around a test
+pub round_open : (room : ℕ) (w : Want) (ends : Option Bool) (s : List Want) → Round (suc room) ends s
+    → open_count (w ∷ m.leave ∷ s) ≡ suc (open_count s) → Round room None (w ∷ m.leave ∷ s)
+round_open room w ends s r e = record { fits = omega (arith, r.fits, e); closing = tt }
+
+pub round_branches : (room : ℕ) (ends : Option Bool) (s : List Want) → Round (suc room) ends s
+    → Round room None (m.leave ∷ s)
 round_branches room ends s r = record { fits = omega (arith, r.fits); closing = tt }
 
 -- the body of a frame
@@ -99,7 +108,8 @@ opener_opens (opener.Frame frame.Suspend) room s bs r = open_part MOST_OPEN_UNIT
 opener_opens (opener.Frame frame.Abort) room s bs r = open_part MOST_OPEN_UNITS
     (opener_wants (opener.Frame frame.Abort) ++ s) (opener_token (opener.Frame frame.Abort)) bs (omega (arith, r))
 opener_opens (opener.Frame frame.WeakAbort) room s bs r = open_part MOST_OPEN_UNITS
-    (opener_wants (opener.Frame frame.WeakAbort) ++ s) (opener_token (opener.Frame frame.WeakAbort)) bs (omega (arith, r))
+    (opener_wants (opener.Frame frame.WeakAbort) ++ s) (opener_token (opener.Frame frame.WeakAbort)) bs
+    (omega (arith, r))
 opener_opens (opener.Frame frame.Loop) room s bs r = open_part MOST_OPEN_UNITS
     (opener_wants (opener.Frame frame.Loop) ++ s) (opener_token (opener.Frame frame.Loop)) bs (omega (arith, r))
 opener_opens (opener.Frame frame.Every) room s bs r = open_part MOST_OPEN_UNITS
@@ -114,32 +124,39 @@ opener_opens (opener.Frame frame.Group) room s bs r = open_part MOST_OPEN_UNITS
 over : (a b : ℕ) → b < a → nat_le a b ≡ false
 over a b h = grind arith
 
-deep_part : (s : List Want) (b : Token) (bs : List Token) → MOST_OPEN_UNITS < open_count s
+pub deep_part : (s : List Want) (b : Token) (bs : List Token) → MOST_OPEN_UNITS < open_count s
     → go_on MOST_OPEN_UNITS (opens s) (b ∷ bs) (λ t. run MOST_OPEN_UNITS t bs) ≡ deep (b ∷ bs)
 deep_part s b bs h =
     ap (λ (x : Bool). if x then run MOST_OPEN_UNITS s bs else deep (b ∷ bs)) (over (open_count s) MOST_OPEN_UNITS h)
 
 pub opener_deep : (o : Opener) (s : List Want) (bs : List Token) → open_count s + 0 ≡ MOST_OPEN_UNITS
     → run MOST_OPEN_UNITS (m.unit ∷ s) (opener_token o ∷ bs) ≡ deep (opener_token o ∷ bs)
-opener_deep opener.Test s bs r = deep_part (opener_wants opener.Test ++ s) (opener_token opener.Test) bs (omega (arith, r))
+opener_deep opener.Test s bs r = deep_part (opener_wants opener.Test ++ s) (opener_token opener.Test) bs
+    (omega (arith, r))
 opener_deep (opener.Frame frame.Suspend) s bs r = deep_part (opener_wants (opener.Frame frame.Suspend) ++ s)
     (opener_token (opener.Frame frame.Suspend)) bs (omega (arith, r))
 opener_deep (opener.Frame frame.Abort) s bs r =
-    deep_part (opener_wants (opener.Frame frame.Abort) ++ s) (opener_token (opener.Frame frame.Abort)) bs (omega (arith, r))
+    deep_part (opener_wants (opener.Frame frame.Abort) ++ s) (opener_token (opener.Frame frame.Abort)) bs
+    (omega (arith, r))
 opener_deep (opener.Frame frame.WeakAbort) s bs r = deep_part (opener_wants (opener.Frame frame.WeakAbort) ++ s)
     (opener_token (opener.Frame frame.WeakAbort)) bs (omega (arith, r))
 opener_deep (opener.Frame frame.Loop) s bs r =
-    deep_part (opener_wants (opener.Frame frame.Loop) ++ s) (opener_token (opener.Frame frame.Loop)) bs (omega (arith, r))
+    deep_part (opener_wants (opener.Frame frame.Loop) ++ s) (opener_token (opener.Frame frame.Loop)) bs
+    (omega (arith, r))
 opener_deep (opener.Frame frame.Every) s bs r =
-    deep_part (opener_wants (opener.Frame frame.Every) ++ s) (opener_token (opener.Frame frame.Every)) bs (omega (arith, r))
+    deep_part (opener_wants (opener.Frame frame.Every) ++ s) (opener_token (opener.Frame frame.Every)) bs
+    (omega (arith, r))
 opener_deep (opener.Frame frame.Trap) s bs r =
-    deep_part (opener_wants (opener.Frame frame.Trap) ++ s) (opener_token (opener.Frame frame.Trap)) bs (omega (arith, r))
+    deep_part (opener_wants (opener.Frame frame.Trap) ++ s) (opener_token (opener.Frame frame.Trap)) bs
+    (omega (arith, r))
 opener_deep (opener.Frame frame.Signal) s bs r =
-    deep_part (opener_wants (opener.Frame frame.Signal) ++ s) (opener_token (opener.Frame frame.Signal)) bs (omega (arith, r))
+    deep_part (opener_wants (opener.Frame frame.Signal) ++ s) (opener_token (opener.Frame frame.Signal)) bs
+    (omega (arith, r))
 opener_deep (opener.Frame frame.Group) s bs r =
-    deep_part (opener_wants (opener.Frame frame.Group) ++ s) (opener_token (opener.Frame frame.Group)) bs (omega (arith, r))
+    deep_part (opener_wants (opener.Frame frame.Group) ++ s) (opener_token (opener.Frame frame.Group)) bs
+    (omega (arith, r))
 
--- ---- depth of one part more
+-- ---- the depth of one more part
 
 pub units_deeper : (us : List UnitTree) (u : UnitTree) (room : ℕ) → g.units_depth (units_of us) ≤ room
     → g.unit_depth u ≤ room → g.units_depth (units_of (us ++ u ∷ [])) ≤ room
@@ -162,7 +179,8 @@ branches_are s (Keyword keyword.Then ∷ bs) h = cc
 branches_are s (_ ∷ bs) h = refl
 
 pub after_then_is : (s : List Want) (bs : List Token) → Skips (Keyword keyword.Else) bs
-    → run MOST_OPEN_UNITS (m.after_then ∷ s) bs ≡ run MOST_OPEN_UNITS (m.one m.kw_end ∷ m.may (Keyword keyword.Present) ∷ s) bs
+    → run MOST_OPEN_UNITS (m.after_then ∷ s) bs ≡ run MOST_OPEN_UNITS
+    (m.one m.kw_end ∷ m.may (Keyword keyword.Present) ∷ s) bs
 after_then_is s [] h = refl
 after_then_is s (Keyword keyword.Else ∷ bs) h = cc
 after_then_is s (_ ∷ bs) h = refl

@@ -1,8 +1,9 @@
--- A part of a tree from the parts that it has: what the functions of the parser answer.
-use Rattle.std.proofs.Common.{◌≡◌, ◌∙◌, ℕ, suc, ◌+◌, ◌≤◌, List, [], ◌∷◌, ◌++◌, Bool, true, false, length, refl, sym, ap, subst, rules, arith}
+-- A part of a tree from its parts: what the functions of the parser answer.
+use Rattle.std.proofs.Common.{◌≡◌, ◌∙◌, ℕ, suc, ◌+◌, ◌≤◌, List, [], ◌∷◌, ◌++◌, Bool, true, false, length, refl, sym, ap}
+use Rattle.std.proofs.Common.{subst, rules, arith}
 use Rattle.std.specs.Prelude.{Option, Some, None}
 use Rattle.est_text.specs.declared.token.Token.{Token}
-use Rattle.est_text.specs.declared.token.Token.TheVariants.{Keyword, Identifier, Symbol}
+use Rattle.est_text.specs.declared.token.Token.TheVariants.{Keyword, Symbol}
 use Rattle.est_text.specs.declared.keyword.Keyword.TheVariants as keyword
 use Rattle.est_text.specs.declared.token.Symbol.TheVariants as symbol
 use Rattle.est_syntax.specs.declared.fault.Fault.{Fault}
@@ -10,24 +11,31 @@ use Rattle.est_syntax.specs.declared.units.Opener.{Opener}
 use Rattle.est_syntax.specs.declared.units.Opener.TheVariants as opener
 use Rattle.est_syntax.specs.declared.units.Frame.{Frame}
 use Rattle.est_syntax.specs.declared.units.Head.{Head}
+use Rattle.est_syntax.specs.declared.tree.Test.{Test as TestValue}
 use Rattle.est_syntax.specs.declared.tree.Unit.{Unit as UnitValue}
 use Rattle.est_syntax.specs.declared.tree.Unit.TheVariants as unit_value
 use Rattle.est_syntax.specs.declared.tree.Branches.{Branches}
 use Rattle.est_syntax.specs.declared.tree.Branches.TheVariants as branches_value
 use Rattle.est_syntax.specs.declared.tree.Branches.TheFolds.{the_lemmas}
 use Rattle.est_syntax.specs.declared.tree.Statement.{Statement}
-use Rattle.est_syntax.specs.Tree.{UnitTree, UnitsTree, SequenceTree, SequencesTree, StatementTree, BranchesTree, sequence, statement, then_only, else_only, both}
+use Rattle.est_syntax.specs.Tree.{UnitTree, UnitsTree, SequenceTree, SequencesTree, StatementTree, BranchesTree}
+use Rattle.est_syntax.specs.Tree.{sequence, statement, then_only, else_only, both}
 use Rattle.est_syntax.specs.Grammar as g
-use Rattle.est_syntax.specs.Views.{unit_view, branches_view, statement_view, units_of, sequences_of}
+use Rattle.est_syntax.specs.Views.{test_view, unit_view, branches_view, statement_view, units_of, sequences_of}
 use Rattle.est_syntax.specs.Machine as m
 use Rattle.est_syntax.specs.Machine.{Want, run, Skips, open_count, wrong, deep, refused, followed, go_on, unit_start}
-use Rattle.est_syntax.specs.Frames.{frame_wants, opener_token, opener_wants, head_wants, head_onto, body_end, IsHead, IsTail, IsOpened, IsPlain}
-use Rattle.est_syntax.specs.Parsing.{Fails, FailsBefore, Round, FailsIn, Reads, IsPart, IsUnitStart}
+use Rattle.est_syntax.specs.Frames.{frame_wants, opener_token, opener_wants, head_wants, head_onto, body_end, IsHead}
+use Rattle.est_syntax.specs.Frames.{IsTail, IsOpened, IsPlain}
+use Rattle.est_syntax.specs.Parsing.{Fails, Round, FailsIn, Reads, IsPart, IsUnitStart}
+use Rattle.est_syntax.specs.Parts.{IsTest}
 use Rattle.est_syntax.specs.declared.parse.TheConstants.{MOST_OPEN_UNITS}
-use Rattle.est_syntax.proofs.Runs.{sequence_is, statement_is, sequence_over, statement_over, leave_over}
+use Rattle.est_syntax.proofs.TestRuns.{leave_over}
+use Rattle.est_syntax.proofs.Runs.{sequence_is, statement_is, sequence_over, statement_over}
 use Rattle.est_syntax.proofs.Reading.{units_push, sequences_push}
 use Rattle.est_syntax.proofs.Folding.{present_is}
-use Rattle.est_syntax.proofs.Opening.{in_leaf, in_before, in_in, round_tail, round_side, round_then, round_end, round_body, round_branches, opener_opens, opener_deep, units_deeper, sequences_deeper, branches_are, after_then_is}
+use Rattle.est_syntax.proofs.Opening.{in_leaf, in_in, round_any, round_tail, round_side, round_then, round_end}
+use Rattle.est_syntax.proofs.Opening.{round_body, round_open, round_branches, opener_opens, opener_deep, units_deeper}
+use Rattle.est_syntax.proofs.Opening.{sequences_deeper, branches_are, after_then_is}
 
 -- ---- a unit
 
@@ -65,7 +73,8 @@ opened_fails room less ends inner o t old mid x e f k q h =
 
 -- there is no room for it
 pub opens_too_deep : (room : ℕ) (ends : Bool) (o : Opener) (t : Token) (s : List Want) (old mid : List Token)
-    → room ≡ 0 → old ≡ t ∷ mid → t ≡ opener_token o → Round room (Some ends) s → run MOST_OPEN_UNITS (m.unit ∷ s) old ≡ deep old
+    → room ≡ 0 → old ≡ t ∷ mid → t ≡ opener_token o → Round room (Some ends) s
+    → run MOST_OPEN_UNITS (m.unit ∷ s) old ≡ deep old
 opens_too_deep room ends o t s old mid e f k r =
     let start : old ≡ opener_token o ∷ mid = f ∙ ap (λ (x : Token). x ∷ mid) k in
     ap (run MOST_OPEN_UNITS (m.unit ∷ s)) start
@@ -73,72 +82,73 @@ opens_too_deep room ends o t s old mid e f k r =
 
 -- a unit without a body, from its first token on
 pub plain_part : (room : ℕ) (ends : Bool) (t : Token) (u : UnitValue) (old mid new : List Token) → old ≡ t ∷ mid
-    → IsPlain t (Some u) mid new → IsPart room (Some ends) (m.unit ∷ []) (g.unit_onto (unit_view u) new)
+    → IsPlain room t (Some u) mid new → IsPart room (Some ends) (m.unit ∷ []) (g.unit_onto (unit_view u) new)
     (g.unit_depth (unit_view u)) old new
 plain_part room ends t u old mid new f h = record {
-  spelt = f ∙ h.0;
-  fits = omega (arith, h.1);
-  passes = λ s r. ap (run MOST_OPEN_UNITS (m.unit ∷ s)) f ∙ h.2.passes s;
-  shorter = omega (arith, h.2.shorter, ap (length {A = Token}) f);
+  spelt = f ∙ h.spelt;
+  fits = h.fits;
+  passes = λ s r. ap (run MOST_OPEN_UNITS (m.unit ∷ s)) f ∙ h.passes s (round_any room (Some ends) s r);
+  shorter = omega (arith, h.shorter, ap (length {A = Token}) f);
 }
 
 -- ---- a test
 
-pub tested_part : (room : ℕ) (n : List ℕ) (b : Branches) (old mid new : List Token) → old ≡ Identifier n ∷ mid
+pub tested_part : (room : ℕ) (n : TestValue) (b : Branches) (old mid new : List Token) → IsTest room n old mid
     → IsPart room None (m.branches ∷ []) (g.branches_onto (branches_view b) new)
     (g.branches_depth (branches_view b)) mid new → IsOpened room None opener.Test (unit_value.Present n b) old new
 tested_part room n b old mid new e h = record {
   spelt = ap (λ (l : List Token). Keyword keyword.Present ∷ l)
-      (e ∙ ap (λ (l : List Token). Identifier n ∷ l) h.spelt) ∙ ap (λ (u : UnitTree). g.unit_onto u new) (sym (present_is n b));
-  fits = subst (λ (u : UnitTree). g.unit_depth u ≤ suc room) (sym (present_is n b)) (omega (arith, h.fits));
-  passes = λ s r. ap (run MOST_OPEN_UNITS (m.name ∷ m.branches ∷ m.leave ∷ s)) e
+      (e.spelt ∙ ap (λ (l : List Token). g.test_onto (test_view n) l) h.spelt)
+      ∙ ap (λ (u : UnitTree). g.unit_onto u new) (sym (present_is n b));
+  fits = subst (λ (u : UnitTree). g.unit_depth u ≤ suc room) (sym (present_is n b)) (omega (arith, e.fits, h.fits));
+  passes = λ s r. e.passes (m.branches ∷ m.leave ∷ s) (round_open room m.branches None s r refl)
       ∙ h.passes (m.leave ∷ s) (round_branches room None s r) ∙ leave_over MOST_OPEN_UNITS s new;
-  shorter = omega (arith, h.shorter, ap (length {A = Token}) e);
+  shorter = omega (arith, h.shorter, e.shorter);
 }
 
 -- ---- a frame
 
 pub framed_part : (room : ℕ) (ends : Bool) (f : Frame) (h : Head) (inner : Bool) (t : StatementTree) (u : UnitValue)
-    (old mid behind new : List Token) → IsHead f h old mid → inner ≡ body_end h
+    (old mid behind new : List Token) → IsHead room f h old mid → inner ≡ body_end h
     → IsPart room (Some inner) (m.statement ∷ []) (g.statement_onto t behind) (g.statement_depth t) mid behind
-    → IsTail ends h t u behind new → IsOpened room (Some ends) (opener.Frame f) u old new
+    → IsTail room (Some ends) h t u behind new → IsOpened room (Some ends) (opener.Frame f) u old new
 framed_part room ends f h inner t u old mid behind new a i b d = record {
   spelt = a.spelt ∙ ap (head_onto h) b.spelt ∙ d.spelt;
-  fits = omega (arith, b.fits, d.depth);
-  passes = λ s r. a.passes s ∙ b.passes (head_wants h ++ s)
+  fits = d.fits a.fits b.fits;
+  passes = λ s r. a.passes s (round_any (suc room) (Some ends) s r) ∙ b.passes (head_wants h ++ s)
       (subst (λ (x : Bool). Round room (Some x) (head_wants h ++ s)) (sym i) (round_body room (Some ends) h s r))
-      ∙ d.passes s r.closing;
+      ∙ d.passes s r;
   shorter = omega (arith, a.shorter, b.shorter, d.shorter);
 }
 
 pub framed_body_fails : (room : ℕ) (ends : Bool) (f : Frame) (h : Head) (inner : Bool) (old mid : List Token)
-    (x : Fault) → IsHead f h old mid → inner ≡ body_end h → FailsIn room (Some inner) (m.statement ∷ []) mid x
+    (x : Fault) → IsHead room f h old mid → inner ≡ body_end h → FailsIn room (Some inner) (m.statement ∷ []) mid x
     → FailsIn (suc room) (Some ends) (frame_wants f) old x
 framed_body_fails room ends f h inner old mid x a i b =
     in_in (suc room) room (Some ends) (Some inner) (frame_wants f) (m.statement ∷ [])
     (λ s. head_wants h ++ s) old mid x
     (λ s r. subst (λ (y : Bool). Round room (Some y) (head_wants h ++ s)) (sym i)
-    (round_body room (Some ends) h s r)) (λ s r. a.passes s) b
+    (round_body room (Some ends) h s r)) (λ s r. a.passes s (round_any (suc room) (Some ends) s r)) b
 
 pub framed_tail_fails : (room : ℕ) (ends : Bool) (f : Frame) (h : Head) (inner : Bool) (t : StatementTree)
-    (old mid behind : List Token) (x : Fault) → IsHead f h old mid → inner ≡ body_end h
+    (old mid behind : List Token) (x : Fault) → IsHead room f h old mid → inner ≡ body_end h
     → IsPart room (Some inner) (m.statement ∷ []) (g.statement_onto t behind) (g.statement_depth t) mid behind
-    → FailsBefore ends (head_wants h) behind x → FailsIn (suc room) (Some ends) (frame_wants f) old x
+    → FailsIn (suc room) (Some ends) (head_wants h) behind x → FailsIn (suc room) (Some ends) (frame_wants f) old x
 framed_tail_fails room ends f h inner t old mid behind x a i b d =
-    in_before (suc room) (Some ends) ends (frame_wants f) (head_wants h) (λ s. s) old behind x (λ s r. r.closing)
-    (λ s r. a.passes s ∙ b.passes (head_wants h ++ s)
+    in_in (suc room) (suc room) (Some ends) (Some ends) (frame_wants f) (head_wants h) (λ s. s) old behind x (λ s r. r)
+    (λ s r. a.passes s (round_any (suc room) (Some ends) s r) ∙ b.passes (head_wants h ++ s)
     (subst (λ (y : Bool). Round room (Some y) (head_wants h ++ s)) (sym i) (round_body room (Some ends) h s r))) d
 
 -- ---- units one after another
 
--- behind a `;` no unit begins
+-- after a `;` no unit begins
 pub no_unit_over : (s : List Want) (bs : List Token) → IsUnitStart false bs
     → run MOST_OPEN_UNITS (m.after_semicolon ∷ s) bs ≡ run MOST_OPEN_UNITS s bs
 no_unit_over s [] h = refl
 no_unit_over s (b ∷ bs) h =
     ap (λ o. go_on MOST_OPEN_UNITS (m.unit_or o s (m.step s b)) (b ∷ bs) (λ u. run MOST_OPEN_UNITS u bs)) h
 
--- behind a `;` a unit begins
+-- after a `;` a unit begins
 one_unit : (o : m.Step) (s : List Want) (b : Token) (bs : List Token) → ¬ (o ≡ refused)
     → go_on MOST_OPEN_UNITS (m.unit_or o s (m.step s b)) (b ∷ bs) (λ u. run MOST_OPEN_UNITS u bs)
     ≡ go_on MOST_OPEN_UNITS (followed o (m.sequence_tail ∷ s)) (b ∷ bs) (λ u. run MOST_OPEN_UNITS u bs)
@@ -187,7 +197,8 @@ more_units_fail room ends us old left mid x h e k p =
 
 pub units_closed : (room : ℕ) (ends : Bool) (us : UnitsTree) (old left new : List Token)
     → UnitsSoFar room ends us old left → left ≡ Symbol symbol.Semicolon ∷ new → IsUnitStart false new
-    → IsPart room (Some ends) (m.sequence_tail ∷ []) (g.units_onto us (Symbol symbol.Semicolon ∷ new)) (g.units_depth us) old new
+    → IsPart room (Some ends) (m.sequence_tail ∷ []) (g.units_onto us (Symbol symbol.Semicolon ∷ new))
+    (g.units_depth us) old new
 units_closed room ends us old left new h e k = record {
   spelt = h.spelt ∙ ap (g.units_onto us) e;
   fits = h.fits;
@@ -213,7 +224,8 @@ pub sequence_part : (room : ℕ) (ends : Bool) (u : UnitTree) (us : UnitsTree) (
 sequence_part room ends u us c old mid new h k = record {
   spelt = h.spelt ∙ ap (g.unit_onto u) k.spelt;
   fits = omega (arith, h.fits, k.fits);
-  passes = λ s r. sequence_is MOST_OPEN_UNITS s old ∙ h.passes (m.sequence_tail ∷ s) (round_tail room ends s r) ∙ k.passes s r;
+  passes = λ s r. sequence_is MOST_OPEN_UNITS s old ∙ h.passes (m.sequence_tail ∷ s) (round_tail room ends s r)
+      ∙ k.passes s r;
   shorter = omega (arith, h.shorter, k.shorter);
 }
 
@@ -272,7 +284,8 @@ pub statement_part : (room : ℕ) (ends : Bool) (q : SequenceTree) (qs : Sequenc
 statement_part room ends q qs old mid new h k = record {
   spelt = h.spelt ∙ ap (g.sequence_onto q) k.spelt;
   fits = omega (arith, h.fits, k.fits);
-  passes = λ s r. statement_is MOST_OPEN_UNITS s old ∙ h.passes (m.statement_tail ∷ s) (round_side room ends s r) ∙ k.passes s r;
+  passes = λ s r. statement_is MOST_OPEN_UNITS s old ∙ h.passes (m.statement_tail ∷ s) (round_side room ends s r)
+      ∙ k.passes s r;
   shorter = omega (arith, h.shorter, k.shorter);
 }
 
@@ -302,7 +315,8 @@ pub record End (c : Bool) (old new : List Token) : Type 0 where
 
 abbrev pub Branched : ℕ → Branches → List Token → List Token → Type 0
 Branched room b old new =
-    IsPart room None (m.branches ∷ []) (g.branches_onto (branches_view b) new) (g.branches_depth (branches_view b)) old new
+    IsPart room None (m.branches ∷ []) (g.branches_onto (branches_view b) new)
+    (g.branches_depth (branches_view b)) old new
 
 abbrev pub BranchesFail : ℕ → List Token → Fault → Type 0
 BranchesFail room old x = FailsIn room None (m.branches ∷ []) old x
@@ -319,7 +333,8 @@ pub else_missing : (room : ℕ) (old same : List Token) (x : Fault) → same ≡
 else_missing room old same x e k h =
     in_leaf room None (m.branches ∷ []) (m.one (Keyword keyword.Else) ∷ [])
     (λ s. m.statement ∷ end_wants s) old same x
-    (λ s r. branches_are s old k ∙ ap (run MOST_OPEN_UNITS (m.one (Keyword keyword.Else) ∷ m.statement ∷ end_wants s)) (sym e)) h
+    (λ s r. branches_are s old k ∙ ap (run MOST_OPEN_UNITS (m.one (Keyword keyword.Else) ∷ m.statement ∷ end_wants s))
+    (sym e)) h
 
 pub else_body_fails : (room : ℕ) (old mid : List Token) (x : Fault) → old ≡ Keyword keyword.Else ∷ mid
     → FailsIn room (Some true) (m.statement ∷ []) mid x → BranchesFail room old x
@@ -332,14 +347,16 @@ pub else_end_fails : (room : ℕ) (t : Statement) (old mid behind : List Token) 
     → Fails (m.one m.kw_end ∷ m.may (Keyword keyword.Present) ∷ []) behind x → BranchesFail room old x
 else_end_fails room t old mid behind x e b h =
     in_leaf room None (m.branches ∷ []) (m.one m.kw_end ∷ m.may (Keyword keyword.Present) ∷ []) (λ s. s) old behind x
-    (λ s r. ap (run MOST_OPEN_UNITS (m.branches ∷ s)) e ∙ b.passes (end_wants s) (round_end room (Keyword keyword.Present) s r)) h
+    (λ s r. ap (run MOST_OPEN_UNITS (m.branches ∷ s)) e ∙ b.passes (end_wants s)
+    (round_end room (Keyword keyword.Present) s r)) h
 
 pub else_part : (room : ℕ) (t : Statement) (c : Bool) (old mid behind new : List Token)
     → old ≡ Keyword keyword.Else ∷ mid → Body room t mid behind → End c behind new
     → Branched room (branches_value.Else t c) old new
 else_part room t c old mid behind new e b h =
     branched room (branches_value.Else t c) (else_only (statement_view t) c) old new (else_is t c) (record {
-      spelt = e ∙ ap (λ (l : List Token). Keyword keyword.Else ∷ l) (b.spelt ∙ ap (g.statement_onto (statement_view t)) h.spelt);
+      spelt = e ∙ ap (λ (l : List Token). Keyword keyword.Else ∷ l)
+          (b.spelt ∙ ap (g.statement_onto (statement_view t)) h.spelt);
       fits = b.fits;
       passes = λ s r. ap (run MOST_OPEN_UNITS (m.branches ∷ s)) e
           ∙ b.passes (end_wants s) (round_end room (Keyword keyword.Present) s r) ∙ h.reads.passes s;
@@ -353,7 +370,7 @@ then_body_fails room old mid x e h =
     in_in room room None (Some true) (m.branches ∷ []) (m.statement ∷ []) (λ s. m.after_then ∷ s) old mid x
     (λ s r. round_then room s r) (λ s r. ap (run MOST_OPEN_UNITS (m.branches ∷ s)) e) h
 
--- from behind the first branch
+-- after the first branch
 then_goes : (room : ℕ) (t : Statement) (old mid behind : List Token) (s : List Want) → Round room None s
     → old ≡ Keyword keyword.Then ∷ mid → Body room t mid behind
     → run MOST_OPEN_UNITS (m.branches ∷ s) old ≡ run MOST_OPEN_UNITS (m.after_then ∷ s) behind
@@ -394,7 +411,8 @@ both_body_fails room t old mid behind next x e b f h =
 
 pub both_end_fails : (room : ℕ) (t u : Statement) (old mid behind next last : List Token) (x : Fault)
     → old ≡ Keyword keyword.Then ∷ mid → Body room t mid behind → behind ≡ Keyword keyword.Else ∷ next
-    → Body room u next last → Fails (m.one m.kw_end ∷ m.may (Keyword keyword.Present) ∷ []) last x → BranchesFail room old x
+    → Body room u next last → Fails (m.one m.kw_end ∷ m.may (Keyword keyword.Present) ∷ []) last x
+    → BranchesFail room old x
 both_end_fails room t u old mid behind next last x e b f d h =
     in_leaf room None (m.branches ∷ []) (m.one m.kw_end ∷ m.may (Keyword keyword.Present) ∷ []) (λ s. s) old last x
     (λ s r. then_goes room t old mid behind s r e b ∙ ap (run MOST_OPEN_UNITS (m.after_then ∷ s)) f
@@ -404,12 +422,15 @@ pub both_part : (room : ℕ) (t u : Statement) (c : Bool) (old mid behind next l
     → old ≡ Keyword keyword.Then ∷ mid → Body room t mid behind → behind ≡ Keyword keyword.Else ∷ next
     → Body room u next last → End c last new → Branched room (branches_value.Both t u c) old new
 both_part room t u c old mid behind next last new e b f d h =
-    branched room (branches_value.Both t u c) (both (statement_view t) (statement_view u) c) old new (both_is t u c) (record {
+    branched room (branches_value.Both t u c) (both (statement_view t) (statement_view u) c) old new (both_is t u c)
+    (record {
       spelt = e ∙ ap (λ (l : List Token). Keyword keyword.Then ∷ l)
           (b.spelt ∙ ap (g.statement_onto (statement_view t))
-          (f ∙ ap (λ (l : List Token). Keyword keyword.Else ∷ l) (d.spelt ∙ ap (g.statement_onto (statement_view u)) h.spelt)));
+          (f ∙ ap (λ (l : List Token). Keyword keyword.Else ∷ l)
+          (d.spelt ∙ ap (g.statement_onto (statement_view u)) h.spelt)));
       fits = omega (arith, b.fits, d.fits);
       passes = λ s r. then_goes room t old mid behind s r e b ∙ ap (run MOST_OPEN_UNITS (m.after_then ∷ s)) f
           ∙ d.passes (end_wants s) (round_end room (Keyword keyword.Present) s r) ∙ h.reads.passes s;
-      shorter = omega (arith, b.shorter, d.shorter, h.reads.shorter, ap (length {A = Token}) e, ap (length {A = Token}) f);
+      shorter =
+          omega (arith, b.shorter, d.shorter, h.reads.shorter, ap (length {A = Token}) e, ap (length {A = Token}) f);
     })

@@ -1,20 +1,27 @@
 -- What the machine has taken so far begins a library.
-use Rattle.std.proofs.Common.{◌≡◌, ◌∙◌, ℕ, ◌+◌, ◌≤◌, List, [], ◌∷◌, ◌++◌, Bool, true, false, if◌then◌else◌, refl, sym, ap, subst, inl, inr, arith}
+use Rattle.std.proofs.Common.{◌≡◌, ◌∙◌, ℕ, ◌+◌, ◌≤◌, List, [], ◌∷◌, ◌++◌, Bool, true, false, if◌then◌else◌, refl, sym}
+use Rattle.std.proofs.Common.{ap, subst, inl, inr, arith}
 use Rattle.est_text.specs.declared.token.Token.{Token}
 use Rattle.est_text.specs.declared.token.Token.TheVariants.{Keyword, Identifier, Symbol}
 use Rattle.est_text.specs.declared.keyword.Keyword.TheVariants as keyword
 use Rattle.est_text.specs.declared.token.Symbol.TheVariants as symbol
-use Rattle.est_syntax.specs.Tree.{WeakEndTree, left_out, end_abort, end_weak_abort, then_only, else_only, both, SequenceTree, sequence, no_units, units, StatementTree, statement, no_sequences, sequences, excludes, implies, input, output, relations, ModuleTree}
+use Rattle.est_syntax.specs.Tree.{conjunction, no_literals, literals, expression, no_conjunctions, conjunctions, bare}
+use Rattle.est_syntax.specs.Tree.{bracketed, WeakEndTree, left_out, end_abort, end_weak_abort, then_only, else_only}
+use Rattle.est_syntax.specs.Tree.{both, SequenceTree, sequence, no_units, units, StatementTree, statement, no_sequences}
+use Rattle.est_syntax.specs.Tree.{sequences, excludes, implies, input, output, inputoutput, relations, ModuleTree}
 use Rattle.est_syntax.specs.Grammar as g
 use Rattle.est_syntax.specs.Machine as m
-use Rattle.est_syntax.specs.Machine.{Want, Step, refused, to, opens, same, step, step_after_end, unit_start, followed, unit_or, open_count, kw_end, module_wants}
-use Rattle.est_syntax.proofs.UnitPrefixes.{Spells, All, fewer, same_is, UnitFirst, UnitBack, unit_back}
+use Rattle.est_syntax.specs.Machine.{Want, Step, refused, to, opens, same, step, step_after_end, literal_start}
+use Rattle.est_syntax.specs.Machine.{unit_start, followed, unit_or, open_count, kw_end, module_wants}
+use Rattle.est_syntax.proofs.UnitPrefixes.{Spells, All, fewer, same_is, LiteralFirst, LiteralBack, literal_back}
+use Rattle.est_syntax.proofs.UnitPrefixes.{UnitFirst, UnitBack, unit_back}
 
 -- what is wanted after the token is, with the tokens before it, what was wanted before them
 abbrev pub Back : ℕ → List Want → List Token → Step → Type 0
 Back limit s pre refused = Unit {0}
 Back limit s pre (to t) =
-    (open_count t ≤ open_count s) × ((bs : List Token) → open_count s ≤ limit → All limit t bs → All limit s (pre ++ bs))
+    (open_count t ≤ open_count s) × ((bs : List Token) → open_count s ≤ limit → All limit t bs
+    → All limit s (pre ++ bs))
 Back limit s pre (opens t) = (bs : List Token) → open_count s ≤ limit → All limit t bs → All limit s (pre ++ bs)
 
 back_if : (limit : ℕ) (s : List Want) (pre : List Token) (x : Bool) (o p : Step) → (x ≡ true → Back limit s pre o)
@@ -22,9 +29,10 @@ back_if : (limit : ℕ) (s : List Want) (pre : List Token) (x : Bool) (o p : Ste
 back_if limit s pre true o p h k = h refl
 back_if limit s pre false o p h k = k
 
--- a want that the tokens read so far spell, before those that are read for what is wanted behind it
+-- a want that is spelt by the tokens read so far, and then by those that are read for what is wanted after it
 along : (limit : ℕ) (w : Want) (s : List Want) (all pre : List Token) (o : Step)
-    → ((bs : List Token) → Spells limit (open_count s) w (all ++ bs) (pre ++ bs)) → Back limit s pre o → Back limit (w ∷ s) all o
+    → ((bs : List Token) → Spells limit (open_count s) w (all ++ bs) (pre ++ bs)) → Back limit s pre o
+    → Back limit (w ∷ s) all o
 along limit w s all pre refused f k = tt
 along limit w s all pre (to t) f k =
     (omega (arith, k.0, fewer w s), λ bs r h. (pre ++ bs, f bs, k.1 bs (omega (arith, r, fewer w s)) h))
@@ -40,6 +48,68 @@ end_is t b bs e = ap (λ (x : Token). kw_end ∷ x ∷ bs) (same_is t b e)
 is_end : (t b : Token) (bs : List Token) → same t kw_end ≡ true → kw_end ∷ b ∷ bs ≡ t ∷ b ∷ bs
 is_end t b bs e = ap (λ (x : Token). x ∷ b ∷ bs) (same_is t kw_end e)
 
+literal_step : (limit : ℕ) (b : Token) (s : List Want) (o : Step) → LiteralBack limit b o
+    → Back limit (m.literal ∷ s) (b ∷ []) (followed o s)
+literal_step limit b s refused k = tt
+literal_step limit b s (to ws) k =
+    (k.0 s, λ bs r h. let u = k.1 s bs r h in (u.rest, (u.tree, u.fits, u.text), u.later))
+literal_step limit b s (opens ws) k = λ bs r h. let u = k s bs r h in (u.rest, (u.tree, u.fits, u.text), u.later)
+
+conjunction_with : (limit : ℕ) (s : List Want) (bs : List Token) → LiteralFirst limit (m.conjunction_tail ∷ s) bs
+    → All limit (m.conjunction ∷ s) bs
+conjunction_with limit s bs u =
+    let v = u.later in (
+      v.0,
+      (
+        conjunction u.tree v.1.0,
+        omega (arith, u.fits, v.1.1),
+        u.text ∙ ap (λ (l : List Token). g.literal_onto u.tree l) v.1.2,
+      ),
+      v.2,
+    )
+
+conjunction_step : (limit : ℕ) (b : Token) (s : List Want) (o : Step) → LiteralBack limit b o
+    → Back limit (m.conjunction ∷ s) (b ∷ []) (followed o (m.conjunction_tail ∷ s))
+conjunction_step limit b s refused k = tt
+conjunction_step limit b s (to ws) k = (
+  k.0 (m.conjunction_tail ∷ s),
+  λ bs r h. conjunction_with limit s (b ∷ bs) (k.1 (m.conjunction_tail ∷ s) bs r h),
+)
+conjunction_step limit b s (opens ws) k =
+    λ bs r h. conjunction_with limit s (b ∷ bs) (k (m.conjunction_tail ∷ s) bs r h)
+
+expression_with : (limit : ℕ) (s : List Want) (bs : List Token) → All limit (m.conjunction ∷ m.expression_tail ∷ s) bs
+    → All limit (m.expression ∷ s) bs
+expression_with limit s bs h =
+    let v = h.2 in (
+      v.0,
+      (
+        expression h.1.0 v.1.0,
+        omega (arith, h.1.1, v.1.1),
+        h.1.2 ∙ ap (λ (l : List Token). g.conjunction_onto h.1.0 l) v.1.2,
+      ),
+      v.2,
+    )
+
+expression_step : (limit : ℕ) (b : Token) (s : List Want) (o : Step) → LiteralBack limit b o
+    → Back limit (m.expression ∷ s) (b ∷ []) (followed o (m.conjunction_tail ∷ m.expression_tail ∷ s))
+expression_step limit b s refused k = tt
+expression_step limit b s (to ws) k = (
+  k.0 (m.conjunction_tail ∷ m.expression_tail ∷ s),
+  λ bs r h. expression_with limit s (b ∷ bs) (conjunction_with limit (m.expression_tail ∷ s) (b ∷ bs)
+      (k.1 (m.conjunction_tail ∷ m.expression_tail ∷ s) bs r h)),
+)
+expression_step limit b s (opens ws) k = λ bs r h. expression_with limit s (b ∷ bs)
+    (conjunction_with limit (m.expression_tail ∷ s) (b ∷ bs) (k (m.conjunction_tail ∷ m.expression_tail ∷ s) bs r h))
+
+-- a test without brackets
+bare_with : (limit : ℕ) (s : List Want) (pre : List Token) (o : Step) → Back limit (m.expression ∷ s) pre o
+    → Back limit (m.test ∷ s) pre o
+bare_with limit s pre refused k = tt
+bare_with limit s pre (to t) k =
+    (k.0, λ bs r h. let a = k.1 bs r h in (a.0, (bare a.1.0, a.1.1, a.1.2), a.2))
+bare_with limit s pre (opens t) k = λ bs r h. let a = k bs r h in (a.0, (bare a.1.0, a.1.1, a.1.2), a.2)
+
 unit_step : (limit : ℕ) (b : Token) (s : List Want) (o : Step) → UnitBack limit b o
     → Back limit (m.unit ∷ s) (b ∷ []) (followed o s)
 unit_step limit b s refused k = tt
@@ -51,7 +121,11 @@ sequence_with : (limit : ℕ) (s : List Want) (bs : List Token) → UnitFirst li
 sequence_with limit s bs u =
     let v = u.later in (
       v.0,
-      (sequence u.tree v.1.0 v.1.1, omega (arith, u.fits, v.1.2), u.text ∙ ap (λ (l : List Token). g.unit_onto u.tree l) v.1.3),
+      (
+        sequence u.tree v.1.0 v.1.1,
+        omega (arith, u.fits, v.1.2),
+        u.text ∙ ap (λ (l : List Token). g.unit_onto u.tree l) v.1.3,
+      ),
       v.2,
     )
 
@@ -67,7 +141,11 @@ statement_with : (limit : ℕ) (s : List Want) (bs : List Token) → All limit (
 statement_with limit s bs h =
     let v = h.2 in (
       v.0,
-      (statement h.1.0 v.1.0, omega (arith, h.1.1, v.1.1), h.1.2 ∙ ap (λ (l : List Token). g.sequence_onto h.1.0 l) v.1.2),
+      (
+        statement h.1.0 v.1.0,
+        omega (arith, h.1.1, v.1.1),
+        h.1.2 ∙ ap (λ (l : List Token). g.sequence_onto h.1.0 l) v.1.2,
+      ),
       v.2,
     )
 
@@ -98,15 +176,18 @@ semicolon_step limit b s (opens ws) p k j =
 
 one_more_unit : (limit k : ℕ) (q : SequenceTree) (bs rest : List Token) → g.sequence_depth q + k ≤ limit
     → bs ≡ g.sequence_onto q rest → Spells limit k m.sequence_tail (Symbol symbol.Semicolon ∷ bs) rest
-one_more_unit limit k (sequence u us c) bs rest d e = (units u us, c, d, ap (λ (l : List Token). Symbol symbol.Semicolon ∷ l) e)
+one_more_unit limit k (sequence u us c) bs rest d e =
+    (units u us, c, d, ap (λ (l : List Token). Symbol symbol.Semicolon ∷ l) e)
 
 after_tail : (limit k : ℕ) (bs rest : List Token) → k ≤ limit → Spells limit k m.after_semicolon bs rest
     → Spells limit k m.sequence_tail (Symbol symbol.Semicolon ∷ bs) rest
-after_tail limit k bs rest r (inl e) = (no_units, true, omega (arith, r), ap (λ (l : List Token). Symbol symbol.Semicolon ∷ l) e)
+after_tail limit k bs rest r (inl e) =
+    (no_units, true, omega (arith, r), ap (λ (l : List Token). Symbol symbol.Semicolon ∷ l) e)
 after_tail limit k bs rest r (inr p) = one_more_unit limit k p.0 bs rest p.1 p.2
 
 then_back : (limit k : ℕ) (t : StatementTree) (bs r1 r2 : List Token) → g.statement_depth t + k ≤ limit
-    → bs ≡ g.statement_onto t r1 → Spells limit k m.after_then r1 r2 → Spells limit k m.branches (Keyword keyword.Then ∷ bs) r2
+    → bs ≡ g.statement_onto t r1 → Spells limit k m.after_then r1 r2
+    → Spells limit k m.branches (Keyword keyword.Then ∷ bs) r2
 then_back limit k t bs r1 r2 d e (inl p) = (
   then_only t p.0,
   d,
@@ -147,7 +228,7 @@ ended_weak_back limit b s bs e h = weak_cases limit b s bs h.0 e h.1 h.2
     weak_cases limit b s bs rest e (inl f) h = (rest, weak_text f.0 b bs rest e f.1, h)
     weak_cases limit b s bs rest e (inr f) h = (rest, (left_out, e ∙ sym f), h)
 
--- a module, from behind its first word
+-- a module, after its first word
 pub record ModuleFirst (limit : ℕ) (s : List Want) (bs : List Token) : Type 0 where
   pub first : ModuleTree
   pub later : List ModuleTree
@@ -176,7 +257,8 @@ module_back limit s bs h =
           (a.1 ∙ ap (λ (l : List Token). Symbol symbol.Colon ∷ l)
           (b.1.1 ∙ ap (λ (l : List Token). g.declarations_onto b.1.0 l)
           (d.1.2 ∙ ap (λ (l : List Token). g.statement_onto d.1.0 l)
-          (e.1 ∙ ap (λ (l : List Token). kw_end ∷ l) (f.1 ∙ ap (λ (l : List Token). Keyword keyword.Module ∷ l) i.1.2))))));
+          (e.1 ∙ ap (λ (l : List Token). kw_end ∷ l)
+          (f.1 ∙ ap (λ (l : List Token). Keyword keyword.Module ∷ l) i.1.2))))));
       behind = i.2;
     }
 
@@ -200,6 +282,14 @@ tail_skip_end : (limit : ℕ) (s : List Want) (b : Token) (o : Step) → Back li
     → Back limit (m.sequence_tail ∷ s) (kw_end ∷ b ∷ []) o
 tail_skip_end limit s b o k =
     roomy limit m.sequence_tail s (kw_end ∷ b ∷ []) o (λ bs r. (no_units, false, omega (arith, r), refl)) k
+
+and_skip : (limit : ℕ) (s : List Want) (b : Token) (o : Step) → Back limit s (b ∷ []) o
+    → Back limit (m.conjunction_tail ∷ s) (b ∷ []) o
+and_skip limit s b o k = roomy limit m.conjunction_tail s (b ∷ []) o (λ bs r. (no_literals, omega (arith, r), refl)) k
+
+or_skip : (limit : ℕ) (s : List Want) (b : Token) (o : Step) → Back limit s (b ∷ []) o
+    → Back limit (m.expression_tail ∷ s) (b ∷ []) o
+or_skip limit s b o k = roomy limit m.expression_tail s (b ∷ []) o (λ bs r. (no_conjunctions, omega (arith, r), refl)) k
 
 side_skip : (limit : ℕ) (s : List Want) (b : Token) (o : Step) → Back limit s (b ∷ []) o
     → Back limit (m.statement_tail ∷ s) (b ∷ []) o
@@ -238,7 +328,8 @@ mutual
           (
             h.1.0 ∷ a.1.0,
             first_is (Symbol symbol.Comma) b bs e
-                ∙ ap (λ (l : List Token). Symbol symbol.Comma ∷ l) (h.1.1 ∙ ap (λ (l : List Token). Identifier h.1.0 ∷ l) a.1.1),
+                ∙ ap (λ (l : List Token). Symbol symbol.Comma ∷ l)
+                (h.1.1 ∙ ap (λ (l : List Token). Identifier h.1.0 ∷ l) a.1.1),
           ),
           a.2,
         ),
@@ -252,7 +343,8 @@ mutual
           (
             h.1.0 ∷ a.1.0,
             first_is (Symbol symbol.Hash) b bs e
-                ∙ ap (λ (l : List Token). Symbol symbol.Hash ∷ l) (h.1.1 ∙ ap (λ (l : List Token). Identifier h.1.0 ∷ l) a.1.1),
+                ∙ ap (λ (l : List Token). Symbol symbol.Hash ∷ l)
+                (h.1.1 ∙ ap (λ (l : List Token). Identifier h.1.0 ∷ l) a.1.1),
           ),
           a.2,
         ),
@@ -319,6 +411,20 @@ mutual
       d.2,
     ),
   )
+  back limit (m.declarations ∷ s) (Keyword keyword.Inputoutput) = (
+    omega arith,
+    λ bs r h. let a = h.2 in let b = a.2 in let d = b.2 in (
+      d.0,
+      (
+        inputoutput (record { first = h.1.0; later = a.1.0 }) ∷ d.1.0,
+        ap (λ (l : List Token). Keyword keyword.Inputoutput ∷ l)
+            (h.1.1 ∙ ap (λ (l : List Token). Identifier h.1.0 ∷ l)
+            (a.1.1 ∙ ap (λ (l : List Token). g.later_names_onto a.1.0 l)
+            (b.1 ∙ ap (λ (l : List Token). Symbol symbol.Semicolon ∷ l) d.1.1))),
+      ),
+      d.2,
+    ),
+  )
   back limit (m.declarations ∷ s) (Keyword keyword.Relation) = (
     omega arith,
     λ bs r h. let a = h.2 in let b = a.2 in let d = b.2 in (
@@ -351,7 +457,8 @@ mutual
                     (h.1 ∙ ap (λ (l : List Token). Keyword keyword.Signal ∷ l)
                     (a.1.1 ∙ ap (λ (l : List Token). Identifier a.1.0 ∷ l)
                     (n.1 ∙ ap (λ (l : List Token). Symbol symbol.Slash ∷ l)
-                    (d.1.1 ∙ ap (λ (l : List Token). Identifier d.1.0 ∷ l) (f.1.1 ∙ ap (λ (l : List Token). g.later_renamings_onto f.1.0 l) i.1))))),
+                    (d.1.1 ∙ ap (λ (l : List Token). Identifier d.1.0 ∷ l)
+                    (f.1.1 ∙ ap (λ (l : List Token). g.later_renamings_onto f.1.0 l) i.1))))),
               ),
               i.2,
             ),
@@ -374,6 +481,62 @@ mutual
           f.2,
         ),
       )) (along limit m.later_renamings s (b ∷ []) (b ∷ []) (step s b) (λ bs. ([], refl)) (back limit s b))
+  back limit (m.test ∷ s) b =
+      back_if limit (m.test ∷ s) (b ∷ []) (same (Symbol symbol.OpenBracket) b)
+      (to (m.expression ∷ m.one (Symbol symbol.CloseBracket) ∷ s))
+      (followed (literal_start b) (m.conjunction_tail ∷ m.expression_tail ∷ s))
+      (λ e. (
+        omega arith,
+        λ bs r h. let v = h.2 in (
+          v.0,
+          (
+            bracketed h.1.0,
+            h.1.1,
+            first_is (Symbol symbol.OpenBracket) b bs e
+                ∙ ap (λ (l : List Token). Symbol symbol.OpenBracket ∷ l)
+                (h.1.2 ∙ ap (λ (l : List Token). g.expression_onto h.1.0 l) v.1),
+          ),
+          v.2,
+        ),
+      )) (bare_with limit s (b ∷ []) (followed (literal_start b) (m.conjunction_tail ∷ m.expression_tail ∷ s))
+      (expression_step limit b s (literal_start b) (literal_back limit b)))
+  back limit (m.expression ∷ s) b = expression_step limit b s (literal_start b) (literal_back limit b)
+  back limit (m.expression_tail ∷ s) b =
+      back_if limit (m.expression_tail ∷ s) (b ∷ []) (same (Keyword keyword.Or) b)
+      (to (m.conjunction ∷ m.expression_tail ∷ s)) (step s b)
+      (λ e. (
+        omega arith,
+        λ bs r h. let v = h.2 in (
+          v.0,
+          (
+            conjunctions h.1.0 v.1.0,
+            omega (arith, h.1.1, v.1.1),
+            first_is (Keyword keyword.Or) b bs e
+                ∙ ap (λ (l : List Token). Keyword keyword.Or ∷ l)
+                (h.1.2 ∙ ap (λ (l : List Token). g.conjunction_onto h.1.0 l) v.1.2),
+          ),
+          v.2,
+        ),
+      )) (or_skip limit s b (step s b) (back limit s b))
+  back limit (m.conjunction ∷ s) b = conjunction_step limit b s (literal_start b) (literal_back limit b)
+  back limit (m.conjunction_tail ∷ s) b =
+      back_if limit (m.conjunction_tail ∷ s) (b ∷ []) (same (Keyword keyword.And) b)
+      (to (m.literal ∷ m.conjunction_tail ∷ s)) (step s b)
+      (λ e. (
+        omega arith,
+        λ bs r h. let v = h.2 in (
+          v.0,
+          (
+            literals h.1.0 v.1.0,
+            omega (arith, h.1.1, v.1.1),
+            first_is (Keyword keyword.And) b bs e
+                ∙ ap (λ (l : List Token). Keyword keyword.And ∷ l)
+                (h.1.2 ∙ ap (λ (l : List Token). g.literal_onto h.1.0 l) v.1.2),
+          ),
+          v.2,
+        ),
+      )) (and_skip limit s b (step s b) (back limit s b))
+  back limit (m.literal ∷ s) b = literal_step limit b s (literal_start b) (literal_back limit b)
   back limit (m.unit ∷ s) b = unit_step limit b s (unit_start b) (unit_back limit b)
   back limit (m.sequence ∷ s) b = sequence_step limit b s (unit_start b) (unit_back limit b)
   back limit (m.sequence_tail ∷ s) b =
@@ -387,7 +550,8 @@ mutual
           h.2,
         ),
       )) (tail_skip limit s b (step s b) (back limit s b))
-  back limit (m.after_semicolon ∷ s) b = semicolon_step limit b s (unit_start b) (step s b) (unit_back limit b) (back limit s b)
+  back limit (m.after_semicolon ∷ s) b = semicolon_step limit b s (unit_start b) (step s b) (unit_back limit b)
+      (back limit s b)
   back limit (m.statement ∷ s) b = statement_step limit b s (unit_start b) (unit_back limit b)
   back limit (m.statement_tail ∷ s) b =
       back_if limit (m.statement_tail ∷ s) (b ∷ []) (same (Symbol symbol.Parallel) b)
@@ -406,8 +570,11 @@ mutual
           v.2,
         ),
       )) (side_skip limit s b (step s b) (back limit s b))
-  back limit (m.branches ∷ s) (Keyword keyword.Then) =
-      (omega arith, λ bs r h. let v = h.2 in (v.0, then_back limit (open_count s) h.1.0 bs h.0 v.0 h.1.1 h.1.2 v.1, v.2))
+  back limit (m.branches ∷ s) (Keyword keyword.Then) = (
+    omega arith,
+    λ bs r h. let v = h.2 in
+        (v.0, then_back limit (open_count s) h.1.0 bs h.0 v.0 h.1.1 h.1.2 v.1, v.2),
+  )
   back limit (m.branches ∷ s) (Keyword keyword.Else) = (
     omega arith,
     λ bs r h. let v = h.2 in let w = v.2 in (
@@ -416,7 +583,8 @@ mutual
         else_only h.1.0 w.1.0,
         h.1.1,
         ap (λ (l : List Token). Keyword keyword.Else ∷ l)
-            (h.1.2 ∙ ap (λ (l : List Token). g.statement_onto h.1.0 l) (v.1 ∙ ap (λ (l : List Token). kw_end ∷ l) w.1.1)),
+            (h.1.2 ∙ ap (λ (l : List Token). g.statement_onto h.1.0 l)
+            (v.1 ∙ ap (λ (l : List Token). kw_end ∷ l) w.1.1)),
       ),
       w.2,
     ),
@@ -431,7 +599,8 @@ mutual
         w.1.0,
         h.1.1,
         ap (λ (l : List Token). Keyword keyword.Else ∷ l)
-            (h.1.2 ∙ ap (λ (l : List Token). g.statement_onto h.1.0 l) (v.1 ∙ ap (λ (l : List Token). kw_end ∷ l) w.1.1)),
+            (h.1.2 ∙ ap (λ (l : List Token). g.statement_onto h.1.0 l)
+            (v.1 ∙ ap (λ (l : List Token). kw_end ∷ l) w.1.1)),
       ),
       w.2,
     ),
@@ -440,7 +609,7 @@ mutual
       (omega arith, λ bs r h. (h.0, inl (h.1.0, ap (λ (l : List Token). kw_end ∷ l) h.1.1), h.2))
   back limit (m.after_then ∷ s) _ = tt
   back limit (m.loop_tail ∷ s) (Keyword keyword.Each) =
-      (omega arith, λ bs r h. (h.0, inr (h.1.0, ap (λ (l : List Token). Keyword keyword.Each ∷ l) h.1.1), h.2))
+      (omega arith, λ bs r h. (h.0, inr (h.1.0, h.1.1, ap (λ (l : List Token). Keyword keyword.Each ∷ l) h.1.2), h.2))
   back limit (m.loop_tail ∷ s) (Keyword keyword.End) =
       (omega arith, λ bs r h. (h.0, inl (h.1.0, ap (λ (l : List Token). kw_end ∷ l) h.1.1), h.2))
   back limit (m.loop_tail ∷ s) _ = tt
@@ -451,7 +620,8 @@ mutual
   back limit (m.ended t ∷ s) b =
       back_if limit (m.ended t ∷ s) (b ∷ []) (same t b) (to s) (step_after_end s b)
       (λ e. (omega arith, λ bs r h. (bs, inl (first_is t b bs e), h)))
-      (along limit (m.ended t) s (b ∷ []) (kw_end ∷ b ∷ []) (step_after_end s b) (λ bs. inr refl) (after_back limit s b))
+      (along limit (m.ended t) s (b ∷ []) (kw_end ∷ b ∷ []) (step_after_end s b) (λ bs. inr refl)
+      (after_back limit s b))
   back limit (m.may_end_weak ∷ s) b =
       back_if limit (m.may_end_weak ∷ s) (b ∷ []) (same kw_end b) (to (m.ended_weak ∷ s)) (step s b)
       (λ e. (omega arith, λ bs r h. ended_weak_back limit b s bs (first_is kw_end b bs e) h))
@@ -469,7 +639,8 @@ mutual
           inl (true, first_is (Keyword keyword.Weak) b bs e ∙ ap (λ (l : List Token). Keyword keyword.Weak ∷ l) h.1),
           h.2,
         ),
-      )) (along limit m.ended_weak s (b ∷ []) (kw_end ∷ b ∷ []) (step_after_end s b) (λ bs. inr refl) (after_back limit s b)))
+      )) (along limit m.ended_weak s (b ∷ []) (kw_end ∷ b ∷ []) (step_after_end s b) (λ bs. inr refl)
+      (after_back limit s b)))
   back limit (m.leave ∷ s) b = along limit m.leave s (b ∷ []) (b ∷ []) (step s b) (λ bs. refl) (back limit s b)
   back limit (m.modules ∷ s) b =
       back_if limit (m.modules ∷ s) (b ∷ []) (same (Keyword keyword.Module) b) (to (module_wants s)) (step s b)
@@ -528,6 +699,12 @@ mutual
   after_back limit (m.name ∷ s) b = tt
   after_back limit (m.relation ∷ s) b = tt
   after_back limit (m.relation_tail ∷ s) b = tt
+  after_back limit (m.test ∷ s) b = tt
+  after_back limit (m.expression ∷ s) b = tt
+  after_back limit (m.expression_tail ∷ s) b = tt
+  after_back limit (m.conjunction ∷ s) b = tt
+  after_back limit (m.conjunction_tail ∷ s) b = tt
+  after_back limit (m.literal ∷ s) b = tt
   after_back limit (m.unit ∷ s) b = tt
   after_back limit (m.sequence ∷ s) b = tt
   after_back limit (m.statement ∷ s) b = tt

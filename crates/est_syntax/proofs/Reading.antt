@@ -1,5 +1,6 @@
 -- Steps of the parser: one reading after another.
-use Rattle.std.proofs.Common.{◌≡◌, ◌∙◌, ℕ, ◌≤◌, ◌<◌, ◌⊎◌, inl, inr, List, [], ◌∷◌, ◌++◌, Bool, true, false, if◌then◌else◌, length, refl, sym, ap, arith}
+use Rattle.std.proofs.Common.{◌≡◌, ◌∙◌, ℕ, ◌≤◌, ◌<◌, ◌⊎◌, inl, inr, List, [], ◌∷◌, ◌++◌, Bool, true, false}
+use Rattle.std.proofs.Common.{if◌then◌else◌, length, refl, sym, ap, arith}
 use Rattle.est_text.specs.declared.token.Token.{Token}
 use Rattle.est_text.specs.declared.token.Token.TheVariants.{Keyword, Identifier, Symbol}
 use Rattle.est_text.specs.declared.keyword.Keyword.TheVariants as keyword
@@ -33,15 +34,18 @@ members_push [] n rest = refl
 members_push (k ∷ ns) n rest = ap (λ (l : List Token). Symbol symbol.Hash ∷ Identifier k ∷ l) (members_push ns n rest)
 
 pub later_renamings_push : (rs : List RenamingTree) (r : RenamingTree) (rest : List Token)
-    → g.later_renamings_onto (rs ++ r ∷ []) rest ≡ g.later_renamings_onto rs (Symbol symbol.Comma ∷ g.renaming_onto r rest)
+    → g.later_renamings_onto (rs ++ r ∷ []) rest ≡ g.later_renamings_onto rs
+    (Symbol symbol.Comma ∷ g.renaming_onto r rest)
 later_renamings_push [] r rest = refl
 later_renamings_push (k ∷ rs) r rest =
     ap (λ (l : List Token). Symbol symbol.Comma ∷ g.renaming_onto k l) (later_renamings_push rs r rest)
 
 pub relations_push : (rs : List RelationTree) (r : RelationTree) (rest : List Token)
-    → g.later_relations_onto (rs ++ r ∷ []) rest ≡ g.later_relations_onto rs (Symbol symbol.Comma ∷ g.relation_onto r rest)
+    → g.later_relations_onto (rs ++ r ∷ []) rest ≡ g.later_relations_onto rs
+    (Symbol symbol.Comma ∷ g.relation_onto r rest)
 relations_push [] r rest = refl
-relations_push (k ∷ rs) r rest = ap (λ (l : List Token). Symbol symbol.Comma ∷ g.relation_onto k l) (relations_push rs r rest)
+relations_push (k ∷ rs) r rest = ap (λ (l : List Token). Symbol symbol.Comma ∷ g.relation_onto k l)
+    (relations_push rs r rest)
 
 pub declarations_push : (ds : List DeclarationTree) (d : DeclarationTree) (rest : List Token)
     → g.declarations_onto (ds ++ d ∷ []) rest ≡ g.declarations_onto ds (g.declaration_onto d rest)
@@ -54,7 +58,8 @@ modules_push [] p rest = refl
 modules_push (k ∷ ps) p rest = ap (λ (l : List Token). g.module_onto k l) (modules_push ps p rest)
 
 pub units_push : (us : List UnitTree) (u : UnitTree) (rest : List Token)
-    → g.units_onto (units_of (us ++ u ∷ [])) rest ≡ g.units_onto (units_of us) (Symbol symbol.Semicolon ∷ g.unit_onto u rest)
+    → g.units_onto (units_of (us ++ u ∷ [])) rest ≡ g.units_onto (units_of us)
+    (Symbol symbol.Semicolon ∷ g.unit_onto u rest)
 units_push [] u rest = refl
 units_push (v ∷ us) u rest = ap (λ (l : List Token). Symbol symbol.Semicolon ∷ g.unit_onto v l) (units_push us u rest)
 
@@ -62,9 +67,10 @@ pub sequences_push : (qs : List SequenceTree) (q : SequenceTree) (rest : List To
     → g.sequences_onto (sequences_of (qs ++ q ∷ [])) rest ≡ g.sequences_onto (sequences_of qs)
     (Symbol symbol.Parallel ∷ g.sequence_onto q rest)
 sequences_push [] q rest = refl
-sequences_push (r ∷ qs) q rest = ap (λ (l : List Token). Symbol symbol.Parallel ∷ g.sequence_onto r l) (sequences_push qs q rest)
+sequences_push (r ∷ qs) q rest = ap (λ (l : List Token). Symbol symbol.Parallel ∷ g.sequence_onto r l)
+    (sequences_push qs q rest)
 
--- a list of names with one more behind its comma
+-- a list of names with one more after its comma
 pub one_more_name : (bs mid left rest : List Token) (ns items : List (List ℕ)) (n : List ℕ)
     → bs ≡ g.later_names_onto ns left → left ≡ Symbol symbol.Comma ∷ mid → mid ≡ Identifier n ∷ rest
     → items ≡ ns ++ n ∷ [] → bs ≡ g.later_names_onto items rest
@@ -79,12 +85,14 @@ one_more_member bs mid left rest ns items n e f h i =
     e ∙ ap (λ (l : List Token). g.later_members_onto ns l) (f ∙ ap (λ (l : List Token). Symbol symbol.Hash ∷ l) h)
     ∙ sym (members_push ns n rest) ∙ ap (λ (k : List (List ℕ)). g.later_members_onto k rest) (sym i)
 
-pub shorter_by : (left mid rest : List Token) (t : Token) → left ≡ t ∷ mid → length rest ≤ length mid → length rest ≤ length left
+pub shorter_by : (left mid rest : List Token) (t : Token) → left ≡ t ∷ mid → length rest ≤ length mid
+    → length rest ≤ length left
 shorter_by left mid rest t e h = omega (arith, h, ap (length {A = Token}) e)
 
--- behind an `end` that makes no pair and can end nothing else nothing goes on
+-- after an `end` that makes no pair and can end nothing else, nothing goes on
 pub weak_stops : (ends : Bool) (x : List Token) → Skips (Keyword keyword.Abort) x → Skips (Keyword keyword.Weak) x
-    → ends ≡ false → (s : List Want) → EndsSo ends s → run MOST_OPEN_UNITS (m.may_end_weak ∷ s) (m.kw_end ∷ x) ≡ m.wrong x
+    → ends ≡ false → (s : List Want) → EndsSo ends s → run MOST_OPEN_UNITS (m.may_end_weak ∷ s) (m.kw_end ∷ x)
+    ≡ m.wrong x
 weak_stops true x a w e s h = cc
 weak_stops false [] a w e s h = refl
 weak_stops false (b ∷ bs) a w e s h =
@@ -92,7 +100,8 @@ weak_stops false (b ∷ bs) a w e s h =
     (if y then m.to s else (if m.same (Keyword keyword.Weak) b then m.to
     (m.one (Keyword keyword.Abort) ∷ s) else m.step_after_end s b)) (b ∷ bs) (λ t. run MOST_OPEN_UNITS t bs)) a
     ∙ ap (λ (y : Bool). m.go_on MOST_OPEN_UNITS
-    (if y then m.to (m.one (Keyword keyword.Abort) ∷ s) else m.step_after_end s b) (b ∷ bs) (λ t. run MOST_OPEN_UNITS t bs)) w
+    (if y then m.to (m.one (Keyword keyword.Abort) ∷ s) else m.step_after_end s b) (b ∷ bs)
+    (λ t. run MOST_OPEN_UNITS t bs)) w
     ∙ ap (λ o. m.go_on MOST_OPEN_UNITS o (b ∷ bs) (λ t. run MOST_OPEN_UNITS t bs)) (h b)
 
 pub weak_ends : (ends : Bool) (n : ℕ) (x : List Token) → n ≡ length x → Skips (Keyword keyword.Abort) x
@@ -113,13 +122,14 @@ relation_tail_is s (Symbol symbol.Implies ∷ bs) h = cc
 relation_tail_is s (_ ∷ bs) h = refl
 
 pub no_declarations : (s : List Want) (bs : List Token) → Skips (Keyword keyword.Input) bs
-    → Skips (Keyword keyword.Output) bs → Skips (Keyword keyword.Relation) bs
+    → Skips (Keyword keyword.Output) bs → Skips (Keyword keyword.Inputoutput) bs → Skips (Keyword keyword.Relation) bs
     → run MOST_OPEN_UNITS (m.declarations ∷ s) bs ≡ run MOST_OPEN_UNITS s bs
-no_declarations s [] a b d = refl
-no_declarations s (Keyword keyword.Input ∷ bs) a b d = cc
-no_declarations s (Keyword keyword.Output ∷ bs) a b d = cc
-no_declarations s (Keyword keyword.Relation ∷ bs) a b d = cc
-no_declarations s (_ ∷ bs) a b d = refl
+no_declarations s [] a b c d = refl
+no_declarations s (Keyword keyword.Input ∷ bs) a b c d = cc
+no_declarations s (Keyword keyword.Output ∷ bs) a b c d = cc
+no_declarations s (Keyword keyword.Inputoutput ∷ bs) a b c d = cc
+no_declarations s (Keyword keyword.Relation ∷ bs) a b c d = cc
+no_declarations s (_ ∷ bs) a b c d = refl
 
 pub one_more_renaming : (bs mid left rest : List Token) (rs items : List RenamingTree) (r : RenamingTree)
     → bs ≡ renamings_so_far rs left → 0 < length rs → left ≡ Symbol symbol.Comma ∷ mid → mid ≡ g.renaming_onto r rest
@@ -155,7 +165,7 @@ one_more_declaration bs left rest ds items d e h i =
     e ∙ ap (λ (l : List Token). g.declarations_onto ds l) h ∙ sym (declarations_push ds d rest)
     ∙ ap (λ (k : List DeclarationTree). g.declarations_onto k rest) (sym i)
 
--- the same of what is left to what is round
+-- the same for what is left to what is around
 pub before_from : (ends : Bool) (ws vs : List Want) (f : List Want → List Want) (bs after : List Token) (e : Fault)
     → ((s : List Want) → run MOST_OPEN_UNITS (ws ++ s) bs ≡ run MOST_OPEN_UNITS (vs ++ f s) after) → Fails vs after e
     → FailsBefore ends ws bs e
@@ -184,7 +194,8 @@ ends_side true s h = h
 ends_side false s h = h
 
 pub loop_tail_is : (s : List Want) (bs : List Token) → Skips (Keyword keyword.Each) bs
-    → run MOST_OPEN_UNITS (m.loop_tail ∷ s) bs ≡ run MOST_OPEN_UNITS (m.one m.kw_end ∷ m.may (Keyword keyword.Loop) ∷ s) bs
+    → run MOST_OPEN_UNITS (m.loop_tail ∷ s) bs ≡ run MOST_OPEN_UNITS
+    (m.one m.kw_end ∷ m.may (Keyword keyword.Loop) ∷ s) bs
 loop_tail_is s [] h = refl
 loop_tail_is s (Keyword keyword.Each ∷ bs) h = cc
 loop_tail_is s (_ ∷ bs) h = refl

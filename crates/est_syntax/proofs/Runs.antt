@@ -1,24 +1,31 @@
 -- The machine takes what a tree spells.
-use Rattle.std.proofs.Common.{◌≡◌, ◌∙◌, ℕ, ◌+◌, ◌≤◌, List, [], ◌∷◌, Bool, true, false, if◌then◌else◌, refl, sym, ap, arith}
-use Rattle.std.proofs.lemmas.Bool.{le-leb}
+use Rattle.std.proofs.Common.{◌≡◌, ◌∙◌, ℕ, ◌+◌, ◌≤◌, List, [], ◌∷◌, Bool, true, false, if◌then◌else◌, refl, sym, ap}
+use Rattle.std.proofs.Common.{arith}
 use Rattle.est_text.specs.declared.token.Token.{Token}
 use Rattle.est_text.specs.declared.token.Token.TheVariants.{Keyword, Identifier, Symbol}
 use Rattle.est_text.specs.declared.keyword.Keyword.TheVariants as keyword
 use Rattle.est_text.specs.declared.token.Symbol.TheVariants as symbol
-use Rattle.est_syntax.specs.Tree.{DelayTree, RenamingTree, WeakEndTree, left_out, end_abort, end_weak_abort, UnitTree, nothing, pause, halt, emit, sustain, exit, await, present, suspend, abort, weak_abort, repeat, repeat_each, every, trap, signal, run, group, BranchesTree, then_only, else_only, both, SequenceTree, sequence, UnitsTree, no_units, units, StatementTree, statement, SequencesTree, no_sequences, sequences, RelationTree, excludes, implies, DeclarationTree, input, output, relations, ModuleTree, LibraryTree}
+use Rattle.est_syntax.specs.Tree.{RenamingTree, WeakEndTree, left_out, end_abort, end_weak_abort, UnitTree, nothing}
+use Rattle.est_syntax.specs.Tree.{pause, halt, emit, sustain, exit, await, present, suspend, abort, weak_abort, repeat}
+use Rattle.est_syntax.specs.Tree.{repeat_each, every, trap, signal, run, group, BranchesTree, then_only, else_only}
+use Rattle.est_syntax.specs.Tree.{both, SequenceTree, sequence, UnitsTree, no_units, units, StatementTree, statement}
+use Rattle.est_syntax.specs.Tree.{SequencesTree, no_sequences, sequences, RelationTree, excludes, implies}
+use Rattle.est_syntax.specs.Tree.{DeclarationTree, input, output, inputoutput, relations, ModuleTree, LibraryTree}
 use Rattle.est_syntax.specs.Grammar as g
 use Rattle.est_syntax.specs.Machine as m
-use Rattle.est_syntax.specs.Machine.{Want, Step, Outcome, refused, to, opens, right, wrong, deep, same, step, step_after_end, go_on, open_count, kw_end, Ends, Skips}
+use Rattle.est_syntax.specs.Machine.{Want, to, right, same, step, step_after_end, go_on, open_count, kw_end, Ends}
+use Rattle.est_syntax.specs.Machine.{Skips}
+use Rattle.est_syntax.proofs.TestRuns.{either, may_over, leave_over, open_part, run_test, run_delay}
 
--- ---- what may stand behind
+-- ---- what may follow
 
--- behind an `end` that closes something round it there is no keyword that makes a pair with it
+-- after an `end` that closes something around it there is no keyword that makes a pair with it
 abbrev pub NoPair : List Token → Type 0
 NoPair [] = ⊥
 NoPair (b ∷ bs) = (same (Keyword keyword.Suspend) b ≡ false) × (same (Keyword keyword.Abort) b ≡ false)
     × (same (Keyword keyword.Weak) b ≡ false)
 
--- an `end` closes what is wanted behind
+-- an `end` closes what is wanted next
 abbrev pub Closes : List Want → List Token → Type 0
 Closes s bs = NoPair bs × Ends s
 
@@ -49,7 +56,8 @@ AfterUnit s (Symbol symbol.Parallel ∷ bs) = Unit {0}
 AfterUnit s (Symbol symbol.Semicolon ∷ bs) = Unit {0}
 AfterUnit s _ = ⊥
 
-sequence_from_statement : (s : List Want) (bs : List Token) → AfterStatement s bs → AfterSequence (m.statement_tail ∷ s) bs
+sequence_from_statement : (s : List Want) (bs : List Token) → AfterStatement s bs
+    → AfterSequence (m.statement_tail ∷ s) bs
 sequence_from_statement s [] h = absurd h
 sequence_from_statement s (Keyword keyword.End ∷ bs) h = h
 sequence_from_statement s (Keyword keyword.Else ∷ bs) h = tt
@@ -68,7 +76,7 @@ unit_from_sequence s (Symbol symbol.CloseBracket ∷ bs) h = tt
 unit_from_sequence s (Symbol symbol.Parallel ∷ bs) h = tt
 unit_from_sequence s (_ ∷ bs) h = absurd h
 
--- a token that is none of those that may stand behind a unit
+-- a token that is none of those that may stand after a unit
 pub record NeverAfter (t : Token) : Type 0 where
   pub no_end : same t kw_end ≡ false
   pub no_else : same t (Keyword keyword.Else) ≡ false
@@ -108,16 +116,7 @@ statement_skips s (Keyword keyword.Each ∷ bs) h = refl
 statement_skips s (Symbol symbol.CloseBracket ∷ bs) h = refl
 statement_skips s (_ ∷ bs) h = absurd h
 
--- ---- what is over may be left out
-
--- the outcome of a want that may be left out, by whether its token stands there
-abbrev pub either : ℕ → Token → List Token → Step → Step → Bool → Outcome
-either limit b bs here other x = go_on limit (if x then here else other) (b ∷ bs) (λ t. m.run limit t bs)
-
-pub may_over : (limit : ℕ) (t : Token) (s : List Want) (bs : List Token) → Skips t bs
-    → m.run limit (m.may t ∷ s) bs ≡ m.run limit s bs
-may_over limit t s [] h = refl
-may_over limit t s (b ∷ bs) h = ap (either limit b bs (to s) (step s b)) h
+-- ---- what may be left out, and is
 
 pub names_over : (limit : ℕ) (s : List Want) (bs : List Token) → Skips (Symbol symbol.Comma) bs
     → m.run limit (m.later_names ∷ s) bs ≡ m.run limit s bs
@@ -161,11 +160,7 @@ pub weak_end_over : (limit : ℕ) (s : List Want) (bs : List Token) → Skips kw
 weak_end_over limit s [] h = refl
 weak_end_over limit s (b ∷ bs) h = ap (either limit b bs (to (m.ended_weak ∷ s)) (step s b)) h
 
-pub leave_over : (limit : ℕ) (s : List Want) (bs : List Token) → m.run limit (m.leave ∷ s) bs ≡ m.run limit s bs
-leave_over limit s [] = refl
-leave_over limit s (b ∷ bs) = refl
-
--- behind a sequence that a `;` closes begins no unit
+-- after a sequence that a `;` closes no unit begins
 semicolon_over : (limit : ℕ) (s : List Want) (bs : List Token) → AfterSequence s bs
     → m.run limit (m.after_semicolon ∷ s) bs ≡ m.run limit s bs
 semicolon_over limit s [] h = absurd h
@@ -177,9 +172,9 @@ semicolon_over limit s (Symbol symbol.CloseBracket ∷ bs) h = refl
 semicolon_over limit s (Symbol symbol.Parallel ∷ bs) h = refl
 semicolon_over limit s (_ ∷ bs) h = absurd h
 
--- ---- `end` that closes what is round a unit
+-- ---- `end` that closes what is around a unit
 
--- a pair that is not there leaves the `end` to what is behind
+-- a pair that is not there leaves the `end` to what follows
 pub end_left : (limit : ℕ) (t : Token) (s : List Want) (b : Token) (bs : List Token) → same t b ≡ false → Ends s
     → m.run limit (m.may_end t ∷ s) (kw_end ∷ b ∷ bs) ≡ m.run limit s (kw_end ∷ b ∷ bs)
 end_left limit t s b bs e h =
@@ -212,16 +207,6 @@ open_skips s (Symbol symbol.Semicolon ∷ bs) h P f g = f (Symbol symbol.Semicol
 open_skips s (_ ∷ bs) h P f g = absurd h
 
 -- ---- each part of a tree
-
-delay_part : (limit : ℕ) (i : Bool) (n : List ℕ) (s : List Want) (bs : List Token)
-    → m.run limit (m.may (Keyword keyword.Immediate) ∷ m.name ∷ s)
-    (g.token_if i (Keyword keyword.Immediate) (Identifier n ∷ bs)) ≡ m.run limit s bs
-delay_part limit true n s bs = refl
-delay_part limit false n s bs = refl
-
-pub run_delay : (limit : ℕ) (d : DelayTree) (s : List Want) (bs : List Token)
-    → m.run limit (m.may (Keyword keyword.Immediate) ∷ m.name ∷ s) (g.delay_onto d bs) ≡ m.run limit s bs
-run_delay limit d s bs = delay_part limit d.immediate d.signal s bs
 
 pub run_names : (limit : ℕ) (ns : List (List ℕ)) (s : List Want) (bs : List Token) → Skips (Symbol symbol.Comma) bs
     → m.run limit (m.later_names ∷ s) (g.later_names_onto ns bs) ≡ m.run limit s bs
@@ -266,11 +251,6 @@ run_weak_end limit end_weak_abort s bs h = refl
 run_weak_end limit left_out s bs h =
     open_skips s bs h (λ cs. m.run limit (m.may_end_weak ∷ s) cs ≡ m.run limit s cs)
     (λ cs k. weak_end_over limit s cs k) (λ b cs p k. weak_end_left limit s b cs p.1 p.2 k)
-
--- the step that opens a unit, where there is room
-pub open_part : (limit : ℕ) (s : List Want) (b : Token) (bs : List Token) → open_count s ≤ limit
-    → go_on limit (opens s) (b ∷ bs) (λ t. m.run limit t bs) ≡ m.run limit s bs
-open_part limit s b bs h = ap (λ (x : Bool). if x then m.run limit s bs else deep (b ∷ bs)) (le-leb (open_count s) limit h)
 
 leave_after : (s : List Want) (bs : List Token) → AfterUnit s bs → AfterUnit (m.leave ∷ s) bs
 leave_after s [] h = absurd h
@@ -321,7 +301,8 @@ statement_is limit s [] = refl
 statement_is limit s (b ∷ bs) = refl
 
 unit_behind : (limit : ℕ) (u : UnitTree) (s : List Want) (bs : List Token)
-    → m.run limit (m.after_semicolon ∷ s) (g.unit_onto u bs) ≡ m.run limit (m.unit ∷ m.sequence_tail ∷ s) (g.unit_onto u bs)
+    → m.run limit (m.after_semicolon ∷ s) (g.unit_onto u bs)
+    ≡ m.run limit (m.unit ∷ m.sequence_tail ∷ s) (g.unit_onto u bs)
 unit_behind limit nothing s bs = refl
 unit_behind limit pause s bs = refl
 unit_behind limit halt s bs = refl
@@ -342,7 +323,8 @@ unit_behind limit (run n rs) s bs = refl
 unit_behind limit (group t) s bs = refl
 
 no_declaration : (limit : ℕ) (u : UnitTree) (s : List Want) (bs : List Token)
-    → m.run limit (m.declarations ∷ m.statement ∷ s) (g.unit_onto u bs) ≡ m.run limit (m.statement ∷ s) (g.unit_onto u bs)
+    → m.run limit (m.declarations ∷ m.statement ∷ s) (g.unit_onto u bs)
+    ≡ m.run limit (m.statement ∷ s) (g.unit_onto u bs)
 no_declaration limit nothing s bs = refl
 no_declaration limit pause s bs = refl
 no_declaration limit halt s bs = refl
@@ -362,9 +344,75 @@ no_declaration limit (signal ns t c) s bs = refl
 no_declaration limit (run n rs) s bs = refl
 no_declaration limit (group t) s bs = refl
 
--- what is wanted behind the body of a unit
+-- what may stand after a unit goes on with no test
+never_and : NeverAfter (Keyword keyword.And)
+never_and = record {
+  no_end = refl;
+  no_else = refl;
+  no_when = refl;
+  no_each = refl;
+  no_close = refl;
+  no_parallel = refl;
+  no_semicolon = refl;
+}
+
+never_or : NeverAfter (Keyword keyword.Or)
+never_or = record {
+  no_end = refl;
+  no_else = refl;
+  no_when = refl;
+  no_each = refl;
+  no_close = refl;
+  no_parallel = refl;
+  no_semicolon = refl;
+}
+
+pub unit_and : (s : List Want) (bs : List Token) → AfterUnit s bs → Skips (Keyword keyword.And) bs
+unit_and s bs h = after_skips (Keyword keyword.And) never_and s bs h
+
+pub unit_or : (s : List Want) (bs : List Token) → AfterUnit s bs → Skips (Keyword keyword.Or) bs
+unit_or s bs h = after_skips (Keyword keyword.Or) never_or s bs h
+
+pub end_if_skips : (w t : Token) (c : Bool) (s : List Want) (bs : List Token) → NeverAfter w → AfterUnit s bs
+    → Skips w (g.end_if c t bs)
+end_if_skips w t true s bs e h = e.no_end
+end_if_skips w t false s bs e h = after_skips w e s bs h
+
+pub end_and : (t : Token) (c : Bool) (s : List Want) (bs : List Token) → AfterUnit s bs
+    → Skips (Keyword keyword.And) (g.end_if c t bs)
+end_and t c s bs h = end_if_skips (Keyword keyword.And) t c s bs never_and h
+
+pub end_or : (t : Token) (c : Bool) (s : List Want) (bs : List Token) → AfterUnit s bs
+    → Skips (Keyword keyword.Or) (g.end_if c t bs)
+end_or t c s bs h = end_if_skips (Keyword keyword.Or) t c s bs never_or h
+
+weak_skips : (w : Token) (c : WeakEndTree) (s : List Want) (bs : List Token) → NeverAfter w → AfterUnit s bs
+    → Skips w (g.weak_end_onto c bs)
+weak_skips w left_out s bs e h = after_skips w e s bs h
+weak_skips w end_abort s bs e h = e.no_end
+weak_skips w end_weak_abort s bs e h = e.no_end
+
+pub weak_and : (c : WeakEndTree) (s : List Want) (bs : List Token) → AfterUnit s bs
+    → Skips (Keyword keyword.And) (g.weak_end_onto c bs)
+weak_and c s bs h = weak_skips (Keyword keyword.And) c s bs never_and h
+
+pub weak_or : (c : WeakEndTree) (s : List Want) (bs : List Token) → AfterUnit s bs
+    → Skips (Keyword keyword.Or) (g.weak_end_onto c bs)
+weak_or c s bs h = weak_skips (Keyword keyword.Or) c s bs never_or h
+
+pub branches_and : (b : BranchesTree) (bs : List Token) → Skips (Keyword keyword.And) (g.branches_onto b bs)
+branches_and (then_only t c) bs = refl
+branches_and (else_only t c) bs = refl
+branches_and (both t e c) bs = refl
+
+pub branches_or : (b : BranchesTree) (bs : List Token) → Skips (Keyword keyword.Or) (g.branches_onto b bs)
+branches_or (then_only t c) bs = refl
+branches_or (else_only t c) bs = refl
+branches_or (both t e c) bs = refl
+
+-- what is wanted after the body of a unit
 abbrev delayed : Want → List Want → List Want
-delayed w s = m.one (Keyword keyword.When) ∷ m.may (Keyword keyword.Immediate) ∷ m.name ∷ w ∷ m.leave ∷ s
+delayed w s = m.one (Keyword keyword.When) ∷ m.may (Keyword keyword.Immediate) ∷ m.test ∷ w ∷ m.leave ∷ s
 
 abbrev framed : Token → List Want → List Want
 framed t s = m.one kw_end ∷ m.may t ∷ m.leave ∷ s
@@ -378,7 +426,7 @@ mutual
   run_unit limit (emit n) s bs h r = refl
   run_unit limit (sustain n) s bs h r = refl
   run_unit limit (exit n) s bs h r = refl
-  run_unit limit (await d) s bs h r = run_delay limit d s bs
+  run_unit limit (await d) s bs h r = run_delay limit d s bs (unit_and s bs h) (unit_or s bs h) r
   run_unit limit (run n rs) s bs h r =
       run_renamings limit rs s bs (after_skips (Symbol symbol.OpenBracket)
       (record {
@@ -391,23 +439,29 @@ mutual
         no_semicolon = refl;
       }) s bs h)
   run_unit limit (present n b) s bs h r =
-      open_part limit (m.name ∷ m.branches ∷ m.leave ∷ s) (Keyword keyword.Present)
-      (Identifier n ∷ g.branches_onto b bs) (omega (arith, r))
+      open_part limit (m.test ∷ m.branches ∷ m.leave ∷ s) (Keyword keyword.Present)
+      (g.test_onto n (g.branches_onto b bs)) (omega (arith, r))
+      ∙ run_test limit n (m.branches ∷ m.leave ∷ s) (g.branches_onto b bs) (branches_and b bs) (branches_or b bs)
+      (omega (arith, r))
       ∙ run_branches limit b (m.leave ∷ s) bs (leave_after s bs h) (omega (arith, r)) ∙ leave_over limit s bs
   run_unit limit (suspend t d c) s bs h r =
       open_part limit (m.statement ∷ delayed (m.may_end (Keyword keyword.Suspend)) s) (Keyword keyword.Suspend)
-      (g.statement_onto t (Keyword keyword.When ∷ g.delay_onto d (g.end_if c (Keyword keyword.Suspend) bs))) (omega (arith, r))
+      (g.statement_onto t (Keyword keyword.When ∷ g.delay_onto d (g.end_if c (Keyword keyword.Suspend) bs)))
+      (omega (arith, r))
       ∙ run_statement limit t (delayed (m.may_end (Keyword keyword.Suspend)) s)
       (Keyword keyword.When ∷ g.delay_onto d (g.end_if c (Keyword keyword.Suspend) bs)) tt (omega (arith, r))
       ∙ run_delay limit d (m.may_end (Keyword keyword.Suspend) ∷ m.leave ∷ s) (g.end_if c (Keyword keyword.Suspend) bs)
+      (end_and (Keyword keyword.Suspend) c s bs h) (end_or (Keyword keyword.Suspend) c s bs h) (omega (arith, r))
       ∙ run_end_if limit (Keyword keyword.Suspend) c (m.leave ∷ s) bs refl (λ b cs p. p.0) (leave_after s bs h)
       ∙ leave_over limit s bs
   run_unit limit (abort t d c) s bs h r =
       open_part limit (m.statement ∷ delayed (m.may_end (Keyword keyword.Abort)) s) (Keyword keyword.Abort)
-      (g.statement_onto t (Keyword keyword.When ∷ g.delay_onto d (g.end_if c (Keyword keyword.Abort) bs))) (omega (arith, r))
+      (g.statement_onto t (Keyword keyword.When ∷ g.delay_onto d (g.end_if c (Keyword keyword.Abort) bs)))
+      (omega (arith, r))
       ∙ run_statement limit t (delayed (m.may_end (Keyword keyword.Abort)) s)
       (Keyword keyword.When ∷ g.delay_onto d (g.end_if c (Keyword keyword.Abort) bs)) tt (omega (arith, r))
       ∙ run_delay limit d (m.may_end (Keyword keyword.Abort) ∷ m.leave ∷ s) (g.end_if c (Keyword keyword.Abort) bs)
+      (end_and (Keyword keyword.Abort) c s bs h) (end_or (Keyword keyword.Abort) c s bs h) (omega (arith, r))
       ∙ run_end_if limit (Keyword keyword.Abort) c (m.leave ∷ s) bs refl (λ b cs p. p.1) (leave_after s bs h)
       ∙ leave_over limit s bs
   run_unit limit (weak_abort t d c) s bs h r =
@@ -416,7 +470,8 @@ mutual
       (omega (arith, r))
       ∙ run_statement limit t (delayed m.may_end_weak s)
       (Keyword keyword.When ∷ g.delay_onto d (g.weak_end_onto c bs)) tt (omega (arith, r))
-      ∙ run_delay limit d (m.may_end_weak ∷ m.leave ∷ s) (g.weak_end_onto c bs)
+      ∙ run_delay limit d (m.may_end_weak ∷ m.leave ∷ s) (g.weak_end_onto c bs) (weak_and c s bs h) (weak_or c s bs h)
+      (omega (arith, r))
       ∙ run_weak_end limit c (m.leave ∷ s) bs (leave_after s bs h) ∙ leave_over limit s bs
   run_unit limit (repeat t c) s bs h r =
       open_part limit (m.statement ∷ m.loop_tail ∷ m.leave ∷ s) (Keyword keyword.Loop)
@@ -438,16 +493,18 @@ mutual
       }) s bs h) ∙ leave_over limit s bs
   run_unit limit (repeat_each t n) s bs h r =
       open_part limit (m.statement ∷ m.loop_tail ∷ m.leave ∷ s) (Keyword keyword.Loop)
-      (g.statement_onto t (Keyword keyword.Each ∷ Identifier n ∷ bs)) (omega (arith, r))
-      ∙ run_statement limit t (m.loop_tail ∷ m.leave ∷ s) (Keyword keyword.Each ∷ Identifier n ∷ bs) tt
-      (omega (arith, r)) ∙ leave_over limit s bs
+      (g.statement_onto t (Keyword keyword.Each ∷ g.test_onto n bs)) (omega (arith, r))
+      ∙ run_statement limit t (m.loop_tail ∷ m.leave ∷ s) (Keyword keyword.Each ∷ g.test_onto n bs) tt
+      (omega (arith, r))
+      ∙ run_test limit n (m.leave ∷ s) bs (unit_and s bs h) (unit_or s bs h) (omega (arith, r)) ∙ leave_over limit s bs
   run_unit limit (every d t c) s bs h r =
-      open_part limit (m.may (Keyword keyword.Immediate) ∷ m.name ∷ m.one (Keyword keyword.Do) ∷ m.statement
+      open_part limit (m.may (Keyword keyword.Immediate) ∷ m.test ∷ m.one (Keyword keyword.Do) ∷ m.statement
       ∷ framed (Keyword keyword.Every) s) (Keyword keyword.Every)
       (g.delay_onto d (Keyword keyword.Do ∷ (g.statement_onto t (kw_end ∷ g.token_if c (Keyword keyword.Every) bs))))
       (omega (arith, r))
       ∙ run_delay limit d (m.one (Keyword keyword.Do) ∷ m.statement ∷ framed (Keyword keyword.Every) s)
-      (Keyword keyword.Do ∷ (g.statement_onto t (kw_end ∷ g.token_if c (Keyword keyword.Every) bs)))
+      (Keyword keyword.Do ∷ (g.statement_onto t (kw_end ∷ g.token_if c (Keyword keyword.Every) bs))) refl refl
+      (omega (arith, r))
       ∙ run_statement limit t (framed (Keyword keyword.Every) s) (kw_end ∷ g.token_if c (Keyword keyword.Every) bs) (
         no_pair_if (Keyword keyword.Every) c s bs (refl, refl, refl) h,
         (m.may (Keyword keyword.Every) ∷ m.leave ∷ s, refl, λ b. refl),
@@ -511,7 +568,8 @@ mutual
       (omega (arith, r)) ∙ leave_over limit s bs
 
   run_branches : (limit : ℕ) (b : BranchesTree) (s : List Want) (bs : List Token) → AfterUnit s bs
-      → g.branches_depth b + open_count s ≤ limit → m.run limit (m.branches ∷ s) (g.branches_onto b bs) ≡ m.run limit s bs
+      → g.branches_depth b + open_count s ≤ limit → m.run limit (m.branches ∷ s) (g.branches_onto b bs)
+      ≡ m.run limit s bs
   run_branches limit (then_only t c) s bs h r =
       run_statement limit t (m.after_then ∷ s) (kw_end ∷ g.token_if c (Keyword keyword.Present) bs) (
         no_pair_if (Keyword keyword.Present) c s bs (refl, refl, refl) h,
@@ -547,7 +605,8 @@ mutual
       }) s bs h)
   run_branches limit (both t e c) s bs h r =
       run_statement limit t (m.after_then ∷ s)
-      (Keyword keyword.Else ∷ g.statement_onto e (kw_end ∷ g.token_if c (Keyword keyword.Present) bs)) tt (omega (arith, r))
+      (Keyword keyword.Else ∷ g.statement_onto e (kw_end ∷ g.token_if c (Keyword keyword.Present) bs)) tt
+      (omega (arith, r))
       ∙ run_statement limit e (m.one kw_end ∷ m.may (Keyword keyword.Present) ∷ s)
       (kw_end ∷ g.token_if c (Keyword keyword.Present) bs) (
         no_pair_if (Keyword keyword.Present) c s bs (refl, refl, refl) h,
@@ -566,7 +625,8 @@ mutual
       }) s bs h)
 
   run_sequence : (limit : ℕ) (q : SequenceTree) (s : List Want) (bs : List Token) → AfterSequence s bs
-      → g.sequence_depth q + open_count s ≤ limit → m.run limit (m.sequence ∷ s) (g.sequence_onto q bs) ≡ m.run limit s bs
+      → g.sequence_depth q + open_count s ≤ limit → m.run limit (m.sequence ∷ s) (g.sequence_onto q bs)
+      ≡ m.run limit s bs
   run_sequence limit (sequence u us c) s bs h r =
       sequence_is limit s (g.unit_onto u (g.units_onto us (g.token_if c (Symbol symbol.Semicolon) bs)))
       ∙ run_unit limit u (m.sequence_tail ∷ s) (g.units_onto us (g.token_if c (Symbol symbol.Semicolon) bs))
@@ -575,7 +635,8 @@ mutual
 
   run_units : (limit : ℕ) (us : UnitsTree) (c : Bool) (s : List Want) (bs : List Token) → AfterSequence s bs
       → g.units_depth us + open_count s ≤ limit
-      → m.run limit (m.sequence_tail ∷ s) (g.units_onto us (g.token_if c (Symbol symbol.Semicolon) bs)) ≡ m.run limit s bs
+      → m.run limit (m.sequence_tail ∷ s) (g.units_onto us (g.token_if c (Symbol symbol.Semicolon) bs))
+      ≡ m.run limit s bs
   run_units limit no_units true s bs h r = semicolon_over limit s bs h
   run_units limit no_units false s bs h r = sequence_over limit s bs (sequence_skips s bs h)
   run_units limit (units u us) c s bs h r =
@@ -585,10 +646,12 @@ mutual
       ∙ run_units limit us c s bs h (omega (arith, r))
 
   pub run_statement : (limit : ℕ) (t : StatementTree) (s : List Want) (bs : List Token) → AfterStatement s bs
-      → g.statement_depth t + open_count s ≤ limit → m.run limit (m.statement ∷ s) (g.statement_onto t bs) ≡ m.run limit s bs
+      → g.statement_depth t + open_count s ≤ limit → m.run limit (m.statement ∷ s) (g.statement_onto t bs)
+      ≡ m.run limit s bs
   run_statement limit (statement q qs) s bs h r =
       statement_is limit s (g.sequence_onto q (g.sequences_onto qs bs))
-      ∙ run_sequence limit q (m.statement_tail ∷ s) (g.sequences_onto qs bs) (behind_sequences qs s bs h) (omega (arith, r))
+      ∙ run_sequence limit q (m.statement_tail ∷ s) (g.sequences_onto qs bs) (behind_sequences qs s bs h)
+      (omega (arith, r))
       ∙ run_sequences limit qs s bs h (omega (arith, r))
 
   run_sequences : (limit : ℕ) (qs : SequencesTree) (s : List Want) (bs : List Token) → AfterStatement s bs
@@ -596,7 +659,8 @@ mutual
       → m.run limit (m.statement_tail ∷ s) (g.sequences_onto qs bs) ≡ m.run limit s bs
   run_sequences limit no_sequences s bs h r = statement_over limit s bs (statement_skips s bs h)
   run_sequences limit (sequences q qs) s bs h r =
-      run_sequence limit q (m.statement_tail ∷ s) (g.sequences_onto qs bs) (behind_sequences qs s bs h) (omega (arith, r))
+      run_sequence limit q (m.statement_tail ∷ s) (g.sequences_onto qs bs) (behind_sequences qs s bs h)
+      (omega (arith, r))
       ∙ run_sequences limit qs s bs h (omega (arith, r))
 
 -- ---- modules
@@ -629,6 +693,8 @@ run_declaration : (limit : ℕ) (d : DeclarationTree) (s : List Want) (bs : List
 run_declaration limit (input ns) s bs =
     run_names limit ns.later (m.one (Symbol symbol.Semicolon) ∷ m.declarations ∷ s) (Symbol symbol.Semicolon ∷ bs) refl
 run_declaration limit (output ns) s bs =
+    run_names limit ns.later (m.one (Symbol symbol.Semicolon) ∷ m.declarations ∷ s) (Symbol symbol.Semicolon ∷ bs) refl
+run_declaration limit (inputoutput ns) s bs =
     run_names limit ns.later (m.one (Symbol symbol.Semicolon) ∷ m.declarations ∷ s) (Symbol symbol.Semicolon ∷ bs) refl
 run_declaration limit (relations r rs) s bs =
     run_relation limit r (m.later_relations ∷ m.one (Symbol symbol.Semicolon) ∷ m.declarations ∷ s)
@@ -667,6 +733,8 @@ run_modules limit (p ∷ ps) r =
     run_module limit p [] (g.modules_onto ps []) (omega (arith, r)) ∙ run_modules limit ps (omega (arith, r))
 
 -- each library's spelling is taken whole, where there is room for it
-pub run_library : (limit : ℕ) (l : LibraryTree) → g.library_depth l ≤ limit → m.run limit (m.library ∷ []) (g.spelling l) ≡ right
+pub run_library : (limit : ℕ) (l : LibraryTree) → g.library_depth l ≤ limit
+    → m.run limit (m.library ∷ []) (g.spelling l) ≡ right
 run_library limit l r =
-    run_module limit l.first [] (g.modules_onto l.later []) (omega (arith, r)) ∙ run_modules limit l.later (omega (arith, r))
+    run_module limit l.first [] (g.modules_onto l.later []) (omega (arith, r))
+    ∙ run_modules limit l.later (omega (arith, r))

@@ -1,17 +1,19 @@
 -- Where a run of the machine stops, the tokens stop being the beginning of a library.
-use Rattle.std.proofs.Common.{◌≡◌, ◌∙◌, ℕ, ◌+◌, ◌≤◌, ◌<◌, length, List, [], ◌∷◌, ◌++◌, Bool, true, false, if◌then◌else◌, nat_le, refl, sym, ap, subst, append_assoc, arith, length-append}
+use Rattle.std.proofs.Common.{◌≡◌, ◌∙◌, ℕ, ◌+◌, ◌≤◌, ◌<◌, length, List, [], ◌∷◌, ◌++◌, Bool, true, false, if◌then◌else◌}
+use Rattle.std.proofs.Common.{nat_le, refl, sym, ap, subst, append_assoc, arith, length-append}
 use Rattle.std.proofs.lemmas.Bool.{le-leb, leb-true}
 use Rattle.est_text.specs.declared.token.Token.{Token}
 use Rattle.est_syntax.specs.Tree.{LibraryTree}
 use Rattle.est_syntax.specs.Grammar as g
 use Rattle.est_syntax.specs.Faults.{Begins, BeginsWithin, IsSyntaxFault, IsTooDeep}
 use Rattle.est_syntax.specs.Machine as m
-use Rattle.est_syntax.specs.Machine.{Want, Step, Outcome, refused, to, opens, right, wrong, deep, step, go_on, open_count}
+use Rattle.est_syntax.specs.Machine.{Want, Step, Outcome, refused, to, opens, right, wrong, deep, step, go_on}
+use Rattle.est_syntax.specs.Machine.{open_count}
 use Rattle.est_syntax.proofs.Runs.{run_library}
 use Rattle.est_syntax.proofs.Prefixes.{Back, back}
 use Rattle.est_syntax.proofs.UnitPrefixes.{All, finish}
 
--- a run that stops at a token that cannot stand there, or at the end: what stands before it can go on
+-- a run stops at a token that cannot stand there, or at the end; what stands before that can go on
 pub record StopsWrong (limit : ℕ) (s : List Want) (bs rest : List Token) : Type 0 where
   pub seen : List Token
   pub whole : bs ≡ seen ++ rest
@@ -20,7 +22,7 @@ pub record StopsWrong (limit : ℕ) (s : List Want) (bs rest : List Token) : Typ
       → m.run room s (seen ++ b ∷ other) ≡ wrong (b ∷ other)
   pub short : rest ≡ [] → (room : ℕ) → limit ≤ room → m.run room s bs ≡ wrong []
 
--- a run that stops at a token that opens a unit too many
+-- a run stops at a token that opens a unit too many
 pub record StopsDeep (limit : ℕ) (s : List Want) (bs rest : List Token) : Type 0 where
   pub seen : List Token
   pub opener : Token
@@ -35,7 +37,7 @@ pub record StopsDeep (limit : ℕ) (s : List Want) (bs rest : List Token) : Type
 
 -- ---- runs that stop wrong
 
--- one token more before it
+-- one more token before it
 wrong_later : (limit : ℕ) (s t : List Want) (b : Token) (bs rest : List Token)
     → ((bs : List Token) → All limit t bs → All limit s (b ∷ bs))
     → ((room : ℕ) (bs : List Token) → limit ≤ room → m.run room s (b ∷ bs) ≡ m.run room t bs)
@@ -117,7 +119,8 @@ pub run_wrong : (limit : ℕ) (s : List Want) (bs rest : List Token) → open_co
     → m.run limit s bs ≡ wrong rest → StopsWrong limit s bs rest
 run_wrong limit s [] rest r h = subst (StopsWrong limit s []) (ended_rest (m.is_done s) rest h)
     (wrong_at_end limit s r (ended_wrong (m.is_done s) rest h))
-run_wrong limit s (b ∷ bs) rest r h = wrong_step limit s b bs rest r (step s b) refl h (λ t q. run_wrong limit t bs rest q)
+run_wrong limit s (b ∷ bs) rest r h = wrong_step limit s b bs rest r (step s b) refl h
+    (λ t q. run_wrong limit t bs rest q)
 
 -- ---- runs that stop too deep
 
@@ -204,8 +207,12 @@ start = m.library ∷ []
 -- what a library and then nothing spells
 begins_from : (limit : ℕ) (seen more : List Token) → All limit start (seen ++ more) → BeginsWithin limit seen
 begins_from limit seen more h =
-    let tree : LibraryTree = record { first = h.1.0; later = h.1.1 } in
-    (tree, more, omega (arith, h.1.2, h.1.3), h.1.4 ∙ ap (λ (l : List Token). g.module_onto h.1.0 (g.modules_onto h.1.1 l)) h.2)
+    let tree : LibraryTree = record { first = h.1.0; later = h.1.1 } in (
+      tree,
+      more,
+      omega (arith, h.1.2, h.1.3),
+      h.1.4 ∙ ap (λ (l : List Token). g.module_onto h.1.0 (g.modules_onto h.1.1 l)) h.2,
+    )
 
 weaker : (limit : ℕ) (seen : List Token) → BeginsWithin limit seen → Begins seen
 weaker limit seen h = (h.0, h.1, h.3)
@@ -220,7 +227,8 @@ none_begins : (seen : List Token) (b : Token) → (limit : ℕ)
 none_begins seen b limit stuck p =
     let room = limit + g.library_depth p.0 in
     let e : seen ++ b ∷ p.1 ≡ g.spelling p.0 = sym (one_on seen p.1 b) ∙ p.2 in
-    let taken : m.run room start (seen ++ b ∷ p.1) ≡ right = ap (m.run room start) e ∙ run_library room p.0 (omega arith) in
+    let taken : m.run room start (seen ++ b ∷ p.1) ≡ right =
+    ap (m.run room start) e ∙ run_library room p.0 (omega arith) in
     let stopped : m.run room start (seen ++ b ∷ p.1) ≡ wrong (b ∷ p.1) = stuck p.1 room (omega arith) in
     cc
 
@@ -233,7 +241,8 @@ none_whole bs limit stuck l e =
     cc
 
 none_within : (seen : List Token) (b : Token) (limit : ℕ)
-    → ((other : List Token) → m.run limit start (seen ++ b ∷ other) ≡ deep (b ∷ other)) → ¬ (BeginsWithin limit (seen ++ b ∷ []))
+    → ((other : List Token) → m.run limit start (seen ++ b ∷ other) ≡ deep (b ∷ other))
+    → ¬ (BeginsWithin limit (seen ++ b ∷ []))
 none_within seen b limit stuck p =
     let e : seen ++ b ∷ p.1 ≡ g.spelling p.0 = sym (one_on seen p.1 b) ∙ p.3 in
     let taken : m.run limit start (seen ++ b ∷ p.1) ≡ right = ap (m.run limit start) e ∙ run_library limit p.0 p.2 in

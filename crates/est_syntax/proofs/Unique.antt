@@ -1,40 +1,37 @@
 -- Tokens are spelt from one tree alone: a reading of them gives it back.
-use Rattle.std.proofs.Common.{◌≡◌, ◌∙◌, ℕ, zero, suc, ◌+◌, ◌≤◌, length, List, [], ◌∷◌, Bool, true, false, if◌then◌else◌, Option, Some, None, refl, sym, ap, arith}
+use Rattle.std.proofs.Common.{◌≡◌, ◌∙◌, ℕ, zero, suc, ◌+◌, ◌≤◌, length, List, [], ◌∷◌, Bool, true, false, if◌then◌else◌}
+use Rattle.std.proofs.Common.{Some, None, refl, sym, ap, arith}
 use Rattle.est_text.specs.declared.token.Token.{Token}
 use Rattle.est_text.specs.declared.token.Token.TheVariants.{Keyword, Identifier, Symbol}
 use Rattle.est_text.specs.declared.keyword.Keyword.TheVariants as keyword
 use Rattle.est_text.specs.declared.token.Symbol.TheVariants as symbol
-use Rattle.est_syntax.specs.Tree.{DelayTree, RenamingTree, WeakEndTree, left_out, end_abort, end_weak_abort, UnitTree, nothing, pause, halt, emit, sustain, exit, await, present, suspend, abort, weak_abort, repeat, repeat_each, every, trap, signal, run, group, BranchesTree, then_only, else_only, both, SequenceTree, sequence, UnitsTree, no_units, units, StatementTree, statement, SequencesTree, no_sequences, sequences, RelationTree, excludes, implies, DeclarationTree, input, output, relations, ModuleTree, LibraryTree}
+use Rattle.est_syntax.specs.Tree.{DelayTree, RenamingTree, WeakEndTree, left_out, end_abort, end_weak_abort, UnitTree}
+use Rattle.est_syntax.specs.Tree.{nothing, pause, halt, emit, sustain, exit, await, present, suspend, abort, weak_abort}
+use Rattle.est_syntax.specs.Tree.{repeat, repeat_each, every, trap, signal, run, group, BranchesTree, then_only}
+use Rattle.est_syntax.specs.Tree.{else_only, both, SequenceTree, sequence, UnitsTree, no_units, units, StatementTree}
+use Rattle.est_syntax.specs.Tree.{statement, SequencesTree, no_sequences, sequences, RelationTree, excludes, implies}
+use Rattle.est_syntax.specs.Tree.{DeclarationTree, input, output, inputoutput, relations, ModuleTree, LibraryTree}
 use Rattle.est_syntax.specs.Grammar as g
 use Rattle.est_syntax.specs.Machine.{Step, Want, refused, to, opens, same, kw_end, Skips, unit_start}
 use Rattle.est_syntax.specs.Machine as m
-use Rattle.est_syntax.proofs.Runs.{open_skips, NoPair, AfterStatement, AfterSequence, AfterUnit, after_skips, NeverAfter, sequence_skips, statement_skips, behind_units, behind_sequences, no_pair_if}
-
--- what a reading answers
-abbrev Answer : Type 0
-Answer = Option LibraryTree
+use Rattle.est_syntax.proofs.UniqueTests.{Answer, expect, maybe, test, delay, test_size, no_room, if_true, if_false}
+use Rattle.est_syntax.proofs.UniqueTests.{maybe_not, maybe_is, test_is, delay_is}
+use Rattle.est_syntax.proofs.Runs.{unit_and, unit_or, end_and, end_or, weak_and, weak_or, branches_and, branches_or}
+use Rattle.est_syntax.proofs.Runs.{open_skips, NoPair, AfterStatement, AfterSequence, AfterUnit, after_skips}
+use Rattle.est_syntax.proofs.Runs.{NeverAfter, sequence_skips, statement_skips, behind_units, behind_sequences}
+use Rattle.est_syntax.proofs.Runs.{no_pair_if}
 
 -- ---- the reading, each part with what is done with it and the rest
-
-abbrev expect : Token → List Token → (List Token → Answer) → Answer
-expect t [] k = None
-expect t (b ∷ bs) k = if same t b then k bs else None
-
-abbrev maybe : Token → List Token → (Bool → List Token → Answer) → Answer
-maybe t [] k = k false []
-maybe t (b ∷ bs) k = if same t b then k true bs else k false (b ∷ bs)
 
 abbrev name : List Token → (List ℕ → List Token → Answer) → Answer
 name (Identifier n ∷ bs) k = k n bs
 name _ k = None
 
-abbrev delay : List Token → (DelayTree → List Token → Answer) → Answer
-delay bs k = maybe (Keyword keyword.Immediate) bs (λ i r. name r (λ n q. k (record { immediate = i; signal = n }) q))
-
 abbrev pair : Token → List Token → (Bool → List Token → Answer) → Answer
 pair t [] k = k false []
 pair t (b ∷ []) k = k false (b ∷ [])
-pair t (b ∷ c ∷ bs) k = if same kw_end b then (if same t c then k true bs else k false (b ∷ c ∷ bs)) else k false (b ∷ c ∷ bs)
+pair t (b ∷ c ∷ bs) k = if same kw_end b then (if same t c then k true bs else k false (b ∷ c ∷ bs)) else k false
+    (b ∷ c ∷ bs)
 
 abbrev weak_pair : List Token → (WeakEndTree → List Token → Answer) → Answer
 weak_pair [] k = k left_out []
@@ -52,10 +49,12 @@ later_names (suc n) bs k =
 abbrev later_members : ℕ → List Token → (List (List ℕ) → List Token → Answer) → Answer
 later_members zero bs k = None
 later_members (suc n) bs k =
-    maybe (Symbol symbol.Hash) bs (λ x r. if x then name r (λ m q. later_members n q (λ ms p. k (m ∷ ms) p)) else k [] r)
+    maybe (Symbol symbol.Hash) bs
+    (λ x r. if x then name r (λ m q. later_members n q (λ ms p. k (m ∷ ms) p)) else k [] r)
 
 abbrev renaming : List Token → (RenamingTree → List Token → Answer) → Answer
-renaming bs k = name bs (λ m r. expect (Symbol symbol.Slash) r (λ q. name q (λ n p. k (record { outer = m; inner = n }) p)))
+renaming bs k =
+    name bs (λ m r. expect (Symbol symbol.Slash) r (λ q. name q (λ n p. k (record { outer = m; inner = n }) p)))
 
 abbrev later_renamings : ℕ → List Token → (List RenamingTree → List Token → Answer) → Answer
 later_renamings zero bs k = None
@@ -71,8 +70,8 @@ renamings n bs k = maybe (Symbol symbol.OpenBracket) bs
 abbrev again : Token → List Token → (Bool → List Token → Answer) → Answer
 again t bs k = expect kw_end bs (λ r. maybe t r k)
 
-abbrev watched : List Token → (DelayTree → List Token → Answer) → Answer
-watched bs k = expect (Keyword keyword.When) bs (λ r. delay r k)
+abbrev watched : ℕ → List Token → (DelayTree → List Token → Answer) → Answer
+watched n bs k = expect (Keyword keyword.When) bs (λ r. delay n r k)
 
 abbrev begins : Step → Bool
 begins refused = false
@@ -93,27 +92,31 @@ abbrev mutual
   unit (suc n) (Keyword keyword.Emit ∷ bs) k = name bs (λ m r. k (emit m) r)
   unit (suc n) (Keyword keyword.Sustain ∷ bs) k = name bs (λ m r. k (sustain m) r)
   unit (suc n) (Keyword keyword.Exit ∷ bs) k = name bs (λ m r. k (exit m) r)
-  unit (suc n) (Keyword keyword.Await ∷ bs) k = delay bs (λ d r. k (await d) r)
+  unit (suc n) (Keyword keyword.Await ∷ bs) k = delay n bs (λ d r. k (await d) r)
   unit (suc n) (Keyword keyword.Run ∷ bs) k = name bs (λ m r. renamings n r (λ ms q. k (run m ms) q))
-  unit (suc n) (Keyword keyword.Present ∷ bs) k = name bs (λ m r. branches n r (λ b q. k (present m b) q))
+  unit (suc n) (Keyword keyword.Present ∷ bs) k = test n bs (λ m r. branches n r (λ b q. k (present m b) q))
   unit (suc n) (Keyword keyword.Suspend ∷ bs) k =
-      stmt n bs (λ t r. watched r (λ d q. pair (Keyword keyword.Suspend) q (λ c p. k (suspend t d c) p)))
+      stmt n bs (λ t r. watched n r (λ d q. pair (Keyword keyword.Suspend) q (λ c p. k (suspend t d c) p)))
   unit (suc n) (Keyword keyword.Abort ∷ bs) k =
-      stmt n bs (λ t r. watched r (λ d q. pair (Keyword keyword.Abort) q (λ c p. k (abort t d c) p)))
+      stmt n bs (λ t r. watched n r (λ d q. pair (Keyword keyword.Abort) q (λ c p. k (abort t d c) p)))
   unit (suc n) (Keyword keyword.Weak ∷ bs) k = expect (Keyword keyword.Abort) bs
-      (λ o. stmt n o (λ t r. watched r (λ d q. weak_pair q (λ c p. k (weak_abort t d c) p))))
+      (λ o. stmt n o (λ t r. watched n r (λ d q. weak_pair q (λ c p. k (weak_abort t d c) p))))
   unit (suc n) (Keyword keyword.Loop ∷ bs) k =
       stmt n bs (λ t r. maybe (Keyword keyword.Each) r
-      (λ x q. if x then name q (λ m p. k (repeat_each t m) p) else again (Keyword keyword.Loop) q (λ c p. k (repeat t c) p)))
+      (λ x q. if x then test n q (λ m p. k (repeat_each t m) p) else again (Keyword keyword.Loop) q
+      (λ c p. k (repeat t c) p)))
   unit (suc n) (Keyword keyword.Every ∷ bs) k =
-      delay bs (λ d o. expect (Keyword keyword.Do) o
+      delay n bs (λ d o. expect (Keyword keyword.Do) o
       (λ i. stmt n i (λ t r. again (Keyword keyword.Every) r (λ c q. k (every d t c) q))))
   unit (suc n) (Keyword keyword.Trap ∷ bs) k = name bs
-      (λ m o. expect (Keyword keyword.In) o (λ i. stmt n i (λ t r. again (Keyword keyword.Trap) r (λ c q. k (trap m t c) q))))
+      (λ m o. expect (Keyword keyword.In) o
+      (λ i. stmt n i (λ t r. again (Keyword keyword.Trap) r (λ c q. k (trap m t c) q))))
   unit (suc n) (Keyword keyword.Signal ∷ bs) k =
       name bs (λ m o. later_names n o (λ ms j. expect (Keyword keyword.In) j
-      (λ i. stmt n i (λ t r. again (Keyword keyword.Signal) r (λ c q. k (signal (record { first = m; later = ms }) t c) q)))))
-  unit (suc n) (Symbol symbol.OpenBracket ∷ bs) k = stmt n bs (λ t r. expect (Symbol symbol.CloseBracket) r (λ q. k (group t) q))
+      (λ i. stmt n i
+      (λ t r. again (Keyword keyword.Signal) r (λ c q. k (signal (record { first = m; later = ms }) t c) q)))))
+  unit (suc n) (Symbol symbol.OpenBracket ∷ bs) k = stmt n bs
+      (λ t r. expect (Symbol symbol.CloseBracket) r (λ q. k (group t) q))
   unit (suc n) _ k = None
 
   branches : ℕ → List Token → (BranchesTree → List Token → Answer) → Answer
@@ -164,9 +167,14 @@ declarations (suc n) bs k =
     (λ y q. if y then name q (λ a p. later_names n p
     (λ zs o. expect (Symbol symbol.Semicolon) o
     (λ i. declarations n i (λ ds j. k (output (record { first = a; later = zs }) ∷ ds) j))))
-    else maybe (Keyword keyword.Relation) q
-    (λ z p. if z then relation n p (λ a o. later_relations n o
-    (λ zs i. expect (Symbol symbol.Semicolon) i (λ j. declarations n j (λ ds l. k (relations a zs ∷ ds) l)))) else k [] p)))
+    else maybe (Keyword keyword.Inputoutput) q
+    (λ w p. if w then name p (λ a o. later_names n o
+    (λ zs i. expect (Symbol symbol.Semicolon) i
+    (λ j. declarations n j (λ ds l. k (inputoutput (record { first = a; later = zs }) ∷ ds) l))))
+    else maybe (Keyword keyword.Relation) p
+    (λ z o. if z then relation n o (λ a i. later_relations n i
+    (λ zs j. expect (Symbol symbol.Semicolon) j (λ l. declarations n l (λ ds f. k (relations a zs ∷ ds) f)))) else k []
+    o))))
 
 abbrev module_from : ℕ → List Token → (ModuleTree → List Token → Answer) → Answer
 module_from n bs k =
@@ -192,13 +200,14 @@ library_of n bs = modules n bs finished
 abbrev mutual
   inner_size : UnitTree → ℕ
   inner_size (run n rs) = suc (length rs)
-  inner_size (present n b) = branches_size b
-  inner_size (suspend t d c) = stmt_size t
-  inner_size (abort t d c) = stmt_size t
-  inner_size (weak_abort t d c) = stmt_size t
+  inner_size (await d) = test_size d.test
+  inner_size (present n b) = test_size n + branches_size b
+  inner_size (suspend t d c) = stmt_size t + test_size d.test
+  inner_size (abort t d c) = stmt_size t + test_size d.test
+  inner_size (weak_abort t d c) = stmt_size t + test_size d.test
   inner_size (repeat t c) = stmt_size t
-  inner_size (repeat_each t n) = stmt_size t
-  inner_size (every d t c) = stmt_size t
+  inner_size (repeat_each t n) = stmt_size t + test_size n
+  inner_size (every d t c) = test_size d.test + stmt_size t
   inner_size (trap n t c) = stmt_size t
   inner_size (signal ns t c) = suc (length ns.later) + stmt_size t
   inner_size (group t) = stmt_size t
@@ -223,33 +232,7 @@ abbrev mutual
   sides_size no_sequences = 1
   sides_size (sequences q qs) = suc (seq_size q + sides_size qs)
 
-no_room : (x : ℕ) → suc x ≤ 0 → ⊥
-no_room x h = omega (arith, h)
-
-if_true : (x : Bool) (a b : Answer) → x ≡ true → (if x then a else b) ≡ a
-if_true x a b e = ap (λ (y : Bool). if y then a else b) e
-
-if_false : (x : Bool) (a b : Answer) → x ≡ false → (if x then a else b) ≡ b
-if_false x a b e = ap (λ (y : Bool). if y then a else b) e
-
 -- ---- each reading gives back what was written
-
-maybe_not : (t : Token) (bs : List Token) (k : Bool → List Token → Answer) → Skips t bs → maybe t bs k ≡ k false bs
-maybe_not t [] k h = refl
-maybe_not t (b ∷ bs) k h = if_false (same t b) (k true bs) (k false (b ∷ bs)) h
-
-maybe_is : (t : Token) (c : Bool) (bs : List Token) (k : Bool → List Token → Answer) → same t t ≡ true → Skips t bs
-    → maybe t (g.token_if c t bs) k ≡ k c bs
-maybe_is t true bs k e h = if_true (same t t) (k true bs) (k false (t ∷ bs)) e
-maybe_is t false bs k e h = maybe_not t bs k h
-
-delay_parts : (i : Bool) (n : List ℕ) (bs : List Token) (k : DelayTree → List Token → Answer)
-    → delay (g.token_if i (Keyword keyword.Immediate) (Identifier n ∷ bs)) k ≡ k (record { immediate = i; signal = n }) bs
-delay_parts true n bs k = refl
-delay_parts false n bs k = refl
-
-delay_is : (d : DelayTree) (bs : List Token) (k : DelayTree → List Token → Answer) → delay (g.delay_onto d bs) k ≡ k d bs
-delay_is d bs k = delay_parts d.immediate d.signal bs k
 
 pair_not : (t : Token) (bs : List Token) (k : Bool → List Token → Answer) → Skips kw_end bs → pair t bs k ≡ k false bs
 pair_not t [] k h = refl
@@ -257,7 +240,8 @@ pair_not t (b ∷ []) k h = refl
 pair_not t (b ∷ c ∷ bs) k h = if_false (same kw_end b) _ (k false (b ∷ c ∷ bs)) h
 
 pair_is : (t : Token) (c : Bool) (s : List Want) (bs : List Token) (k : Bool → List Token → Answer) → same t t ≡ true
-    → ((b : Token) (bs : List Token) → NoPair (b ∷ bs) → same t b ≡ false) → AfterUnit s bs → pair t (g.end_if c t bs) k ≡ k c bs
+    → ((b : Token) (bs : List Token) → NoPair (b ∷ bs) → same t b ≡ false) → AfterUnit s bs
+    → pair t (g.end_if c t bs) k ≡ k c bs
 pair_is t true s bs k e f a = if_true (same t t) (k true bs) (k false (kw_end ∷ t ∷ bs)) e
 pair_is t false s bs k e f a = open_skips s bs a (λ cs. pair t cs k ≡ k false cs) (λ cs h. pair_not t cs k h)
     (λ b cs p h. if_false (same t b) (k true cs) (k false (kw_end ∷ b ∷ cs)) (f b cs p))
@@ -352,7 +336,8 @@ mutual
   unit_is (emit x) (suc n) s bs k h a = refl
   unit_is (sustain x) (suc n) s bs k h a = refl
   unit_is (exit x) (suc n) s bs k h a = refl
-  unit_is (await d) (suc n) s bs k h a = delay_is d bs (λ d r. k (await d) r)
+  unit_is (await d) (suc n) s bs k h a =
+      delay_is d n bs (λ d r. k (await d) r) (omega (arith, h)) (unit_and s bs a) (unit_or s bs a)
   unit_is (run x rs) (suc n) s bs k h a =
       renamings_are rs n bs (λ ms q. k (run x ms) q) (omega (arith, h))
       (after_skips (Symbol symbol.OpenBracket)
@@ -365,28 +350,33 @@ mutual
         no_parallel = refl;
         no_semicolon = refl;
       }) s bs a)
-  unit_is (present x b) (suc n) s bs k h a = branches_is b n s bs (λ b q. k (present x b) q) (omega (arith, h)) a
+  unit_is (present x b) (suc n) s bs k h a =
+      test_is x n (g.branches_onto b bs) (λ m r. branches n r (λ b q. k (present m b) q)) (omega (arith, h))
+      (branches_and b bs) (branches_or b bs) ∙ branches_is b n s bs (λ b q. k (present x b) q) (omega (arith, h)) a
   unit_is (suspend t d c) (suc n) s bs k h a =
       stmt_is t n round (Keyword keyword.When ∷ g.delay_onto d (g.end_if c (Keyword keyword.Suspend) bs))
-      (λ t r. watched r (λ d q. pair (Keyword keyword.Suspend) q (λ c p. k (suspend t d c) p))) (omega (arith, h)) tt
-      ∙ delay_is d (g.end_if c (Keyword keyword.Suspend) bs)
-      (λ d q. pair (Keyword keyword.Suspend) q (λ c p. k (suspend t d c) p))
+      (λ t r. watched n r (λ d q. pair (Keyword keyword.Suspend) q (λ c p. k (suspend t d c) p))) (omega (arith, h)) tt
+      ∙ delay_is d n (g.end_if c (Keyword keyword.Suspend) bs)
+      (λ d q. pair (Keyword keyword.Suspend) q (λ c p. k (suspend t d c) p)) (omega (arith, h))
+      (end_and (Keyword keyword.Suspend) c s bs a) (end_or (Keyword keyword.Suspend) c s bs a)
       ∙ pair_is (Keyword keyword.Suspend) c s bs (λ c p. k (suspend t d c) p) refl (λ b cs p. p.0) a
   unit_is (abort t d c) (suc n) s bs k h a =
       stmt_is t n round (Keyword keyword.When ∷ g.delay_onto d (g.end_if c (Keyword keyword.Abort) bs))
-      (λ t r. watched r (λ d q. pair (Keyword keyword.Abort) q (λ c p. k (abort t d c) p))) (omega (arith, h)) tt
-      ∙ delay_is d (g.end_if c (Keyword keyword.Abort) bs)
-      (λ d q. pair (Keyword keyword.Abort) q (λ c p. k (abort t d c) p))
+      (λ t r. watched n r (λ d q. pair (Keyword keyword.Abort) q (λ c p. k (abort t d c) p))) (omega (arith, h)) tt
+      ∙ delay_is d n (g.end_if c (Keyword keyword.Abort) bs)
+      (λ d q. pair (Keyword keyword.Abort) q (λ c p. k (abort t d c) p)) (omega (arith, h))
+      (end_and (Keyword keyword.Abort) c s bs a) (end_or (Keyword keyword.Abort) c s bs a)
       ∙ pair_is (Keyword keyword.Abort) c s bs (λ c p. k (abort t d c) p) refl (λ b cs p. p.1) a
   unit_is (weak_abort t d c) (suc n) s bs k h a =
       stmt_is t n round (Keyword keyword.When ∷ g.delay_onto d (g.weak_end_onto c bs))
-      (λ t r. watched r (λ d q. weak_pair q (λ c p. k (weak_abort t d c) p))) (omega (arith, h)) tt
-      ∙ delay_is d (g.weak_end_onto c bs) (λ d q. weak_pair q (λ c p. k (weak_abort t d c) p))
+      (λ t r. watched n r (λ d q. weak_pair q (λ c p. k (weak_abort t d c) p))) (omega (arith, h)) tt
+      ∙ delay_is d n (g.weak_end_onto c bs) (λ d q. weak_pair q (λ c p. k (weak_abort t d c) p)) (omega (arith, h))
+      (weak_and c s bs a) (weak_or c s bs a)
       ∙ weak_is c s bs (λ c p. k (weak_abort t d c) p) a
   unit_is (repeat t c) (suc n) s bs k h a =
       stmt_is t n round (kw_end ∷ g.token_if c (Keyword keyword.Loop) bs)
       (λ t r. maybe (Keyword keyword.Each) r
-      (λ x q. if x then name q (λ m p. k (repeat_each t m) p)
+      (λ x q. if x then test n q (λ m p. k (repeat_each t m) p)
       else again (Keyword keyword.Loop) q (λ c p. k (repeat t c) p))) (omega (arith, h))
       (closes (Keyword keyword.Loop) c s bs (refl, refl, refl) a)
       ∙ again_is (Keyword keyword.Loop)
@@ -400,14 +390,15 @@ mutual
         no_semicolon = refl;
       }) refl c s bs (λ c p. k (repeat t c) p) a
   unit_is (repeat_each t x) (suc n) s bs k h a =
-      stmt_is t n round (Keyword keyword.Each ∷ Identifier x ∷ bs)
+      stmt_is t n round (Keyword keyword.Each ∷ g.test_onto x bs)
       (λ t r. maybe (Keyword keyword.Each) r
-      (λ x q. if x then name q (λ m p. k (repeat_each t m) p) else again (Keyword keyword.Loop) q
+      (λ x q. if x then test n q (λ m p. k (repeat_each t m) p) else again (Keyword keyword.Loop) q
       (λ c p. k (repeat t c) p))) (omega (arith, h)) tt
+      ∙ test_is x n bs (λ m p. k (repeat_each t m) p) (omega (arith, h)) (unit_and s bs a) (unit_or s bs a)
   unit_is (every d t c) (suc n) s bs k h a =
-      delay_is d (Keyword keyword.Do ∷ (g.statement_onto t (kw_end ∷ g.token_if c (Keyword keyword.Every) bs)))
+      delay_is d n (Keyword keyword.Do ∷ (g.statement_onto t (kw_end ∷ g.token_if c (Keyword keyword.Every) bs)))
       (λ d o. expect (Keyword keyword.Do) o
-      (λ i. stmt n i (λ t r. again (Keyword keyword.Every) r (λ c q. k (every d t c) q))))
+      (λ i. stmt n i (λ t r. again (Keyword keyword.Every) r (λ c q. k (every d t c) q)))) (omega (arith, h)) refl refl
       ∙ stmt_is t n round (kw_end ∷ g.token_if c (Keyword keyword.Every) bs)
       (λ t r. again (Keyword keyword.Every) r (λ c q. k (every d t c) q)) (omega (arith, h))
       (closes (Keyword keyword.Every) c s bs (refl, refl, refl) a)
@@ -565,6 +556,7 @@ relations_size (r ∷ rs) = suc (relation_size r + relations_size rs)
 abbrev declaration_size : DeclarationTree → ℕ
 declaration_size (input ns) = suc (length ns.later)
 declaration_size (output ns) = suc (length ns.later)
+declaration_size (inputoutput ns) = suc (length ns.later)
 declaration_size (relations r rs) = relation_size r + relations_size rs
 
 abbrev declarations_size : List DeclarationTree → ℕ
@@ -598,34 +590,38 @@ relations_are (r ∷ rs) (suc n) bs k h =
 
 -- no declaration begins where a unit does
 no_word : (u : UnitTree) (bs : List Token) → Skips (Keyword keyword.Input) (g.unit_onto u bs)
-    × Skips (Keyword keyword.Output) (g.unit_onto u bs) × Skips (Keyword keyword.Relation) (g.unit_onto u bs)
-no_word nothing bs = (refl, refl, refl)
-no_word pause bs = (refl, refl, refl)
-no_word halt bs = (refl, refl, refl)
-no_word (emit n) bs = (refl, refl, refl)
-no_word (sustain n) bs = (refl, refl, refl)
-no_word (exit n) bs = (refl, refl, refl)
-no_word (await d) bs = (refl, refl, refl)
-no_word (present n b) bs = (refl, refl, refl)
-no_word (suspend t d c) bs = (refl, refl, refl)
-no_word (abort t d c) bs = (refl, refl, refl)
-no_word (weak_abort t d c) bs = (refl, refl, refl)
-no_word (repeat t c) bs = (refl, refl, refl)
-no_word (repeat_each t n) bs = (refl, refl, refl)
-no_word (every d t c) bs = (refl, refl, refl)
-no_word (trap n t c) bs = (refl, refl, refl)
-no_word (signal ns t c) bs = (refl, refl, refl)
-no_word (run n rs) bs = (refl, refl, refl)
-no_word (group t) bs = (refl, refl, refl)
+    × Skips (Keyword keyword.Output) (g.unit_onto u bs) × Skips (Keyword keyword.Inputoutput) (g.unit_onto u bs)
+    × Skips (Keyword keyword.Relation) (g.unit_onto u bs)
+no_word nothing bs = (refl, refl, refl, refl)
+no_word pause bs = (refl, refl, refl, refl)
+no_word halt bs = (refl, refl, refl, refl)
+no_word (emit n) bs = (refl, refl, refl, refl)
+no_word (sustain n) bs = (refl, refl, refl, refl)
+no_word (exit n) bs = (refl, refl, refl, refl)
+no_word (await d) bs = (refl, refl, refl, refl)
+no_word (present n b) bs = (refl, refl, refl, refl)
+no_word (suspend t d c) bs = (refl, refl, refl, refl)
+no_word (abort t d c) bs = (refl, refl, refl, refl)
+no_word (weak_abort t d c) bs = (refl, refl, refl, refl)
+no_word (repeat t c) bs = (refl, refl, refl, refl)
+no_word (repeat_each t n) bs = (refl, refl, refl, refl)
+no_word (every d t c) bs = (refl, refl, refl, refl)
+no_word (trap n t c) bs = (refl, refl, refl, refl)
+no_word (signal ns t c) bs = (refl, refl, refl, refl)
+no_word (run n rs) bs = (refl, refl, refl, refl)
+no_word (group t) bs = (refl, refl, refl, refl)
 
 declarations_end : (n : ℕ) (bs : List Token) (k : List DeclarationTree → List Token → Answer)
-    → Skips (Keyword keyword.Input) bs × Skips (Keyword keyword.Output) bs × Skips (Keyword keyword.Relation) bs
+    → Skips (Keyword keyword.Input) bs × Skips (Keyword keyword.Output) bs × Skips (Keyword keyword.Inputoutput) bs
+    × Skips (Keyword keyword.Relation) bs
     → declarations (suc n) bs k ≡ k [] bs
 declarations_end n bs k e = maybe_not (Keyword keyword.Input) bs _ e.0 ∙ maybe_not (Keyword keyword.Output) bs _ e.1
-    ∙ maybe_not (Keyword keyword.Relation) bs _ e.2
+    ∙ maybe_not (Keyword keyword.Inputoutput) bs _ e.2 ∙ maybe_not (Keyword keyword.Relation) bs _ e.3
 
 statement_word : (t : StatementTree) (bs : List Token) → Skips (Keyword keyword.Input) (g.statement_onto t bs)
-    × Skips (Keyword keyword.Output) (g.statement_onto t bs) × Skips (Keyword keyword.Relation) (g.statement_onto t bs)
+    × Skips (Keyword keyword.Output) (g.statement_onto t bs)
+    × Skips (Keyword keyword.Inputoutput) (g.statement_onto t bs)
+    × Skips (Keyword keyword.Relation) (g.statement_onto t bs)
 statement_word (statement (sequence u us c) qs) bs =
     no_word u (g.units_onto us (g.token_if c (Symbol symbol.Semicolon) (g.sequences_onto qs bs)))
 
@@ -638,13 +634,21 @@ declarations_are [] (suc n) t bs k h = declarations_end n (g.statement_onto t bs
 declarations_are (input ns ∷ ds) (suc n) t bs k h =
     names_are ns.later n (Symbol symbol.Semicolon ∷ g.declarations_onto ds (g.statement_onto t bs))
     (λ zs p. expect (Symbol symbol.Semicolon) p
-    (λ o. declarations n o (λ ds i. k (input (record { first = ns.first; later = zs }) ∷ ds) i))) (omega (arith, h)) refl
+    (λ o. declarations n o (λ ds i. k (input (record { first = ns.first; later = zs }) ∷ ds) i)))
+    (omega (arith, h)) refl
     ∙ declarations_are ds n t bs (λ ds i. k (input ns ∷ ds) i) (omega (arith, h))
 declarations_are (output ns ∷ ds) (suc n) t bs k h =
     names_are ns.later n (Symbol symbol.Semicolon ∷ g.declarations_onto ds (g.statement_onto t bs))
     (λ zs p. expect (Symbol symbol.Semicolon) p
-    (λ o. declarations n o (λ ds i. k (output (record { first = ns.first; later = zs }) ∷ ds) i))) (omega (arith, h)) refl
+    (λ o. declarations n o (λ ds i. k (output (record { first = ns.first; later = zs }) ∷ ds) i)))
+    (omega (arith, h)) refl
     ∙ declarations_are ds n t bs (λ ds i. k (output ns ∷ ds) i) (omega (arith, h))
+declarations_are (inputoutput ns ∷ ds) (suc n) t bs k h =
+    names_are ns.later n (Symbol symbol.Semicolon ∷ g.declarations_onto ds (g.statement_onto t bs))
+    (λ zs p. expect (Symbol symbol.Semicolon) p
+    (λ o. declarations n o (λ ds i. k (inputoutput (record { first = ns.first; later = zs }) ∷ ds) i)))
+    (omega (arith, h)) refl
+    ∙ declarations_are ds n t bs (λ ds i. k (inputoutput ns ∷ ds) i) (omega (arith, h))
 declarations_are (relations r rs ∷ ds) (suc n) t bs k h =
     relation_is r n (g.later_relations_onto rs
     (Symbol symbol.Semicolon ∷ g.declarations_onto ds (g.statement_onto t bs)))
@@ -652,7 +656,8 @@ declarations_are (relations r rs ∷ ds) (suc n) t bs k h =
     (λ j. declarations n j (λ ds l. k (relations a zs ∷ ds) l)))) (omega (arith, h))
     (behind_relations rs (g.declarations_onto ds (g.statement_onto t bs)))
     ∙ relations_are rs n (g.declarations_onto ds (g.statement_onto t bs))
-    (λ zs i. expect (Symbol symbol.Semicolon) i (λ j. declarations n j (λ ds l. k (relations r zs ∷ ds) l))) (omega (arith, h))
+    (λ zs i. expect (Symbol symbol.Semicolon) i (λ j. declarations n j (λ ds l. k (relations r zs ∷ ds) l)))
+    (omega (arith, h))
     ∙ declarations_are ds n t bs (λ ds l. k (relations r rs ∷ ds) l) (omega (arith, h))
 
 module_is : (p : ModuleTree) (n : ℕ) (bs : List Token) (k : ModuleTree → List Token → Answer)
@@ -672,7 +677,8 @@ module_is p n bs k h =
 modules_are : (ps : List ModuleTree) (n : ℕ) (k : List ModuleTree → List Token → Answer) → modules_size ps ≤ n
     → modules n (g.modules_onto ps []) k ≡ k ps []
 modules_are [] zero k h = absurd (no_room 0 h)
-modules_are (p ∷ ps) zero k h = absurd (no_room (declarations_size p.declarations + stmt_size p.body + modules_size ps) h)
+modules_are (p ∷ ps) zero k h =
+    absurd (no_room (declarations_size p.declarations + stmt_size p.body + modules_size ps) h)
 modules_are [] (suc n) k h = refl
 modules_are (p ∷ ps) (suc n) k h =
     module_is p n (g.modules_onto ps []) (λ p q. modules n q (λ ps o. k (p ∷ ps) o)) (omega (arith, h))

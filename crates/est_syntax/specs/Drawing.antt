@@ -1,5 +1,6 @@
 -- How a place of a text is drawn: its line, and under it a caret (this project's own form).
-use Rattle.std.specs.Prelude.{ℕ, ◌-◌, List, [], ◌∷◌, ◌++◌, take, map, filter, Bool, ◌||◌, nat_lt, nat_le, ◌==◌, if◌then◌else◌, slice_get, unwrap_or}
+use Rattle.std.specs.Prelude.{ℕ, ◌-◌, List, [], ◌∷◌, ◌++◌, take, map, filter, Bool, ◌||◌, nat_lt, nat_le, ◌==◌}
+use Rattle.std.specs.Prelude.{if◌then◌else◌, slice_get, unwrap_or}
 use Rattle.std.specs.List.{slice_split}
 use Rattle.est_text.specs.Bytes.{line_feed, tab, space}
 use Rattle.est_text.specs.declared.place.Place.{Place}
@@ -28,7 +29,7 @@ under c = if c == tab then tab else space
 abbrev pub margin : List ℕ → List ℕ
 margin part = map under (filter begins_character part)
 
--- two lines: this one, and under it a caret behind what stands under a part of it
+-- two lines: this one, and under it a caret after what stands under a part of it
 abbrev pub with_caret : List ℕ → List ℕ → List ℕ
 with_caret line part = line ++ line_feed ∷ margin part ++ caret ∷ line_feed ∷ []
 

@@ -4,16 +4,17 @@ use Rattle.est_text.specs.declared.token.Token.{Token}
 use Rattle.est_syntax.specs.Tree.{LibraryTree}
 use Rattle.est_syntax.specs.Grammar.{spelling, library_depth}
 
--- these tokens, with some more or none behind, spell a library
+-- these tokens, with some more or none after them, spell a library
 abbrev pub Begins : List Token → Type 0
 Begins seen = (l : LibraryTree) × (rest : List Token) × (seen ++ rest ≡ spelling l)
 
--- the same of a library in which at most so many units are open at once
+-- the same for a library in which at most `limit` units are open at once
 abbrev pub BeginsWithin : ℕ → List Token → Type 0
-BeginsWithin limit seen = (l : LibraryTree) × (rest : List Token) × (library_depth l ≤ limit) × (seen ++ rest ≡ spelling l)
+BeginsWithin limit seen = (l : LibraryTree) × (rest : List Token) × (library_depth l ≤ limit)
+    × (seen ++ rest ≡ spelling l)
 
--- the first token with which the tokens so far begin no library has this number, from 0; where the text ends too early
--- it is the number of tokens. No token before it opens a unit too many.
+-- this is the number, from 0, of the first token with which the tokens so far begin no library; where the text ends too
+-- early it is the number of tokens. No token before it opens a unit too many.
 pub record IsSyntaxFault (limit : ℕ) (tokens : List Token) (at : ℕ) : Type 0 where
   pub seen : List Token
   pub rest : List Token

@@ -6,7 +6,15 @@ use Rattle.est_text.specs.declared.token.Token.{Token}
 use Rattle.est_text.specs.declared.token.Token.TheVariants.{Keyword, Identifier, Symbol}
 use Rattle.est_text.specs.declared.keyword.Keyword.TheVariants as keyword
 use Rattle.est_text.specs.declared.token.Symbol.TheVariants as symbol
-use Rattle.est_syntax.specs.Tree.{DelayTree, NamesTree, RenamingTree, WeakEndTree, left_out, end_abort, end_weak_abort, UnitTree, nothing, pause, halt, emit, sustain, exit, await, present, suspend, abort, weak_abort, repeat, repeat_each, every, trap, signal, run, group, BranchesTree, then_only, else_only, both, SequenceTree, sequence, UnitsTree, no_units, units, StatementTree, statement, SequencesTree, no_sequences, sequences, RelationTree, excludes, implies, DeclarationTree, input, output, relations, ModuleTree, LibraryTree}
+use Rattle.est_syntax.specs.Tree.{LiteralTree, named, negated, enclosed, ConjunctionTree, conjunction, LiteralsTree}
+use Rattle.est_syntax.specs.Tree.{no_literals, literals, ExpressionTree, expression, ConjunctionsTree, no_conjunctions}
+use Rattle.est_syntax.specs.Tree.{conjunctions, TestTree, bare, bracketed, DelayTree, NamesTree, RenamingTree}
+use Rattle.est_syntax.specs.Tree.{WeakEndTree, left_out, end_abort, end_weak_abort, UnitTree, nothing, pause, halt}
+use Rattle.est_syntax.specs.Tree.{emit, sustain, exit, await, present, suspend, abort, weak_abort, repeat, repeat_each}
+use Rattle.est_syntax.specs.Tree.{every, trap, signal, run, group, BranchesTree, then_only, else_only, both}
+use Rattle.est_syntax.specs.Tree.{SequenceTree, sequence, UnitsTree, no_units, units, StatementTree, statement}
+use Rattle.est_syntax.specs.Tree.{SequencesTree, no_sequences, sequences, RelationTree, excludes, implies}
+use Rattle.est_syntax.specs.Tree.{DeclarationTree, input, output, inputoutput, relations, ModuleTree, LibraryTree}
 
 -- the tokens, without their places
 abbrev pub tokens_of : List Located → List Token
@@ -24,7 +32,7 @@ abbrev pub end_if : Bool → Token → List Token → List Token
 end_if true t rest = Keyword keyword.End ∷ t ∷ rest
 end_if false t rest = rest
 
--- what may stand behind a `weak abort`
+-- what may stand after a `weak abort`
 abbrev pub weak_end_onto : WeakEndTree → List Token → List Token
 weak_end_onto left_out rest = rest
 weak_end_onto end_abort rest = Keyword keyword.End ∷ Keyword keyword.Abort ∷ rest
@@ -41,9 +49,42 @@ later_names_onto (n ∷ ns) rest = Symbol symbol.Comma ∷ Identifier n ∷ late
 abbrev pub names_onto : NamesTree → List Token → List Token
 names_onto ns rest = Identifier ns.first ∷ later_names_onto ns.later rest
 
--- `immediate`? ID
+-- ---- tests
+
+abbrev mutual
+  -- ID, or `not` literal, or `(` expression `)`
+  pub literal_onto : LiteralTree → List Token → List Token
+  literal_onto (named n) rest = Identifier n ∷ rest
+  literal_onto (negated l) rest = Keyword keyword.Not ∷ literal_onto l rest
+  literal_onto (enclosed e) rest =
+      Symbol symbol.OpenParenthesis ∷ expression_onto e (Symbol symbol.CloseParenthesis ∷ rest)
+
+  -- literal (`and` literal)*
+  pub conjunction_onto : ConjunctionTree → List Token → List Token
+  conjunction_onto (conjunction l ls) rest = literal_onto l (literals_onto ls rest)
+
+  -- (`and` literal)*
+  pub literals_onto : LiteralsTree → List Token → List Token
+  literals_onto no_literals rest = rest
+  literals_onto (literals l ls) rest = Keyword keyword.And ∷ literal_onto l (literals_onto ls rest)
+
+  -- conjunction (`or` conjunction)*
+  pub expression_onto : ExpressionTree → List Token → List Token
+  expression_onto (expression c cs) rest = conjunction_onto c (conjunctions_onto cs rest)
+
+  -- (`or` conjunction)*
+  pub conjunctions_onto : ConjunctionsTree → List Token → List Token
+  conjunctions_onto no_conjunctions rest = rest
+  conjunctions_onto (conjunctions c cs) rest = Keyword keyword.Or ∷ conjunction_onto c (conjunctions_onto cs rest)
+
+-- expression, or `[` expression `]`
+abbrev pub test_onto : TestTree → List Token → List Token
+test_onto (bare e) rest = expression_onto e rest
+test_onto (bracketed e) rest = Symbol symbol.OpenBracket ∷ expression_onto e (Symbol symbol.CloseBracket ∷ rest)
+
+-- `immediate`? test
 abbrev pub delay_onto : DelayTree → List Token → List Token
-delay_onto d rest = token_if d.immediate (Keyword keyword.Immediate) (Identifier d.signal ∷ rest)
+delay_onto d rest = token_if d.immediate (Keyword keyword.Immediate) (test_onto d.test rest)
 
 -- ID `/` ID
 abbrev pub renaming_onto : RenamingTree → List Token → List Token
@@ -72,22 +113,25 @@ abbrev mutual
   unit_onto (sustain n) rest = Keyword keyword.Sustain ∷ Identifier n ∷ rest
   unit_onto (exit n) rest = Keyword keyword.Exit ∷ Identifier n ∷ rest
   unit_onto (await d) rest = Keyword keyword.Await ∷ delay_onto d rest
-  unit_onto (present n b) rest = Keyword keyword.Present ∷ Identifier n ∷ branches_onto b rest
+  unit_onto (present n b) rest = Keyword keyword.Present ∷ test_onto n (branches_onto b rest)
   unit_onto (suspend t d c) rest = Keyword keyword.Suspend
       ∷ statement_onto t (Keyword keyword.When ∷ delay_onto d (end_if c (Keyword keyword.Suspend) rest))
   unit_onto (abort t d c) rest =
-      Keyword keyword.Abort ∷ statement_onto t (Keyword keyword.When ∷ delay_onto d (end_if c (Keyword keyword.Abort) rest))
+      Keyword keyword.Abort
+      ∷ statement_onto t (Keyword keyword.When ∷ delay_onto d (end_if c (Keyword keyword.Abort) rest))
   unit_onto (weak_abort t d c) rest = Keyword keyword.Weak ∷ Keyword keyword.Abort
       ∷ statement_onto t (Keyword keyword.When ∷ delay_onto d (weak_end_onto c rest))
   unit_onto (repeat t c) rest =
       Keyword keyword.Loop ∷ statement_onto t (Keyword keyword.End ∷ token_if c (Keyword keyword.Loop) rest)
-  unit_onto (repeat_each t n) rest = Keyword keyword.Loop ∷ statement_onto t (Keyword keyword.Each ∷ Identifier n ∷ rest)
+  unit_onto (repeat_each t n) rest = Keyword keyword.Loop ∷ statement_onto t (Keyword keyword.Each ∷ test_onto n rest)
   unit_onto (every d t c) rest = Keyword keyword.Every
-      ∷ delay_onto d (Keyword keyword.Do ∷ statement_onto t (Keyword keyword.End ∷ token_if c (Keyword keyword.Every) rest))
+      ∷ delay_onto d
+      (Keyword keyword.Do ∷ statement_onto t (Keyword keyword.End ∷ token_if c (Keyword keyword.Every) rest))
   unit_onto (trap n t c) rest = Keyword keyword.Trap ∷ Identifier n ∷ Keyword keyword.In
       ∷ statement_onto t (Keyword keyword.End ∷ token_if c (Keyword keyword.Trap) rest)
   unit_onto (signal ns t c) rest = Keyword keyword.Signal
-      ∷ names_onto ns (Keyword keyword.In ∷ statement_onto t (Keyword keyword.End ∷ token_if c (Keyword keyword.Signal) rest))
+      ∷ names_onto ns
+      (Keyword keyword.In ∷ statement_onto t (Keyword keyword.End ∷ token_if c (Keyword keyword.Signal) rest))
   unit_onto (run n rs) rest = Keyword keyword.Run ∷ Identifier n ∷ renamings_onto rs rest
   unit_onto (group t) rest = Symbol symbol.OpenBracket ∷ statement_onto t (Symbol symbol.CloseBracket ∷ rest)
 
@@ -136,10 +180,11 @@ abbrev pub later_relations_onto : List RelationTree → List Token → List Toke
 later_relations_onto [] rest = rest
 later_relations_onto (r ∷ rs) rest = Symbol symbol.Comma ∷ relation_onto r (later_relations_onto rs rest)
 
--- `input` names `;` or `output` names `;` or `relation` relation (`,` relation)* `;`
+-- `input` names `;` or `output` names `;` or `inputoutput` names `;` or `relation` relation (`,` relation)* `;`
 abbrev pub declaration_onto : DeclarationTree → List Token → List Token
 declaration_onto (input ns) rest = Keyword keyword.Input ∷ names_onto ns (Symbol symbol.Semicolon ∷ rest)
 declaration_onto (output ns) rest = Keyword keyword.Output ∷ names_onto ns (Symbol symbol.Semicolon ∷ rest)
+declaration_onto (inputoutput ns) rest = Keyword keyword.Inputoutput ∷ names_onto ns (Symbol symbol.Semicolon ∷ rest)
 declaration_onto (relations r rs) rest =
     Keyword keyword.Relation ∷ relation_onto r (later_relations_onto rs (Symbol symbol.Semicolon ∷ rest))
 
@@ -162,48 +207,84 @@ modules_onto (m ∷ ms) rest = module_onto m (modules_onto ms rest)
 abbrev pub spelling : LibraryTree → List Token
 spelling l = module_onto l.first (modules_onto l.later [])
 
--- ---- how deep units are open in one another
+-- ---- how deep open units are nested
 
 abbrev mutual
-  -- the most units that are open at once in a unit, itself counted if it holds a statement
+  -- the most that is open at once in a literal: `not` and `(` each count as a unit, up to the end of what they hold
+  pub literal_depth : LiteralTree → ℕ
+  literal_depth (named n) = 0
+  literal_depth (negated l) = suc (literal_depth l)
+  literal_depth (enclosed e) = suc (expression_depth e)
+
+  -- the same for literals with `and` between them
+  pub conjunction_depth : ConjunctionTree → ℕ
+  conjunction_depth (conjunction l ls) = max (literal_depth l) (literals_depth ls)
+
+  -- the same for further literals
+  pub literals_depth : LiteralsTree → ℕ
+  literals_depth no_literals = 0
+  literals_depth (literals l ls) = max (literal_depth l) (literals_depth ls)
+
+  -- the same for an expression
+  pub expression_depth : ExpressionTree → ℕ
+  expression_depth (expression c cs) = max (conjunction_depth c) (conjunctions_depth cs)
+
+  -- the same for further conjunctions
+  pub conjunctions_depth : ConjunctionsTree → ℕ
+  conjunctions_depth no_conjunctions = 0
+  conjunctions_depth (conjunctions c cs) = max (conjunction_depth c) (conjunctions_depth cs)
+
+-- the same for a test, whose brackets do not count
+abbrev pub test_depth : TestTree → ℕ
+test_depth (bare e) = expression_depth e
+test_depth (bracketed e) = expression_depth e
+
+-- the same for a test that is waited for
+abbrev pub delay_depth : DelayTree → ℕ
+delay_depth d = test_depth d.test
+
+abbrev mutual
+  -- the most units that are open at once in a unit, itself counted if it holds a statement; it is open from its first
+  -- token to its last, so also in its test
   pub unit_depth : UnitTree → ℕ
-  unit_depth (present n b) = suc (branches_depth b)
-  unit_depth (suspend t d c) = suc (statement_depth t)
-  unit_depth (abort t d c) = suc (statement_depth t)
-  unit_depth (weak_abort t d c) = suc (statement_depth t)
+  unit_depth (await d) = delay_depth d
+  unit_depth (present n b) = suc (max (test_depth n) (branches_depth b))
+  unit_depth (suspend t d c) = suc (max (statement_depth t) (delay_depth d))
+  unit_depth (abort t d c) = suc (max (statement_depth t) (delay_depth d))
+  unit_depth (weak_abort t d c) = suc (max (statement_depth t) (delay_depth d))
   unit_depth (repeat t c) = suc (statement_depth t)
-  unit_depth (repeat_each t n) = suc (statement_depth t)
-  unit_depth (every d t c) = suc (statement_depth t)
+  unit_depth (repeat_each t n) = suc (max (statement_depth t) (test_depth n))
+  unit_depth (every d t c) = suc (max (delay_depth d) (statement_depth t))
   unit_depth (trap n t c) = suc (statement_depth t)
   unit_depth (signal ns t c) = suc (statement_depth t)
   unit_depth (group t) = suc (statement_depth t)
   unit_depth _ = 0
 
-  -- the same of the branches of a test
+  -- the same for the branches of a test
   pub branches_depth : BranchesTree → ℕ
   branches_depth (then_only t c) = statement_depth t
   branches_depth (else_only t c) = statement_depth t
   branches_depth (both t e c) = max (statement_depth t) (statement_depth e)
 
-  -- the same of units one after another
+  -- the same for units one after another
   pub sequence_depth : SequenceTree → ℕ
   sequence_depth (sequence u us c) = max (unit_depth u) (units_depth us)
 
-  -- the same of further units
+  -- the same for further units
   pub units_depth : UnitsTree → ℕ
   units_depth no_units = 0
   units_depth (units u us) = max (unit_depth u) (units_depth us)
 
-  -- the same of sequences side by side
+  -- the same for sequences side by side
   pub statement_depth : StatementTree → ℕ
   statement_depth (statement q qs) = max (sequence_depth q) (sequences_depth qs)
 
-  -- the same of further sequences
+  -- the same for further sequences
   pub sequences_depth : SequencesTree → ℕ
   sequences_depth no_sequences = 0
   sequences_depth (sequences q qs) = max (sequence_depth q) (sequences_depth qs)
 
--- the same of the bodies of modules
+-- the same for the bodies of modules
 abbrev pub modules_depth : List ModuleTree → ℕ
 modules_depth [] = 0
 modules_depth (m ∷ ms) = max (statement_depth m.body) (modules_depth ms)

@@ -29,6 +29,12 @@ pub data Want : Type 0 where
   declarations : Want
   renamings : Want
   later_renamings : Want
+  test : Want
+  expression : Want
+  expression_tail : Want
+  conjunction : Want
+  conjunction_tail : Want
+  literal : Want
   unit : Want
   sequence : Want
   sequence_tail : Want
@@ -60,7 +66,14 @@ pub data Step : Type 0 where
 abbrev pub kw_end : Token
 kw_end = Keyword keyword.End
 
--- what a unit that begins so goes on with
+-- what a literal goes on with after this token
+abbrev pub literal_start : Token → Step
+literal_start (Identifier n) = to []
+literal_start (Keyword keyword.Not) = opens (literal ∷ leave ∷ [])
+literal_start (Symbol symbol.OpenParenthesis) = opens (expression ∷ one (Symbol symbol.CloseParenthesis) ∷ leave ∷ [])
+literal_start _ = refused
+
+-- what a unit goes on with after this token
 abbrev pub unit_start : Token → Step
 unit_start (Keyword keyword.Nothing) = to []
 unit_start (Keyword keyword.Pause) = to []
@@ -68,26 +81,27 @@ unit_start (Keyword keyword.Halt) = to []
 unit_start (Keyword keyword.Emit) = to (name ∷ [])
 unit_start (Keyword keyword.Sustain) = to (name ∷ [])
 unit_start (Keyword keyword.Exit) = to (name ∷ [])
-unit_start (Keyword keyword.Await) = to (may (Keyword keyword.Immediate) ∷ name ∷ [])
+unit_start (Keyword keyword.Await) = to (may (Keyword keyword.Immediate) ∷ test ∷ [])
 unit_start (Keyword keyword.Run) = to (name ∷ renamings ∷ [])
-unit_start (Keyword keyword.Present) = opens (name ∷ branches ∷ leave ∷ [])
+unit_start (Keyword keyword.Present) = opens (test ∷ branches ∷ leave ∷ [])
 unit_start (Keyword keyword.Suspend) =
-    opens (statement ∷ one (Keyword keyword.When) ∷ may (Keyword keyword.Immediate) ∷ name
+    opens (statement ∷ one (Keyword keyword.When) ∷ may (Keyword keyword.Immediate) ∷ test
     ∷ may_end (Keyword keyword.Suspend) ∷ leave ∷ [])
 unit_start (Keyword keyword.Abort) =
-    opens (statement ∷ one (Keyword keyword.When) ∷ may (Keyword keyword.Immediate) ∷ name
+    opens (statement ∷ one (Keyword keyword.When) ∷ may (Keyword keyword.Immediate) ∷ test
     ∷ may_end (Keyword keyword.Abort) ∷ leave ∷ [])
 unit_start (Keyword keyword.Weak) =
     opens (one (Keyword keyword.Abort) ∷ statement ∷ one (Keyword keyword.When) ∷ may (Keyword keyword.Immediate)
-    ∷ name ∷ may_end_weak ∷ leave ∷ [])
+    ∷ test ∷ may_end_weak ∷ leave ∷ [])
 unit_start (Keyword keyword.Loop) = opens (statement ∷ loop_tail ∷ leave ∷ [])
 unit_start (Keyword keyword.Every) =
-    opens (may (Keyword keyword.Immediate) ∷ name ∷ one (Keyword keyword.Do) ∷ statement ∷ one kw_end
+    opens (may (Keyword keyword.Immediate) ∷ test ∷ one (Keyword keyword.Do) ∷ statement ∷ one kw_end
     ∷ may (Keyword keyword.Every) ∷ leave ∷ [])
 unit_start (Keyword keyword.Trap) =
     opens (name ∷ one (Keyword keyword.In) ∷ statement ∷ one kw_end ∷ may (Keyword keyword.Trap) ∷ leave ∷ [])
 unit_start (Keyword keyword.Signal) =
-    opens (name ∷ later_names ∷ one (Keyword keyword.In) ∷ statement ∷ one kw_end ∷ may (Keyword keyword.Signal) ∷ leave ∷ [])
+    opens (name ∷ later_names ∷ one (Keyword keyword.In) ∷ statement ∷ one kw_end ∷ may (Keyword keyword.Signal) ∷ leave
+    ∷ [])
 unit_start (Symbol symbol.OpenBracket) = opens (statement ∷ one (Symbol symbol.CloseBracket) ∷ leave ∷ [])
 unit_start _ = refused
 
@@ -103,13 +117,14 @@ unit_or refused s other = other
 unit_or (to ws) s other = to (ws ++ sequence_tail ∷ s)
 unit_or (opens ws) s other = opens (ws ++ sequence_tail ∷ s)
 
--- a module, from behind its first word, and then more modules
+-- a module, after its first word, and then more modules
 abbrev pub module_wants : List Want → List Want
 module_wants s =
-    name ∷ one (Symbol symbol.Colon) ∷ declarations ∷ statement ∷ one kw_end ∷ one (Keyword keyword.Module) ∷ modules ∷ s
+    name ∷ one (Symbol symbol.Colon) ∷ declarations ∷ statement ∷ one kw_end ∷ one (Keyword keyword.Module) ∷ modules
+    ∷ s
 
 abbrev mutual
-  -- what a token leads to where so much is wanted
+  -- what a token leads to where this is wanted
   pub step : List Want → Token → Step
   step [] b = refused
   step (one t ∷ s) b = if same t b then to s else refused
@@ -124,8 +139,12 @@ abbrev mutual
   step (relation_tail ∷ s) (Symbol symbol.Implies) = to (name ∷ s)
   step (relation_tail ∷ s) _ = refused
   step (later_relations ∷ s) b = if same (Symbol symbol.Comma) b then to (relation ∷ later_relations ∷ s) else step s b
-  step (declarations ∷ s) (Keyword keyword.Input) = to (name ∷ later_names ∷ one (Symbol symbol.Semicolon) ∷ declarations ∷ s)
-  step (declarations ∷ s) (Keyword keyword.Output) = to (name ∷ later_names ∷ one (Symbol symbol.Semicolon) ∷ declarations ∷ s)
+  step (declarations ∷ s) (Keyword keyword.Input) =
+      to (name ∷ later_names ∷ one (Symbol symbol.Semicolon) ∷ declarations ∷ s)
+  step (declarations ∷ s) (Keyword keyword.Output) =
+      to (name ∷ later_names ∷ one (Symbol symbol.Semicolon) ∷ declarations ∷ s)
+  step (declarations ∷ s) (Keyword keyword.Inputoutput) =
+      to (name ∷ later_names ∷ one (Symbol symbol.Semicolon) ∷ declarations ∷ s)
   step (declarations ∷ s) (Keyword keyword.Relation) =
       to (relation ∷ later_relations ∷ one (Symbol symbol.Semicolon) ∷ declarations ∷ s)
   step (declarations ∷ s) b = step s b
@@ -134,7 +153,16 @@ abbrev mutual
       (one (Keyword keyword.Signal) ∷ name ∷ one (Symbol symbol.Slash) ∷ name ∷ later_renamings
       ∷ one (Symbol symbol.CloseBracket) ∷ s) else step s b
   step (later_renamings ∷ s) b =
-      if same (Symbol symbol.Comma) b then to (name ∷ one (Symbol symbol.Slash) ∷ name ∷ later_renamings ∷ s) else step s b
+      if same (Symbol symbol.Comma) b then to (name ∷ one (Symbol symbol.Slash) ∷ name ∷ later_renamings ∷ s) else step
+      s b
+  step (test ∷ s) b = if same (Symbol symbol.OpenBracket) b then to (expression ∷ one (Symbol symbol.CloseBracket) ∷ s)
+      else followed (literal_start b) (conjunction_tail ∷ expression_tail ∷ s)
+  step (expression ∷ s) b = followed (literal_start b) (conjunction_tail ∷ expression_tail ∷ s)
+  step (expression_tail ∷ s) b = if same (Keyword keyword.Or) b then to
+      (conjunction ∷ expression_tail ∷ s) else step s b
+  step (conjunction ∷ s) b = followed (literal_start b) (conjunction_tail ∷ s)
+  step (conjunction_tail ∷ s) b = if same (Keyword keyword.And) b then to (literal ∷ conjunction_tail ∷ s) else step s b
+  step (literal ∷ s) b = followed (literal_start b) s
   step (unit ∷ s) b = followed (unit_start b) s
   step (sequence ∷ s) b = followed (unit_start b) (sequence_tail ∷ s)
   step (sequence_tail ∷ s) b = if same (Symbol symbol.Semicolon) b then to (after_semicolon ∷ s) else step s b
@@ -147,7 +175,7 @@ abbrev mutual
   step (after_then ∷ s) (Keyword keyword.Else) = to (statement ∷ one kw_end ∷ may (Keyword keyword.Present) ∷ s)
   step (after_then ∷ s) (Keyword keyword.End) = to (may (Keyword keyword.Present) ∷ s)
   step (after_then ∷ s) _ = refused
-  step (loop_tail ∷ s) (Keyword keyword.Each) = to (name ∷ s)
+  step (loop_tail ∷ s) (Keyword keyword.Each) = to (test ∷ s)
   step (loop_tail ∷ s) (Keyword keyword.End) = to (may (Keyword keyword.Loop) ∷ s)
   step (loop_tail ∷ s) _ = refused
   step (may_end t ∷ s) b = if same kw_end b then to (ended t ∷ s) else step s b
@@ -179,7 +207,7 @@ abbrev mutual
   step_after_end (modules ∷ s) b = step_after_end s b
   step_after_end (_ ∷ s) b = refused
 
--- `end` can come next, and what comes behind it is known
+-- `end` can come next, and what comes after it is known
 abbrev pub Ends : List Want → Type 0
 Ends s = (t : List Want) × (step s kw_end ≡ to t) × ((b : Token) → step_after_end s b ≡ step t b)
 
@@ -197,6 +225,8 @@ is_done (later_relations ∷ s) = is_done s
 is_done (renamings ∷ s) = is_done s
 is_done (later_renamings ∷ s) = is_done s
 is_done (declarations ∷ s) = is_done s
+is_done (expression_tail ∷ s) = is_done s
+is_done (conjunction_tail ∷ s) = is_done s
 is_done (sequence_tail ∷ s) = is_done s
 is_done (after_semicolon ∷ s) = is_done s
 is_done (statement_tail ∷ s) = is_done s
@@ -218,7 +248,7 @@ pub data Outcome : Type 0 where
   wrong : List Token → Outcome
   deep : List Token → Outcome
 
--- goes on with what the token led to, if not too many units are open then
+-- goes on with what the token led to, unless too many units are open then
 abbrev pub go_on : ℕ → Step → List Token → (List Want → Outcome) → Outcome
 go_on limit refused here f = wrong here
 go_on limit (to s) here f = f s

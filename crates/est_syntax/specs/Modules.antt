@@ -10,13 +10,13 @@ use Rattle.est_syntax.specs.Grammar.{statement_depth, module_onto, modules_onto,
 use Rattle.est_syntax.specs.Machine.{Want, run, wrong, deep, module_wants, modules}
 use Rattle.est_syntax.specs.declared.parse.TheConstants.{MOST_OPEN_UNITS}
 
--- the tokens stop where these wants are all: so many are left there
+-- the tokens stop where these wants are all; n tokens are left there
 abbrev pub Stops : List Want → List Token → Fault → Type 0
 Stops ws bs (Syntax n) = (rest : List Token) × (n ≡ length rest) × (run MOST_OPEN_UNITS ws bs ≡ wrong rest)
 Stops ws bs (TooDeep n) = (rest : List Token) × (n ≡ length rest) × (run MOST_OPEN_UNITS ws bs ≡ deep rest)
 Stops ws bs Memory = Unit {0}
 
--- a module was read, from behind its first word
+-- a module was read, after its first word
 pub record IsModule (p : ModuleTree) (old new : List Token) : Type 0 where
   pub spelt : Keyword keyword.Module ∷ old ≡ module_onto p new
   pub fits : statement_depth p.body ≤ MOST_OPEN_UNITS

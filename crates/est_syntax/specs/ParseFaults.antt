@@ -6,7 +6,7 @@ use Rattle.est_syntax.specs.Faults.{IsSyntaxFault, IsTooDeep}
 use Rattle.est_syntax.specs.declared.parse.ParseFault.{ParseFault}
 use Rattle.est_syntax.specs.declared.parse.ParseFault.TheVariants.{Syntax, TooLarge, Memory}
 
--- the place is that of the first token with which the tokens so far begin no library, or of the one that opens a unit
+-- the place is that of the first token with which the tokens so far begin no library, or of the token that opens a unit
 -- too many; past the last token it is the place just after the text
 abbrev pub IsParseFault : ℕ → TokenList → ParseFault → Type 0
 IsParseFault limit tokens (Syntax place) =

@@ -11,14 +11,15 @@ use Rattle.est_syntax.specs.Grammar.{renaming_onto, later_renamings_onto, declar
 use Rattle.est_syntax.specs.Views.{declaration_view}
 use Rattle.est_syntax.specs.declared.tree.Declaration.{Declaration}
 use Rattle.est_syntax.specs.declared.parse.TheConstants.{MOST_OPEN_UNITS}
-use Rattle.est_syntax.specs.Machine.{Want, run, wrong, deep, open_count, Ends, EndsNot, Skips, declarations, unit_start, refused}
+use Rattle.est_syntax.specs.Machine.{Want, run, wrong, deep, open_count, Ends, EndsNot, Skips, declarations, unit_start}
+use Rattle.est_syntax.specs.Machine.{refused}
 
--- what is wanted stood first, and then the rest
+-- what is wanted stood first, and the rest follows
 pub record Reads (ws : List Want) (bs rest : List Token) : Type 0 where
   pub passes : (s : List Want) → run MOST_OPEN_UNITS (ws ++ s) bs ≡ run MOST_OPEN_UNITS s rest
   pub shorter : length rest ≤ length bs
 
--- the tokens stop where what is wanted does not stand: so many are left there
+-- the tokens stop where what is wanted does not stand; n tokens are left there
 abbrev pub Fails : List Want → List Token → Fault → Type 0
 Fails ws bs (Syntax n) =
     (rest : List Token) × (n ≡ length rest) × ((s : List Want) → run MOST_OPEN_UNITS (ws ++ s) bs ≡ wrong rest)
@@ -32,7 +33,7 @@ NotMemory (Syntax n) = Unit {0}
 NotMemory (TooDeep n) = Unit {0}
 NotMemory Memory = ⊥
 
--- whether what is round can go on with `end`
+-- whether what is around can go on with `end`
 abbrev pub EndsSo : Bool → List Want → Type 0
 EndsSo true s = Ends s
 EndsSo false s = EndsNot s
@@ -42,12 +43,12 @@ abbrev pub EndsAs : Option Bool → List Want → Type 0
 EndsAs None s = Unit {0}
 EndsAs (Some ends) s = EndsSo ends s
 
--- the wants round a part of a unit: so many units more may be opened there
+-- the wants around a part of a unit; `room` more units may be opened there
 pub record Round (room : ℕ) (ends : Option Bool) (s : List Want) : Type 0 where
   pub fits : open_count s + room ≡ MOST_OPEN_UNITS
   pub closing : EndsAs ends s
 
--- where the wants round it count, the tokens stop so
+-- with wants around it that count, the tokens stop so
 abbrev pub FailsIn : ℕ → Option Bool → List Want → List Token → Fault → Type 0
 FailsIn room ends ws bs (Syntax n) = (rest : List Token) × (n ≡ length rest)
     × ((s : List Want) → Round room ends s → run MOST_OPEN_UNITS (ws ++ s) bs ≡ wrong rest)
@@ -63,7 +64,7 @@ pub record IsPart (room : ℕ) (ends : Option Bool) (ws : List Want) (text : Lis
   pub passes : (s : List Want) → Round room ends s → run MOST_OPEN_UNITS (ws ++ s) old ≡ run MOST_OPEN_UNITS s new
   pub shorter : length new ≤ length old
 
--- the same two of a unit's end, where it counts whether what is round can go on with `end`
+-- the same two for a unit's end, where it counts whether what is around can go on with `end`
 pub record ReadsBefore (ends : Bool) (ws : List Want) (bs rest : List Token) : Type 0 where
   pub passes : (s : List Want) → EndsSo ends s → run MOST_OPEN_UNITS (ws ++ s) bs ≡ run MOST_OPEN_UNITS s rest
   pub shorter : length rest ≤ length bs
@@ -73,7 +74,8 @@ abbrev pub FailsBefore : Bool → List Want → List Token → Fault → Type 0
 FailsBefore ends ws bs (Syntax n) = (rest : List Token) × (n ≡ length rest)
     × ((s : List Want) → EndsSo ends s → run MOST_OPEN_UNITS (ws ++ s) bs ≡ wrong rest)
 FailsBefore ends ws bs (TooDeep n) =
-    (rest : List Token) × (n ≡ length rest) × ((s : List Want) → EndsSo ends s → run MOST_OPEN_UNITS (ws ++ s) bs ≡ deep rest)
+    (rest : List Token) × (n ≡ length rest) × ((s : List Want) → EndsSo ends s
+    → run MOST_OPEN_UNITS (ws ++ s) bs ≡ deep rest)
 FailsBefore ends ws bs Memory = Unit {0}
 
 -- the renamings so far, without the closing bracket
@@ -85,7 +87,7 @@ renamings_so_far (r ∷ rs) rest =
 -- a declaration, or none begins there
 abbrev pub IsDeclared : Option Declaration → List Token → List Token → Type 0
 IsDeclared None old new = (new ≡ old) × Skips (Keyword keyword.Input) old × Skips (Keyword keyword.Output) old
-    × Skips (Keyword keyword.Relation) old
+    × Skips (Keyword keyword.Inputoutput) old × Skips (Keyword keyword.Relation) old
 IsDeclared (Some d) old new = (old ≡ declaration_onto (declaration_view d) new) × (length new < length old)
     × ((s : List Want) → run MOST_OPEN_UNITS (declarations ∷ s) old ≡ run MOST_OPEN_UNITS (declarations ∷ s) new)
 

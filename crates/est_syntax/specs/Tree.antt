@@ -2,10 +2,40 @@
 -- (Berry, The Esterel v5 Language Primer; which closing keywords may be left out is this project's own form)
 use Rattle.std.specs.Prelude.{ℕ, Bool, List}
 
--- a signal that is waited for; the flag: `immediate` is written
+mutual
+  -- a signal, the opposite of a literal, or an expression in parentheses
+  pub data LiteralTree : Type 0 where
+    named : List ℕ → LiteralTree
+    negated : LiteralTree → LiteralTree
+    enclosed : ExpressionTree → LiteralTree
+
+  -- literals with `and` between them: all of them hold
+  pub data ConjunctionTree : Type 0 where
+    conjunction : LiteralTree → LiteralsTree → ConjunctionTree
+
+  -- any number of further literals
+  pub data LiteralsTree : Type 0 where
+    no_literals : LiteralsTree
+    literals : LiteralTree → LiteralsTree → LiteralsTree
+
+  -- conjunctions with `or` between them: one of them holds
+  pub data ExpressionTree : Type 0 where
+    expression : ConjunctionTree → ConjunctionsTree → ExpressionTree
+
+  -- any number of further conjunctions
+  pub data ConjunctionsTree : Type 0 where
+    no_conjunctions : ConjunctionsTree
+    conjunctions : ConjunctionTree → ConjunctionsTree → ConjunctionsTree
+
+-- what is asked: an expression over signals, bare or in brackets
+pub data TestTree : Type 0 where
+  bare : ExpressionTree → TestTree
+  bracketed : ExpressionTree → TestTree
+
+-- a test that is waited for; the flag: `immediate` is written
 pub record DelayTree : Type 0 where
   pub immediate : Bool
-  pub signal : List ℕ
+  pub test : TestTree
 
 -- one name or more
 pub record NamesTree : Type 0 where
@@ -33,19 +63,19 @@ mutual
     sustain : List ℕ → UnitTree
     exit : List ℕ → UnitTree
     await : DelayTree → UnitTree
-    present : List ℕ → BranchesTree → UnitTree
+    present : TestTree → BranchesTree → UnitTree
     suspend : StatementTree → DelayTree → Bool → UnitTree
     abort : StatementTree → DelayTree → Bool → UnitTree
     weak_abort : StatementTree → DelayTree → WeakEndTree → UnitTree
     repeat : StatementTree → Bool → UnitTree
-    repeat_each : StatementTree → List ℕ → UnitTree
+    repeat_each : StatementTree → TestTree → UnitTree
     every : DelayTree → StatementTree → Bool → UnitTree
     trap : List ℕ → StatementTree → Bool → UnitTree
     signal : NamesTree → StatementTree → Bool → UnitTree
     run : List ℕ → List RenamingTree → UnitTree
     group : StatementTree → UnitTree
 
-  -- the branches of a test: at least one; the flag: `present` stands again behind `end`
+  -- the branches of a test: at least one; the flag: `present` stands again after `end`
   pub data BranchesTree : Type 0 where
     then_only : StatementTree → Bool → BranchesTree
     else_only : StatementTree → Bool → BranchesTree
@@ -69,7 +99,8 @@ mutual
     no_sequences : SequencesTree
     sequences : SequenceTree → SequencesTree → SequencesTree
 
--- a relation between inputs: two names or more of which at most one is present, or a name that implies another
+-- a relation between signals that may be offered: two names or more of which at most one is present, or a name that
+-- implies another
 pub data RelationTree : Type 0 where
   excludes : List ℕ → List ℕ → List (List ℕ) → RelationTree
   implies : List ℕ → List ℕ → RelationTree
@@ -78,6 +109,7 @@ pub data RelationTree : Type 0 where
 pub data DeclarationTree : Type 0 where
   input : NamesTree → DeclarationTree
   output : NamesTree → DeclarationTree
+  inputoutput : NamesTree → DeclarationTree
   relations : RelationTree → List RelationTree → DeclarationTree
 
 -- a module: its name, its declarations in the order of the text, and its body

@@ -1,18 +1,21 @@
 //! The ends of units.
-ghost use Rattle.std.specs.Prelude.{◌≡◌, ◌∷◌, [], IfOk, IfErr};
+ghost use Rattle.std.specs.Prelude.{◌≡◌, ◌∷◌, [], None, IfOk, IfErr};
 ghost use Rattle.est_syntax.specs.Grammar.{weak_end_onto};
 ghost use Rattle.est_syntax.specs.Views.{weak_end_view};
 ghost use Rattle.est_syntax.specs.Machine.{may_end_weak};
-ghost use Rattle.est_syntax.specs.Parts.{end_again_onto, end_again_wants, end_pair_onto, end_pair_wants, when_onto, when_wants};
-ghost use Rattle.est_syntax.specs.Parsing.{Fails, Reads, FailsBefore, ReadsBefore, NotMemory};
+ghost use Rattle.est_syntax.specs.Parts.{end_again_onto, end_again_wants, end_pair_onto};
+ghost use Rattle.est_syntax.specs.Parts.{end_pair_wants, IsWhen, when_wants};
+ghost use Rattle.est_syntax.specs.Parsing.{Fails, FailsIn, Reads, FailsBefore, ReadsBefore};
+ghost use Rattle.est_syntax.specs.Parsing.{NotMemory};
 
 use crate::cursor::Cursor;
+use crate::expressions::delay;
 use crate::fault::Fault;
-use crate::names::delay;
 use crate::tree::{Delay, WeakEnd};
 use est_text::keyword::Keyword;
+use std::alloc::Global;
 
-/// `end`, and whether the keyword stands again behind it.
+/// `end`, and whether the keyword stands again after it.
 pub fn end_again(cursor: &mut Cursor, keyword: Keyword) -> Result<bool, Fault>
     ensures spelt { IfOk result (λ again. cursor.old ≡ end_again_onto again keyword cursor.new) }
     ensures reads { IfOk result (λ _. Reads (end_again_wants keyword) cursor.old cursor.new) }
@@ -23,19 +26,17 @@ pub fn end_again(cursor: &mut Cursor, keyword: Keyword) -> Result<bool, Fault>
     Ok(cursor.take_keyword(keyword))
 }
 
-/// The test behind the body of a unit.
-pub fn watched(cursor: &mut Cursor) -> Result<Delay, Fault>
-    ensures spelt { IfOk result (λ d. cursor.old ≡ when_onto d cursor.new) }
-    ensures reads { IfOk result (λ _. Reads when_wants cursor.old cursor.new) }
-    ensures err { IfErr result (λ e. Fails when_wants cursor.old e) }
-    ensures memory { IfErr result NotMemory }
+/// The test after the body of a unit.
+pub fn watched(alloc: Global, cursor: &mut Cursor, room: usize) -> Result<Delay, Fault>
+    ensures ok { IfOk result (λ d. IsWhen room d cursor.old cursor.new) }
+    ensures err { IfErr result (λ e. FailsIn room None when_wants cursor.old e) }
 {
     cursor.expect_keyword(Keyword::When)?;
-    delay(cursor)
+    delay(alloc, cursor, room)
 }
 
-/// Reads `end` and the keyword, if both stand there. An `end` without it belongs to what is around
-/// the unit, if that can go on with it.
+/// Reads `end` and the keyword, if both stand there. An `end` without the keyword belongs to what
+/// is around the unit, if that can go on with it.
 pub fn end_pair(cursor: &mut Cursor, keyword: Keyword, ends: bool) -> Result<bool, Fault>
     ensures spelt { IfOk result (λ written. cursor.old ≡ end_pair_onto written keyword cursor.new) }
     ensures reads { IfOk result

@@ -1,6 +1,9 @@
 //! A walk over tokens.
-ghost use Rattle.std.specs.Prelude.{◌≡◌, ◌≤◌, ◌∷◌, [], List, length, IsTrue, IfOk, IfErr, OnOk, MatchOption, false};
-ghost use Rattle.est_text.specs.declared.token.Token.TheVariants.{Keyword as KeywordToken, Identifier as IdentifierToken, Symbol as SymbolToken};
+ghost use Rattle.std.specs.Prelude.{◌≡◌, ◌≤◌, ◌∷◌, [], List, length, IsTrue, IfOk, IfErr, OnOk};
+ghost use Rattle.std.specs.Prelude.{MatchOption, false};
+ghost use Rattle.est_text.specs.declared.token.Token.TheVariants.{Keyword as KeywordToken};
+ghost use Rattle.est_text.specs.declared.token.Token.TheVariants.{Identifier as IdentifierToken};
+ghost use Rattle.est_text.specs.declared.token.Token.TheVariants.{Symbol as SymbolToken};
 ghost use Rattle.est_syntax.specs.Machine.{one, may, name as name_want, Skips};
 ghost use Rattle.est_syntax.specs.Parsing.{Fails, StandsFirst, NotMemory};
 ghost use Rattle.est_syntax.specs.Parts.{Leads};

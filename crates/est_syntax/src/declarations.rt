@@ -1,8 +1,13 @@
 //! Declarations at the head of a module.
-ghost use Rattle.std.specs.Prelude.{◌≡◌, ◌≤◌, ◌<◌, ◌∷◌, [], List, length, IfOk, IfErr, MatchOption, map};
-ghost use Rattle.est_syntax.specs.Grammar.{later_members_onto, relation_onto, later_relations_onto, declaration_onto, declarations_onto};
+ghost use Rattle.std.specs.Prelude.{◌≡◌, ◌≤◌, ◌<◌, ◌∷◌, [], List, length, IfOk, IfErr, MatchOption};
+ghost use Rattle.std.specs.Prelude.{map};
+ghost use Rattle.est_syntax.specs.Grammar.{later_members_onto, relation_onto, later_relations_onto};
+ghost use Rattle.est_syntax.specs.Grammar.{declaration_onto, declarations_onto};
 ghost use Rattle.est_syntax.specs.Views.{relation_view, declaration_view};
-ghost use Rattle.est_syntax.specs.Machine.{later_members as later_members_want, relation as relation_want, later_relations as later_relations_want, declarations as declarations_want};
+ghost use Rattle.est_syntax.specs.Machine.{later_members as later_members_want};
+ghost use Rattle.est_syntax.specs.Machine.{relation as relation_want};
+ghost use Rattle.est_syntax.specs.Machine.{later_relations as later_relations_want};
+ghost use Rattle.est_syntax.specs.Machine.{declarations as declarations_want};
 ghost use Rattle.est_syntax.specs.Parsing.{Fails, Reads, IsDeclared};
 
 use crate::cursor::Cursor;
@@ -14,7 +19,7 @@ use est_text::keyword::Keyword;
 use est_text::token::Symbol;
 use std::alloc::Global;
 
-/// The further members of a relation, each behind a `#`.
+/// The further members of a relation, each after a `#`.
 fn later_members(alloc: Global, cursor: &mut Cursor) -> Result<Vec<Identifier>, Fault>
     ensures spelt { IfOk result (λ ns. cursor.old ≡ later_members_onto ns.items cursor.new) }
     ensures reads { IfOk result (λ _. Reads (later_members_want ∷ []) cursor.old cursor.new) }
@@ -45,7 +50,7 @@ fn relation(alloc: Global, cursor: &mut Cursor) -> Result<Relation, Fault>
     Ok(Relation::Excludes(first, second, later))
 }
 
-/// The further relations, each behind a comma.
+/// The further relations, each after a comma.
 fn later_relations(alloc: Global, cursor: &mut Cursor) -> Result<Vec<Relation>, Fault>
     ensures spelt { IfOk result
         (λ rs. cursor.old ≡ later_relations_onto (map relation_view rs.items) cursor.new) }
@@ -74,6 +79,11 @@ fn declaration(alloc: Global, cursor: &mut Cursor) -> Result<Option<Declaration>
         let names = names(alloc, cursor)?;
         cursor.expect_symbol(Symbol::Semicolon)?;
         return Ok(Some(Declaration::Output(names)));
+    }
+    if cursor.take_keyword(Keyword::Inputoutput) {
+        let names = names(alloc, cursor)?;
+        cursor.expect_symbol(Symbol::Semicolon)?;
+        return Ok(Some(Declaration::InputOutput(names)));
     }
     if cursor.take_keyword(Keyword::Relation) {
         let first = relation(alloc, cursor)?;

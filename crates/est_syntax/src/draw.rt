@@ -3,7 +3,8 @@ ghost use Rattle.std.specs.Prelude.{◌≡◌, ◌++◌, ℕ, List, map, encode_
 ghost use Rattle.std.specs.List.{after_last, before_first};
 ghost use Rattle.std.specs.String.{string_bytes};
 ghost use Rattle.est_text.specs.Places.{place_after};
-ghost use Rattle.est_syntax.specs.Drawing.{ends_line, line_of, begins_character, under, margin, with_caret, drawn};
+ghost use Rattle.est_syntax.specs.Drawing.{ends_line, line_of, begins_character, under, margin};
+ghost use Rattle.est_syntax.specs.Drawing.{with_caret, drawn};
 
 use est_text::place::Place;
 use std::alloc::{AllocError, Global};
@@ -42,11 +43,12 @@ fn push_margin(drawing: &mut String, part: &[u8]) -> Result<(), AllocError>
     Ok(())
 }
 
-/// A place of a text as compilers draw it: the line of the place, and under it a caret. Before the caret stands a blank
-/// for each character that begins before the place, and for a tab a tab. Each of the two lines ends with LF.
+/// A place of a text as compilers draw it: the line of the place, and under it a caret. Before the
+/// caret stands a blank for each character that begins before the place, and for a tab a tab. Each
+/// of the two lines ends with LF.
 ///
-/// A CR at the end of the line belongs to the line and stays. A column behind the end of the line is drawn at its end, a
-/// line behind the last is empty, and a line or column 0 is drawn as 1.
+/// A CR at the end of the line belongs to the line and stays. A column after the end of the line is
+/// drawn at its end, a line after the last is empty, and a line or column 0 is drawn as 1.
 pub fn draw(alloc: Global, text: &str, place: Place) -> Result<String, AllocError>
     ensures { IfOk result (λ drawing. string_bytes drawing ≡ drawn text.now place) }
 {
@@ -61,8 +63,8 @@ pub fn draw(alloc: Global, text: &str, place: Place) -> Result<String, AllocErro
     Ok(drawing)
 }
 
-/// A law: at the place just after a part of a text, the line is drawn on which the part ends, up to the next LF, and the
-/// caret behind what stands under that line as far as it belongs to the part.
+/// A law. The place just after a part of a text is drawn so: the line on which the part ends, up to
+/// the next LF, and the caret after what stands under as much of that line as belongs to the part.
 pub fn place_after_a_part()
     ensures { (before rest : List ℕ) → drawn (before ++ rest) (place_after before)
         ≡ with_caret (after_last ends_line before ++ before_first ends_line rest)

@@ -1,12 +1,12 @@
 //! Why a function of the parser stops.
 use std::alloc::{AllocError, AllocFailed};
 
-/// Why tokens are no library.
+/// Why tokens are not a library.
 #[derive(Clone, Copy, PartialEq, Eq, Debug)]
 pub enum Fault {
-    /// How many tokens are left from the first that cannot stand there.
+    /// How many tokens are left from the first one that cannot stand there.
     Syntax(usize),
-    /// How many are left from the one that opens one unit too many.
+    /// How many tokens are left from the one that opens a unit too many.
     TooDeep(usize),
     /// Memory was refused.
     Memory,

@@ -1,4 +1,5 @@
-//! Laws of the grammar, for those who build on it. A law is a function without a body: its contract is what it says.
+//! Laws of the grammar, for those who build on it. A law is a function without a body: its contract
+//! is what it says.
 ghost use Rattle.std.specs.Prelude.{◌≡◌, ◌≤◌, ◌+◌, ◌∷◌, [], ℕ, List, length};
 ghost use Rattle.est_text.specs.declared.token.Token.{Token};
 ghost use Rattle.est_syntax.specs.Faults.{IsSyntaxFault, IsTooDeep};
@@ -11,7 +12,8 @@ pub fn one_library()
     ensures { (k l : LibraryTree) → spelling k ≡ spelling l → k ≡ l }
 {}
 
-/// Tokens have one first fault at most, of one kind; and none where they are spelt from a library that fits.
+/// Tokens have one first fault at most, of one kind, and none where they are spelt from a library
+/// that fits.
 ///
 /// So a place that is answered is the only one that could be.
 pub fn one_fault()

@@ -1,7 +1,8 @@
 //! From tokens to the tree of a library.
 ghost use Rattle.std.specs.Prelude.{◌≡◌, ◌∷◌, [], List, length, IfOk, IfErr, map};
 ghost use Rattle.est_syntax.specs.Views.{module_view, library_view};
-ghost use Rattle.est_syntax.specs.Machine.{module_wants, modules as modules_want, library as library_want};
+ghost use Rattle.est_syntax.specs.Machine.{module_wants, modules as modules_want};
+ghost use Rattle.est_syntax.specs.Machine.{library as library_want};
 ghost use Rattle.est_syntax.specs.Modules.{Stops, IsModule, AreAllModules, IsLibrary};
 
 use crate::cursor::Cursor;
@@ -14,7 +15,7 @@ use est_text::keyword::Keyword;
 use est_text::token::Symbol;
 use std::alloc::Global;
 
-/// A module, from behind its first word.
+/// A module, after its first word.
 fn module(alloc: Global, cursor: &mut Cursor) -> Result<Module, Fault>
     ensures ok { IfOk result (λ p. IsModule (module_view p) cursor.old cursor.new) }
     ensures err { IfErr result (λ e. Stops (module_wants []) cursor.old e) }
@@ -46,7 +47,7 @@ fn later_modules(alloc: Global, cursor: &mut Cursor) -> Result<Vec<Module>, Faul
     Ok(modules)
 }
 
-/// A library, of which all tokens are.
+/// A library, which takes all tokens.
 pub fn library(alloc: Global, cursor: &mut Cursor) -> Result<Library, Fault>
     ensures ok { IfOk result (λ l. IsLibrary (library_view l) cursor.old) }
     ensures err { IfErr result (λ e. Stops (library_want ∷ []) cursor.old e) }

@@ -1,20 +1,22 @@
-//! Lists of names, signals that are waited for, and renamings.
+//! Lists of names, and renamings.
 ghost use Rattle.std.specs.Prelude.{◌≡◌, ◌∷◌, [], IfOk, IfErr, map};
-ghost use Rattle.est_syntax.specs.Grammar.{later_names_onto, names_onto, delay_onto, renaming_onto, renamings_onto};
-ghost use Rattle.est_syntax.specs.Views.{delay_view, names_view, renaming_view};
-ghost use Rattle.est_syntax.specs.Machine.{name as name_want, later_names as later_names_want, renamings as renamings_want};
+ghost use Rattle.est_syntax.specs.Grammar.{later_names_onto, names_onto, renaming_onto};
+ghost use Rattle.est_syntax.specs.Grammar.{renamings_onto};
+ghost use Rattle.est_syntax.specs.Views.{names_view, renaming_view};
+ghost use Rattle.est_syntax.specs.Machine.{name as name_want, later_names as later_names_want};
+ghost use Rattle.est_syntax.specs.Machine.{renamings as renamings_want};
 ghost use Rattle.est_syntax.specs.Parsing.{Fails, Reads, NotMemory};
-ghost use Rattle.est_syntax.specs.Parts.{delay_wants, renaming_wants};
+ghost use Rattle.est_syntax.specs.Parts.{renaming_wants};
 
 use crate::cursor::Cursor;
 use crate::fault::Fault;
-use crate::tree::{Delay, Names, Renaming};
+use crate::tree::{Names, Renaming};
 use est_text::identifier::Identifier;
 use est_text::keyword::Keyword;
 use est_text::token::Symbol;
 use std::alloc::Global;
 
-/// The further names, each behind a comma.
+/// The further names, each after a comma.
 fn later_names(alloc: Global, cursor: &mut Cursor) -> Result<Vec<Identifier>, Fault>
     ensures spelt { IfOk result (λ ns. cursor.old ≡ later_names_onto ns.items cursor.new) }
     ensures reads { IfOk result (λ _. Reads (later_names_want ∷ []) cursor.old cursor.new) }
@@ -38,18 +40,6 @@ pub fn names(alloc: Global, cursor: &mut Cursor) -> Result<Names, Fault>
     let first = cursor.expect_name()?;
     let later = later_names(alloc, cursor)?;
     Ok(Names { first, later })
-}
-
-/// A signal that is waited for.
-pub fn delay(cursor: &mut Cursor) -> Result<Delay, Fault>
-    ensures spelt { IfOk result (λ d. cursor.old ≡ delay_onto (delay_view d) cursor.new) }
-    ensures reads { IfOk result (λ _. Reads delay_wants cursor.old cursor.new) }
-    ensures err { IfErr result (λ e. Fails delay_wants cursor.old e) }
-    ensures memory { IfErr result NotMemory }
-{
-    let immediate = cursor.take_keyword(Keyword::Immediate);
-    let signal = cursor.expect_name()?;
-    Ok(Delay { immediate, signal })
 }
 
 /// One renaming.

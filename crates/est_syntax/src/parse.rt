@@ -16,15 +16,16 @@ use est_text::place::Place;
 use est_text::tokens::Tokens;
 use std::alloc::Global;
 
-/// The most units that may be open at once. Each unit that encloses a statement counts: a test, a frame such as `loop` or
-/// `signal`, and a statement in brackets.
+/// The most units that may be open at once. Each unit that holds a statement counts: a test, a
+/// frame such as `loop` or `signal`, and a statement in brackets. In a test each `not` and each
+/// parenthesis counts too.
 pub const MOST_OPEN_UNITS: usize = 128;
 
 /// Why tokens have no tree.
 #[derive(Clone, Copy, PartialEq, Eq, Debug)]
 pub enum ParseFault {
-    /// The place of the first token with which the tokens so far begin no library; where the text ends too early, the
-    /// place just after it.
+    /// The place of the first token with which the tokens so far begin no library, or the place
+    /// just after a text that ends too early.
     Syntax(Place),
     /// The place of the token that opens one unit more than `MOST_OPEN_UNITS`.
     TooLarge(Place),
@@ -32,9 +33,10 @@ pub enum ParseFault {
     Memory,
 }
 
-/// The tree that the tokens of a text are spelt from, or the first place where they stop being the beginning of one: by the
-/// grammar of Berry's Esterel v5 Language Primer, without values, where some closing keywords may be left out. What comes
-/// first in the text counts, be it of syntax or of nesting. Memory is taken for the tree alone.
+/// The tree that the tokens of a text are spelt from, or the first place where they stop being the
+/// beginning of a library. The grammar is that of Berry's Esterel v5 Language Primer, without
+/// values; some closing keywords may be left out. The first fault in the text counts, whether it is
+/// one of syntax or of nesting. Memory is taken for the tree alone.
 pub fn parse(alloc: Global, tokens: &Tokens) -> Result<Library, ParseFault>
     ensures spelt { IfOk result (λ l. tokens_of tokens.now.located ≡ spelling (library_view l)) }
     ensures depth { IfOk result (λ l. library_depth (library_view l) ≤ MOST_OPEN_UNITS) }

@@ -1,15 +1,20 @@
 //! From tokens to the tree of a statement.
 //!
-//! The functions call one another in a circle. Each unit that holds a statement takes one from `room`, which begins at
-//! `MOST_OPEN_UNITS`, and lists are read by loops: so the recursion ends, and goes no deeper, on any text.
+//! The functions call one another in a cycle. Each unit that holds a statement takes one from
+//! `room`, which begins at `MOST_OPEN_UNITS`, and lists are read by loops. So on any text the
+//! recursion ends, and goes no deeper than `room`.
 ghost use Rattle.std.specs.Prelude.{◌∷◌, [], suc, None, Some, IfOk, IfErr};
-ghost use Rattle.est_syntax.specs.Machine.{unit as unit_want, branches as branches_want, sequence as sequence_want, sequence_tail, statement as statement_want, statement_tail};
+ghost use Rattle.est_syntax.specs.Machine.{unit as unit_want, branches as branches_want};
+ghost use Rattle.est_syntax.specs.Machine.{sequence as sequence_want, sequence_tail};
+ghost use Rattle.est_syntax.specs.Machine.{statement as statement_want, statement_tail};
 ghost use Rattle.est_syntax.specs.Parsing.{FailsIn, IsUnitStart};
-ghost use Rattle.est_syntax.specs.Parts.{IsUnit, IsBranches, AreLaterUnits, IsSequence, AreLaterSequences, IsStatement};
+ghost use Rattle.est_syntax.specs.Parts.{IsUnit, IsBranches, AreLaterUnits, IsSequence};
+ghost use Rattle.est_syntax.specs.Parts.{AreLaterSequences, IsStatement};
 ghost use Rattle.est_syntax.specs.Frames.{IsOpened, frame_wants, opener_wants};
 
 use crate::closings::end_again;
 use crate::cursor::Cursor;
+use crate::expressions::test;
 use crate::fault::Fault;
 use crate::tree::{Branches, Sequence, Statement, Unit};
 use crate::units::{Frame, Opener, head_of, opener_of, plain_unit, tail};
@@ -17,8 +22,8 @@ use est_text::keyword::Keyword;
 use est_text::token::{Symbol, Token};
 use std::alloc::Global;
 
-/// One unit. So many units may be opened in one another from here on; `ends` tells whether what is round may go on with
-/// `end`.
+/// One unit. `room` units may be opened in one another from here on; `ends` tells whether what is
+/// around may go on with `end`.
 #[cycle(parse)]
 fn unit(alloc: Global, cursor: &mut Cursor, room: usize, ends: bool) -> Result<Unit, Fault>
     ensures ok { IfOk result (λ u. IsUnit room ends u cursor.old cursor.new) }
@@ -28,7 +33,7 @@ fn unit(alloc: Global, cursor: &mut Cursor, room: usize, ends: bool) -> Result<U
     let Some(first) = cursor.next() else {
         return Err(Fault::Syntax(here));
     };
-    if let Some(plain) = plain_unit(alloc, cursor, first)? {
+    if let Some(plain) = plain_unit(alloc, cursor, first, room)? {
         return Ok(plain);
     }
     let Some(opener) = opener_of(first) else {
@@ -43,19 +48,19 @@ fn unit(alloc: Global, cursor: &mut Cursor, room: usize, ends: bool) -> Result<U
     }
 }
 
-/// A test, from behind its first word.
+/// A test, after its first word.
 #[cycle(parse)]
 fn tested(alloc: Global, cursor: &mut Cursor, room: usize) -> Result<Unit, Fault>
     ensures ok { IfOk result (λ u. IsOpened room None (Opener.Test) u cursor.old cursor.new) }
     ensures err { IfErr result
         (λ e. FailsIn (suc room) None (opener_wants Opener.Test) cursor.old e) }
 {
-    let signal = cursor.expect_name()?;
-    let test = branches(alloc, cursor, room)?;
-    Ok(Unit::Present(signal, test))
+    let asked = test(alloc, cursor, room)?;
+    let chosen = branches(alloc, cursor, room)?;
+    Ok(Unit::Present(asked, chosen))
 }
 
-/// A frame, from behind its first token.
+/// A frame, after its first token.
 #[cycle(parse)]
 fn framed(
     alloc: Global,
@@ -69,9 +74,9 @@ fn framed(
     ensures err { IfErr result
         (λ e. FailsIn (suc room) (Some ends) (frame_wants frame) cursor.old e) }
 {
-    let head = head_of(alloc, cursor, frame)?;
+    let head = head_of(alloc, cursor, frame, room)?;
     let body = statement(alloc, cursor, room, head.takes_end())?;
-    tail(cursor, head, body, ends)
+    tail(alloc, cursor, head, body, room, ends)
 }
 
 /// The branches of a test, and its end.

@@ -1,17 +1,61 @@
-//! The tree of a library of modules, as it is written: names where they stand, and no places. The forms are those of
-//! Berry's Esterel v5 Language Primer, without values; beside each stands how it is spelt.
+//! The tree of a library of modules, as it is written: names where they stand, and no places. The
+//! forms are those of Berry's Esterel v5 Language Primer, without values; beside each stands how it
+//! is spelt.
 //!
-//! What goes over a tree, its drop included, recurses through the units that lie in one another. In a tree that was read there are at most
-//! 128 of these, however long its lists are.
+//! Whatever walks a tree, its drop included, recurses through nested units, and through `not` and
+//! parentheses in a test. A tree that was read nests at most 128 of these, however long its lists
+//! are.
 use est_text::identifier::Identifier;
 
-/// A signal that is waited for: with `immediate` already in the instant in which the waiting begins.
-#[derive(Clone, Copy, PartialEq, Eq, Debug)]
+/// A part of a test: what `and` stands between.
+#[derive(Drop)]
+#[cycle(test)]
+pub enum Literal {
+    /// `S`
+    Signal(Identifier),
+    /// `not l`
+    Not(Box<Literal>),
+    /// `(e)`
+    Group(Expression),
+}
+
+/// Literals with `and` between them: all of them hold.
+#[derive(Drop)]
+#[cycle(test)]
+pub struct Conjunction {
+    /// The first literal.
+    pub first: Box<Literal>,
+    /// The others, in the order of the text.
+    pub later: Vec<Literal>,
+}
+
+/// Conjunctions with `or` between them: one of them holds.
+#[derive(Drop)]
+#[cycle(test)]
+pub struct Expression {
+    /// The first conjunction.
+    pub first: Box<Conjunction>,
+    /// The others, in the order of the text.
+    pub later: Vec<Conjunction>,
+}
+
+/// What is asked: an expression over signals.
+#[derive(Drop)]
+pub enum Test {
+    /// `e`
+    Bare(Expression),
+    /// `[e]`
+    Bracketed(Expression),
+}
+
+/// A test that is waited for. With `immediate` it is asked already in the instant in which the
+/// waiting begins.
+#[derive(Drop)]
 pub struct Delay {
     /// Whether `immediate` is written.
     pub immediate: bool,
-    /// The signal.
-    pub signal: Identifier,
+    /// What is asked.
+    pub test: Test,
 }
 
 /// One name or more, with commas between them.
@@ -43,7 +87,8 @@ pub enum WeakEnd {
     EndWeakAbort,
 }
 
-/// A unit: what `;` and `||` stand between. Where a closing keyword may be left out, a flag tells whether it is written.
+/// A unit: what `;` and `||` stand between. Where a closing keyword may be left out, a flag tells
+/// whether it is written.
 #[derive(Drop)]
 #[cycle(tree)]
 pub enum Unit {
@@ -62,30 +107,31 @@ pub enum Unit {
     /// `await S`
     Await(Delay),
     /// `present S` and the branches.
-    Present(Identifier, Branches),
+    Present(Test, Branches),
     /// `suspend p when S`. The flag: `end suspend` is written.
     Suspend(Statement, Delay, bool),
     /// `abort p when S`. The flag: `end abort` is written.
     Abort(Statement, Delay, bool),
     /// `weak abort p when S`
     WeakAbort(Statement, Delay, WeakEnd),
-    /// `loop p end`. The flag: `loop` stands again behind `end`.
+    /// `loop p end`. The flag: `loop` stands again after `end`.
     Loop(Statement, bool),
     /// `loop p each S`
-    LoopEach(Statement, Identifier),
-    /// `every S do p end`. The flag: `every` stands again behind `end`.
+    LoopEach(Statement, Test),
+    /// `every S do p end`. The flag: `every` stands again after `end`.
     Every(Delay, Statement, bool),
-    /// `trap T in p end`. The flag: `trap` stands again behind `end`.
+    /// `trap T in p end`. The flag: `trap` stands again after `end`.
     Trap(Identifier, Statement, bool),
-    /// `signal A, B in p end`. The flag: `signal` stands again behind `end`.
+    /// `signal A, B in p end`. The flag: `signal` stands again after `end`.
     Signal(Names, Statement, bool),
-    /// `run M [signal A/B, C/D]`: the module that is run, and its renamings; with none there are no brackets.
+    /// `run M [signal A/B, C/D]`: the module that is run, and its renamings. Without renamings
+    /// there are no brackets.
     Run(Identifier, Vec<Renaming>),
     /// `[p]`
     Group(Statement),
 }
 
-/// The branches of a test. The flag tells whether `present` stands again behind `end`.
+/// The branches of a test. The flag: `present` stands again after `end`.
 #[derive(Drop)]
 #[cycle(tree)]
 pub enum Branches {
@@ -119,7 +165,7 @@ pub struct Statement {
     pub later: Vec<Sequence>,
 }
 
-/// What inputs may come together.
+/// What signals may be offered together.
 #[derive(Drop)]
 pub enum Relation {
     /// `A # B # C`: at most one of these is present, of the first, the second and the later ones.
@@ -135,6 +181,8 @@ pub enum Declaration {
     Input(Names),
     /// `output A, B;`
     Output(Names),
+    /// `inputoutput A, B;`
+    InputOutput(Names),
     /// `relation A # B, C => D;`: the first relation, and the later ones.
     Relations(Relation, Vec<Relation>),
 }

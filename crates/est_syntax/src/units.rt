@@ -1,25 +1,35 @@
 //! The parts of units that hold no statement.
-ghost use Rattle.std.specs.Prelude.{◌≡◌, ◌≤◌, ◌+◌, ◌∷◌, ◌++◌, [], List, length, suc, IfOk, IfErr, MatchOption, map};
+ghost use Rattle.std.specs.Prelude.{◌≡◌, ◌≤◌, ◌+◌, ◌∷◌, ◌++◌, [], List, length, suc, Some, None};
+ghost use Rattle.std.specs.Prelude.{IfOk, IfErr, MatchOption, map};
 ghost use Rattle.est_syntax.specs.Grammar.{unit_onto, unit_depth, statement_onto, statement_depth};
 ghost use Rattle.est_syntax.specs.Views.{unit_view, statement_view};
 ghost use Rattle.est_syntax.specs.Machine.{unit as unit_want};
-ghost use Rattle.est_syntax.specs.Parsing.{Fails, Reads, ReadsBefore, FailsBefore, NotMemory};
-ghost use Rattle.est_syntax.specs.Frames.{IsPlain, frame_token, IsOpener, frame_wants, head_onto, head_wants, body_end, IsHead, IsTail, IsTailAlways};
+ghost use Rattle.est_syntax.specs.Parsing.{Fails, FailsIn, NotMemory};
+ghost use Rattle.est_syntax.specs.Frames.{IsPlain, frame_token, IsOpener, frame_wants, head_onto};
+ghost use Rattle.est_syntax.specs.Frames.{head_wants, body_end, IsHead, IsTail, IsTailAlways};
 
 use crate::closings::{end_again, end_pair, watched, weak_end};
 use crate::cursor::Cursor;
+use crate::expressions::{delay, test};
 use crate::fault::Fault;
-use crate::names::{delay, names, renamings};
+use crate::names::{names, renamings};
 use crate::tree::{Delay, Names, Statement, Unit};
 use est_text::identifier::Identifier;
 use est_text::keyword::Keyword;
 use est_text::token::{Symbol, Token};
 use std::alloc::Global;
 
-/// A unit without a body, from behind its first token, if that begins one.
-pub fn plain_unit(alloc: Global, cursor: &mut Cursor, first: &Token) -> Result<Option<Unit>, Fault>
-    ensures ok { IfOk result (λ u. IsPlain first.now u cursor.old cursor.new) }
-    ensures err { IfErr result (λ e. Fails (unit_want ∷ []) (first.now ∷ cursor.old) e) }
+/// A unit without a body, after its first token, if that token begins one. `room` units may be
+/// opened in its test.
+pub fn plain_unit(
+    alloc: Global,
+    cursor: &mut Cursor,
+    first: &Token,
+    room: usize,
+) -> Result<Option<Unit>, Fault>
+    ensures ok { IfOk result (λ u. IsPlain room first.now u cursor.old cursor.new) }
+    ensures err { IfErr result
+        (λ e. FailsIn room None (unit_want ∷ []) (first.now ∷ cursor.old) e) }
 {
     let Token::Keyword(word) = first else {
         return Ok(None);
@@ -41,8 +51,8 @@ pub fn plain_unit(alloc: Global, cursor: &mut Cursor, first: &Token) -> Result<O
             Ok(Some(Unit::Exit(trap)))
         }
         Keyword::Await => {
-            let signal = delay(cursor)?;
-            Ok(Some(Unit::Await(signal)))
+            let awaited = delay(alloc, cursor, room)?;
+            Ok(Some(Unit::Await(awaited)))
         }
         Keyword::Run => {
             let module = cursor.expect_name()?;
@@ -53,7 +63,7 @@ pub fn plain_unit(alloc: Global, cursor: &mut Cursor, first: &Token) -> Result<O
     }
 }
 
-/// What is round one statement.
+/// What is around one statement.
 #[derive(Clone, Copy, PartialEq, Eq, Debug)]
 pub enum Frame {
     Suspend,
@@ -91,7 +101,7 @@ pub fn opener_of(first: &Token) -> Option<Opener>
     }
 }
 
-/// A frame with what stands before its body.
+/// A frame, with what stands before its body.
 #[derive(Drop)]
 pub enum Head {
     Suspend,
@@ -104,10 +114,10 @@ pub enum Head {
     Group,
 }
 
-/// What stands before the body, from behind the frame's first token.
-pub fn head_of(alloc: Global, cursor: &mut Cursor, frame: Frame) -> Result<Head, Fault>
-    ensures ok { IfOk result (λ h. IsHead frame h cursor.old cursor.new) }
-    ensures err { IfErr result (λ e. Fails (frame_wants frame) cursor.old e) }
+/// What stands before the body, after the frame's first token.
+pub fn head_of(alloc: Global, cursor: &mut Cursor, frame: Frame, room: usize) -> Result<Head, Fault>
+    ensures ok { IfOk result (λ h. IsHead room frame h cursor.old cursor.new) }
+    ensures err { IfErr result (λ e. FailsIn (suc room) None (frame_wants frame) cursor.old e) }
 {
     match frame {
         Frame::Suspend => Ok(Head::Suspend),
@@ -118,9 +128,9 @@ pub fn head_of(alloc: Global, cursor: &mut Cursor, frame: Frame) -> Result<Head,
         }
         Frame::Loop => Ok(Head::Loop),
         Frame::Every => {
-            let signal = delay(cursor)?;
+            let awaited = delay(alloc, cursor, room)?;
             cursor.expect_keyword(Keyword::Do)?;
-            Ok(Head::Every(signal))
+            Ok(Head::Every(awaited))
         }
         Frame::Trap => {
             let name = cursor.expect_name()?;
@@ -137,7 +147,7 @@ pub fn head_of(alloc: Global, cursor: &mut Cursor, frame: Frame) -> Result<Head,
 }
 
 impl Head {
-    /// Whether `end` may stand behind the body.
+    /// Whether `end` may stand after the body.
     pub fn takes_end(&self) -> bool
         ensures { result ≡ body_end self.now }
     {
@@ -149,65 +159,85 @@ impl Head {
 }
 
 /// The end of a `suspend`.
-fn suspended(cursor: &mut Cursor, body: Statement, ends: bool) -> Result<Unit, Fault>
+fn suspended(
+    alloc: Global,
+    cursor: &mut Cursor,
+    body: Statement,
+    room: usize,
+    ends: bool,
+) -> Result<Unit, Fault>
     ensures ok { IfOk result
-        (λ u. IsTail ends (Head.Suspend) (statement_view body) u cursor.old cursor.new) }
-    ensures err { IfErr result (λ e. FailsBefore ends (head_wants (Head.Suspend)) cursor.old e) }
-    ensures memory { IfErr result NotMemory }
+        (λ u. IsTail room (Some ends) (Head.Suspend) (statement_view body) u
+        cursor.old cursor.new) }
+    ensures err { IfErr result
+        (λ e. FailsIn (suc room) (Some ends) (head_wants (Head.Suspend)) cursor.old e) }
 {
-    let signal = watched(cursor)?;
+    let watch = watched(alloc, cursor, room)?;
     let written = end_pair(cursor, Keyword::Suspend, ends)?;
-    Ok(Unit::Suspend(body, signal, written))
+    Ok(Unit::Suspend(body, watch, written))
 }
 
 /// The end of an `abort`.
-fn aborted(cursor: &mut Cursor, body: Statement, ends: bool) -> Result<Unit, Fault>
+fn aborted(
+    alloc: Global,
+    cursor: &mut Cursor,
+    body: Statement,
+    room: usize,
+    ends: bool,
+) -> Result<Unit, Fault>
     ensures ok { IfOk result
-        (λ u. IsTail ends (Head.Abort) (statement_view body) u cursor.old cursor.new) }
-    ensures err { IfErr result (λ e. FailsBefore ends (head_wants (Head.Abort)) cursor.old e) }
-    ensures memory { IfErr result NotMemory }
+        (λ u. IsTail room (Some ends) (Head.Abort) (statement_view body) u cursor.old cursor.new) }
+    ensures err { IfErr result
+        (λ e. FailsIn (suc room) (Some ends) (head_wants (Head.Abort)) cursor.old e) }
 {
-    let signal = watched(cursor)?;
+    let watch = watched(alloc, cursor, room)?;
     let written = end_pair(cursor, Keyword::Abort, ends)?;
-    Ok(Unit::Abort(body, signal, written))
+    Ok(Unit::Abort(body, watch, written))
 }
 
 /// The end of a `weak abort`.
-fn weakly_aborted(cursor: &mut Cursor, body: Statement, ends: bool) -> Result<Unit, Fault>
+fn weakly_aborted(
+    alloc: Global,
+    cursor: &mut Cursor,
+    body: Statement,
+    room: usize,
+    ends: bool,
+) -> Result<Unit, Fault>
     ensures ok { IfOk result
-        (λ u. IsTail ends (Head.WeakAbort) (statement_view body) u cursor.old cursor.new) }
-    ensures err { IfErr result (λ e. FailsBefore ends (head_wants (Head.WeakAbort)) cursor.old e) }
-    ensures memory { IfErr result NotMemory }
+        (λ u. IsTail room (Some ends) (Head.WeakAbort)
+        (statement_view body) u cursor.old cursor.new) }
+    ensures err { IfErr result
+        (λ e. FailsIn (suc room) (Some ends) (head_wants (Head.WeakAbort)) cursor.old e) }
 {
-    let signal = watched(cursor)?;
+    let watch = watched(alloc, cursor, room)?;
     let written = weak_end(cursor, ends)?;
-    Ok(Unit::WeakAbort(body, signal, written))
+    Ok(Unit::WeakAbort(body, watch, written))
 }
 
 /// The end of a loop.
-fn looped(cursor: &mut Cursor, body: Statement) -> Result<Unit, Fault>
+fn looped(alloc: Global, cursor: &mut Cursor, body: Statement, room: usize) -> Result<Unit, Fault>
     ensures ok { IfOk result
-        (λ u. IsTailAlways (Head.Loop) (statement_view body) u cursor.old cursor.new) }
-    ensures err { IfErr result (λ e. Fails (head_wants (Head.Loop)) cursor.old e) }
-    ensures memory { IfErr result NotMemory }
+        (λ u. IsTail room None (Head.Loop) (statement_view body) u cursor.old cursor.new) }
+    ensures err { IfErr result
+        (λ e. FailsIn (suc room) None (head_wants (Head.Loop)) cursor.old e) }
 {
     if cursor.take_keyword(Keyword::Each) {
-        let signal = cursor.expect_name()?;
-        return Ok(Unit::LoopEach(body, signal));
+        let each = test(alloc, cursor, room)?;
+        return Ok(Unit::LoopEach(body, each));
     }
     let again = end_again(cursor, Keyword::Loop)?;
     Ok(Unit::Loop(body, again))
 }
 
 /// The end of an `every`.
-fn repeated(cursor: &mut Cursor, signal: Delay, body: Statement) -> Result<Unit, Fault>
+fn repeated(cursor: &mut Cursor, every: Delay, body: Statement) -> Result<Unit, Fault>
     ensures ok { IfOk result
-        (λ u. IsTailAlways (Head.Every signal) (statement_view body) u cursor.old cursor.new) }
-    ensures err { IfErr result (λ e. Fails (head_wants (Head.Every signal)) cursor.old e) }
+        (λ u. IsTailAlways (Head.Every every) (statement_view body) u cursor.old cursor.new) }
+    ensures err { IfErr result (λ e. Fails (head_wants (Head.Every every)) cursor.old e) }
     ensures memory { IfErr result NotMemory }
 {
     let again = end_again(cursor, Keyword::Every)?;
-    Ok(Unit::Every(signal, body, again))
+    Ok(Unit::Every(every, body, again))
 }
 
 /// The end of a `trap`.
@@ -243,18 +273,26 @@ fn grouped(cursor: &mut Cursor, body: Statement) -> Result<Unit, Fault>
     Ok(Unit::Group(body))
 }
 
-/// What stands behind the body of a frame.
-pub fn tail(cursor: &mut Cursor, head: Head, body: Statement, ends: bool) -> Result<Unit, Fault>
-    ensures ok { IfOk result (λ u. IsTail ends head (statement_view body) u cursor.old cursor.new) }
-    ensures err { IfErr result (λ e. FailsBefore ends (head_wants head) cursor.old e) }
-    ensures memory { IfErr result NotMemory }
+/// What stands after the body of a frame. `room` units may be opened in its test.
+pub fn tail(
+    alloc: Global,
+    cursor: &mut Cursor,
+    head: Head,
+    body: Statement,
+    room: usize,
+    ends: bool,
+) -> Result<Unit, Fault>
+    ensures ok { IfOk result
+        (λ u. IsTail room (Some ends) head (statement_view body) u cursor.old cursor.new) }
+    ensures err { IfErr result
+        (λ e. FailsIn (suc room) (Some ends) (head_wants head) cursor.old e) }
 {
     match head {
-        Head::Suspend => suspended(cursor, body, ends),
-        Head::Abort => aborted(cursor, body, ends),
-        Head::WeakAbort => weakly_aborted(cursor, body, ends),
-        Head::Loop => looped(cursor, body),
-        Head::Every(signal) => repeated(cursor, signal, body),
+        Head::Suspend => suspended(alloc, cursor, body, room, ends),
+        Head::Abort => aborted(alloc, cursor, body, room, ends),
+        Head::WeakAbort => weakly_aborted(alloc, cursor, body, room, ends),
+        Head::Loop => looped(alloc, cursor, body, room),
+        Head::Every(every) => repeated(cursor, every, body),
         Head::Trap(name) => trapped(cursor, name, body),
         Head::Signal(names) => local(cursor, names, body),
         Head::Group => grouped(cursor, body),

@@ -1,6 +1,9 @@
 -- What the scans make of the bytes at the front.
-use Rattle.std.proofs.Common.{◌≡◌, ◌≢◌, ◌∙◌, ℕ, zero, suc, ◌+◌, ◌<◌, ◌≤◌, List, [], ◌∷◌, ◌++◌, length, take, drop, get_or, Bool, true, false, slice_index, append_assoc, refl, sym, ap, subst, arith, Option, Some, None, if◌then◌else◌}
-use Rattle.std.proofs.lemmas.List.{get_or-take, take_more, length-append, length-take, get_or-append-add, take-append-drop}
+use Rattle.std.proofs.Common.{◌≡◌, ◌≢◌, ◌∙◌, ℕ, zero, suc, ◌+◌, ◌<◌, ◌≤◌, List, [], ◌∷◌, ◌++◌, length, take, drop}
+use Rattle.std.proofs.Common.{get_or, Bool, true, false, slice_index, append_assoc, refl, sym, ap, subst, arith, Option}
+use Rattle.std.proofs.Common.{Some, None, if◌then◌else◌}
+use Rattle.std.proofs.lemmas.List.{get_or-take, take_more, length-append, length-take, get_or-append-add}
+use Rattle.std.proofs.lemmas.List.{take-append-drop}
 use Rattle.std.proofs.Math.Seq.{get_or-append_seam}
 use Rattle.std.proofs.lemmas.Bool.Decides.{nat_tests}
 use Rattle.std.specs.List.{list_all}
@@ -35,7 +38,7 @@ same_run p (x ∷ xs) (y ∷ ys) m n a b s t e =
     let more = same_run p xs ys m n (both (p x) (list_all p xs) a).1 (both (p y) (list_all p ys) b).1 s t rest in
     cc
 
--- an identifier's bytes may all stand in one
+-- all bytes of an identifier may stand in one
 pub all_in_word : (bytes : List ℕ) → is_identifier bytes ≡ true → list_all is_identifier_byte bytes ≡ true
 all_in_word [] h = cc
 all_in_word (b ∷ bs) h = (both _ _ h).1
@@ -86,7 +89,8 @@ line_found_at : (cs : List ℕ) (n : ℕ) → (0 < length cs → slice_index cs 
     → list_all is_in_line (take n (37 ∷ cs)) ≡ true → StopsAt is_in_line (drop n (37 ∷ cs))
     → IsPieceOf piece.LineComment n (37 ∷ cs)
 line_found_at cs zero other within same stops = cc
-line_found_at cs (suc n) other within same stops = (omega arith, within, ((take n cs, refl, no_brace cs n other, same), stops))
+line_found_at cs (suc n) other within same stops =
+    (omega arith, within, ((take n cs, refl, no_brace cs n other, same), stops))
   where
     no_brace : (cs : List ℕ) (n : ℕ) → (0 < length cs → slice_index cs 0 ≢ 123) → StopsAt (λ b. b == 123) (take n cs)
     no_brace [] zero other = tt
@@ -104,7 +108,8 @@ line_found (b ∷ cs) n first some other within same stops =
     subst P (sym first) (line_found_at cs n (λ l. other (omega arith))) within same stops
 
 -- the bytes before a close, and the close
-upto_close : (cs : List ℕ) (at : ℕ) → at + 1 < length cs → ClosesAt cs at → take (at + 2) cs ≡ take at cs ++ 125 ∷ 37 ∷ []
+upto_close : (cs : List ℕ) (at : ℕ) → at + 1 < length cs → ClosesAt cs at
+    → take (at + 2) cs ≡ take at cs ++ 125 ∷ 37 ∷ []
 upto_close cs at l h =
     let two : at + 2 ≡ at + 1 + 1 = omega arith in
     let a : take (at + 1 + 1) cs ≡ take (at + 1) cs ++ get_or cs (at + 1) 0 ∷ [] = take_more cs (at + 1) 0 l in
@@ -136,7 +141,8 @@ block_found cs at l h none =
     )
 
 -- a comment that begins with `%{` is none to the end of its line
-pub brace_in_line : (ds more cs : List ℕ) → 123 ∷ cs ≡ ds ++ more → StopsAt (λ b. b == 123) ds → StopsAt is_in_line more → ⊥
+pub brace_in_line : (ds more cs : List ℕ) → 123 ∷ cs ≡ ds ++ more → StopsAt (λ b. b == 123) ds → StopsAt is_in_line more
+    → ⊥
 brace_in_line [] [] cs e s t = cc
 brace_in_line [] (m ∷ ms) cs e s t =
     let same : m ≡ 123 = cc in
@@ -145,7 +151,8 @@ brace_in_line (d ∷ ds) more cs e s t =
     let same : d ≡ 123 = cc in
     let h : true ≡ false = subst (λ (x : ℕ). (x == 123) ≡ false) same s in cc
 
-no_close : (cs ds more : List ℕ) → ((i : ℕ) → i + 1 < length cs → ¬ (ClosesAt cs i)) → cs ≡ (ds ++ 125 ∷ 37 ∷ []) ++ more → ⊥
+no_close : (cs ds more : List ℕ) → ((i : ℕ) → i + 1 < length cs → ¬ (ClosesAt cs i))
+    → cs ≡ (ds ++ 125 ∷ 37 ∷ []) ++ more → ⊥
 no_close cs ds more none e =
     let f : cs ≡ ds ++ 125 ∷ 37 ∷ more = e ∙ append_assoc ds (125 ∷ 37 ∷ []) more in
     none (length ds) (omega (arith, ap length f, length-append ds (125 ∷ 37 ∷ more))) (
@@ -154,7 +161,8 @@ no_close cs ds more none e =
     )
 
 block_is_no_piece : (cs : List ℕ) → ((i : ℕ) → i + 1 < length cs → ¬ (ClosesAt cs i))
-    → (k : Piece) (bytes more : List ℕ) → head_of_piece k ≡ AtPercent → 37 ∷ 123 ∷ cs ≡ bytes ++ more → IsPiece k bytes more → ⊥
+    → (k : Piece) (bytes more : List ℕ) → head_of_piece k ≡ AtPercent → 37 ∷ 123 ∷ cs ≡ bytes ++ more
+    → IsPiece k bytes more → ⊥
 block_is_no_piece cs none piece.LineComment bytes more h e p =
     let e2 : 37 ∷ 123 ∷ cs ≡ 37 ∷ (p.0.0 ++ more) = e ∙ ap (λ (l : List ℕ). l ++ more) p.0.1 in
     let e3 : 123 ∷ cs ≡ p.0.0 ++ more = cc in
@@ -168,8 +176,11 @@ block_is_no_piece cs none (piece.Token (token.Identifier name)) bytes more h e p
 block_is_no_piece cs none other bytes more h e p = cc
 
 pub block_fault : (cs : List ℕ) → ((i : ℕ) → i + 1 < length cs → ¬ (ClosesAt cs i)) → IsFault (37 ∷ 123 ∷ cs)
-block_fault cs none =
-    (λ e. cc, λ k bytes more e p. block_is_no_piece cs none k bytes more (sym (same_head 37 (123 ∷ cs) k bytes more p e)) e p)
+block_fault cs none = (
+  λ e. cc,
+  λ k bytes more e p. block_is_no_piece cs none k bytes more
+      (sym (same_head 37 (123 ∷ cs) k bytes more p e)) e p,
+)
 
 pub block_found_in : (rest : List ℕ) (at : ℕ) → 1 < length rest → slice_index rest 0 ≡ 37 → slice_index rest 1 ≡ 123
     → at + 1 < length (drop 2 rest) → ClosesAt (drop 2 rest) at → ((i : ℕ) → i < at → ¬ (ClosesAt (drop 2 rest) i))
@@ -189,14 +200,16 @@ block_fault_in (b ∷ d ∷ cs) some first second none =
     let e : 37 ∷ 123 ∷ cs ≡ b ∷ d ∷ cs = cc in
     subst IsFault e (block_fault cs none)
 
--- what is read from bytes that are looked at once
+-- where a name is read from bytes, they are an identifier and the name is these bytes
 pub identifier_read : (bytes name : List ℕ) (r : Option (List ℕ))
-    → r ≡ (if is_identifier bytes then Some bytes else None) → r ≡ Some name → (is_identifier bytes ≡ true) × (name ≡ bytes)
+    → r ≡ (if is_identifier bytes then Some bytes else None) → r ≡ Some name
+    → (is_identifier bytes ≡ true) × (name ≡ bytes)
 identifier_read bytes name r e f = at (is_identifier bytes) refl
   where
     at : (b : Bool) → b ≡ is_identifier bytes → (is_identifier bytes ≡ true) × (name ≡ bytes)
     at true h =
-        let g : Some name ≡ Some bytes = sym f ∙ e ∙ ap (λ (c : Bool). if c then Some bytes else None) (sym h) in (sym h, cc)
+        let g : Some name ≡ Some bytes = sym f ∙ e ∙ ap (λ (c : Bool). if c then Some bytes else None) (sym h) in
+        (sym h, cc)
     at false h = let g : Some name ≡ None = sym f ∙ e ∙ ap (λ (c : Bool). if c then Some bytes else None) (sym h) in cc
 
 pub none_read : (bytes : List ℕ) (r : Option (List ℕ)) → r ≡ (if is_identifier bytes then Some bytes else None)

@@ -1,5 +1,6 @@
 -- The first byte of a piece tells its kind.
-use Rattle.std.proofs.Common.{◌≡◌, ◌∙◌, ℕ, List, [], ◌∷◌, ◌++◌, Bool, true, false, ◌&&◌, refl, sym, ap, arith, Option, Some, None, if◌then◌else◌}
+use Rattle.std.proofs.Common.{◌≡◌, ◌∙◌, ℕ, List, [], ◌∷◌, ◌++◌, Bool, true, false, ◌&&◌, refl, sym, ap, arith, Option}
+use Rattle.std.proofs.Common.{Some, None, if◌then◌else◌}
 use Rattle.std.proofs.lemmas.Bool.Decides.{nat_tests}
 use Rattle.std.specs.Bool.{◌==◌}
 use Rattle.std.specs.Char.{is_ascii_alphabetic}
@@ -99,9 +100,11 @@ pub record StartsWith (p : Piece) (bytes : List ℕ) : Type 0 where
 first_letter : (b : ℕ) (bs : List ℕ) → is_identifier (b ∷ bs) ≡ true → is_ascii_alphabetic b ≡ true
 first_letter b bs h = (both (is_ascii_alphabetic b) _ (both _ _ h).0).0
 
-word_starts : (p : Piece) (bytes : List ℕ) → is_identifier bytes ≡ true → head_of_piece p ≡ AtLetter → StartsWith p bytes
+word_starts : (p : Piece) (bytes : List ℕ) → is_identifier bytes ≡ true → head_of_piece p ≡ AtLetter
+    → StartsWith p bytes
 word_starts p [] h e = cc
-word_starts p (b ∷ bs) h e = record { byte = b; more = bs; whole = refl; head = head_of_letter b (first_letter b bs h) ∙ sym e }
+word_starts p (b ∷ bs) h e =
+    record { byte = b; more = bs; whole = refl; head = head_of_letter b (first_letter b bs h) ∙ sym e }
 
 pub piece_starts : (p : Piece) (bytes rest : List ℕ) → IsPiece p bytes rest → StartsWith p bytes
 piece_starts piece.Blank bytes rest h = record {
@@ -111,9 +114,11 @@ piece_starts piece.Blank bytes rest h = record {
   head = ap (λ (t : Bool). head_by t (h.0 == 37) (is_ascii_alphabetic h.0)) h.2;
 }
 piece_starts piece.LineComment bytes rest h = record { byte = 37; more = h.0.0; whole = h.0.1; head = refl }
-piece_starts piece.BlockComment bytes rest h = record { byte = 37; more = 123 ∷ (h.0 ++ 125 ∷ 37 ∷ []); whole = h.1; head = refl }
+piece_starts piece.BlockComment bytes rest h =
+    record { byte = 37; more = 123 ∷ (h.0 ++ 125 ∷ 37 ∷ []); whole = h.1; head = refl }
 piece_starts (piece.Token (token.Keyword k)) bytes rest h = word_starts (piece.Token (token.Keyword k)) bytes h.0 refl
-piece_starts (piece.Token (token.Identifier name)) bytes rest h = word_starts (piece.Token (token.Identifier name)) bytes h.0 refl
+piece_starts (piece.Token (token.Identifier name)) bytes rest h =
+    word_starts (piece.Token (token.Identifier name)) bytes h.0 refl
 piece_starts (piece.Token (token.Symbol s)) bytes rest h = let b = symbol_begins s in
     record { byte = b.byte; more = b.more; whole = h ∙ b.whole; head = b.head }
 

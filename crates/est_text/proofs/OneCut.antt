@@ -1,13 +1,16 @@
 -- A text can be cut in one way.
-use Rattle.std.proofs.Common.{◌≡◌, ◌∙◌, ℕ, suc, ◌+◌, ◌<◌, List, [], ◌∷◌, ◌++◌, length, true, slice_index, append_assoc, refl, sym, ap, subst, arith, Some, None}
+use Rattle.std.proofs.Common.{◌≡◌, ◌∙◌, ℕ, suc, ◌+◌, ◌<◌, List, [], ◌∷◌, ◌++◌, length, true, slice_index, append_assoc}
+use Rattle.std.proofs.Common.{refl, sym, ap, subst, arith, Some, None}
 use Rattle.std.proofs.lemmas.List.{append_cancel_left}
 use Rattle.std.specs.List.{list_all}
 use Rattle.est_text.proofs.Fronts.{same_run, all_in_word, brace_in_line}
-use Rattle.est_text.proofs.Heads.{AtBlank, AtPercent, head_of_piece, piece_starts, same_heads, symbol_with, symbol_begins}
+use Rattle.est_text.proofs.Heads.{AtBlank, AtPercent, head_of_piece, piece_starts, same_heads, symbol_with}
+use Rattle.est_text.proofs.Heads.{symbol_begins}
 use Rattle.est_text.specs.Identifiers.{is_identifier, is_identifier_byte}
 use Rattle.est_text.specs.Keywords.{keyword_of}
 use Rattle.est_text.specs.Lexing.{IsFirstFault}
-use Rattle.est_text.specs.Pieces.{is_in_line, StopsAt, ClosesAt, IsBlockComment, IsLineComment, IsSpelling, IsPiece, Cut, ArePieces, AreTokens, tokens_from, symbol_text}
+use Rattle.est_text.specs.Pieces.{is_in_line, StopsAt, ClosesAt, IsBlockComment, IsLineComment, IsSpelling, IsPiece}
+use Rattle.est_text.specs.Pieces.{Cut, ArePieces, AreTokens, tokens_from, symbol_text}
 use Rattle.est_text.specs.declared.keyword.Keyword.{Keyword}
 use Rattle.est_text.specs.declared.token.Symbol.{Symbol}
 use Rattle.est_text.specs.declared.token.Token.{Token}
@@ -18,7 +21,7 @@ use Rattle.est_text.specs.declared.piece.Piece.TheVariants as piece
 
 -- ---- block comments
 
--- no `}%` begins within these bytes, where one stands behind them
+-- no `}%` begins within these bytes, where one follows them
 abbrev NoClose : List ℕ → Type 0
 NoClose cs = (i : ℕ) → i < length cs → ¬ (ClosesAt (cs ++ 125 ∷ 37 ∷ []) i)
 
@@ -30,7 +33,7 @@ later_none c cs h i l k =
 first_is : (a : ℕ) (more : List ℕ) (b : ℕ) (bs : List ℕ) → a ∷ more ≡ b ∷ bs → a ≡ b
 first_is a more b bs e = cc
 
--- a comment that ends before a second end is none
+-- bytes without a close do not begin with one
 closes_first : (d : ℕ) (ds m n : List ℕ) → NoClose (d ∷ ds) → 125 ∷ 37 ∷ m ≡ d ∷ (ds ++ 125 ∷ 37 ∷ n) → ⊥
 closes_first d [] m n h e =
     let wrong : 37 ∷ m ≡ 125 ∷ 37 ∷ n = cc in
@@ -103,7 +106,8 @@ same_keyword : (j k : Keyword) (bytes others : List ℕ) → keyword_of bytes �
     → bytes ≡ others → j ≡ k
 same_keyword j k bytes others h g e = let some : Some j ≡ Some k = sym h ∙ ap keyword_of e ∙ g in cc
 
-no_keyword : (k : Keyword) (bytes others : List ℕ) → keyword_of bytes ≡ Some k → keyword_of others ≡ None → bytes ≡ others → ⊥
+no_keyword : (k : Keyword) (bytes others : List ℕ) → keyword_of bytes ≡ Some k → keyword_of others ≡ None
+    → bytes ≡ others → ⊥
 no_keyword k bytes others h g e = let some : Some k ≡ None = sym h ∙ ap keyword_of e ∙ g in cc
 
 one_token : (t u : Token) (bytes rest others more : List ℕ)
@@ -139,7 +143,7 @@ percent_head (token.Keyword k) e = cc
 percent_head (token.Identifier name) e = cc
 percent_head (token.Symbol s) e = cc
 
--- a token begins as no blank and no comment does
+-- a token does not begin as a blank or a comment does
 no_token : (t : Token) (p : Piece) → IsGap p → head_of_piece p ≡ head_of_piece (piece.Token t) → ⊥
 no_token t piece.Blank g e = blank_head t e
 no_token t piece.LineComment g e = percent_head t e
@@ -149,7 +153,8 @@ no_token t (piece.Token u) g e = g
 one_kind : (p q : Piece) (bytes rest others more : List ℕ) → head_of_piece p ≡ head_of_piece q → IsPiece p bytes rest
     → IsPiece q others more → bytes ++ rest ≡ others ++ more → (p ≡ q) × (bytes ≡ others)
 one_kind piece.Blank piece.Blank bytes rest others more a h k e =
-    let whole : h.0 ∷ rest ≡ k.0 ∷ more = sym (ap (λ (l : List ℕ). l ++ rest) h.1) ∙ e ∙ ap (λ (l : List ℕ). l ++ more) k.1 in
+    let whole : h.0 ∷ rest ≡ k.0 ∷ more = sym (ap (λ (l : List ℕ). l ++ rest) h.1) ∙ e
+    ∙ ap (λ (l : List ℕ). l ++ more) k.1 in
     (refl, h.1 ∙ ap (λ (b : ℕ). b ∷ []) (first_is h.0 rest k.0 more whole) ∙ sym k.1)
 one_kind piece.LineComment piece.LineComment bytes rest others more a h k e =
     (refl, same_line bytes rest others more h.0 h.1 k.0 k.1 e)
@@ -157,7 +162,8 @@ one_kind piece.LineComment piece.BlockComment bytes rest others more a h k e =
     absurd (line_or_block bytes rest others more h.0 h.1 k e)
 one_kind piece.BlockComment piece.LineComment bytes rest others more a h k e =
     absurd (line_or_block others more bytes rest k.0 k.1 h (sym e))
-one_kind piece.BlockComment piece.BlockComment bytes rest others more a h k e = (refl, same_block bytes rest others more h k e)
+one_kind piece.BlockComment piece.BlockComment bytes rest others more a h k e =
+    (refl, same_block bytes rest others more h k e)
 one_kind (piece.Token t) (piece.Token u) bytes rest others more a h k e =
     let one = one_token t u bytes rest others more a h k e in (ap piece.Token one.0, one.1)
 one_kind (piece.Token t) q bytes rest others more a h k e = absurd (no_token t q tt (sym a))
@@ -213,7 +219,8 @@ faults_are_one text at other h k =
     let same = one_way h.0 k.0 text h.1 k.1 h.2 h.3.1 k.2 k.3.1 in
     omega (arith, ap length same.1, h.4, k.4)
 
-pub tokens_or_fault : (text : List ℕ) (tokens : List Located) (at : ℕ) → AreTokens text tokens → IsFirstFault text at → ⊥
+pub tokens_or_fault : (text : List ℕ) (tokens : List Located) (at : ℕ) → AreTokens text tokens → IsFirstFault text at
+    → ⊥
 tokens_or_fault text tokens at h k =
     let same = one_way h.0 k.0 text [] k.1 h.1 nothing_ends k.2 k.3.1 in
     k.3.0 (sym same.1)

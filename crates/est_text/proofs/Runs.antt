@@ -1,5 +1,6 @@
 -- Pieces one after another.
-use Rattle.std.proofs.Common.{◌≡◌, ◌∙◌, ℕ, ◌+◌, List, [], ◌∷◌, ◌++◌, length, take, drop, append_assoc, refl, sym, ap, arith}
+use Rattle.std.proofs.Common.{◌≡◌, ◌∙◌, ℕ, ◌+◌, List, [], ◌∷◌, ◌++◌, length, take, drop, append_assoc, refl, sym, ap}
+use Rattle.std.proofs.Common.{arith}
 use Rattle.std.proofs.lemmas.List.{length-append, take-append-drop}
 use Rattle.est_text.specs.Pieces.{Cut, ArePieces, IsPieceOf, located, tokens_from}
 use Rattle.est_text.specs.declared.piece.Piece.{Piece}

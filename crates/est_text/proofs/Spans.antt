@@ -1,5 +1,6 @@
 -- Where the tokens of a text lie in it.
-use Rattle.std.proofs.Common.{◌≡◌, ◌∙◌, ℕ, zero, suc, ◌+◌, ◌-◌, List, [], ◌∷◌, ◌++◌, length, take, drop, Option, Some, None, refl, sym, ap, subst, arith}
+use Rattle.std.proofs.Common.{◌≡◌, ◌∙◌, ℕ, zero, suc, ◌+◌, ◌-◌, List, [], ◌∷◌, ◌++◌, length, take, drop, Option, Some}
+use Rattle.std.proofs.Common.{None, refl, sym, ap, subst, arith}
 use Rattle.std.specs.Prelude.{slice_get, slice_range, IfSome}
 use Rattle.std.proofs.lemmas.List.{length-append, drop-drop, drop_at, take_at}
 use Rattle.est_text.specs.Pieces.{Cut, ArePieces, AreTokens, IsPiece, IsSpelling, located, tokens_from}
@@ -18,7 +19,8 @@ token_stands source bytes more start t d n h =
     sym (ap (λ (k : ℕ). take k (drop start source)) count ∙ ap (take (length bytes)) d
     ∙ take_at bytes more (length bytes) refl) in
     let back : more ≡ drop (start + length bytes) source = sym
-    (sym (drop-drop (length bytes) start source) ∙ ap (drop (length bytes)) d ∙ drop_at bytes more (length bytes) refl) in
+    (sym (drop-drop (length bytes) start source) ∙ ap (drop (length bytes)) d
+    ∙ drop_at bytes more (length bytes) refl) in
     record {
       ordered = omega arith;
       within = omega (arith, length-append bytes more);
@@ -56,7 +58,8 @@ pieces_stand source (c ∷ cs) rest start d n h i l e =
 pub tokens_stand : (source : List ℕ) (tokens : List Located) → AreTokens source tokens → (i : ℕ) (l : Located)
     → slice_get tokens i ≡ Some l → StandsIn source l
 tokens_stand source tokens h i l e =
-    pieces_stand source h.0 source 0 refl (omega arith) h.1 i l (ap (λ (ts : List Located). slice_get ts i) (sym h.2) ∙ e)
+    pieces_stand source h.0 source 0 refl (omega arith) h.1 i l
+    (ap (λ (ts : List Located). slice_get ts i) (sym h.2) ∙ e)
 
 pub token_if_there : (source : List ℕ) (tokens : List Located) (i : ℕ) (r : Option Located) → AreTokens source tokens
     → r ≡ slice_get tokens i → IfSome r (StandsIn source)
@@ -65,7 +68,8 @@ token_if_there source tokens i None h e = tt
 
 -- the token of a number, its slice and its spelling
 pub text_is : (list : TokenList) (i : ℕ) (l : Located) (bytes : List ℕ) → AreTokens list.source list.located
-    → slice_get list.located i ≡ Some l → bytes ≡ slice_range list.source l.span.start l.span.end → IsTextOf list i bytes
+    → slice_get list.located i ≡ Some l → bytes ≡ slice_range list.source l.span.start l.span.end
+    → IsTextOf list i bytes
 text_is list i l bytes h e b = record {
   is = l;
   stands = e;

@@ -10,7 +10,7 @@ abbrev pub IsFirstFault : List ℕ → ℕ → Type 0
 IsFirstFault text at =
     (cs : List Cut) × (rest : List ℕ) × ArePieces text cs rest × IsFault rest × (at + length rest ≡ length text)
 
--- why a text has no tokens: the first fault, by line and column; want of memory says nothing of the text
+-- why a text has no tokens: the first fault, by line and column; refused memory says nothing about the text
 abbrev pub IsLexFault : List ℕ → LexFault → Type 0
 IsLexFault text (Lexical place) = (at : ℕ) × IsFirstFault text at × (place ≡ place_after (take at text))
 IsLexFault text Memory = Unit {0}

@@ -1,6 +1,8 @@
--- How a text is cut into blanks, comments and tokens (Berry, The Esterel v5 Language Primer; the limit of an identifier's
--- length, and that `%{` begins a comment up to the next `}%`, are this project's own form, as is what names no source).
-use Rattle.std.specs.Prelude.{◌≡◌, ◌≢◌, ◌≤◌, ◌<◌, ◌+◌, ℕ, List, [], ◌∷◌, ◌++◌, length, take, drop, Bool, false, ◌||◌, ◌==◌, nat_lt, IsTrue, slice_index, codes, Some, None}
+-- How a text is cut into blanks, comments and tokens (Berry, The Esterel v5 Language Primer). This project's own form
+-- are the limit of an identifier's length, that `%{` begins a comment up to the next `}%`, and all that names no
+-- source.
+use Rattle.std.specs.Prelude.{◌≡◌, ◌≢◌, ◌≤◌, ◌<◌, ◌+◌, ℕ, List, [], ◌∷◌, ◌++◌, length, take, drop, Bool, false, ◌||◌}
+use Rattle.std.specs.Prelude.{◌==◌, nat_lt, IsTrue, slice_index, codes, Some, None}
 use Rattle.std.specs.List.{list_all}
 use Rattle.est_text.specs.Bytes.{space, tab, carriage_return, line_feed, form_feed, percent, open_brace, close_brace}
 use Rattle.est_text.specs.Identifiers.{is_identifier, is_identifier_byte}
@@ -21,7 +23,7 @@ is_blank b = b == space || b == tab || b == carriage_return || b == line_feed ||
 abbrev pub is_in_line : ℕ → Bool
 is_in_line b = nat_lt b line_feed || nat_lt line_feed b
 
--- no byte with p stands first
+-- the first byte, if there is one, fails the test p
 abbrev pub StopsAt : (ℕ → Bool) → List ℕ → Type 0
 StopsAt p [] = Unit {0}
 StopsAt p (b ∷ bs) = p b ≡ false
@@ -42,7 +44,8 @@ symbol_text symbol.Implies = codes "=>"
 
 -- `%`, and then no `{`, within one line (Berry, Language Primer)
 abbrev pub IsLineComment : List ℕ → Type 0
-IsLineComment bytes = (cs : List ℕ) × (bytes ≡ percent ∷ cs) × StopsAt (λ b. b == open_brace) cs × IsTrue (list_all is_in_line cs)
+IsLineComment bytes = (cs : List ℕ) × (bytes ≡ percent ∷ cs) × StopsAt (λ b. b == open_brace) cs
+    × IsTrue (list_all is_in_line cs)
 
 -- `}%` stands at this place
 abbrev pub ClosesAt : List ℕ → ℕ → Type 0
@@ -58,8 +61,8 @@ abbrev pub IsBlockComment : List ℕ → Type 0
 IsBlockComment bytes = (cs : List ℕ) × (bytes ≡ percent ∷ open_brace ∷ cs ++ close_brace ∷ percent ∷ [])
     × ((i : ℕ) → i < length cs → ¬ (ClosesAt (cs ++ close_brace ∷ percent ∷ []) i))
 
--- The bytes spell the token, where the rest follows (Berry, Language Primer). A word is the longest match: no byte of an
--- identifier follows it. No symbol begins another, so the longest match of a symbol is itself.
+-- With this rest after them, the bytes spell the token (Berry, Language Primer). A word is the longest match: no byte
+-- of an identifier follows it. No symbol begins another, so the longest match of a symbol is itself.
 abbrev pub IsSpelling : Token → List ℕ → List ℕ → Type 0
 IsSpelling (token.Keyword k) bytes rest =
     IsTrue (is_identifier bytes) × (keyword_of bytes ≡ Some k) × StopsAt is_identifier_byte rest
@@ -67,18 +70,18 @@ IsSpelling (token.Identifier name) bytes rest =
     IsTrue (is_identifier bytes) × (keyword_of bytes ≡ None) × StopsAt is_identifier_byte rest × (name ≡ bytes)
 IsSpelling (token.Symbol s) bytes rest = bytes ≡ symbol_text s
 
--- The bytes are such a piece, where the rest follows. A line comment goes to the end of its line.
+-- With this rest after them, the bytes are such a piece. A line comment goes to the end of its line.
 abbrev pub IsPiece : Piece → List ℕ → List ℕ → Type 0
 IsPiece piece.Blank bytes rest = (b : ℕ) × (bytes ≡ b ∷ []) × IsTrue (is_blank b)
 IsPiece piece.LineComment bytes rest = IsLineComment bytes × StopsAt is_in_line rest
 IsPiece piece.BlockComment bytes rest = IsBlockComment bytes
 IsPiece (piece.Token t) bytes rest = IsSpelling t bytes rest
 
--- so many bytes at the front are such a piece
+-- the first n bytes are such a piece
 abbrev pub IsPieceOf : Piece → ℕ → List ℕ → Type 0
 IsPieceOf p count rest = (0 < count) × (count ≤ length rest) × IsPiece p (take count rest) (drop count rest)
 
--- no piece stands first, and something does
+-- there is a text, and no piece stands first in it
 abbrev pub IsFault : List ℕ → Type 0
 IsFault rest = (rest ≢ []) × ((p : Piece) (bytes more : List ℕ) → rest ≡ bytes ++ more → ¬ (IsPiece p bytes more))
 
@@ -90,7 +93,8 @@ pub record Cut : Type 0 where
 -- The text is these pieces, one after another, and then the rest.
 abbrev pub ArePieces : List ℕ → List Cut → List ℕ → Type 0
 ArePieces text [] rest = text ≡ rest
-ArePieces text (c ∷ cs) rest = (more : List ℕ) × (text ≡ c.bytes ++ more) × IsPiece c.is c.bytes more × ArePieces more cs rest
+ArePieces text (c ∷ cs) rest = (more : List ℕ) × (text ≡ c.bytes ++ more) × IsPiece c.is c.bytes more
+    × ArePieces more cs rest
 
 -- the token that a piece is, if it is one, with its span
 abbrev pub located : Piece → ℕ → ℕ → List Located
@@ -104,6 +108,7 @@ abbrev pub tokens_from : ℕ → List Cut → List Located
 tokens_from start [] = []
 tokens_from start (c ∷ cs) = located c.is start (length c.bytes) ++ tokens_from (start + length c.bytes) cs
 
--- these are the tokens of the text: with the gaps between them they are the text, and each has its span
+-- these are the tokens of the text, each with its span; with the blanks and comments between them they are the whole
+-- text
 abbrev pub AreTokens : List ℕ → List Located → Type 0
 AreTokens text tokens = (cs : List Cut) × ArePieces text cs [] × (tokens ≡ tokens_from 0 cs)

@@ -3,7 +3,7 @@ use Rattle.std.specs.Prelude.{ℕ, ◌+◌, List, if◌then◌else◌, ◌==◌,
 use Rattle.est_text.specs.Bytes.{line_feed}
 use Rattle.est_text.specs.declared.place.Place.{Place}
 
--- the place behind one more byte: a line ends with LF (this project's own form)
+-- the place after one more byte: a line ends with LF (this project's own form)
 abbrev pub next_place : Place → ℕ → Place
 next_place p b =
     if b == line_feed then record { line = p.line + 1; column = 1 } else record { line = p.line; column = p.column + 1 }

@@ -1,5 +1,6 @@
 -- A text with its tokens, as callers see them (this project's own form).
-use Rattle.std.specs.Prelude.{◌≡◌, ◌<◌, ◌≤◌, ◌+◌, ◌^◌, ℕ, List, length, take, drop, Option, Some, None, slice_get, slice_range}
+use Rattle.std.specs.Prelude.{◌≡◌, ◌<◌, ◌≤◌, ◌+◌, ◌^◌, ℕ, List, length, take, drop, Option, Some, None, slice_get}
+use Rattle.std.specs.Prelude.{slice_range}
 use Rattle.est_text.specs.Pieces.{AreTokens, IsSpelling}
 use Rattle.est_text.specs.Places.{place_after}
 use Rattle.est_text.specs.declared.place.Place.{Place}
@@ -10,7 +11,7 @@ pub record TokenList : Type 0 where
   pub source : List ℕ
   pub located : List Located
 
--- these are the tokens of the text, and its end has a number
+-- these are the tokens of the text, and the place after its last byte has a number
 pub record IsTokenList (source : List ℕ) (located : List Located) : Type 0 where
   pub short : length source + 1 < 2 ^ 64
   pub cut : AreTokens source located
@@ -21,7 +22,7 @@ pub record StandsIn (source : List ℕ) (l : Located) : Type 0 where
   pub within : l.span.end ≤ length source
   pub spelt : IsSpelling l.token (slice_range source l.span.start l.span.end) (drop l.span.end source)
 
--- the place where a token begins, or without one the place just after the text
+-- the place where a token begins, or the place just after the text where there is no token
 abbrev pub place_at : List ℕ → Option Located → Place
 place_at source (Some l) = place_after (take l.span.start source)
 place_at source None = place_after source

@@ -9,7 +9,8 @@ use std::marker::Model;
 /// The most bytes that an identifier may have.
 pub const IDENTIFIER_BYTES: usize = 48;
 
-/// A letter, and then letters, digits and `_`, at most `IDENTIFIER_BYTES`. A contract sees the list of its bytes.
+/// A letter, and then letters, digits and `_`, at most `IDENTIFIER_BYTES`. A contract sees the list
+/// of its bytes.
 #[derive(Clone, Copy, PartialEq, Eq, Debug)]
 pub struct Identifier {
     bytes: [u8; IDENTIFIER_BYTES],
@@ -27,7 +28,10 @@ impl Model for Identifier {
 
     ghost invariant = { λ n. HoldsIdentifier n.bytes n.count };
 
-    ghost inverse = { λ s. record { bytes = s ++ replicate (IDENTIFIER_BYTES - length s) 0; count = length s } };
+    ghost inverse = { λ s. record {
+      bytes = s ++ replicate (IDENTIFIER_BYTES - length s) 0;
+      count = length s;
+    } };
 }
 
 /// Letters, digits and `_`, of ASCII.

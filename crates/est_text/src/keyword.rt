@@ -1,8 +1,8 @@
-//! The words that are no identifiers.
+//! The keywords: the words that cannot be identifiers.
 ghost use Rattle.std.specs.Prelude.{◌≡◌};
 ghost use Rattle.est_text.specs.Keywords.{keyword_of};
 
-/// A keyword of the language, also of what is not read yet.
+/// A keyword of the language.
 #[derive(Clone, Copy, PartialEq, Eq, Debug)]
 pub enum Keyword {
     Module,

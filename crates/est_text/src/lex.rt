@@ -17,7 +17,8 @@ use std::alloc::{AllocError, Global};
 pub enum LexFault {
     /// The first place where no blank, no comment and no token can stand.
     Lexical(Place),
-    /// Memory was refused; or the text has so many bytes that its end has no number, for which there is no memory.
+    /// Memory was refused; or the text has 2^64 - 1 bytes, so that the place after its end has no
+    /// number. No memory holds such a text.
     Memory,
 }
 
@@ -32,7 +33,7 @@ impl From<AllocError> for LexFault {
     }
 }
 
-/// Adds the token that a piece of so many bytes is, if it is one.
+/// Adds the token that a piece of n bytes is, if it is one.
 fn add(
     tokens: &mut Vec<Located>,
     piece: Piece,
@@ -52,7 +53,7 @@ fn add(
     Ok(())
 }
 
-/// The tokens of a text, or the first place where neither a token nor a blank or a comment stands.
+/// The tokens of a text, or the first place where no token, no blank and no comment can stand.
 pub fn lex(alloc: Global, text: &str) -> Result<Tokens<'_>, LexFault>
     ensures source { IfOk result (λ tokens. tokens.source ≡ text.now) }
     ensures tokens { IfOk result (λ tokens. AreTokens text.now tokens.located) }
@@ -60,7 +61,8 @@ pub fn lex(alloc: Global, text: &str) -> Result<Tokens<'_>, LexFault>
         → MatchResult result (λ tokens. tokens.located ≡ all) (λ fault. fault ≡ Memory) }
     ensures fault { IfErr result (λ fault. IsLexFault text.now fault) }
 {
-    // The end of a text of so many bytes would have no number. There is no memory for one.
+    // The place after the end of a text of 2^64 - 1 bytes has no number. No memory holds such a
+    // text.
     if text.len() == usize::MAX {
         return Err(LexFault::Memory);
     }

@@ -1,5 +1,6 @@
 //! The piece of a text that stands first: a blank, a comment or a token.
-ghost use Rattle.std.specs.Prelude.{◌≡◌, ◌≢◌, ◌<◌, length, IfSome, IfNone, IsTrue, slice_index, false, ◌↔◌};
+ghost use Rattle.std.specs.Prelude.{◌≡◌, ◌≢◌, ◌<◌, length, IfSome, IfNone, IsTrue, slice_index};
+ghost use Rattle.std.specs.Prelude.{false, ◌↔◌};
 ghost use Rattle.std.specs.Char.{is_ascii_alphabetic};
 ghost use Rattle.est_text.specs.Bytes.{percent, open_brace};
 ghost use Rattle.est_text.specs.Pieces.{is_blank, IsPieceOf, IsFault};
@@ -45,7 +46,8 @@ fn symbol(rest: &[u8]) -> Option<(Symbol, usize)>
     }
 }
 
-/// The keyword or the identifier that stands first, unless it is longer than an identifier may be.
+/// The keyword or the identifier that stands first. There is none where the word is longer than an
+/// identifier may be.
 fn word(rest: &[u8]) -> Option<(Token, usize)>
     requires some { 0 < length rest.now }
     requires letter { IsTrue (is_ascii_alphabetic (slice_index rest.now 0)) }
@@ -68,7 +70,7 @@ fn is_block(rest: &[u8]) -> bool
     rest.len() > 1 && rest[1] == b'{'
 }
 
-/// The comment up to `}%` that stands first, unless it is not closed.
+/// The comment up to `}%` that stands first. There is none where it is not closed.
 fn block(rest: &[u8]) -> Option<(Piece, usize)>
     requires some { 1 < length rest.now }
     requires percent { slice_index rest.now 0 ≡ percent }
@@ -93,7 +95,7 @@ fn line(rest: &[u8]) -> (Piece, usize)
     (Piece::LineComment, line_len(rest))
 }
 
-/// The comment that stands first, unless it is not closed.
+/// The comment that stands first. There is none where it is not closed.
 fn comment(rest: &[u8]) -> Option<(Piece, usize)>
     requires some { 0 < length rest.now }
     requires percent { slice_index rest.now 0 ≡ percent }
@@ -107,7 +109,8 @@ fn comment(rest: &[u8]) -> Option<(Piece, usize)>
     }
 }
 
-/// The piece that stands first, and how many bytes it has. There is none where no piece can begin so.
+/// The piece that stands first, and how many bytes it has. There is none where no piece can begin
+/// so.
 pub(crate) fn first_piece(rest: &[u8]) -> Option<(Piece, usize)>
     requires { 0 < length rest.now }
     ensures found { IfSome result (λ p. IsPieceOf p.0 p.1 rest.now) }

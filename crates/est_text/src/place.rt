@@ -9,7 +9,7 @@ pub struct Place {
     pub column: u64,
 }
 
-/// The bytes of a text from a start to before an end, both counted from 0.
+/// The bytes of a text from `start` to just before `end`, both counted from 0.
 #[derive(Clone, Copy, PartialEq, Eq, Debug)]
 pub struct Span {
     pub start: usize,

@@ -1,5 +1,6 @@
 //! How far a blank, a word or a comment goes.
-ghost use Rattle.std.specs.Prelude.{◌≡◌, ◌≤◌, ◌<◌, ◌+◌, ℕ, length, take, drop, IsTrue, IfSome, IfNone};
+ghost use Rattle.std.specs.Prelude.{◌≡◌, ◌≤◌, ◌<◌, ◌+◌, ℕ, length, take, drop, IsTrue, IfSome};
+ghost use Rattle.std.specs.Prelude.{IfNone};
 ghost use Rattle.std.specs.List.{list_all};
 ghost use Rattle.est_text.specs.Identifiers.{is_identifier_byte};
 ghost use Rattle.est_text.specs.Pieces.{is_blank, is_in_line, StopsAt, ClosesAt, IsFirstClose};

@@ -1,6 +1,7 @@
-//! What a text is made of beside blanks and comments.
+//! What a text is made of, besides blanks and comments.
 ghost use Rattle.std.specs.Prelude.{◌≡◌, IsTrue, ◌↔◌};
-ghost use Rattle.est_text.specs.declared.token.Token.TheVariants.{Keyword as KeywordToken, Symbol as SymbolToken};
+ghost use Rattle.est_text.specs.declared.token.Token.TheVariants.{Keyword as KeywordToken};
+ghost use Rattle.est_text.specs.declared.token.Token.TheVariants.{Symbol as SymbolToken};
 
 use crate::identifier::Identifier;
 use crate::keyword::Keyword;

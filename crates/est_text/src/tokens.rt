@@ -1,5 +1,6 @@
 //! The tokens of one text, in order.
-ghost use Rattle.std.specs.Prelude.{◌≡◌, ◌≤◌, ◌<◌, ◌+◌, ◌^◌, length, take, None, IfSome, IfNone, slice_get, slice_range};
+ghost use Rattle.std.specs.Prelude.{◌≡◌, ◌≤◌, ◌<◌, ◌+◌, ◌^◌, length, take, None, IfSome, IfNone};
+ghost use Rattle.std.specs.Prelude.{slice_get, slice_range};
 ghost use Rattle.est_text.specs.Places.{place_after};
 ghost use Rattle.est_text.specs.Pieces.{AreTokens};
 ghost use Rattle.est_text.specs.TokenLists.{TokenList, IsTextOf, StandsIn, place_of};
@@ -8,7 +9,8 @@ use crate::place::{Place, Span, place_after};
 use crate::token::Located;
 use std::marker::Model;
 
-/// A text and its tokens. A contract sees the list of its bytes, and the list of the tokens with their spans.
+/// A text and its tokens. A contract sees the list of its bytes, and the list of the tokens with
+/// their spans.
 #[derive(Drop)]
 pub struct Tokens<'a> {
     source: &'a str,
@@ -25,7 +27,7 @@ impl<'a> Model for Tokens<'a> {
     ghost invariant = { λ t. IsTokenList t.source.now t.located.items };
 }
 
-/// The first bytes, so many.
+/// The first n bytes.
 pub(crate) fn front(bytes: &[u8], count: usize) -> &[u8]
     requires { count ≤ length bytes.now }
     ensures { result.now ≡ take count bytes.now }
@@ -84,7 +86,8 @@ impl<'a> Tokens<'a> {
         at(self.located.as_slice(), index)
     }
 
-    /// The bytes of the text that the token of this number is spelt by. There are none past the last token.
+    /// The bytes of the text that spell the token of this number. There are none past the last
+    /// token.
     pub fn text(&self, index: usize) -> Option<&'a [u8]>
         ensures token { IfSome result (λ text. IsTextOf self.now index text.now) }
         ensures none { IfNone result (slice_get self.now.located index ≡ None) }
@@ -95,7 +98,8 @@ impl<'a> Tokens<'a> {
         }
     }
 
-    /// The place of the token of this number, counted from 0; past the last, the place just after the text.
+    /// The place of the token of this number, counted from 0; past the last, the place just after
+    /// the text.
     pub fn place(&self, index: usize) -> Place
         ensures { result ≡ place_of self.now index }
     {

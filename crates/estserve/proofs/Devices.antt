@@ -5,7 +5,7 @@ use Rattle.line_reader.specs.declared.serving.Why.{Why}
 use Rattle.line_reader.specs.declared.serving.Why.TheVariants as why
 use Rattle.estserve.specs.Runs.{CannotWrite}
 
--- where the connection ended by a fault of its writer, that failed in it; and else after it
+-- where a fault of its writer ended the connection, the writer failed in it; else it failed after it
 pub failed_in_run : (y : Why) (first mid last : ℕ) → CannotWrite y mid last
     → (y ≡ why.WriteFault → has_failed first mid ≡ true)
     → ((y ≡ why.WriteFault → ⊥) → mid ≡ first) → has_failed first last ≡ true

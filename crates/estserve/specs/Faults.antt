@@ -30,16 +30,17 @@ told_line fault.Memory = Some (codes "estserve: no memory\n")
 told_line fault.Socket = Some (codes "estserve: socket fault\n")
 told_line fault.Mismatch = Some (codes "estserve: mismatch\n")
 
--- the fault's line was written; what is written of words is clap's text
+-- the line that tells the fault was written; for a fault of the words that is clap's text
 abbrev pub IsTold : Fault → (before after : Option (List ℕ)) → Type 0
 IsTold given before after = IfSome (told_line given) (λ line. Appends before after line)
 
--- the fault of the program where its words have this one
+-- the fault of the program where its words have this fault
 abbrev pub IsOfWords : WordFault → Fault → Type 0
 IsOfWords (words.Words e) given = given ≡ fault.Words e
 IsOfWords words.Memory given = given ≡ fault.Memory
 
--- the fault where the words could not be taken, by the kind of the error: of memory, and else one is not UTF-8
+-- the fault where the words could not be taken, by the kind of the error: memory was refused, or else one word is not
+-- UTF-8
 abbrev pub fault_of_taking : ErrorKind → Fault
 fault_of_taking OutOfMemory = fault.Memory
 fault_of_taking _ = fault.Unreadable

@@ -19,7 +19,7 @@ use Rattle.command_line.specs.declared.order.Order.{Order}
 use Rattle.command_line.specs.declared.order.Order.TheVariants.{Script, Serve}
 use Rattle.clap.specs.Words.{Text}
 
--- one connection is served over a desk as it opens, for this reason it ends, and no login of it is held any more
+-- one connection is served over a new desk, for this reason it ends, and none of its logins is held any more
 pub record ServesOne (refused : Bool) (ahead : Option (List ℕ)) (why : Why)
     (written after : Option (List ℕ)) : Type 0 where
   pub desk : DeskState
@@ -57,7 +57,7 @@ pub record Ends (refused report : Bool) (ahead : Option (List ℕ)) (answer : Re
   pub one : ServesOne refused ahead why written answers
   pub ends : EndsSo report why one.desk answer answers after
 
--- standard input and output are served as one connection, or no memory was there for that
+-- standard input and output are served as one connection, or memory for that was refused
 abbrev pub RunsScript : (refused report : Bool) → (ahead : Option (List ℕ)) → Result ⊤ Fault
     → (written after : Option (List ℕ)) → Type 0
 RunsScript refused report ahead answer written after = NeverOpens answer written after
@@ -92,7 +92,7 @@ abbrev pub Obeys : (words : List Text) → (refused : Bool) → (ahead : Option 
 Obeys words refused ahead answer written after = IsNoOrder words answer written after
     ⊎ DoesOrder words refused ahead answer written after
 
--- the status with which the program ends: 0 without a fault, and else that of the fault
+-- the status with which the program ends: 0 without a fault, else that of the fault
 abbrev pub status_after : Result ⊤ Fault → ℕ
 status_after (Ok _) = 0
 status_after (Err given) = status_of given

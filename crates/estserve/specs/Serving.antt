@@ -21,15 +21,15 @@ abbrev pub ServesAll : (workers : ℕ) → (seats : List SeatState) → Type 0
 ServesAll workers seats = AreBack ServesNext (replicate workers new_seat) seats
 
 -- the journals of a server that is closed with these seats. They are those of one run of the calls whose receipts the
--- seats keep. One list of events has them and what the seats keep as its parts. Along what each seat keeps the order is
--- right. An audit finds nothing
+-- seats keep. One list of events has the journals, and what the seats keep, as its parts. What each seat keeps is in
+-- the right order. An audit finds nothing
 pub record AreHistories (seats : List SeatState) (policy : List Entry) (slots : List (List SlotEntry)) : Type 0 where
   pub run : AreOfOneRun policy slots (kept_of seats)
   pub one : AreOfOneList policy slots (kept_of seats)
   pub rises : AllRise (kept_of seats)
   pub sound : HaveNoFinding policy slots
 
--- the report on the journals is written, or memory or its writer was wanting
+-- the report on the journals is written, or memory was refused for it, or its writer failed
 pub record ReportsHistories (seats : List SeatState) (answer : Result ⊤ Fault)
     (written after : Option (List ℕ)) : Type 0 where
   pub policy : List Entry

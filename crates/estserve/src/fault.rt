@@ -12,10 +12,10 @@ use thiserror::Error;
 /// A fault of the program. Its text goes to standard error.
 #[derive(Debug, Drop, Error)]
 pub enum Fault {
-    /// Words that are no order, or ask for help, with the text about them.
+    /// The words are no order, or ask for help; with the text about them.
     #[error(transparent)]
     Words(clap::Error),
-    /// A word that is not UTF-8, so that the words can't be read.
+    /// A word that is not UTF-8, so that the words cannot be read.
     #[error("estserve: a word is not UTF-8")]
     Unreadable,
     #[error("estserve: read fault")]
@@ -31,7 +31,7 @@ pub enum Fault {
 }
 
 impl Fault {
-    /// The status with which the program ends: 2 for its words, and else 1.
+    /// The status with which the program ends: 2 for a fault of its words, else 1.
     pub fn status(&self) -> u8
         ensures { result ≡ status_of self.now }
     {
@@ -53,7 +53,7 @@ impl From<WordFault> for Fault {
     }
 }
 
-/// Writes the fault's text, which ends in LF: clap's where it is of the words, and else one line.
+/// Writes the fault's text, which ends in LF: clap's text for a fault of the words, else one line.
 ///
 /// # Errors
 ///

@@ -25,7 +25,8 @@ use std::net::Net;
 use std::sync::Wait;
 use std::thread::Threads;
 
-/// Closes a server whose workers have left its seats so, and writes the report on its journals.
+/// Closes the server, whose workers have ended and given these seats back, and writes the report on
+/// its journals.
 fn close<B: BoardName, R: Wait, O: Write>(
     rt: &R,
     alloc: Global,
@@ -46,8 +47,9 @@ fn close<B: BoardName, R: Wait, O: Write>(
     }
 }
 
-/// Serves the connections of a source over a board of this name as it opens, at a seat for each worker. When all workers have
-/// ended, the source's socket is closed, and then the server, so that no client comes to one that will not answer.
+/// Serves the connections of a source over a new board of this name, at a seat for each worker.
+/// When all workers have ended, it closes the source's socket, and then the server, so that no
+/// client comes to a server that will not answer.
 fn serve_source<B: BoardName + Send + Sync, R: Threads + Wait + Net + Files + Sync, O: Write>(
     rt: &R,
     alloc: Global,
@@ -86,9 +88,10 @@ fn serve_source<B: BoardName + Send + Sync, R: Threads + Wait + Net + Files + Sy
     Err(fault)
 }
 
-/// Serves the connections that come to a socket, of which each worker serves one after another. It ends when all workers have
-/// ended: each after so many connections, if there is a number of them, or when it can accept no more. The socket is closed
-/// then, and its file taken away. If no accept failed, the report on the journals is written.
+/// Serves the connections that come to a socket; each worker serves one after another. It ends when
+/// all workers have ended: each after `connections` of them, if the service names a number, or when
+/// it can accept no more. Then it closes the socket and takes its file away. If no accept failed,
+/// it writes the report on the journals.
 ///
 /// # Errors
 ///

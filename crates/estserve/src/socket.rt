@@ -59,7 +59,7 @@ impl<'a> Socket<'a> {
         }
     }
 
-    /// Ends the socket, and takes its file away, if that one stands at its path still.
+    /// Ends the socket, and takes its file away, if it is still the one at its path.
     pub fn close<R: Files>(self, rt: &R) {
         let Socket {
             listener: _,
@@ -77,12 +77,12 @@ impl<'a> Socket<'a> {
 pub enum Quota {
     /// As many as come.
     Unlimited,
-    /// So many more, by the worker.
+    /// This many more, for each worker by its number.
     Left(Vec<AtomicU64>),
 }
 
 impl Quota {
-    /// So many connections for each of these workers, or as many as come.
+    /// n connections for each of these workers, or as many as come.
     ///
     /// # Errors
     ///
@@ -102,7 +102,7 @@ impl Quota {
         Ok(Quota::Left(left))
     }
 
-    /// Whether this worker may accept one more, which is counted.
+    /// Whether this worker may accept one more. That one is counted.
     fn takes_one(&self, worker: usize) -> bool {
         match self {
             Quota::Unlimited => true,
@@ -131,7 +131,7 @@ pub struct SocketSource<'a> {
 }
 
 impl<'a> SocketSource<'a> {
-    /// The connections that come to this socket, as many for each worker as the quota says.
+    /// The connections that come to this socket: for each worker, as many as the quota says.
     pub fn new(socket: Socket<'a>, quota: Quota) -> SocketSource<'a> {
         SocketSource {
             socket,

@@ -141,7 +141,7 @@ fn ran<R: Threads + Wait + Net + Files + Sync>(
     Ok(ran_on(rt, alloc, texts.as_slice(), feed, sink))
 }
 
-/// The lines one after the other, and the answers.
+/// The lines one after another, and the answers.
 fn joined(alloc: Global, turns: Turns<'_>) -> Result<(Vec<u8>, Vec<u8>), AllocError> {
     let mut lines = Vec::new(alloc);
     let mut answers = Vec::new(alloc);
@@ -177,7 +177,8 @@ const OPENING: Turns<'static> = &[
         r#"{"ok":"grant","version":9}"#,
     ),
     (
-        r#"{"cmd":"load","main":"M","slot":0,"text":"module M: output O, P; emit O; pause; emit P end module"}"#,
+        "{\"cmd\":\"load\",\"main\":\"M\",\"slot\":0,\
+        \"text\":\"module M: output O, P; emit O; pause; emit P end module\"}",
         r#"{"ok":"load","place":1,"version":9}"#,
     ),
     (

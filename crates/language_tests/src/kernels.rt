@@ -208,8 +208,8 @@ fn interfaces(rt: HostRuntime) {
     declare(&rt, &mut interface, input);
     declare(&rt, &mut interface, output);
     expect_holds(&rt, interface.len() == 2, "two signals");
-    expect_holds(&rt, interface.inputs() == 0b01, "I is the input");
-    expect_holds(&rt, interface.outputs() == 0b10, "O is the output");
+    expect_holds(&rt, interface.offerable() == 0b01, "I is the input");
+    expect_holds(&rt, interface.emittable() == 0b10, "O is the output");
     let found = interface.find(&output.name).expect(&rt, "O is declared");
     expect_holds(&rt, found.index == 1, "O is the second");
     expect_holds(&rt, interface.get(found) == output, "O as it was declared");

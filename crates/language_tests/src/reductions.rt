@@ -2,10 +2,9 @@
 
 use crate::told::expect_told;
 use est_kernel::interface::Interface;
-use est_kernel::statement::{Signal, Statement, Test};
+use est_kernel::statement::{Connective, Operands, Signal, Statement, Test};
 use est_link::link::link;
 use est_reduce::body::Body;
-use est_reduce::bound::is_bound;
 use est_reduce::flat::Flat;
 use est_reduce::reduce::reduce;
 use est_relations::relations::Relations;
@@ -21,11 +20,40 @@ fn write_signal(signal: Signal, text: &mut String) -> Result<(), AllocError> {
     }
 }
 
-fn write_test(test: Test, text: &mut String) -> Result<(), AllocError> {
+/// A test as it is written; operands stand in parentheses.
+#[cycle(test)]
+fn write_test(test: &Test, text: &mut String) -> Result<(), AllocError> {
     match test {
         Test::Tick => text.push_str("tick"),
-        Test::Status(signal) => write_signal(signal, text),
+        Test::Status(signal) => write_signal(*signal, text),
+        Test::Not(inner) => {
+            text.push_str("not ")?;
+            write_test(inner, text)
+        }
+        Test::Joined(connective, operands) => write_operands(*connective, operands, text),
     }
+}
+
+/// Operands with their connective between them.
+#[cycle(test)]
+fn write_operands(
+    connective: Connective,
+    operands: &Operands,
+    text: &mut String,
+) -> Result<(), AllocError> {
+    let word = match connective {
+        Connective::And => " and ",
+        Connective::Or => " or ",
+    };
+    text.push_str("(")?;
+    write_test(&operands.first, text)?;
+    text.push_str(word)?;
+    write_test(&operands.second, text)?;
+    for test in &operands.later {
+        text.push_str(word)?;
+        write_test(test, text)?;
+    }
+    text.push_str(")")
 }
 
 /// A statement as it is written; a trap's exits are told by how many traps lie between.
@@ -39,7 +67,7 @@ fn write(statement: &Statement, text: &mut String) -> Result<(), AllocError> {
         }
         Statement::Present(test, p, q) => {
             text.push_str("present ")?;
-            write_test(*test, text)?;
+            write_test(test, text)?;
             text.push_str(" then ")?;
             write(p, text)?;
             text.push_str(" else ")?;
@@ -50,7 +78,7 @@ fn write(statement: &Statement, text: &mut String) -> Result<(), AllocError> {
             text.push_str("suspend ")?;
             write(p, text)?;
             text.push_str(" when ")?;
-            write_test(*test, text)
+            write_test(test, text)
         }
         Statement::Seq(p, q) => {
             text.push_str("[")?;
@@ -172,6 +200,43 @@ fn aborts(rt: HostRuntime) {
     expect_reduced(&rt, rt.alloc(), &ABORTS);
 }
 
+/// Tests of more than one signal, as often as the table of reductions has them. `not` binds tighter than `and`, and that
+/// tighter than `or`.
+const TESTS: [(&str, &str); 6] = [
+    (
+        "await [not S or O and tick]",
+        "trap loop [pause; present (not S or (O and tick)) then exit 0 else nothing end] end end",
+    ),
+    (
+        "present S and O and not (S or O) then emit O end",
+        "present (S and O and not (S or O)) then emit O else nothing end",
+    ),
+    (
+        "suspend emit O when immediate not not S",
+        "suspend [present not not S then pause else nothing end; emit O] when not not S",
+    ),
+    (
+        "abort emit O when immediate S or O",
+        "present (S or O) then nothing else trap [[suspend emit O when (S or O); exit 0] || \
+         loop [pause; present (S or O) then exit 0 else nothing end] end] end end",
+    ),
+    (
+        "weak abort emit O when (S) and O",
+        "trap [[emit O; exit 0] || loop [pause; present (S and O) then exit 0 else nothing end] end] end",
+    ),
+    (
+        "every S or not O do emit O end",
+        "[trap loop [pause; present (S or not O) then exit 0 else nothing end] end end; \
+         loop trap [[suspend [emit O; loop pause end] when (S or not O); exit 0] || \
+         loop [pause; present (S or not O) then exit 0 else nothing end] end] end end]",
+    ),
+];
+
+#[test]
+fn tests_are_kept(rt: HostRuntime) {
+    expect_reduced(&rt, rt.alloc(), &TESTS);
+}
+
 /// An exit out of an abort, and one out of a trap inside it.
 const EXITS: [(&str, &str); 2] = [
     (
@@ -238,7 +303,6 @@ fn so_many_names_are_never_built(rt: HostRuntime) {
     let interface = Interface::new(alloc);
     let pause = Box::new(alloc, Body::Pause).expect(&rt, "room");
     let body = Body::Signal(4_000_000_000, pause);
-    assert!(rt; is_bound(&interface, &body));
     let flat = Flat {
         interface,
         relations: Relations::new(alloc),
@@ -246,4 +310,28 @@ fn so_many_names_are_never_built(rt: HostRuntime) {
     };
     let found = reduced(&rt, alloc, &flat);
     expect_told(&rt, found.as_str(), "TooLarge(Statements)", "so many names");
+}
+
+/// Bodies with a test of so many words, and whether the kernel term is within the limit: a test counts as often as it stands in
+/// the reduction.
+const SIZES: [(&str, usize, bool); 8] = [
+    ("await S", 2041, true),
+    ("await S", 2042, false),
+    ("suspend pause when immediate S", 1021, true),
+    ("suspend pause when immediate S", 1022, false),
+    ("abort pause when S", 1018, true),
+    ("abort pause when S", 1019, false),
+    ("abort pause when immediate S", 678, true),
+    ("abort pause when immediate S", 679, false),
+];
+
+#[test]
+fn tests_count_as_often_as_they_stand(rt: HostRuntime) {
+    let alloc = rt.alloc();
+    for (before, words, fits) in SIZES {
+        let operands = " and S".repeat(alloc, words).expect(&rt, "room");
+        let body = format!(in alloc; "{before}{operands}").expect(&rt, "room");
+        let flat = flat_of(&rt, alloc, body.as_str());
+        assert!(rt; reduce(alloc, &flat).is_ok() == fits);
+    }
 }

@@ -1,4 +1,5 @@
 //! Module texts and what the reader answers to them: `lex`, and then `parse`.
+mod expressions;
 mod faults;
 mod nesting;
 mod prefixes;

@@ -1,4 +1,4 @@
-//! A load, as often as it is told.
+//! A load, repeated.
 use est_checks::fault::LinkFault;
 use est_link::link::link;
 use est_reduce::fault::ReduceFault;
@@ -10,7 +10,7 @@ use std::alloc::Global;
 /// What a load comes to.
 #[derive(Drop)]
 pub enum Loaded {
-    /// A kernel with so many interface signals.
+    /// A kernel with this many interface signals.
     Kernel(usize),
     /// A fault of the text.
     Cut(LexFault),
@@ -42,7 +42,7 @@ pub fn load(alloc: Global, text: &str) -> Loaded {
     }
 }
 
-/// Loads the module M of a text so often, and once at least.
+/// Loads the module M of a text n times, at least once.
 pub fn load_again(alloc: Global, text: &str, repetitions: u32) -> Loaded {
     let mut loaded = load(alloc, text);
     for _ in 1..repetitions {

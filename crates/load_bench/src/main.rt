@@ -1,7 +1,9 @@
-//! How long does a load take? Makes the kernel of the module `M` of a text, as often as its word says.
+//! How long does a load take? Makes the kernel of the module `M` of a text, as often as the command
+//! line says.
 //!
-//! `load_bench REPETITIONS < TEXT` cuts the text into tokens, reads the tree, links the library and reduces the flat module, and prints one
-//! line: the number of kernel statements, or the first fault. The time is taken from outside (`bench/loads.py`).
+//! `load_bench REPETITIONS < TEXT` cuts the text into tokens, reads the tree, links the library and
+//! reduces the flat module, and prints one line: the number of interface signals of the kernel, or
+//! the first fault. The time is taken from outside (`bench/loads.py`).
 //!
 //! No clause speaks of the printed line, of the repetitions or of time.
 #![tactic(auto)]

@@ -1,11 +1,12 @@
-//! How many checks and decisions a second? Asks a policy with 60 users, 31 roles in an order five deep, 250 granted pairs, 60 sessions and
-//! 16 separation sets, as often as its words say.
+//! How many checks and decisions a second? Asks a policy with 60 users, 31 roles in an order five
+//! deep, 250 granted pairs, 60 sessions and 16 separation sets, as often as the command line says.
 //!
-//! `policy_bench WORKLOAD REPETITIONS`, or `policy_bench all REPETITIONS` for one workload after the other. A line for each: its name, and
-//! how many of its questions were answered by yes, or of its commands were accepted. The time is taken from outside (`bench/policies.py`).
+//! `policy_bench WORKLOAD REPETITIONS`, or `policy_bench all REPETITIONS` for one workload after
+//! another. A line for each: its name, and how many of its questions were answered yes, or how many
+//! of its commands were accepted. The time is taken from outside (`bench/policies.py`).
 //!
-//! Proved: that it is safe and ends, whatever its words; what is asked has the contracts of `rbac_policy` and `rbac_admin`. No clause speaks of
-//! the printed lines or of time.
+//! Proved: that it is safe and ends, whatever its words; what is asked has the contracts of
+//! `rbac_policy` and `rbac_admin`. No clause speaks of the printed lines or of time.
 #![tactic(auto)]
 
 mod office;

@@ -33,14 +33,14 @@ fn numbered(alloc: Global, letter: char, number: u32) -> Result<Name> {
     }
 }
 
-/// The role of this place on this level, the places being taken in a circle.
+/// The role of this place on this level. After the last place of a level comes its first again.
 pub fn role(alloc: Global, level: u32, place: u32) -> Result<Name>
     requires { level < 32 }
 {
     numbered(alloc, 'r', level * WIDTH + place % WIDTH)
 }
 
-/// One of 256 pairs: whether a signal is offered or observed, and the signal, one of eight in a slot.
+/// One of 256 pairs: an operation, to offer or to observe, and a signal, one of eight in each slot.
 pub fn pair(alloc: Global, number: u32) -> Result<(Operation, Object)> {
     let text = format!(in alloc; "S{}", number / 32 % 8)?;
     let slot = SlotNumber::new((number / 2 % u32::from(SLOTS)) as u8);
@@ -60,7 +60,7 @@ pub fn first() -> SessionId {
     SessionId::new(1)
 }
 
-/// The command is decided, and its entry taken in.
+/// Decides the command, and takes its entry in.
 pub fn give(policy: &mut Policy, session: Option<SessionId>, command: AdminCommand) -> Result<()> {
     match decide(policy, session, command) {
         Ok(entry) => policy.absorb(&entry),

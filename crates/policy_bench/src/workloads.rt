@@ -11,23 +11,23 @@ use std::alloc::Global;
 /// What is asked again and again.
 #[derive(Clone, Copy, PartialEq, Eq, Debug)]
 pub enum Workload {
-    /// Whether a session may do what a role four levels below its own may.
+    /// Whether a session may do what a role four levels below its own may do.
     Held,
-    /// Whether it may do what a role beside those below its own may.
+    /// Whether it may do what a role may do that is not below its own.
     NotHeld,
-    /// Whether a session that doesn't live may do something.
+    /// Whether a session that does not live may do something.
     NoSession,
     /// A permission is granted and revoked.
     Grant,
     /// A role is assigned to a user and taken back.
     Assign,
-    /// An edge is decided, which is asked of 16 sets and 60 sessions.
+    /// An edge is decided, which asks 16 sets and 60 sessions.
     EdgeDecided,
     /// An edge is added and taken away.
     Edge,
 }
 
-/// One after the other.
+/// All of them, one after another.
 pub const WORKLOADS: [Workload; 7] = [
     Workload::Held,
     Workload::NotHeld,
@@ -53,7 +53,7 @@ impl Workload {
     }
 }
 
-/// How many of so many checks are answered by yes.
+/// How many of `repetitions` checks are answered yes.
 fn count_checks(
     policy: &Policy,
     session: SessionId,
@@ -70,7 +70,7 @@ fn count_checks(
     count
 }
 
-/// Gives both commands in turn, and counts those that were accepted, which are all.
+/// Gives both commands in turn, and counts those that were accepted, which are all of them.
 fn count_given(
     policy: &mut Policy,
     there: &AdminCommand,
@@ -96,7 +96,7 @@ fn count_decided(policy: &Policy, command: &AdminCommand, repetitions: u32) -> R
     Ok(count)
 }
 
-/// A session of an upper role, or one that doesn't live, is asked for the pair of this number.
+/// Asks a session of an upper role, or one that does not live, for the pair of this number.
 fn check(
     alloc: Global,
     policy: &Policy,
@@ -109,7 +109,7 @@ fn check(
     Ok(count_checks(policy, session, operation, &object, repetitions))
 }
 
-/// A pair is granted to a second role.
+/// Grants a pair to a second role, and revokes it.
 fn grant(alloc: Global, policy: &mut Policy, repetitions: u32) -> Result<u64> {
     let role = role(alloc, 4, 1)?;
     let (operation, object) = pair(alloc, 0)?;
@@ -127,7 +127,7 @@ fn grant(alloc: Global, policy: &mut Policy, repetitions: u32) -> Result<u64> {
     count_given(policy, &there, &back, repetitions)
 }
 
-/// A role is assigned to root.
+/// Assigns a role to root, and takes it back.
 fn assign(alloc: Global, policy: &mut Policy, repetitions: u32) -> Result<u64> {
     let role = role(alloc, 1, 1)?;
     let user = Name::root();
@@ -136,7 +136,7 @@ fn assign(alloc: Global, policy: &mut Policy, repetitions: u32) -> Result<u64> {
     count_given(policy, &there, &back, repetitions)
 }
 
-/// An edge from the top to the next level.
+/// Adds an edge from the top to the next level, and takes it away.
 fn edge(alloc: Global, policy: &mut Policy, repetitions: u32) -> Result<u64> {
     let senior = role(alloc, 0, 0)?;
     let junior = role(alloc, 1, 2)?;
@@ -152,11 +152,11 @@ fn decide_edge(alloc: Global, policy: &Policy, repetitions: u32) -> Result<u64> 
     count_decided(policy, &there, repetitions)
 }
 
-/// Asks so often, and counts what is answered by yes or accepted.
+/// Asks `repetitions` times, and counts what is answered yes or accepted.
 ///
 /// # Errors
 ///
-/// Want of memory; and a command that is refused, which none is on the policy of the office.
+/// Where memory was refused, or a command was; on the policy of the office none is.
 pub fn run(
     alloc: Global,
     policy: &mut Policy,

@@ -15,7 +15,8 @@ pub type Line = (u16, &'static str, &'static str);
 /// An entry: the number of its session, or 0 for none, and the command.
 pub type Given = (u16, &'static str);
 
-/// A question: the number of a session, an operation and an object, and whether it may do that.
+/// A question: the number of a session, an operation and an object, and whether the session may do
+/// that.
 pub type Question = (u16, &'static str, &'static str, bool);
 
 pub fn name(rt: &impl Abort, text: &str) -> Name {
@@ -228,8 +229,8 @@ fn is_answer(rt: &impl Abort, alloc: Global, answer: Option<Refusal>, text: &str
     }
 }
 
-/// The refusal of the command, if it is refused; else the policy takes in the entry, which is the
-/// command with its session, or with none for a login, and its version is one greater.
+/// The refusal of the command, if it is refused. Else the policy takes in the entry, which is the
+/// command with its session, or without one for a login; the policy's version is then one greater.
 pub fn give(
     rt: &impl Abort,
     policy: &mut Policy,
@@ -259,12 +260,12 @@ pub fn giver(number: u16) -> Option<SessionId> {
     Some(SessionId::new(number))
 }
 
-/// The session of this number, or none where it is 0, gives the command, and it is accepted.
+/// The session of this number, or none where it is 0, gives the command, which is accepted.
 pub fn accept(rt: &impl Abort, policy: &mut Policy, number: u16, command: &AdminCommand) {
     assert!(rt; give(rt, policy, giver(number), command).is_none());
 }
 
-/// Gives the commands in turn, each of which is answered as the story says.
+/// Gives the commands one after another; each is answered as the story says.
 pub fn follow(rt: &impl Abort, alloc: Global, policy: &mut Policy, story: &[Line]) {
     for (number, text, wanted) in story {
         let answer = give(rt, policy, giver(*number), &command(rt, alloc, text));
@@ -275,14 +276,14 @@ pub fn follow(rt: &impl Abort, alloc: Global, policy: &mut Policy, story: &[Line
     }
 }
 
-/// The policy that the story comes to, from the opening one.
+/// The policy to which the story leads from the opening one.
 pub fn story(rt: &impl Abort, alloc: Global, story: &[Line]) -> Policy {
     let mut policy = Policy::opening();
     follow(rt, alloc, &mut policy, story);
     policy
 }
 
-/// The policy takes in the entries in turn, whether they would be accepted or not.
+/// The policy takes in the entries one after another, whether they would be accepted or not.
 pub fn take(rt: &impl Abort, alloc: Global, policy: &mut Policy, entries: &[Given]) {
     for (number, text) in entries {
         policy.absorb(&Entry {
@@ -301,7 +302,7 @@ pub fn ask(rt: &impl Abort, policy: &Policy, questions: &[Question]) {
     }
 }
 
-/// Of the sessions of the numbers from 1 to the last, these live, and no others.
+/// Among the sessions numbered from 1 to `last`, these live, and no others.
 pub fn live(policy: &Policy, last: u16, wanted: &[u16]) -> bool {
     (1..=last).all(|number| policy.lives(SessionId::new(number)) == wanted.contains(&number))
 }

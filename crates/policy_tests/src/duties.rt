@@ -1,7 +1,8 @@
 //! The order of roles, and duties kept apart.
 use crate::commands::{Line, story};
 
-/// A set counts what lies below a role: who has the senior of both may act in one of the two at a time.
+/// A set counts what lies below a role: a user with the senior of both roles may act in one of the
+/// two at a time.
 const ROLES_BELOW: [Line; 14] = [
     (0, "login root root", ""),
     (1, "addrole driver", ""),
@@ -36,7 +37,8 @@ const AN_EDGE: [Line; 13] = [
     (1, "inherit chief judge", ""),
 ];
 
-/// Cycle is asked before EdgeExists, and an edge that the order has already but that was not given is accepted.
+/// Cycle is asked before EdgeExists. An edge that the order has already, but that was not given, is
+/// accepted.
 const CYCLES: [Line; 13] = [
     (0, "login root root", ""),
     (1, "addrole a", ""),
@@ -53,7 +55,8 @@ const CYCLES: [Line; 13] = [
     (1, "inherit a d", "UnknownRole d"),
 ];
 
-/// A set can make a living session violate it, and so can a role that is taken up, and a login; the number of a login is the next.
+/// Three ways to violate a set: a set that a living session violates, a role that is taken up, and
+/// a login. The number of a login is the next one.
 const THREE_WAYS: [Line; 14] = [
     (0, "login root root", ""),
     (1, "addrole driver", ""),
@@ -71,7 +74,8 @@ const THREE_WAYS: [Line; 14] = [
     (2, "activate judge", ""),
 ];
 
-/// Each role counts once, also where the set lists a junior and its senior: with the senior alone both are held, and no more.
+/// Each role counts once, also where the set lists a junior and its senior: with the senior alone
+/// both are held, and no more.
 const COUNTED_ONCE: [Line; 13] = [
     (0, "login root root", ""),
     (1, "addrole upper", ""),
@@ -125,8 +129,8 @@ const LEAST_SESSION: [Line; 14] = [
     (1, "dsd d1 2 driver judge", ""),
 ];
 
-/// The first set counts before the least session: of two sets that one edge lets be violated the older is named, though the session that
-/// violates it is the later one.
+/// The first set counts before the least session. Where one edge would let two sets be violated,
+/// the older set is named, though the session that violates it is the later one.
 const SET_BEFORE_SESSION: [Line; 16] = [
     (0, "login root root", ""),
     (1, "addrole upper", ""),

@@ -1,7 +1,7 @@
 //! What ends a session, what a deletion takes along, and places that are used again.
 use crate::commands::{Line, ask, follow, live, name, story};
 
-/// A session ends where its user loses a role that is active in it; its number is not used again.
+/// A session ends where its user loses a role that is active in it. Its number is not used again.
 const AUTHORIZATION_TAKEN: [Line; 10] = [
     (0, "login root root", ""),
     (1, "addrole chief", ""),
@@ -35,8 +35,8 @@ const A_CHAIN: [Line; 15] = [
 ];
 
 /// Who goes on after a role is taken: ann has the lower role by itself too, and bob has all that he
-/// had. An edge that goes ends the session of another user; and the session that gives the command
-/// may be one of those that end.
+/// had. An edge that is deleted ends the session of another user. The session that gives the
+/// command may be one of those that end.
 #[test]
 fn authorization_is_taken(rt: HostRuntime) {
     let _policy = story(&rt, rt.alloc(), &AUTHORIZATION_TAKEN);
@@ -53,7 +53,7 @@ fn authorization_is_taken(rt: HostRuntime) {
     assert!(rt; live(&policy, 6, &[3]));
 }
 
-/// Root may delete itself, and is then no more.
+/// Root may delete itself, and is then gone.
 const ROOT_GOES: [Line; 5] = [
     (0, "login root root", ""),
     (1, "deluser root", ""),
@@ -75,7 +75,8 @@ const WITHOUT_ROLES: [Line; 9] = [
     (2, "adduser ann", ""),
 ];
 
-/// A deleted role's assignments, permissions, edges and sessions go with it, and a role that is added again starts with none.
+/// A deleted role's assignments, permissions, edges and sessions go with it. A role that is added
+/// again starts with none.
 const ROLE_AGAIN: [Line; 19] = [
     (0, "login root root", ""),
     (1, "addrole a", ""),
@@ -172,7 +173,8 @@ fn the_order_is_that_of_the_edges_left(rt: HostRuntime) {
     }
 }
 
-/// Why each command that needs a permission, a user, a role or a pair is refused, in the order of its refusals.
+/// Why each command that needs a permission, a user, a role or a pair is refused, in the order of
+/// its refusals.
 const REFUSALS: [Line; 26] = [
     (0, "login root root", ""),
     (0, "adduser ann", "NoSession"),

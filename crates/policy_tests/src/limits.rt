@@ -8,7 +8,7 @@ use std::process::Abort;
 const LOGIN: [Line; 1] = [(0, "login root root", "")];
 
 /// The first session gives the commands of these texts, each with a number in the middle, from the
-/// first one on, and each is accepted.
+/// first number on. Each is accepted.
 fn fill(
     rt: &impl Abort,
     alloc: Global,
@@ -50,7 +50,7 @@ const TWO_DUTIES: [Line; 7] = [
     (1, "assign root c", ""),
 ];
 
-/// So many times the command is accepted from no session.
+/// The command is accepted from no session, n times.
 fn repeat(rt: &impl Abort, alloc: Global, policy: &mut Policy, times: usize, text: &str) {
     let command = command(rt, alloc, text);
     for _ in 0..times {
@@ -58,7 +58,7 @@ fn repeat(rt: &impl Abort, alloc: Global, policy: &mut Policy, times: usize, tex
     }
 }
 
-/// A login that would violate a set is told so where there is no room for it either.
+/// A login that would violate a set is refused for that, also where there is no room for it.
 #[test]
 fn violated_before_full_of_sessions(rt: HostRuntime) {
     let mut policy = story(&rt, rt.alloc(), &TWO_DUTIES);
@@ -75,7 +75,7 @@ fn violated_before_full_of_sessions(rt: HostRuntime) {
     follow(&rt, rt.alloc(), &mut policy, &full);
 }
 
-/// And so a set that a living session would violate.
+/// So is a set that a living session would violate.
 #[test]
 fn violated_before_full_of_sets(rt: HostRuntime) {
     let mut policy = story(&rt, rt.alloc(), &TWO_DUTIES);
@@ -137,9 +137,9 @@ fn grant_all(rt: &impl Abort, alloc: Global, policy: &mut Policy, operation: &st
     }
 }
 
-/// With 256 pairs granted, a pair that a role has may be granted to another one; a pair whose last
-/// role goes, by a revocation or with the role itself, frees its place, and one that another role
-/// has doesn't. The opening policy grants one pair.
+/// With 256 pairs granted, a pair that a role has may be granted to another role. A pair whose last
+/// role goes, by a revocation or because the role is deleted, frees its place; a pair that another
+/// role has does not. The opening policy grants one pair.
 const PAIRS_GO: [Line; 12] = [
     (1, "grant root audit 15", "Full permissions"),
     (1, "grant driver audit 0.O", "Full permissions"),

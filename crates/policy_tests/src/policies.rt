@@ -51,7 +51,7 @@ fn opening_story(rt: HostRuntime) {
 }
 
 /// Root is not authorized for the role, so the session ends with its entry. What the user of a
-/// session might make active counts for nothing.
+/// session might make active does not count.
 #[test]
 fn roles_of_sessions(rt: HostRuntime) {
     let mut policy = Policy::opening();
@@ -129,7 +129,7 @@ fn violates_as_chief(rt: &impl Abort, alloc: Global, policy: &Policy) -> bool {
     is_violation(rt, policy.first_violated_by_login(&Name::root(), &above), 2)
 }
 
-/// One of the set's two roles may be active, and not the role that stands above both.
+/// One of the set's two roles may be active, but not the role that stands above both.
 #[test]
 fn first_violation(rt: HostRuntime) {
     let mut policy = Policy::opening();

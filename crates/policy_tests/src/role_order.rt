@@ -21,7 +21,7 @@ fn chain_of_three(rt: HostRuntime) {
     assert_eq!(rt; rows.above(2), set(&[0, 1, 2]));
     assert_eq!(rt; rows.below_some(set(&[1, 5])), set(&[1, 2, 5]));
 
-    // what lies below a new junior comes along, and all above the senior take it in
+    // what lies below a new junior comes along, and every role above the senior takes it in
     rows.add_edge(3, 4);
     rows.add_edge(2, 3);
     assert_eq!(rt; rows.below(0), set(&[0, 1, 2, 3, 4]));

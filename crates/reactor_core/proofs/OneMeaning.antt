@@ -9,7 +9,7 @@ use Rattle.est_relations.specs.Keeping.{AreLawful}
 use Rattle.est_relations.specs.Offers.{PendingInputs, IsFirstImplied, ReadyAnswer}
 use Rattle.est_relations.specs.declared.relations.Relation.{Relation}
 use Rattle.est_relations.proofs.Answering.{all_hold}
-use Rattle.est_meaning.specs.Rounds.{judged_outputs}
+use Rattle.est_meaning.specs.Rounds.{judged_signals}
 use Rattle.est_meaning.proofs.OneReactionAtMost.{one_reaction}
 use Rattle.reactor_core.specs.declared.entry.Load.{Load as LoadEntry}
 use Rattle.reactor_core.specs.declared.entry.PastInstant.{PastInstant}
@@ -73,7 +73,7 @@ same_reaction r s t u next rest a b runs terms one other =
     let same : ReactsWith r.interface t r.pending b rest =
     subst (λ (m : Running). ReactsWith m.interface t m.pending b rest) (sym runs)
     (subst (λ (v : Term). ReactsWith s.interface v s.pending b rest) (sym terms) other) in
-    let g = one_reaction (judged_outputs r.interface) (bits r.pending) t (bits a) next (bits b) rest one same in
+    let g = one_reaction (judged_signals r.interface (bits r.pending)) (bits r.pending) t (bits a) next (bits b) rest one same in
     ((λ n. ap (λ (f : ℕ → Bool). f n) g.shown), g.next)
 
 -- a step of the term that is left leaves this one

@@ -24,7 +24,8 @@ enum Fault {
     OtherSignal,
     /// Its receipt has the number of the one before it.
     SameNumber,
-    /// Seat 0 keeps the command on slot 3 too, whose number is below that of its command before.
+    /// Seat 0 keeps the command on slot 3 too, whose number is lower than that of the command
+    /// before.
     FallingNumber,
     /// The other seat keeps a receipt of it too.
     TwoReceipts,

@@ -1,4 +1,4 @@
--- Numbers of units in 64 bits, as sums over what stands later.
+-- Numbers of units in 64 bits, as sums over what comes later.
 use Rattle.std.proofs.Common.{◌≡◌, ◌∙◌, ◌+◌, ◌%◌, ◌^◌, ℕ, List, [], ◌∷◌, length, map, refl, sym, ap, arith, rules}
 use Rattle.std.specs.List.{fold, sum_by}
 use Rattle.std.proofs.lemmas.List.{length-map}
@@ -13,8 +13,10 @@ use Rattle.est_syntax.specs.declared.tree.Library.{Library}
 use Rattle.est_syntax.specs.declared.tree.Branches.TheViews.{out-Sequence, out-Statement}
 use Rattle.est_syntax.specs.declared.tree.Branches.TheFolds.{the_lemmas}
 use Rattle.est_syntax.specs.Tree.{sequence, statement, ModuleTree}
-use Rattle.est_syntax.specs.Views.{unit_view, sequence_view, statement_view, units_of, sequences_of, declaration_view, module_view, library_view}
-use Rattle.text_bench.specs.Trees.{unit_units, sequence_units, statement_units, later_units, later_sequences_units, library_units, library_declarations}
+use Rattle.est_syntax.specs.Views.{unit_view, sequence_view, statement_view, units_of, sequences_of, declaration_view}
+use Rattle.est_syntax.specs.Views.{module_view, library_view}
+use Rattle.text_bench.specs.Trees.{unit_units, sequence_units, statement_units, later_units, later_sequences_units}
+use Rattle.text_bench.specs.Trees.{library_units, library_declarations}
 
 abbrev pub unit_number : Unit → ℕ
 unit_number u = unit_units (unit_view u)
@@ -26,7 +28,7 @@ sequence_number q = sequence_units (sequence_view q)
 abbrev pub so_far : {X : Type 0} → (X → ℕ) → ℕ → List X → ℕ
 so_far f first xs = fold (λ sum x. (sum + f x % 2 ^ 64) % 2 ^ 64) (first % 2 ^ 64) xs
 
--- is the whole sum in 64 bits
+-- this is the whole sum, in 64 bits
 pub whole_sum : {X : Type 0} (f : X → ℕ) (first : ℕ) (xs : List X) → so_far f first xs ≡ (first + sum_by f xs) % 2 ^ 64
 whole_sum f first [] = ap (λ n. n % 2 ^ 64) (sym (omega arith))
 whole_sum f first (x ∷ xs) =
@@ -83,7 +85,8 @@ library_units_whole l =
     (sym (over_modules (λ m. statement_units m.body) body_number (λ _. refl) l.later.items))
 
 pub library_declarations_whole : (l : Library)
-    → so_far declaration_number (declaration_number l.first) l.later.items ≡ library_declarations (library_view l) % 2 ^ 64
+    → so_far declaration_number (declaration_number l.first) l.later.items
+    ≡ library_declarations (library_view l) % 2 ^ 64
 library_declarations_whole l =
     whole_sum declaration_number (declaration_number l.first) l.later.items
     ∙ ap (λ n. (declaration_number l.first + n) % 2 ^ 64)

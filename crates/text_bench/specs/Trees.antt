@@ -4,7 +4,10 @@ use Rattle.std.specs.List.{sum_by}
 use Rattle.est_text.specs.Pieces.{AreTokens}
 use Rattle.est_text.specs.declared.token.Located.{Located}
 use Rattle.est_syntax.specs.Grammar.{tokens_of, spelling}
-use Rattle.est_syntax.specs.Tree.{UnitTree, present, suspend, abort, weak_abort, repeat, repeat_each, every, trap, signal, group, BranchesTree, then_only, else_only, both, SequenceTree, sequence, UnitsTree, no_units, units, StatementTree, statement, SequencesTree, no_sequences, sequences, ModuleTree, LibraryTree}
+use Rattle.est_syntax.specs.Tree.{UnitTree, present, suspend, abort, weak_abort, repeat, repeat_each, every, trap}
+use Rattle.est_syntax.specs.Tree.{signal, group, BranchesTree, then_only, else_only, both, SequenceTree, sequence}
+use Rattle.est_syntax.specs.Tree.{UnitsTree, no_units, units, StatementTree, statement, SequencesTree, no_sequences}
+use Rattle.est_syntax.specs.Tree.{sequences, ModuleTree, LibraryTree}
 use Rattle.est_text.specs.Lexing.{IsLexFault}
 use Rattle.est_text.specs.TokenLists.{TokenList}
 use Rattle.est_syntax.specs.ParseFaults.{IsParseFault}
@@ -38,7 +41,7 @@ abbrev mutual
   pub sequence_units : SequenceTree → ℕ
   sequence_units (sequence u us c) = unit_units u + later_units us
 
-  -- those of the units behind its first
+  -- those of the units after its first
   pub later_units : UnitsTree → ℕ
   later_units no_units = 0
   later_units (units u us) = unit_units u + later_units us
@@ -47,7 +50,7 @@ abbrev mutual
   pub statement_units : StatementTree → ℕ
   statement_units (statement q qs) = sequence_units q + later_sequences_units qs
 
-  -- those of the sequences beside its first
+  -- those of the sequences after its first
   pub later_sequences_units : SequencesTree → ℕ
   later_sequences_units no_sequences = 0
   later_sequences_units (sequences q qs) = sequence_units q + later_sequences_units qs
@@ -78,4 +81,5 @@ pub record CountsTreeOf (text : List ℕ) (count : TreeCount) : Type 0 where
 abbrev pub IsTextFault : List ℕ → TextFault → Type 0
 IsTextFault text (Lex fault) = IsLexFault text fault
 IsTextFault text (Parse fault) =
-    (tokens : TokenList) × (tokens.source ≡ text) × AreTokens text tokens.located × IsParseFault MOST_OPEN_UNITS tokens fault
+    (tokens : TokenList) × (tokens.source ≡ text) × AreTokens text tokens.located
+    × IsParseFault MOST_OPEN_UNITS tokens fault

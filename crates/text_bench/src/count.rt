@@ -29,7 +29,8 @@ pub fn counted(tokens: &Tokens<'_>) -> Count
     }
 }
 
-/// Cuts a text into its tokens, once and then again up to so many times, and counts them; or why it has none, as `lex` says.
+/// Cuts a text into its tokens n times, at least once, and counts them; or answers why it has none,
+/// as `lex` says.
 pub fn count_again(alloc: Global, text: &str, repetitions: u32) -> Result<Count, LexFault>
     ensures tokens { IfOk result (CountsTokensOf text.now) }
     ensures fault { IfErr result (IsLexFault text.now) }

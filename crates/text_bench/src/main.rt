@@ -1,12 +1,13 @@
-//! How many megabytes of module text a second? Cuts a text into its tokens, and reads its tree too, as often as its words say.
+//! How many megabytes of module text a second? Cuts a text into its tokens, and reads its tree too,
+//! as often as the command line says.
 //!
-//! `text_bench REPETITIONS < TEXT` prints how many tokens the text has, and the sum of the places where they end. With
-//! `parse` as a second word each repetition also reads the tree of the tokens, and a second line says how many modules
-//! it has, how many declarations these have in all, and how many units, those inside others counted too. The time is
-//! taken from outside (`bench/texts.py`).
+//! `text_bench REPETITIONS < TEXT` prints how many tokens the text has, and the sum of the places
+//! where they end. With `parse` as a second word each repetition also reads the tree of the tokens,
+//! and a second line says how many modules it has, how many declarations these have in all, and how
+//! many units, those inside others counted too. The time is taken from outside (`bench/texts.py`).
 //!
-//! Proved: the numbers are those of the tokens that the text has, and of the tree that they are spelt from. No clause
-//! speaks of the printed lines, of the repetitions or of time.
+//! Proved: the numbers are those of the tokens that the text has, and of the tree that they are
+//! spelt from. No clause speaks of the printed lines, of the repetitions or of time.
 #![tactic(auto)]
 
 mod count;

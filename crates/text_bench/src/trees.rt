@@ -1,7 +1,10 @@
 //! What is counted of a text's tree.
 ghost use Rattle.std.specs.Prelude.{◌≡◌, ◌%◌, ◌^◌, IfOk, IfErr};
-ghost use Rattle.est_syntax.specs.Views.{unit_view, branches_view, sequence_view, statement_view, library_view};
-ghost use Rattle.text_bench.specs.Trees.{unit_units, branches_units, sequence_units, statement_units, library_modules, library_declarations, library_units, CountsTreeOf, IsTextFault};
+ghost use Rattle.est_syntax.specs.Views.{unit_view, branches_view, sequence_view, statement_view};
+ghost use Rattle.est_syntax.specs.Views.{library_view};
+ghost use Rattle.text_bench.specs.Trees.{unit_units, branches_units, sequence_units};
+ghost use Rattle.text_bench.specs.Trees.{statement_units, library_modules, library_declarations};
+ghost use Rattle.text_bench.specs.Trees.{library_units, CountsTreeOf, IsTextFault};
 ghost use Rattle.text_bench.specs.Counts.{CountsTokensOf};
 
 use crate::count::{Count, counted};
@@ -10,7 +13,8 @@ use est_syntax::tree::{Branches, Library, Sequence, Statement, Unit};
 use est_text::lex::{LexFault, lex};
 use std::alloc::Global;
 
-/// How many modules, declarations and units a library has, in 64 bits. Units inside others count too.
+/// How many modules, declarations and units a library has, in 64 bits. Units inside others count
+/// too.
 #[derive(Clone, Copy, PartialEq, Eq, Debug)]
 pub struct TreeCount {
     pub modules: u64,
@@ -23,7 +27,7 @@ pub struct TreeCount {
 pub enum TextFault {
     /// It has no tokens.
     Lex(LexFault),
-    /// Its tokens are no library.
+    /// Its tokens are not a library.
     Parse(ParseFault),
 }
 
@@ -49,7 +53,8 @@ impl From<ParseFault> for TextFault {
     }
 }
 
-/// A unit, with the units inside it. It goes as deep as units lie in one another, of which the parser lets at most 128 be open at once.
+/// A unit, with the units inside it. Recursion is as deep as units are nested, of which the parser
+/// lets at most 128 be open at once.
 #[cycle(units)]
 fn units_of_unit(unit: &Unit) -> u64
     ensures { result ≡ unit_units (unit_view unit.now) % 2 ^ 64 }
@@ -153,7 +158,7 @@ fn both(alloc: Global, text: &str) -> Result<(Count, TreeCount), TextFault>
     Ok((counted(&tokens), counted_tree(&library)))
 }
 
-/// The same once and then again up to so many times, or the first of its faults.
+/// The same n times, at least once, or the first fault.
 pub fn parse_again(
     alloc: Global,
     text: &str,

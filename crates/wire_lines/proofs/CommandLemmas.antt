@@ -44,7 +44,7 @@ use Rattle.wire_lines.specs.Inner.Commands.{plain_rows, policy_rows, rows, reque
 use Rattle.wire_lines.specs.declared.request.Request.{Request}
 use Rattle.wire_lines.specs.declared.request.Request.TheVariants.{Policy, Slot, Check}
 
--- ---- members, one after the other
+-- ---- members, one after another
 
 -- the tokens after a command's word are read as these members
 record Reads (word : List ℕ) (ts : List Token) (members : Members) : Type 0 where

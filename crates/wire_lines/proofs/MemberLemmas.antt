@@ -1,4 +1,4 @@
--- What is taken of the tokens stands in front of them.
+-- What is taken of the tokens stands at their front.
 use Rattle.std.proofs.Common.{◌≡◌, ◌≤◌, ◌^◌, ◌∙◌, ◌&&◌, ◌==◌, ℕ, ℤ, Float, List, [], ◌∷◌, ◌++◌, length, drop}
 use Rattle.std.proofs.Common.{slice_index, map, codes, Bool, true, false, cond, Option, Some, None, option_map}
 use Rattle.std.proofs.Common.{option_and_then, bytes_eq, IsTrue, nat_le, nat_lt, refl, sym, ap, subst, arith}
@@ -253,7 +253,7 @@ number_back n h = ap (option_and_then as_u64) (number_of-decimal n h)
 abbrev pub AreNames : List (List ℕ) → Type 0
 AreNames names = AllByRecursion (λ name. IsName name) names
 
--- the tokens of names up to the bracket behind them, and what is left
+-- the tokens of names up to the bracket after them, and what is left
 abbrev names_before : List Token → List (List ℕ) → List Token
 names_before left [] = token.end_array ∷ left
 names_before left (name ∷ names) = token.string name ∷ names_before left names

@@ -9,7 +9,7 @@ use Rattle.access_core.specs.declared.reply.Reply.TheVariants.{Load, Offer, Disc
 use Rattle.access_core.specs.Replies.{word_of}
 use Rattle.wire_lines.specs.Replies.{line_of}
 
--- what stands behind a place
+-- what stands after a place
 abbrev pub version_end : ℕ → List ℕ
 version_end version = codes ",\"version\":" ++ (decimal version ++ codes "}\n")
 

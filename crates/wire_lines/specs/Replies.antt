@@ -8,7 +8,8 @@ use Rattle.serde_json.specs.Written.{compact_text}
 use Rattle.refusal_tables.specs.Rows.{Row, Field, Fields, Number, Text, Texts}
 use Rattle.access_core.specs.declared.refusal.Refusal.{Refusal}
 use Rattle.access_core.specs.declared.reply.Reply.{Reply}
-use Rattle.access_core.specs.declared.reply.Reply.TheVariants.{Refused, Login, Changed, Load, Offer, Discard, Step, Unload, Look, Audit, Check}
+use Rattle.access_core.specs.declared.reply.Reply.TheVariants.{Refused, Login, Changed, Load, Offer, Discard, Step}
+use Rattle.access_core.specs.declared.reply.Reply.TheVariants.{Unload, Look, Audit, Check}
 use Rattle.access_core.specs.declared.reply.ShownSignal.{ShownSignal}
 use Rattle.access_core.specs.Refusals.{row_of}
 use Rattle.access_core.specs.Replies.{word_of}
@@ -33,7 +34,7 @@ fields_members (field ∷ others) = field_member field.0 field.1 (fields_members
 abbrev pub is_before_fault : List ℕ → Bool
 is_before_fault key = is_gt (slice_cmp nat_cmp (codes "fault") key)
 
--- the name of a refusal at its place among what the refusal names
+-- the name of a refusal, in its place among what the refusal names
 abbrev pub with_fault : (fault : List ℕ) → Fields → Members
 with_fault fault [] = text_member (codes "fault") fault no_members
 with_fault fault (field ∷ others) =
@@ -59,19 +60,32 @@ signals_json signals = array (items_of (map shown_json signals))
 -- the members of a reply, in the order of their keys (this project's own form)
 abbrev pub reply_members : Reply → Members
 reply_members (Refused r) = refusal_members r
-reply_members (Login session version) = text_member (codes "ok") (codes "login") (number_member (codes "session") session (number_member (codes "version") version no_members))
-reply_members (Changed change version) = text_member (codes "ok") (word_of change) (number_member (codes "version") version no_members)
-reply_members (Load place version) = text_member (codes "ok") (codes "load") (number_member (codes "place") place (number_member (codes "version") version no_members))
-reply_members (Offer place version) = text_member (codes "ok") (codes "offer") (number_member (codes "place") place (number_member (codes "version") version no_members))
-reply_members (Discard place version) = text_member (codes "ok") (codes "discard") (number_member (codes "place") place (number_member (codes "version") version no_members))
-reply_members (Unload place version) = text_member (codes "ok") (codes "unload") (number_member (codes "place") place (number_member (codes "version") version no_members))
+reply_members (Login session version) = text_member (codes "ok") (codes "login")
+    (number_member (codes "session") session (number_member (codes "version") version no_members))
+reply_members (Changed change version) = text_member (codes "ok") (word_of change)
+    (number_member (codes "version") version no_members)
+reply_members (Load place version) = text_member (codes "ok") (codes "load")
+    (number_member (codes "place") place (number_member (codes "version") version no_members))
+reply_members (Offer place version) = text_member (codes "ok") (codes "offer")
+    (number_member (codes "place") place (number_member (codes "version") version no_members))
+reply_members (Discard place version) = text_member (codes "ok") (codes "discard")
+    (number_member (codes "place") place (number_member (codes "version") version no_members))
+reply_members (Unload place version) = text_member (codes "ok") (codes "unload")
+    (number_member (codes "place") place (number_member (codes "version") version no_members))
 reply_members (Step instant place version) =
-    number_member (codes "instant") instant (text_member (codes "ok") (codes "step") (number_member (codes "place") place (number_member (codes "version") version no_members)))
+    number_member (codes "instant") instant
+    (text_member (codes "ok") (codes "step")
+    (number_member (codes "place") place (number_member (codes "version") version no_members)))
 reply_members (Look instant signals version) =
-    number_member (codes "instant") instant (text_member (codes "ok") (codes "look") (member (codes "signals") (signals_json signals) (number_member (codes "version") version no_members)))
+    number_member (codes "instant") instant
+    (text_member (codes "ok") (codes "look")
+    (member (codes "signals") (signals_json signals) (number_member (codes "version") version no_members)))
 reply_members (Audit entries instants version) =
-    number_member (codes "entries") entries (number_member (codes "instants") instants (text_member (codes "ok") (codes "audit") (number_member (codes "version") version no_members)))
-reply_members (Check allowed) = member (codes "allowed") (boolean allowed) (text_member (codes "ok") (codes "check") no_members)
+    number_member (codes "entries") entries
+    (number_member (codes "instants") instants
+    (text_member (codes "ok") (codes "audit") (number_member (codes "version") version no_members)))
+reply_members (Check allowed) = member (codes "allowed") (boolean allowed)
+    (text_member (codes "ok") (codes "check") no_members)
 
 -- what a reply says
 abbrev pub reply_json : Reply → Data

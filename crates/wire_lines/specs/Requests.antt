@@ -56,7 +56,7 @@ IsNumber n = n < 2 ^ 64
 abbrev pub AreListed : List (List ℕ) → Type 0
 AreListed roles = (length roles ≤ LISTED_ROLES) × AllByRecursion (λ role. IsName role) roles
 
--- what a line says after its command's word: the shapes of the keys, with their values
+-- what a line says after its command's word: one case for each shape of keys, with their values
 pub data Said : Type 0 where
   nothing : Said
   one_name : (key name : List ℕ) → Said
@@ -162,7 +162,7 @@ pub record IsValue (line : List ℕ) (d : Data) : Type 0 where
   pub text : IsUtf8 line
   pub reads : read line ≡ Some d
 
--- the line asks for this request: it reads as the object of its members, in whatever order its keys stand
+-- the line asks for this request: it reads as the object of its members, whatever the order of its keys
 pub record IsRequest (line : List ℕ) (request : Request) : Type 0 where
   pub value : IsValue line (object (members_of request))
   pub fits : Fits request

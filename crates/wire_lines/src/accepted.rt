@@ -1,4 +1,4 @@
-//! The lines that come most often, written as they stand: no tree of values is made for them.
+//! The most common lines, written piece by piece without a tree of values.
 ghost use Rattle.std.specs.Prelude.{◌≡◌, ◌++◌, codes, decimal, IfOk, OnOk};
 ghost use Rattle.access_core.specs.declared.reply.Reply.TheVariants.{Load, Offer, Discard};
 ghost use Rattle.access_core.specs.declared.reply.Reply.TheVariants.{Unload, Step, Changed, Check};
@@ -17,7 +17,7 @@ const ALLOWED: &str = "{\"allowed\":true,\"ok\":\"check\"}\n";
 /// The line of a check that may not.
 const DENIED: &str = "{\"allowed\":false,\"ok\":\"check\"}\n";
 
-/// Adds a text, and a number behind it.
+/// Adds a text, and a number after it.
 fn add_number(line: &mut Vec<u8>, text: &[u8], number: u64) -> Result<(), AllocError>
     ensures { OnOk result (line.new.items ≡ line.old.items ++ (text.now ++ decimal number)) }
 {
@@ -37,10 +37,11 @@ fn add_version(line: &mut Vec<u8>, version: u64) -> Result<(), AllocError>
     Ok(())
 }
 
-/// Adds a text, a place behind it and a version, and the end of the line.
+/// Adds a text, a place after it and a version, and the end of the line.
 fn add_place(line: &mut Vec<u8>, text: &[u8], place: u64, version: u64) -> Result<(), AllocError>
     ensures { OnOk result (line.new.items ≡ line.old.items
-        ++ (text.now ++ (decimal place ++ (codes ",\"version\":" ++ (decimal version ++ codes "}\n"))))) }
+        ++ (text.now
+        ++ (decimal place ++ (codes ",\"version\":" ++ (decimal version ++ codes "}\n"))))) }
 {
     add_number(line, text, place)?;
     add_version(line, version)?;
@@ -58,7 +59,7 @@ fn placed_line(alloc: Global, text: &[u8], place: u64, version: u64) -> Result<V
     Ok(line)
 }
 
-/// A line that tells an instant, and a place and a version behind this text.
+/// A line that tells an instant, and after this text a place and a version.
 fn instant_line(
     alloc: Global,
     instant: u64,
@@ -67,7 +68,8 @@ fn instant_line(
     version: u64,
 ) -> Result<Vec<u8>, AllocError>
     ensures { IfOk result (λ line. line.items ≡ (codes "{\"instant\":" ++ decimal instant)
-        ++ (text.now ++ (decimal place ++ (codes ",\"version\":" ++ (decimal version ++ codes "}\n"))))) }
+        ++ (text.now
+        ++ (decimal place ++ (codes ",\"version\":" ++ (decimal version ++ codes "}\n"))))) }
 {
     let mut line = Vec::with_capacity(alloc, USUAL_BYTES)?;
     add_number(&mut line, b"{\"instant\":", instant)?;

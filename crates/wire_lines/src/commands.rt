@@ -1,4 +1,4 @@
-//! The commands: to each word the shape of the members after it, and what is made of them.
+//! The commands: for each word the shape of the members after it, and what is made of them.
 //!
 //! Commands with the same keys share a reader.
 ghost use Rattle.std.specs.Prelude.{◌≡◌, codes, option_map, IfOk};
@@ -122,7 +122,7 @@ fn load(alloc: Global, reader: &mut Reader<'_>) -> Result<Option<Request>, Alloc
     Ok(Some(Request::Slot { slot, command }))
 }
 
-/// This command, on the slot that is its one member.
+/// This command, on the slot that the only other key names.
 #[tactic(auto, unfolding(crate::specs::Inner::Commands::request_of))]
 fn on_slot(reader: &mut Reader<'_>, command: SlotCommand) -> Option<Request>
     ensures { result ≡ request_of (slot_alone command) reader.old }

@@ -2,9 +2,9 @@
 //!
 //! `reading` gives the request that a line asks for, exactly where it asks for one, and tells a
 //! line that is no JSON from one that is no request. `commands` has the table of the commands, and
-//! a reader for each shape of their keys; `members` takes one member of a line after the other,
-//! token by token. `reply` writes a reply as its one text; `accepted` and `look_line` write those
-//! that come most often with no tree of values.
+//! a reader for each shape of their keys; `members` takes the members of a line one after another,
+//! token by token. `reply` writes a reply as its one text; `accepted` and `look_line` write the
+//! most common replies without a tree of values.
 #![tactic(auto)]
 
 mod accepted;

@@ -1,8 +1,9 @@
-//! The line of a look, written token by token: no tree of values is made for it.
+//! The line of a look, written token by token, without a tree of values.
 ghost use Rattle.std.specs.Prelude.{◌≡◌, ◌++◌, flat_map, IfOk, OnOk};
 ghost use Rattle.access_core.specs.declared.reply.Reply.TheVariants.{Look};
 ghost use Rattle.wire_lines.specs.Replies.{line_of};
-ghost use Rattle.wire_lines.specs.Inner.LookTokens.{with_instant, word_tokens, before_signals, shown_tokens, behind_signals};
+ghost use Rattle.wire_lines.specs.Inner.LookTokens.{with_instant, word_tokens, before_signals};
+ghost use Rattle.wire_lines.specs.Inner.LookTokens.{shown_tokens, behind_signals};
 
 use access_core::reply::ShownSignal;
 use json::Writer;
@@ -41,7 +42,8 @@ fn begin_signals(writer: &mut Writer) -> Result<(), AllocError>
 
 /// Writes a signal's name, and whether it is present.
 fn write_signal(writer: &mut Writer, signal: &ShownSignal) -> Result<(), AllocError>
-    ensures tokens { OnOk result (writer.new.tokens ≡ writer.old.tokens ++ shown_tokens signal.now) }
+    ensures tokens { OnOk result (writer.new.tokens
+        ≡ writer.old.tokens ++ shown_tokens signal.now) }
     ensures before { writer.new.before ≡ writer.old.before }
 {
     writer.begin_array()?;
@@ -52,7 +54,8 @@ fn write_signal(writer: &mut Writer, signal: &ShownSignal) -> Result<(), AllocEr
 
 /// Writes the signals, in their order.
 fn write_signals(writer: &mut Writer, signals: &[ShownSignal]) -> Result<(), AllocError>
-    ensures tokens { OnOk result (writer.new.tokens ≡ writer.old.tokens ++ flat_map shown_tokens signals.now) }
+    ensures tokens { OnOk result (writer.new.tokens
+        ≡ writer.old.tokens ++ flat_map shown_tokens signals.now) }
     ensures before { writer.new.before ≡ writer.old.before }
 {
     for signal in signals {
@@ -61,7 +64,7 @@ fn write_signals(writer: &mut Writer, signals: &[ShownSignal]) -> Result<(), All
     Ok(())
 }
 
-/// Writes what stands behind the signals.
+/// Writes what stands after the signals.
 fn end_look(writer: &mut Writer, version: u64) -> Result<(), AllocError>
     ensures tokens { OnOk result (writer.new.tokens ≡ writer.old.tokens ++ behind_signals version) }
     ensures before { writer.new.before ≡ writer.old.before }

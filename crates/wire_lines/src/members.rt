@@ -1,4 +1,5 @@
-//! The members of a line, taken token by token in the order of their keys, with no tree of values.
+//! The members of a line, taken token by token in the order of their keys, without a tree of
+//! values.
 //!
 //! Each call takes one member, or answers that the next one is not of this key and kind. A line
 //! whose keys stand in another order is not read here.
@@ -151,7 +152,7 @@ pub(crate) fn take_operation(reader: &mut Reader<'_>) -> Option<Operation>
     Operation::from_text(take_text(reader, "op")?)
 }
 
-/// Takes the names that come next, up to the bracket behind them: no more than a command may list.
+/// Takes the names that come next, up to the bracket after them: no more than a command may list.
 #[tactic(auto, unfolding(crate::specs::Inner::Members::names_in))]
 fn take_names(alloc: Global, reader: &mut Reader<'_>) -> Result<Option<Vec<Name>>, AllocError>
     ensures names { IfOk result (λ names. option_map (λ v. (v.items, reader.new)) names

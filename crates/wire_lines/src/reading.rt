@@ -42,7 +42,7 @@ fn request_of_value(alloc: Global, scratch: &mut Scratch, line: &[u8]) -> Result
     }
 }
 
-/// The request of a line whose keys stand in order; of any other line nothing is said.
+/// The request of a line whose keys stand in order. Any other line gets no answer here.
 fn request_of_tokens(
     alloc: Global,
     scratch: &mut Scratch,

@@ -1,5 +1,6 @@
 //! Reply lines, as exact bytes.
-ghost use Rattle.std.specs.Prelude.{◌≡◌, ◌<◌, ◌++◌, ◌∷◌, [], ℕ, List, codes, decimal, IfOk, map, true};
+ghost use Rattle.std.specs.Prelude.{◌≡◌, ◌<◌, ◌++◌, ◌∷◌, [], ℕ, List, codes, decimal, IfOk, map};
+ghost use Rattle.std.specs.Prelude.{true};
 ghost use Rattle.std.specs.Cmp.Lexicographic.{slice_cmp};
 ghost use Rattle.std.specs.Ordering.{nat_cmp};
 ghost use Rattle.std.specs.declared.cmp.Ordering.{Ordering};
@@ -12,8 +13,9 @@ ghost use Rattle.reactor_core.specs.Refusals.{row_of as module_row};
 ghost use Rattle.wire_lines.specs.Requests.{text_member, number_member, texts_member};
 ghost use Rattle.wire_lines.specs.Replies.{refusal_members, row_members, refused_with};
 ghost use Rattle.wire_lines.specs.Replies.{signals_json, shown_json, reply_json, line_of};
-ghost use Rattle.access_core.specs.declared.reply.Reply.TheVariants.{Refused, Login, Changed, Load, Discard, Step};
-ghost use Rattle.access_core.specs.declared.reply.Reply.TheVariants.{Unload, Audit, Check};
+ghost use Rattle.access_core.specs.declared.reply.Reply.TheVariants.{Refused, Login, Changed, Load};
+ghost use Rattle.access_core.specs.declared.reply.Reply.TheVariants.{Discard, Step, Unload, Audit};
+ghost use Rattle.access_core.specs.declared.reply.Reply.TheVariants.{Check};
 ghost use Rattle.access_core.specs.declared.reply.Change.TheVariants as change;
 ghost use Rattle.access_core.specs.declared.refusal.Refusal.TheVariants as refusal;
 ghost use Rattle.rbac_admin.specs.declared.refusals.Refusal.TheVariants as policy;
@@ -37,7 +39,7 @@ use reactor_core::refusal::{ModuleRefusal, limit_text};
 use serde_json::{Value, json};
 use std::alloc::{AllocError, Global};
 
-/// The line for want of memory.
+/// The line for refused memory.
 const NO_MEMORY: &str = "{\"code\":90,\"fault\":\"Memory\"}\n";
 
 /// Names as a list of texts.
@@ -122,7 +124,8 @@ fn separation(
         (number_member (codes "session") session.now (text_member (codes "set") set.now
         no_members)))) }
 {
-    json!(in alloc; {"code": code, "fault": fault, "session": session.number(), "set": set.as_str()})
+    json!(in alloc;
+        {"code": code, "fault": fault, "session": session.number(), "set": set.as_str()})
 }
 
 /// A refusal of a relation that excludes a signal.
@@ -140,7 +143,7 @@ fn excluded(
     json!(in alloc; {"code": code, "fault": fault, "relation": relation, "signal": signal.as_str()})
 }
 
-/// A refusal of a relation that misses a signal.
+/// A refusal of a relation that lacks a signal.
 fn implied(
     alloc: Global,
     code: u8,
@@ -152,7 +155,8 @@ fn implied(
         (text_member (codes "missing") missing.now (number_member (codes "relation") relation
         no_members)))) }
 {
-    json!(in alloc; {"code": code, "fault": fault, "missing": missing.as_str(), "relation": relation})
+    json!(in alloc;
+        {"code": code, "fault": fault, "missing": missing.as_str(), "relation": relation})
 }
 
 /// A refusal that names a relation alone.
@@ -294,7 +298,8 @@ fn placed(alloc: Global, done: &str, place: u64, version: u64) -> Result<Value, 
 fn audited(alloc: Global, entries: u64, instants: u64, version: u64) -> Result<Value, AllocError>
     ensures { IfOk result (λ v. view v ≡ object (number_member (codes "entries") entries
         (number_member (codes "instants") instants
-        (text_member (codes "ok") (codes "audit") (number_member (codes "version") version no_members))))) }
+        (text_member (codes "ok") (codes "audit")
+        (number_member (codes "version") version no_members))))) }
 {
     json!(in alloc; {"entries": entries, "instants": instants, "ok": "audit", "version": version})
 }
@@ -320,7 +325,8 @@ fn value(alloc: Global, reply: &Reply) -> Result<Value, AllocError>
             place,
             version,
         } => {
-            json!(in alloc; {"instant": *instant, "ok": "step", "place": *place, "version": *version})
+            json!(in alloc;
+                {"instant": *instant, "ok": "step", "place": *place, "version": *version})
         }
         Reply::Look {
             instant,
@@ -328,7 +334,8 @@ fn value(alloc: Global, reply: &Reply) -> Result<Value, AllocError>
             version,
         } => {
             let signals = shown(alloc, signals.as_slice())?;
-            json!(in alloc; {"instant": *instant, "ok": "look", "signals": signals, "version": *version})
+            json!(in alloc;
+                {"instant": *instant, "ok": "look", "signals": signals, "version": *version})
         }
         Reply::Audit {
             entries,
@@ -339,14 +346,14 @@ fn value(alloc: Global, reply: &Reply) -> Result<Value, AllocError>
     }
 }
 
-/// The line for want of memory, from a constant.
+/// The line for refused memory, from a constant.
 fn memory_line(alloc: Global) -> Result<Vec<u8>, AllocError>
     ensures { IfOk result (λ line. line.items ≡ line_of (Refused refusal.Memory)) }
 {
     Vec::from_slice(alloc, NO_MEMORY.as_bytes())
 }
 
-/// The line of a reply, by the value that it is.
+/// The line of a reply, from its value.
 fn value_line(alloc: Global, reply: &Reply) -> Result<Vec<u8>, AllocError>
     ensures { IfOk result (λ line. line.items ≡ line_of reply.now) }
 {
@@ -356,8 +363,8 @@ fn value_line(alloc: Global, reply: &Reply) -> Result<Vec<u8>, AllocError>
     Ok(line)
 }
 
-/// The line of a reply, with its LF. The line for want of memory is a constant, and those of the commands that come
-/// most often are written with no tree of values.
+/// The line of a reply, with its LF. The line for refused memory is a constant, and those of the
+/// most common commands are written without a tree of values.
 pub fn reply_line(alloc: Global, reply: &Reply) -> Result<Vec<u8>, AllocError>
     ensures { IfOk result (λ line. line.items ≡ line_of reply.now) }
 {

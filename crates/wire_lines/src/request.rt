@@ -8,7 +8,7 @@ use rbac_policy::objects::{Object, Operation};
 pub enum Request {
     /// A policy command. A login is the CreateSession of its user, a logout the DeleteSession.
     Policy(AdminCommand),
-    /// A command on the slot of this number, which may be one that there is not.
+    /// A command on the slot of this number; there may be no such slot.
     Slot {
         slot: u64,
         command: SlotCommand,

@@ -11,7 +11,7 @@ use std::thread;
 use std::thread::{Promise, PromisedHandle, Scope, Threads};
 
 /// The stack of a worker's thread, in bytes.
-pub const WORKER_STACK_BYTES: usize = 16 * 1024 * 1024;
+pub const WORKER_STACK_BYTES: usize = 32 * 1024 * 1024;
 
 /// Whether there was a turn to take, with the seat as it then is.
 pub enum Turn<S> {

@@ -14,7 +14,7 @@ syntax keyword esterelConditional present then else when immediate
 syntax keyword esterelRepeat loop each every
 syntax keyword esterelPreempt suspend abort weak trap
 syntax keyword esterelKeyword end do in
-" Words that no form uses yet
+" What joins signals in a test
 syntax keyword esterelOperator and or not
 syntax keyword esterelConstant tick
 

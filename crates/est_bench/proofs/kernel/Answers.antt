@@ -10,4 +10,5 @@ build-requires c =
     let P : Term → Type 0 = λ t. IsClosed c.in_ok-interface.interface 0 0 t in
     let Q : ℕ → Type 0 = λ n. HasOutputs n c.in_ok-interface.interface in
     subst P (sym c.in_ok-root.ensures)
-    (workload_closed c.args.workload c.in_ok-interface.interface (subst Q c.output_count.ensures c.in_ok-interface.ensures))
+    (workload_closed c.args.workload c.in_ok-interface.interface
+    (subst Q c.output_count.ensures c.in_ok-interface.ensures))

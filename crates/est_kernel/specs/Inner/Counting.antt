@@ -1,18 +1,42 @@
 -- Counts that stop at the largest number of their type (this project's own form).
-use Rattle.std.specs.Prelude.{◌≡◌, ◌+◌, ◌<◌, ◌↔◌, ℕ, Bool, IsTrue, List, MatchOption, Option, min}
+use Rattle.std.specs.Prelude.{◌≡◌, ◌+◌, ◌<◌, ◌↔◌, ◌&&◌, ℕ, Bool, true, nat_lt, IsTrue, List, length, MatchOption}
+use Rattle.std.specs.Prelude.{Option, min}
 use Rattle.est_kernel.specs.Scope.{IsClosed}
+use Rattle.est_kernel.specs.Term.{Name, outer, inner, Query, tick, of, negated, joined, Queries, last, more, Joint}
 use Rattle.est_kernel.specs.Term.{Term}
 use Rattle.est_kernel.specs.declared.interface.Declaration.{Declaration}
 
--- counted counts n, as far as 32 bits hold it
+-- `counted` is n, or the largest number of 32 bits where n is larger
 abbrev pub Counts : ℕ → ℕ → Type 0
 Counts n counted = min n 4294967295 ≡ counted
 
--- the test says whether a term is closed, within so many traps and local signals
+-- the answer says whether a term is closed inside m traps and n local signals, for the m and n that were counted
 abbrev pub TellsClosed : Bool → List Declaration → (traps locals : ℕ) → Term → Type 0
 TellsClosed answer i traps locals t =
     (m n : ℕ) → Counts m traps → Counts n locals → IsTrue answer ↔ IsClosed i m n t
 
--- what is left of a room where so much is needed, or that it has not so much
+-- what is left of a room after what is needed, or no answer where the room is too small
 abbrev pub LeavesRoom : Option ℕ → (room needed : ℕ) → Type 0
 LeavesRoom answer room needed = MatchOption answer (room < needed) (λ left. left + needed ≡ room)
+
+-- whether a signal is of the interface, or one of n local signals
+abbrev pub is_seen : List Declaration → ℕ → Name → Bool
+is_seen i locals (outer n) = nat_lt n (length i)
+is_seen i locals (inner n) = nat_lt n locals
+
+abbrev mutual
+  -- whether each signal of a test passes
+  pub each_signal : (Name → Bool) → Query → Bool
+  each_signal f tick = true
+  each_signal f (of s) = f s
+  each_signal f (negated t) = each_signal f t
+  each_signal f (joined c t ts) = each_signal f t && each_signal_of_all f ts
+
+  -- whether each signal of these tests passes
+  pub each_signal_of_all : (Name → Bool) → Queries → Bool
+  each_signal_of_all f (last t) = each_signal f t
+  each_signal_of_all f (more t ts) = each_signal f t && each_signal_of_all f ts
+
+-- whether each signal of operands passes
+abbrev pub each_signal_of_joint : (Name → Bool) → Joint → Bool
+each_signal_of_joint f o = each_signal f o.first && each_signal_of_all f o.later

@@ -1,5 +1,5 @@
 -- Sets of places, as a list that has for each place whether it is in the set, and the search for what a module leads to.
-use Rattle.std.specs.Prelude.{◌≡◌, ℕ, ◌<◌, ◌⊎◌, ◌↔◌, ◌&&◌, ◌||◌, ◌==◌, Bool, true, false, not, List, [], ◌∷◌, ◌++◌, if◌then◌else◌, length, map, slice_index_or, slice_set, nat_lt, ◌+◌, fold, count_by, Contains, All}
+use Rattle.std.specs.Prelude.{◌≡◌, ℕ, ◌<◌, ◌⊎◌, ◌↔◌, ◌&&◌, Bool, true, false, not, List, [], ◌∷◌, ◌++◌, if◌then◌else◌, length, map, slice_index_or, slice_set, nat_lt, ◌+◌, fold, count_by, Contains, All}
 use Rattle.std.specs.List.{range_with_len}
 use Rattle.est_modules.specs.RunRows.{IsRun, Leads}
 use Rattle.est_modules.specs.declared.place_order.Ranked.{Ranked}
@@ -65,7 +65,3 @@ pub record IsSearching (rows : List (List ℕ)) (first : ℕ) (s : Search) : Typ
 pub record AreRanked (rows : List (List ℕ)) (count : ℕ) (ranked : List Ranked) : Type 0 where
   pub places : map (λ (m : Ranked). m.place) ranked ≡ range_with_len 0 count
   pub ranks : All (λ (m : Ranked). IsRankOf rows m.place m.rank) ranked
-
--- whether a place is the module's own, or in the set of those that it leads to
-abbrev pub is_needed : List Bool → ℕ → ℕ → Bool
-is_needed set place other = (other == place) || (nat_lt other (length set) && slice_index_or set other false)

@@ -4,7 +4,7 @@ use Rattle.est_reduce.specs.Reductions.{past_fresh, past_named}
 use Rattle.est_reduce.specs.declared.builder.Exits.{Exits}
 use Rattle.est_reduce.specs.declared.builder.Exits.TheVariants.{Outermost, Named', Fresh'}
 
--- the trap of the kernel to which an exit of the k-th trap outwards leads
+-- the trap of the kernel to which an exit of the k-th trap of the text leads, counted outwards
 abbrev pub leads : Exits → ℕ → ℕ
 leads Outermost = λ k. k
 leads (Named' a rest) = past_named (leads rest)

@@ -1,9 +1,10 @@
 -- Names that are offered (this project's own form).
 use Rattle.std.specs.Prelude.{◌≡◌, ℕ, true, false, List, Some, None, Ok, Err}
 use Rattle.est_kernel.specs.Bits.{bits}
-use Rattle.est_kernel.specs.Interfaces.{inputs_of}
+use Rattle.est_kernel.specs.Interfaces.{offerable}
 use Rattle.est_kernel.specs.declared.interface.Declaration.{Declaration}
-use Rattle.est_relations.specs.Offers.{pending_inputs, place_of, IsOutputName, IsPendingName, KeepsExclusions, OfferAnswer}
+use Rattle.est_relations.specs.Offers.{pending_inputs, place_of, IsOutputName, IsPendingName, KeepsExclusions}
+use Rattle.est_relations.specs.Offers.{OfferAnswer}
 use Rattle.est_relations.specs.declared.relations.Relation.{Relation}
 use Rattle.est_relations.specs.declared.refusal.Refusal.{Refusal}
 use Rattle.est_relations.specs.declared.refusal.Refusal.TheVariants.{UnknownSignal, NotInput, AlreadyOffered}
@@ -11,24 +12,24 @@ use Rattle.est_relations.specs.declared.refusal.Refusal.TheVariants.{UnknownSign
 -- the name is that of the input at this place, which is not pending
 pub record IsNewInput (interface : List Declaration) (mask : ℕ) (name : List ℕ) (place : ℕ) : Type 0 where
   pub there : place_of interface name ≡ Some place
-  pub input : inputs_of interface place ≡ true
+  pub input : offerable interface place ≡ true
   pub new : bits mask place ≡ false
 
--- why a name is no input's that is not pending
+-- why the name is not that of an input that is not yet pending
 abbrev pub RefusesName : List Declaration → (mask : ℕ) → List ℕ → Refusal → Type 0
 RefusesName interface mask name UnknownSignal = place_of interface name ≡ None
 RefusesName interface mask name NotInput = IsOutputName interface name
 RefusesName interface mask name AlreadyOffered = IsPendingName interface mask name
 RefusesName interface mask name _ = ⊥
 
--- the input of the name joins the pending ones, which are these afterwards
+-- the input of the name joins the pending ones, which are then this mask
 pub record JoinsAs (interface : List Declaration) (relations : List Relation) (mask : ℕ) (name : List ℕ)
     (after : ℕ) : Type 0 where
   pub answer : OfferAnswer (pending_inputs interface relations mask) name (Ok (record {}))
       (pending_inputs interface relations after)
   pub kept : KeepsExclusions interface relations after
 
--- why the name may not come
+-- why the name may not be offered
 abbrev pub RefusesOffer : List Declaration → List Relation → (mask : ℕ) → List ℕ → Refusal → Type 0
 RefusesOffer interface relations mask name e =
     OfferAnswer (pending_inputs interface relations mask) name (Err e) (pending_inputs interface relations mask)

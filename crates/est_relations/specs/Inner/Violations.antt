@@ -8,14 +8,14 @@ use Rattle.est_relations.specs.Offers.{with_place}
 use Rattle.est_relations.specs.declared.relations.Relation.{Relation}
 use Rattle.est_relations.specs.declared.relations.Relation.TheVariants.{Exclusion, Implication}
 
--- the relation is an exclusion that would not hold with the signal at this place, and this is its first pending member
+-- with the signal at this place the exclusion would not hold, and this is its first pending member
 pub record Excludes (relation : Relation) (mask place member : ℕ) : Type 0 where
   pub broken : keeps_exclusion (bits (with_place mask place)) relation ≡ false
   pub members : List ℕ
   pub is : relation ≡ Exclusion members
   pub pending : find (bits mask) members ≡ Some member
 
--- the relation is an implication that does not hold, and this signal is missing
+-- the implication does not hold, and this signal is missing
 pub record Lacks (relation : Relation) (mask : ℕ) (missing : InterfaceSignal) : Type 0 where
   pub broken : keeps (bits mask) relation ≡ false
   pub condition : InterfaceSignal

@@ -102,7 +102,7 @@ const LOGINS_AND_GRANTS: Turns<'static> = &[
     ),
 ];
 
-/// Empty and occupied slots, and what a look shows with the permissions that there are.
+/// Empty and occupied slots, and what a look shows with the permissions that are granted.
 const SEEN: Turns<'static> = &[
     ROOT,
     (
@@ -122,7 +122,8 @@ const SEEN: Turns<'static> = &[
         r#"{"code":62,"fault":"Empty"}"#,
     ),
     (
-        r#"{"cmd":"load","main":"M","slot":0,"text":"module M: output O, P; emit O; pause; emit P end module"}"#,
+        "{\"cmd\":\"load\",\"main\":\"M\",\"slot\":0,\
+        \"text\":\"module M: output O, P; emit O; pause; emit P end module\"}",
         r#"{"ok":"load","place":1,"version":7}"#,
     ),
     (
@@ -155,7 +156,7 @@ const SEEN: Turns<'static> = &[
     ),
 ];
 
-/// Offers that are refused, and steps that no reaction has.
+/// Offers that are refused, and steps that have no reaction.
 const OFFERS_AND_STUCK_STEPS: Turns<'static> = &[
     ROOT,
     (
@@ -167,7 +168,9 @@ const OFFERS_AND_STUCK_STEPS: Turns<'static> = &[
         r#"{"ok":"grant","version":7}"#,
     ),
     (
-        r#"{"cmd":"load","main":"M","slot":0,"text":"module M: input I; output O; present O then emit O else emit O end end module"}"#,
+        "{\"cmd\":\"load\",\"main\":\"M\",\"slot\":0,\
+        \"text\":\"module M: input I; output O; \
+        present O then emit O else emit O end end module\"}",
         r#"{"ok":"load","place":1,"version":7}"#,
     ),
     (
@@ -248,7 +251,8 @@ const TEXT_FAULTS: Turns<'static> = &[
         r#"{"code":74,"fault":"UnknownName","name":"X"}"#,
     ),
     (
-        r#"{"cmd":"load","main":"M","slot":0,"text":"module M: input A; output A; nothing end module"}"#,
+        "{\"cmd\":\"load\",\"main\":\"M\",\"slot\":0,\
+        \"text\":\"module M: input A; output A; nothing end module\"}",
         r#"{"code":75,"fault":"DuplicateName","name":"A"}"#,
     ),
     (
@@ -364,7 +368,8 @@ const DUTIES: Turns<'static> = &[
     ),
 ];
 
-/// A session that its own command ends: its login stays until the logout that is answered NoSession.
+/// A session that its own command ends: its login stays until the logout that is answered
+/// NoSession.
 const ENDED: Turns<'static> = &[
     ROOT,
     (

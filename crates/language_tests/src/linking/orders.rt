@@ -1,7 +1,7 @@
 //! Orders of a few modules, and of as many as one line holds.
 
 use est_modules::order_fault::OrderFault;
-use est_modules::place_order::{order_modules, part_for};
+use est_modules::place_order::order_modules;
 use std::alloc::{AllocError, Global};
 use std::process::Abort;
 use std::test::Fail;
@@ -52,27 +52,6 @@ fn first_recursive_module(rt: HostRuntime) -> Result<(), Fail> {
             outcome(alloc, runs).err(),
             Some(OrderFault::Recursive(place))
         );
-    }
-    Ok(())
-}
-
-#[test]
-fn what_one_module_needs(rt: HostRuntime) -> Result<(), Fail> {
-    let alloc = rt.alloc();
-    let mut rows = Vec::new(alloc);
-    for row in [[3].as_slice(), &[2], &[], &[2], &[0, 1]] {
-        rows.push(Vec::from_slice(alloc, row)?)?;
-    }
-    let runs = rows.as_slice();
-    if runs.is_empty() {
-        return Err(Fail::from("no modules"));
-    }
-    match order_modules(alloc, runs) {
-        Ok(order) => {
-            let part = part_for(alloc, runs, &order, 0)?;
-            assert_eq!(rt; part.as_slice(), [2, 3, 0].as_slice());
-        }
-        Err(_) => return Err(Fail::from("no order")),
     }
     Ok(())
 }

@@ -139,6 +139,88 @@ const PAIRS: [(&str, &str); 27] = [
     ),
 ];
 
+/// The same with tests of two signals, and tests that say the same.
+const TESTS: [(&str, &str); 18] = [
+    (
+        "await [A and not B]; emit O",
+        "trap T in loop pause; present [A and not B] then exit T end end end; emit O",
+    ),
+    (
+        "await immediate [A or B]; emit O",
+        "trap T in loop present [A or B] then exit T end; pause end end; emit O",
+    ),
+    (
+        "abort loop emit O; pause; emit P; pause end when not A or B; emit P; pause; emit O",
+        "trap T in [suspend loop emit O; pause; emit P; pause end when not A or B; exit T \
+         || loop pause; present not A or B then exit T end end] end; emit P; pause; emit O",
+    ),
+    (
+        "abort sustain O when immediate A and B; emit P",
+        "present A and B else trap T in [suspend loop emit O; pause end when A and B; exit T \
+         || loop pause; present A and B then exit T end end] end end; emit P",
+    ),
+    (
+        "weak abort loop emit O; pause; emit P; pause end when A and not B; emit P; pause; emit O",
+        "trap T in [loop emit O; pause; emit P; pause end; exit T \
+         || loop pause; present A and not B then exit T end end] end; emit P; pause; emit O",
+    ),
+    (
+        "weak abort sustain O when immediate not A; emit P",
+        "trap T in [loop emit O; pause end; exit T || loop present not A then exit T end; pause end] end; emit P",
+    ),
+    (
+        "loop emit O; pause; emit P each A or not B",
+        "loop trap T in [suspend emit O; pause; emit P; loop pause end when A or not B; exit T \
+         || loop pause; present A or not B then exit T end end] end end",
+    ),
+    (
+        "every A and B do emit O; pause; emit P end",
+        "trap T in loop pause; present A and B then exit T end end end; \
+         loop trap T in [suspend emit O; pause; emit P; loop pause end when A and B; exit T \
+         || loop pause; present A and B then exit T end end] end end",
+    ),
+    (
+        "every immediate not (A or B) do emit O; pause; emit P end",
+        "trap T in loop present not (A or B) then exit T end; pause end end; \
+         loop trap T in [suspend emit O; pause; emit P; loop pause end when not (A or B); exit T \
+         || loop pause; present not (A or B) then exit T end end] end end",
+    ),
+    (
+        "suspend loop emit O; pause; emit P; pause end when immediate A and not B; emit O",
+        "suspend [present A and not B then pause end; loop emit O; pause; emit P; pause end] when A and not B; emit O",
+    ),
+    // De Morgan's laws, of inputs, and of a signal that is asked before it is known
+    (
+        "loop present not (A and B) then emit O end; pause end",
+        "loop present not A or not B then emit O end; pause end",
+    ),
+    (
+        "loop present not (A or B) then emit O else emit P end; pause end",
+        "loop present not A and not B then emit O else emit P end; pause end",
+    ),
+    (
+        "present not (O and A) then emit P else emit O end",
+        "present not O or not A then emit P else emit O end",
+    ),
+    (
+        "present not (O or A) then emit O else emit P end",
+        "present not O and not A then emit O else emit P end",
+    ),
+    (
+        "present [O or not O] then emit P end",
+        "present not (not O and O) then emit P end",
+    ),
+    ("await not not A; emit O", "await A; emit O"),
+    (
+        "await [(A)]; emit O; await A or B or A; emit P",
+        "await A; emit O; await [(A or B) or A]; emit P",
+    ),
+    (
+        "await tick and A; emit O; await not tick or B; emit P",
+        "await A; emit O; await B; emit P",
+    ),
+];
+
 /// The text of a body.
 fn text_of(alloc: Global, body: &str) -> Result<String, AllocError> {
     format!(in alloc; "{HEAD}{body}{REST}")
@@ -171,14 +253,25 @@ fn body_difference(alloc: Global, derived: &str, kernel: &str) -> Result<Option<
     Ok(difference(&first, &second))
 }
 
-#[test]
-fn derived_statements_are_their_kernel_forms(rt: HostRuntime) -> Result<(), Fail> {
-    let alloc = rt.alloc();
-    for (derived, kernel) in PAIRS {
+/// Fails where two bodies that mean the same differ.
+fn expect_alike(alloc: Global, pairs: &[(&str, &str)]) -> Result<(), Fail> {
+    for (derived, kernel) in pairs {
         let code = body_difference(alloc, derived, kernel)?;
         if code.is_some() {
             return Err(Fail::from(format!(in alloc; "{derived}: in the instants {code:?}")?));
         }
     }
     Ok(())
+}
+
+#[test]
+fn derived_statements_are_their_kernel_forms(rt: HostRuntime) -> Result<(), Fail> {
+    let alloc = rt.alloc();
+    expect_alike(alloc, &PAIRS)
+}
+
+#[test]
+fn tests_are_kept_in_kernel_forms(rt: HostRuntime) -> Result<(), Fail> {
+    let alloc = rt.alloc();
+    expect_alike(alloc, &TESTS)
 }

@@ -40,7 +40,7 @@ fn offered(kernel: &Kernel, present: u64) -> Inputs
     ensures { AreInputs kernel.now result }
 {
     Inputs {
-        signals: common(present, kernel.interface().inputs()),
+        signals: common(present, kernel.interface().offerable()),
     }
 }
 

@@ -320,6 +320,71 @@ const CIRCUITS: [Program; 7] = [
     },
 ];
 
+/// Tests of more than one signal, and signals that are offered and emitted.
+const EXPRESSIONS: [Program; 9] = [
+    // O is asked only where A isn't there
+    Program {
+        text: "module M: input A; output O, P; present [A or O] then emit P else emit O end end module",
+        instants: &[("", Err("O P")), ("A", Ok("P"))],
+    },
+    // what is so in both cases is not known before O is
+    Program {
+        text: "module M: output O; present [O or not O] then emit O end end module",
+        instants: &[("", Err("O"))],
+    },
+    // A without B ends it
+    Program {
+        text: "module M: input A, B; output O; abort sustain O when [A and not B] end module",
+        instants: &[("", Ok("O")), ("A B", Ok("O")), ("A", Ok("")), ("", Ok(""))],
+    },
+    // B is offered, or emitted where A is offered
+    Program {
+        text: "module M: input A; inputoutput B; output O; relation A # B; \
+            [present A then emit B end || loop present B then emit O end; pause end] end module",
+        instants: &[("A", Ok("B O")), ("B", Ok("O")), ("", Ok(""))],
+    },
+    // what is offered is there before anything is emitted, and another inputoutput is not known before
+    Program {
+        text: "module M: inputoutput B; output O; loop present B then emit O else emit B end; pause end end module",
+        instants: &[("B", Ok("O")), ("", Err("B O")), ("B", Ok("O"))],
+    },
+    // `and` binds tighter than `or`, and `not` tighter than both
+    Program {
+        text: "module M: input A, B, C; output O, P, Q; loop present A or B and C then emit O end; \
+            present (A or B) and C then emit P end; present not A and B then emit Q end; pause end end module",
+        instants: &[
+            ("A", Ok("O")),
+            ("A C", Ok("O P")),
+            ("B", Ok("Q")),
+            ("B C", Ok("O P Q")),
+            ("C", Ok("")),
+            ("A B", Ok("O")),
+        ],
+    },
+    // each name of a test is bound where its module is run
+    Program {
+        text: "module M: input B, A; output O, P; run N [signal A/X, B/Y] end module \
+            module N: input X, Y; output O, P; loop present (X and not Y) or (Y and not X) then emit O end; \
+            present not X and Y then emit P end; pause end end module",
+        instants: &[
+            ("", Ok("")),
+            ("A", Ok("O")),
+            ("A B", Ok("")),
+            ("B", Ok("O P")),
+        ],
+    },
+    // `and` is absent where one side is, and `or` present where one side is, whatever the other is
+    Program {
+        text: "module M: input A; output O, P; present [A and O] else emit P end; present [P or O] then emit O end end module",
+        instants: &[("", Ok("O P"))],
+    },
+    // an inputoutput that nobody offers or emits is absent
+    Program {
+        text: "module M: inputoutput B; output O; loop present not B then emit O end; pause end end module",
+        instants: &[("", Ok("O")), ("B", Ok(""))],
+    },
+];
+
 /// What is shown, by the interface of the program.
 fn expected(
     interface: &Interface,
@@ -359,5 +424,6 @@ fn expect_instants(alloc: Global, programs: &[Program]) -> Result<(), Fail> {
 fn programs_of_the_literature(rt: HostRuntime) -> Result<(), Fail> {
     expect_instants(rt.alloc(), &WAITING)?;
     expect_instants(rt.alloc(), &LEAVING)?;
-    expect_instants(rt.alloc(), &CIRCUITS)
+    expect_instants(rt.alloc(), &CIRCUITS)?;
+    expect_instants(rt.alloc(), &EXPRESSIONS)
 }

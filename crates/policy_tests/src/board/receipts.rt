@@ -14,7 +14,8 @@ use std::process::Abort;
 use std::sync::Wait;
 use std::test::Fail;
 
-/// Whether the seat keeps, at this place, the receipt of a policy command with this version and this command.
+/// Whether the seat keeps, at this place, the receipt of a policy command with this version and
+/// this command.
 fn keeps_admin<B: BoardName>(
     seat: &Seat<B>,
     place: usize,
@@ -27,7 +28,8 @@ fn keeps_admin<B: BoardName>(
     }
 }
 
-/// The number of the slot command whose receipt the seat keeps at this place: the second of slot 3, a step.
+/// The number of the slot command whose receipt the seat keeps at this place: the second of slot 3,
+/// a step.
 fn counted<B: BoardName>(seat: &Seat<B>, place: usize) -> Option<u64> {
     match seat.kept().get(place)? {
         Kept::Slot(
@@ -63,7 +65,8 @@ fn count<B: BoardName, R: Wait + Abort>(rt: &R, board: &Board<B>, seat: &mut Sea
     }
 }
 
-/// A seat keeps what it was given, and no refusal: a command before it has a session, a login, a grant, and the same grant again.
+/// A seat keeps what it was given, and no refusal: a command before it has a session, a login, a
+/// grant, and the same grant again.
 fn command<B: BoardName, R: Wait + Abort>(rt: &R, alloc: Global, fresh: Fresh) -> PolicyJournal
     requires { fresh.seen.book ≡ B.book }
 {
@@ -93,8 +96,8 @@ fn command<B: BoardName, R: Wait + Abort>(rt: &R, alloc: Global, fresh: Fresh) -
     close(rt, board, readers)
 }
 
-/// Whatever is refused, a seat keeps a receipt for each entry and no other. It gives a login, grants and revokes, and
-/// passes over refusals.
+/// Whatever is refused, a seat keeps a receipt for each entry and no others. It gives a login,
+/// grants and revokes, and passes over refusals.
 fn give_all<B: BoardName, R: Wait + Abort>(rt: &R, alloc: Global, fresh: Fresh) -> PolicyJournal
     requires { fresh.seen.book ≡ B.book }
 {
@@ -112,7 +115,8 @@ fn give_all<B: BoardName, R: Wait + Abort>(rt: &R, alloc: Global, fresh: Fresh) 
     journal
 }
 
-/// A seat that is told of a grant has seen its version, keeps no receipt of it, and finds it.
+/// A seat that is told of a grant has seen its version, keeps no receipt of it, and finds the
+/// permission granted.
 fn learn<B: BoardName, R: Wait + Abort>(rt: &R, alloc: Global, fresh: Fresh) -> PolicyJournal
     requires { fresh.seen.book ≡ B.book }
 {
@@ -130,7 +134,8 @@ fn learn<B: BoardName, R: Wait + Abort>(rt: &R, alloc: Global, fresh: Fresh) -> 
     close(rt, board, readers)
 }
 
-/// Slot commands are counted from 1, whichever seat keeps them, and stand among the policy commands of their seat.
+/// Slot commands are counted from 1, whichever seat keeps them, and stand among the policy commands
+/// of their seat.
 fn count_three<B: BoardName, R: Wait + Abort>(rt: &R, alloc: Global, fresh: Fresh) -> PolicyJournal
     requires { fresh.seen.book ≡ B.book }
 {

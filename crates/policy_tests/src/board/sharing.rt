@@ -71,7 +71,7 @@ pub(crate) fn enter<B: BoardName, R: Wait + Abort>(
     }
 }
 
-/// The receipt of a command that the first session gives, and which is accepted.
+/// The receipt of a command that the first session gives, and that is accepted.
 pub(crate) fn give<B: BoardName, R: Wait + Abort>(
     rt: &R,
     board: &Board<B>,
@@ -84,7 +84,7 @@ pub(crate) fn give<B: BoardName, R: Wait + Abort>(
         .expect(rt, "a receipt")
 }
 
-/// Asks again and again what may change meanwhile. What the seat has seen never falls.
+/// Asks again and again for what may change meanwhile. What the seat has seen never falls.
 fn ask<B: BoardName, R: Abort>(rt: &R, board: &Board<B>, mut seat: Seat<B>) -> Seat<B> {
     for _ in 0..200u32 {
         let before = seat.seen();
@@ -124,7 +124,7 @@ fn change<B: BoardName, R: Wait + Abort>(
     seat
 }
 
-/// A board with so many seats, and its readers.
+/// A board with n seats, and its readers.
 pub(crate) fn open<B: BoardName, R: Wait + Abort>(
     rt: &R,
     alloc: Global,
@@ -157,7 +157,8 @@ pub(crate) fn close<B: BoardName, R: Wait + Abort>(
     closed.journal(rt)
 }
 
-/// A second seat, which asks in a thread of its own, sees the grant once it has learned the receipt.
+/// A second seat, which asks in a thread of its own, sees the grant once it has learned the
+/// receipt.
 fn tell<B: BoardName + Send + Sync, R: Threads + Wait + Abort + Sync>(
     rt: &R,
     alloc: Global,

@@ -18,7 +18,7 @@ use std::test::Fail;
 /// More calls or bytes than any test needs.
 const AMPLE: usize = 1_000_000;
 
-/// Gives at most `step` of its bytes at once, and fails after so many calls.
+/// Gives at most `step` of its bytes at once. After `calls_that_work` calls it fails.
 #[derive(Drop)]
 struct Trickle<'a> {
     bytes: &'a [u8],
@@ -40,7 +40,7 @@ impl Read for Trickle<'_> {
     }
 }
 
-/// Takes at most `step` bytes at once, and fails after so many calls.
+/// Takes at most `step` bytes at once. After `calls_that_work` calls it fails.
 #[derive(Drop)]
 struct Sink {
     written: Vec<u8>,
@@ -67,17 +67,19 @@ impl Write for Sink {
 }
 
 /// A login, a line that is no JSON, a grant by a last line without LF.
-const LINES: &str =
-    "{\"cmd\":\"login\",\"roles\":[\"root\"],\"user\":\"root\"}\nfly\n{\"cmd\":\"grant\",\"object\":\"0\",\"op\":\"load\",\"role\":\"root\"}";
+const LINES: &str = "{\"cmd\":\"login\",\"roles\":[\"root\"],\"user\":\"root\"}\nfly\n\
+    {\"cmd\":\"grant\",\"object\":\"0\",\"op\":\"load\",\"role\":\"root\"}";
 
-/// Their answers. Those to the two lines that an LF ends are written before the read at which the last one ends.
+/// Their answers. The answers to the two lines that end with LF are written before the read in
+/// which the last line ends.
 const ANSWERS: &str =
-    "{\"ok\":\"login\",\"session\":1,\"version\":5}\n{\"code\":2,\"fault\":\"NotJson\"}\n{\"ok\":\"grant\",\"version\":6}\n";
+    "{\"ok\":\"login\",\"session\":1,\"version\":5}\n{\"code\":2,\"fault\":\"NotJson\"}\n\
+    {\"ok\":\"grant\",\"version\":6}\n";
 
-/// How long the answers to the two lines are that an LF ends.
+/// How long the answers to the two lines are that end with LF.
 const FIRST_ANSWERS: usize = 68;
 
-/// How many bytes of the answers so many writes of eleven bytes take.
+/// How many bytes of the answers n writes of eleven bytes take.
 fn taken_by(calls: usize) -> usize {
     let first_calls = FIRST_ANSWERS.div_ceil(11);
     if calls <= first_calls {
@@ -176,7 +178,8 @@ fn connections_follow_each_other(rt: HostRuntime) -> Result<(), Fail> {
     assert!(rt; first == Why::Closed);
     assert!(rt; second == Why::Closed);
     let wanted =
-        "{\"ok\":\"login\",\"session\":2,\"version\":8}\n{\"code\":2,\"fault\":\"NotJson\"}\n{\"code\":31,\"fault\":\"AlreadyGranted\"}\n";
+        "{\"ok\":\"login\",\"session\":2,\"version\":8}\n{\"code\":2,\"fault\":\"NotJson\"}\n\
+        {\"code\":31,\"fault\":\"AlreadyGranted\"}\n";
     assert!(rt; written.as_slice() == wanted.as_bytes());
     let after = desk.admin(Some(SessionId::new(2)), AdminCommand::DeleteSession);
     assert!(rt;

@@ -12,7 +12,7 @@ use std::io;
 use std::io::{ErrorKind, Read, Write};
 use std::test::Fail;
 
-/// Gives `x` and LF by turns, a byte at once, without end.
+/// Gives `x` and LF by turns, one byte at a time, without end.
 #[derive(Drop)]
 struct ByBytes {
     is_end: bool,
@@ -197,7 +197,7 @@ fn replies_are_written_before_a_read(rt: HostRuntime) -> Result<(), Fail> {
     Ok(())
 }
 
-/// Answers each line by itself and a full stop.
+/// Answers each line with itself and a full stop.
 #[derive(Drop)]
 struct Echo;
 

@@ -41,7 +41,8 @@ fn reply_texts(rt: HostRuntime) -> Result<(), Fail> {
                 signals,
                 version: 9,
             },
-            "{\"instant\":1,\"ok\":\"look\",\"signals\":[[\"O\",true],[\"P\",false]],\"version\":9}\n",
+            "{\"instant\":1,\"ok\":\"look\",\"signals\":[[\"O\",true],[\"P\",false]],\
+            \"version\":9}\n",
         ),
         (
             Reply::Changed {

@@ -174,7 +174,7 @@ fn number_of(answer: Result<Request, Refusal>) -> u8 {
     }
 }
 
-/// What the line is to a reader that has read others, where it is the same by itself.
+/// What the line is to a reader that has read others, where it is the same to a new reader.
 fn answer_to(alloc: Global, requests: &mut RequestReader, line: &str) -> Result<u8, Fail> {
     let alone = number_of(request(alloc, line.as_bytes()));
     let next = number_of(requests.read(alloc, line.as_bytes()));
@@ -275,7 +275,7 @@ fn is_offer_of(command: &SlotCommand, name: &str) -> bool {
     }
 }
 
-/// Whether a command is that of this word, which has the slot alone.
+/// Whether a command is that of this word, which has the slot as its only other key.
 fn is_of_word(command: &SlotCommand, word: &str) -> bool {
     match command {
         SlotCommand::Discard => word == "discard",

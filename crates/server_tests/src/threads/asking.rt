@@ -92,7 +92,8 @@ pub(crate) fn enter<B: BoardName, R: Wait + Abort>(
         .expect(rt, "a session")
 }
 
-/// Grants root loads and steps of the slot, and loads the module there: the first entry of the slot.
+/// Grants root loads and steps of the slot, and loads the module there: the first entry of the
+/// slot.
 pub(crate) fn begin<B: BoardName, R: Wait + Abort>(
     rt: &R,
     alloc: Global,

@@ -58,7 +58,8 @@ impl Read for Lines {
     }
 }
 
-/// Counts the answers to a client: a refusal has a `"fault"`, and no other answer here has a text that begins with f.
+/// Counts the answers to a client: a refusal has a `"fault"`, and no other answer here has a text
+/// that begins with f.
 #[derive(Drop)]
 pub(crate) struct Answers<'a> {
     client: &'a Client,

@@ -5,7 +5,8 @@ ghost use denote.Param.Send.{IsSend};
 use policy_board::history::BoardName;
 use slot_table::table::SlotTable;
 
-/// What threads are lent: a value of this type. Of the type that lends it nothing else is known, and threads may share it.
+/// What threads are lent: a value of this type. Nothing else is known of the type that lends it,
+/// except that threads may share it.
 pub(crate) trait Lends<T> {
     /// The value.
     fn lent(&self) -> &T;

@@ -35,7 +35,7 @@ const CHANGES: usize = 250;
 /// What a policy opens with, root's login, and two grants for each slot.
 const BEFORE: usize = 4 + 1 + 32;
 
-/// How many policy commands are given: all that there is but what a policy opens with.
+/// How many policy commands are given: all except what a policy opens with.
 const GIVEN: usize = BEFORE + CHANGES - 4;
 
 /// A worker: its seat, how often it asked, and how many receipts the seat should keep.
@@ -47,7 +47,7 @@ struct Worker<B: BoardName> {
 }
 
 impl<B: BoardName> Worker<B> {
-    /// One that has asked nothing.
+    /// A worker that has asked nothing.
     fn new(seat: Seat<B>) -> Worker<B> {
         let kept = seat.kept().len();
         Worker {
@@ -133,7 +133,8 @@ fn run_over<B: BoardName + Send + Sync, T: Lends<SlotTable<B>> + Sync, R: Thread
     run_each(rt, alloc, &service, workers)
 }
 
-/// Root logs in at the last of the seats, and a module runs in each slot. Its worker is the first.
+/// Root logs in at the last of the seats, and a module runs in each slot. Root's worker is the
+/// first.
 fn begin_all<B: BoardName, R: Wait + Abort>(
     rt: &R,
     alloc: Global,
@@ -179,7 +180,8 @@ fn seats_of<B: BoardName, R: Abort>(
     (seats, kept)
 }
 
-/// All workers take their turns, and the server is closed. Answers the histories, and how many receipts there were.
+/// All workers take their turns, and the server is closed. Answers the histories, and how many
+/// receipts there were.
 fn serve<B: BoardName + Send + Sync, R: Threads + Wait + Abort + Sync>(
     rt: &R,
     alloc: Global,
@@ -208,7 +210,8 @@ fn serve<B: BoardName + Send + Sync, R: Threads + Wait + Abort + Sync>(
     (histories, kept)
 }
 
-/// How many entries the journals of the slots have; each but the last has all that was asked for.
+/// How many entries the journals of the slots have. Each journal but the last has all that was
+/// asked for.
 fn entries_of<R: Abort>(rt: &R, histories: &Histories) -> usize {
     let mut entries = 0usize;
     for (slot, journal) in histories.slots.iter().enumerate() {

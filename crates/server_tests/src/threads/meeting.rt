@@ -20,7 +20,7 @@ pub(crate) struct Meeting<'a, R> {
 }
 
 impl<'a, R: Clock> Meeting<'a, R> {
-    /// One that no worker has come to.
+    /// A gate that no worker has come to.
     pub(crate) fn new(rt: &'a R) -> Meeting<'a, R> {
         Meeting {
             rt,

@@ -28,11 +28,12 @@ use std::thread::{Threads, join};
 /// How many steps are given while the policy is changed.
 const STEPS: u32 = 3;
 
-/// What a policy opens with, and what is given before the rounds: root's login and two grants, a user, a role, its
-/// assignment, and a login.
+/// What a policy opens with, and what is given before the first round: root's login and two grants,
+/// a user, a role, its assignment, and a login.
 const BEFORE: usize = 4 + 3 + 3 + 1;
 
-/// Who is served: root, who changes the policy; ann, whose permission is given and taken; and one more client of root's session.
+/// Who is served: root, who changes the policy; ann, whose permission is given and taken; and one
+/// more client of root's session.
 struct Seats<B: BoardName> {
     giver: Seat<B>,
     asker: Seat<B>,
@@ -101,8 +102,8 @@ fn change<B: BoardName, R: Wait + Abort>(
     (seat, receipt)
 }
 
-/// Root gives the command in a thread of its own, while two more threads step. Where they join, ann is told. Answers the version,
-/// too.
+/// Root gives the command in a thread of its own, while two more threads step. When they have
+/// joined, ann is told. It answers the version, too.
 fn change_at_once<
     B: BoardName + Send + Sync,
     T: Lends<SlotTable<B>> + Sync,
@@ -134,7 +135,7 @@ fn change_at_once<
     (seats, version)
 }
 
-/// A grant that ann is told of, and then a revocation: her next step is accepted, and refused.
+/// Ann is told of a grant, and then of a revocation: her next step is accepted, and then refused.
 fn play_round<
     B: BoardName + Send + Sync,
     T: Lends<SlotTable<B>> + Sync,
@@ -159,7 +160,7 @@ fn play_round<
     seats
 }
 
-/// So many rounds; then root removes ann, and she has no session any more.
+/// Plays n rounds; then root removes ann, and she has no session any more.
 fn play<
     B: BoardName + Send + Sync,
     T: Lends<SlotTable<B>> + Sync,
@@ -184,7 +185,7 @@ fn play<
     seats
 }
 
-/// After so many rounds the server is closed, and nothing is found in its histories.
+/// After n rounds the server is closed, and an audit finds nothing in its histories.
 fn serve<B: BoardName + Send + Sync, R: Threads + Wait + Abort + Sync>(
     rt: &R,
     alloc: Global,

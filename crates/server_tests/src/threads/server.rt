@@ -18,7 +18,7 @@ pub(crate) struct Server<B: BoardName> {
     pub table: SlotTable<B>,
 }
 
-/// A board with so many seats, and its slots.
+/// A board with n seats, and its slots.
 pub(crate) fn open<B: BoardName, R: Wait + Abort>(
     rt: &R,
     alloc: Global,

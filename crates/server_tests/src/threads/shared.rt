@@ -1,4 +1,5 @@
-//! The desk of a seat at a board and a table, beside one that a single client has for itself.
+//! The desk of a seat at a board and a table, compared with one that a single client has for
+//! itself.
 ghost use Rattle.std.specs.Prelude.{◌≡◌};
 
 use crate::threads::clients::Lines;
@@ -34,7 +35,8 @@ const SCRIPT: &str = "{\"cmd\":\"login\",\"roles\":[\"root\"],\"user\":\"root\"}
 {\"cmd\":\"grant\",\"object\":\"0.O\",\"op\":\"observe\",\"role\":\"root\"}
 {\"cmd\":\"grant\",\"object\":\"0.P\",\"op\":\"observe\",\"role\":\"root\"}
 {\"cmd\":\"step\",\"slot\":0}
-{\"cmd\":\"load\",\"main\":\"M\",\"slot\":0,\"text\":\"module M: output O, P; emit O; pause; emit P end module\"}
+{\"cmd\":\"load\",\"main\":\"M\",\"slot\":0,\"text\":\"module M: output O, P; emit O; pause; \
+emit P end module\"}
 {\"cmd\":\"step\",\"slot\":0}
 {\"cmd\":\"look\",\"instant\":1,\"slot\":0}
 {\"cmd\":\"step\",\"slot\":0}
@@ -100,8 +102,8 @@ fn answers_of<R: Wait + Abort, D: Desk>(rt: &R, alloc: Global, desk: &mut D) -> 
     writer.into_device().written
 }
 
-/// What a seat at this board and table is answered, which then has seen the whole list, and keeps a receipt of each
-/// of the six policy entries and four slot entries that it added.
+/// What a seat at this board and table is answered. The seat has then seen the whole list, and
+/// keeps a receipt of each of the six policy entries and four slot entries that it added.
 fn answers_at<B: BoardName, R: Wait + Abort>(
     rt: &R,
     alloc: Global,

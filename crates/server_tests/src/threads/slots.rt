@@ -19,13 +19,13 @@ use std::sync::Wait;
 use std::test::Fail;
 use std::thread::{Threads, join};
 
-/// So many steps each thread gives.
+/// How many steps each thread gives.
 const STEPS: u32 = 20;
 
-/// The places of 20 steps behind a load, the second to the 21st, as bits.
+/// The places of 20 steps after a load, the second to the 21st, as bits.
 const TWENTY_PLACES: u64 = (1 << 22) - 4;
 
-/// The places of 40 steps behind a load, the second to the 41st, as bits.
+/// The places of 40 steps after a load, the second to the 41st, as bits.
 const FORTY_PLACES: u64 = (1 << 42) - 4;
 
 /// The place as a bit.

@@ -48,14 +48,15 @@ const ENTRIES: usize = 12;
 /// How many policy commands each of them gives in its session.
 const GIVEN: usize = 3;
 
-/// The receipts that a seat keeps which served a client: each of its lines adds an entry.
+/// The receipts that a seat keeps after it served a client: each of the client's lines adds an
+/// entry.
 const RECEIPTS: usize = 7;
 
-/// The least that a seat has seen which served a client: the opening entries and that client's.
+/// The least that a seat has seen after it served a client: the opening entries and that client's.
 const LEAST_SEEN: u64 = 8;
 
-/// Two workers serve two clients, each on a slot of its own. The first answer of all waits for one of the other worker. Then the
-/// server is closed, each entry of which is one that a seat has the receipt of.
+/// Two workers serve two clients, each on a slot of its own. The first answer of all waits for one
+/// of the other worker. Then the server is closed; for each of its entries a seat has the receipt.
 fn serve_two<B: BoardName + Send + Sync, R: Threads + Wait + Abort + Clock + Sync>(
     rt: &R,
     alloc: Global,
@@ -124,7 +125,8 @@ fn given_by(policy: &PolicyJournal, session: u16) -> usize {
         .count()
 }
 
-/// Two answers are in work at once, each worker serves its own client, and the histories are what the two clients did.
+/// Two answers are in work at once, each worker serves its own client, and the histories are what
+/// the two clients did.
 #[test]
 fn two_at_once(rt: HostRuntime) -> Result<(), Fail> {
     let Histories { policy, slots } = serve_two::<Brand, _>(&rt, rt.alloc(), Fresh::new());

@@ -28,9 +28,9 @@ fn three_steps_of_an_emit_and_a_pause(rt: HostRuntime) {
     );
 }
 
-/// Of two inputs that exclude each other the second can't be offered while the first is pending,
-/// and can after the step that takes it. Relations are numbered over all of them, each part between
-/// commas by itself.
+/// Of two inputs that exclude each other, the second can't be offered while the first is pending;
+/// after the step that takes the first it can. Relations are numbered over all of them, each part
+/// between commas by itself.
 #[test]
 fn an_excluded_input_is_refused(rt: HostRuntime) {
     follow(
@@ -38,7 +38,8 @@ fn an_excluded_input_is_refused(rt: HostRuntime) {
         rt.alloc(),
         &[
             (
-                "load module M: input A, B, C; relation A => C, A # B; relation C # B # C; halt end module",
+                "load module M: input A, B, C; relation A => C, A # B; relation C # B # C; \
+                halt end module",
                 "done",
             ),
             ("offer A", "done"),
@@ -53,6 +54,30 @@ fn an_excluded_input_is_refused(rt: HostRuntime) {
     );
 }
 
+/// An inputoutput that a step emits excludes nothing: neither in that step nor in an offer after it. One
+/// that is offered does.
+#[test]
+fn an_emitted_inputoutput_excludes_nothing(rt: HostRuntime) {
+    follow(
+        &rt,
+        rt.alloc(),
+        &[
+            (
+                "load module M: input A; inputoutput B; relation A # B; loop emit B; pause end end module",
+                "done",
+            ),
+            ("step", "done"),
+            ("offer A", "done"),
+            ("offer B", "Excluded 1 A"),
+            ("step", "done"),
+            ("show 1 3", "shown 3 2"),
+            ("show 2 3", "shown 3 3"),
+            ("offer B", "done"),
+            ("offer A", "Excluded 1 B"),
+        ],
+    );
+}
+
 /// A step whose inputs lack an implied one is refused before the reaction is asked for, and what
 /// was offered stays pending.
 #[test]
@@ -62,7 +87,8 @@ fn an_implied_input_is_asked_for(rt: HostRuntime) {
         rt.alloc(),
         &[
             (
-                "load module M: input A, C; output O; relation A => C; loop await A; emit O end end module",
+                "load module M: input A, C; output O; relation A => C; loop await A; \
+                emit O end end module",
                 "done",
             ),
             ("step", "done"),
@@ -85,7 +111,8 @@ fn a_stuck_step_keeps_what_is_pending(rt: HostRuntime) {
         rt.alloc(),
         &[
             (
-                "load module M: input I; output O; present O then emit O else emit O end end module",
+                "load module M: input I; output O; present O then emit O else emit O end end \
+                module",
                 "done",
             ),
             ("interface", "signals 1 2"),
@@ -123,8 +150,8 @@ fn an_offer_is_in_the_next_instant(rt: HostRuntime) {
     );
 }
 
-/// An instant that is given up, opened or settled, leaves the reactor: what was offered is in the
-/// next one that is committed.
+/// An instant that is given up, opened or settled, leaves the reactor as it was: what was offered
+/// is in the next instant that is committed.
 #[test]
 fn an_abandoned_instant_leaves_the_reactor(rt: HostRuntime) {
     follow(
@@ -144,8 +171,8 @@ fn an_abandoned_instant_leaves_the_reactor(rt: HostRuntime) {
     );
 }
 
-/// A text that is no module, or has no module M, is refused by its fault, and the journal keeps
-/// what stood in it.
+/// A text that is not a module, or has no module M, is refused by its fault, and the journal keeps
+/// its entries.
 #[test]
 fn a_refused_load_keeps_the_journal(rt: HostRuntime) {
     follow(
@@ -162,7 +189,7 @@ fn a_refused_load_keeps_the_journal(rt: HostRuntime) {
     );
 }
 
-/// After an unload the journal takes the next load, and no instant of the one before is shown.
+/// After an unload the journal takes the next load, and no instant of the module before is shown.
 #[test]
 fn an_unloaded_journal_is_loaded_again(rt: HostRuntime) {
     follow(

@@ -25,7 +25,7 @@ fn judge(rt: &impl Abort, alloc: Global, rows: &[Line]) {
     }
 }
 
-/// The line and the column at which no token stands, or of the first token that can't go on.
+/// The line and the column at which no token stands, or those of the first token that can't go on.
 #[test]
 fn faults_are_placed(rt: HostRuntime) {
     judge(
@@ -101,8 +101,7 @@ fn names_are_checked(rt: HostRuntime) {
     );
 }
 
-/// Libraries of several modules, with two faults each, of which the first by the order of the
-/// checks counts.
+/// Libraries of several modules, with two faults each. The first by the order of the checks counts.
 #[test]
 fn libraries_are_checked(rt: HostRuntime) {
     judge(
@@ -114,19 +113,23 @@ fn libraries_are_checked(rt: HostRuntime) {
                 "RecursiveRun M",
             ),
             (
-                "module M: input X; run N [signal Q/Z] end module module N: input Y; nothing end module",
+                "module M: input X; run N [signal Q/Z] end module module N: input Y; \
+                nothing end module",
                 "BadRename Z",
             ),
             (
-                "module M: input X; relation X # O; run N end module module N: output Y; emit Y end module",
+                "module M: input X; relation X # O; run N end module module N: output Y; \
+                emit Y end module",
                 "UnknownName Y",
             ),
             (
-                "module M: input X; relation X # O; run N [signal X/Y] end module module N: output Y; emit Y end module",
+                "module M: input X; relation X # O; run N [signal X/Y] end module \
+                module N: output Y; emit Y end module",
                 "EmitInput X",
             ),
             (
-                "module M: input A, B; output O; relation A # B, A => O; loop nothing end end module",
+                "module M: input A, B; output O; relation A # B, A => O; \
+                loop nothing end end module",
                 "Semantics 2",
             ),
             (
@@ -137,8 +140,7 @@ fn libraries_are_checked(rt: HostRuntime) {
     );
 }
 
-/// What a load answers of a text: what stands before, the middle so many times, and what stands
-/// after.
+/// What a load answers to a text: what stands before, the middle n times, and what stands after.
 fn answer_to_repeated(
     rt: &impl Abort,
     alloc: Global,
@@ -155,7 +157,7 @@ fn answer_to_repeated(
     answer(rt, alloc, text.as_str())
 }
 
-/// Each limit, met and passed by one.
+/// Each limit, met exactly, and passed by one.
 #[test]
 fn sizes_are_limited(rt: HostRuntime) {
     let alloc = rt.alloc();
@@ -191,7 +193,7 @@ fn sizes_are_limited(rt: HostRuntime) {
     }
 }
 
-/// As many units may be open as may, if each is closed.
+/// As many units may be open as the limit says, if each is closed.
 #[test]
 fn the_deepest_brackets(rt: HostRuntime) {
     let alloc = rt.alloc();
@@ -204,7 +206,7 @@ fn the_deepest_brackets(rt: HostRuntime) {
     assert_eq!(rt; found, Told::Done);
 }
 
-/// A front of the opening module is no module: it ends too early, wherever it is cut.
+/// A front of the opening module is not a module: it ends too early, wherever it is cut.
 #[test]
 fn no_front_of_a_module_is_one(rt: HostRuntime) {
     let alloc = rt.alloc();

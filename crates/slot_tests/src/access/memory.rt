@@ -167,8 +167,8 @@ fn unload_offered(rt: &impl Abort, reactor: Reactor) -> Result<(), Fail> {
 }
 
 /// What is refused is the load, an offer, a discard, which leaves what is pending, or the unload,
-/// which hands the reactor back. The journal grows at its entries 5, an offer, 9, a discard, and 17,
-/// the unload.
+/// which hands the reactor back. The journal grows at its entries 5, an offer, 9, a discard, and
+/// 17, the unload.
 #[test]
 fn entries_without_memory(rt: HostRuntime) -> Result<(), Fail> {
     let mut reactor = load(rt.alloc(), "module M: input I; pause end module")?;

@@ -137,7 +137,7 @@ fn done(answer: Result<(), Refusal>) -> Told {
     }
 }
 
-/// The module M of the text runs, behind the journal; or why not, and the journal.
+/// The module M of the text runs, after the journal's entries; or why not, and the journal.
 fn load(alloc: Global, journal: Journal, text: &str) -> (Told, Held) {
     match Reactor::load(alloc, journal, STAMP, "M", text) {
         Ok(reactor) => (Told::Done, Held::Module(reactor)),
@@ -218,7 +218,10 @@ fn ask(rt: &impl Abort, reactor: &mut Reactor, words: &[&str]) -> Told {
             place.parse::<usize>().ok().expect(rt, "a number"),
         ),
         ["interface"] => {
-            Told::Signals(reactor.interface().inputs(), reactor.interface().outputs())
+            Told::Signals(
+                reactor.interface().offerable(),
+                reactor.interface().emittable(),
+            )
         }
         ["count"] => {
             Told::Counted(
@@ -245,7 +248,7 @@ fn call_module(rt: &impl Abort, reactor: Reactor, words: &[&str]) -> (Told, Held
     }
 }
 
-/// Calls what is held: a journal loads the text behind the word, or is counted.
+/// Calls what is held: a journal loads the text after the word, or is counted.
 pub fn call(rt: &impl Abort, alloc: Global, held: Held, text: &str) -> (Told, Held) {
     match held {
         Held::Journal(journal) => match text.strip_prefix("load ") {
@@ -262,7 +265,7 @@ pub fn call(rt: &impl Abort, alloc: Global, held: Held, text: &str) -> (Told, He
     }
 }
 
-/// Makes the calls in turn, from what is held on, each of which answers what the story says.
+/// Makes the calls one after another, from what is held on; each answers what the story says.
 pub fn go_on(rt: &impl Abort, alloc: Global, start: Held, story: &[Line]) {
     let mut held = start;
     for (text, wanted) in story {
@@ -272,7 +275,7 @@ pub fn go_on(rt: &impl Abort, alloc: Global, start: Held, story: &[Line]) {
     }
 }
 
-/// Makes the calls in turn from an empty journal on, each of which answers what the story says.
+/// Makes the calls one after another, from an empty journal on; each answers what the story says.
 pub fn follow(rt: &impl Abort, alloc: Global, story: &[Line]) {
     go_on(rt, alloc, Held::Journal(Journal::new(alloc)), story);
 }

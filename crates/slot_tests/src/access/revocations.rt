@@ -1,4 +1,4 @@
-//! Commands on one slot, beside a policy that changes between them.
+//! Commands on one slot, with a policy that changes between them.
 use access_core::command::SlotCommand;
 use access_core::refusal::Refusal;
 use access_core::reply::Reply;

@@ -2,7 +2,7 @@
 //! entries and instants are counted.
 use crate::access::stories::follow;
 
-/// An empty slot takes a load alone; a loaded one takes no second load; after an unload its
+/// An empty slot takes nothing but a load; a loaded slot takes no second load. After an unload its
 /// instants begin anew, and its places go on.
 #[test]
 fn a_module_is_taken_out_and_loaded_again(rt: HostRuntime) {
@@ -42,7 +42,8 @@ fn a_discard_takes_the_offers_back(rt: HostRuntime) {
             ("grant root observe 0.A", "grant 9"),
             ("grant root observe 0.B", "grant 10"),
             (
-                "0 load module M: input A; output B; loop present A then emit B end; pause end end module",
+                "0 load module M: input A; output B; loop present A then emit B end; \
+                pause end end module",
                 "load 1 10",
             ),
             ("0 offer A", "offer 2 10"),

@@ -7,8 +7,8 @@ use rbac_policy::commands::SessionId;
 use std::alloc::Global;
 use std::process::Abort;
 
-/// A line of a story: what root asks, and what it is told. What root asks is a policy command, or a
-/// slot's number and a command on that slot; the text of a load is what stands behind its word.
+/// A line of a story: what root asks, and what it is told. Root asks a policy command, or a slot's
+/// number and a command on that slot; the text of a load is what stands after its word.
 pub type Line = (&'static str, &'static str);
 
 /// Root's login, with which each story begins.
@@ -50,8 +50,8 @@ fn follow_line(
     );
 }
 
-/// Logs root in to a new desk, and asks in turn what the story asks; each is told as the story
-/// says.
+/// Logs root in to a new desk, and asks what the story asks, one line after another; each is told
+/// as the story says.
 pub fn follow(rt: &impl Abort, alloc: Global, story: &[Line]) -> Single {
     let mut desk = Single::new(alloc).expect(rt, "room");
     follow_line(rt, alloc, &mut desk, None, &LOGIN);

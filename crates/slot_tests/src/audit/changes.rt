@@ -9,11 +9,11 @@ use std::test::Fail;
 /// A change of journals. Places are counted from 0.
 #[derive(Clone, Copy, Debug)]
 pub enum Change {
-    /// The policy entry at this place stands a second time, behind itself.
+    /// The policy entry at this place stands a second time, right after itself.
     Doubled(usize),
     /// The policy entry at this place is gone.
     Lost(usize),
-    /// The policy list has so many entries.
+    /// The policy list has only this many entries.
     Cut(usize),
     /// The two policy entries at this place and the next have changed places.
     Swapped(usize),
@@ -35,7 +35,7 @@ pub enum Change {
     Skipped(usize),
 }
 
-/// Changes the policy list, if the change is one of it.
+/// Changes the policy list, if the change is one of the policy list.
 fn change_policy(written: &mut Written, change: Change) -> Result<(), Fail> {
     let entries = &mut written.policy;
     match change {

@@ -8,13 +8,13 @@ use std::thread::{Builder, Threads};
 use worker_threads::workers::WORKER_STACK_BYTES;
 
 /// How many modules run one another. With `sustain O` in the last they come to 2,048 statements of
-/// the kernel, the most that there may be.
+/// the kernel, which is the limit.
 const MODULES: u32 = 28;
 
-/// How many suspensions lie in one another in each module.
+/// How many nested suspensions each module has.
 const SUSPENSIONS: usize = 73;
 
-/// The deepest module M: it emits O in each instant without I, behind 2,044 suspensions.
+/// The deepest module M: it emits O in each instant without I, inside 2,044 suspensions.
 fn deepest_text(alloc: Global) -> Result<String, AllocError> {
     let before = "suspend ".repeat(alloc, SUSPENSIONS)?;
     let behind = " when I".repeat(alloc, SUSPENSIONS)?;

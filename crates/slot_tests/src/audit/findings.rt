@@ -119,7 +119,7 @@ fn of_two_faults_the_first_counts(rt: HostRuntime) -> Result<(), Fail> {
     Ok(())
 }
 
-/// The journals of the opening script, with further steps, so that its slot has so many entries.
+/// The journals of the opening script, with further steps, so that its slot has this many entries.
 fn stepped_on(alloc: Global, entries: usize) -> Result<Written, Fail> {
     let mut written = opening_script(alloc)?;
     for _ in written.slot.len()..entries {
@@ -128,7 +128,7 @@ fn stepped_on(alloc: Global, entries: usize) -> Result<Written, Fail> {
     Ok(written)
 }
 
-/// A slot's journal at its limit, and one with an entry too many, which is all that is wrong with it.
+/// A slot's journal at its limit, and one with an entry too many; nothing else is wrong with it.
 #[test]
 fn an_entry_too_many(rt: HostRuntime) -> Result<(), Fail> {
     let alloc = rt.alloc();
@@ -141,9 +141,10 @@ fn an_entry_too_many(rt: HostRuntime) -> Result<(), Fail> {
 const OPENING_REPORT: &str =
     "policy: 10 entries\nslot 0: 4 entries, 1 loads, 3 instants\ncheck: ok\n";
 
-/// The report on those, where slot 15 has the same journal.
+/// The report on those journals, where slot 15 has the same journal.
 const REPORT_OF_TWO: &str =
-    "policy: 10 entries\nslot 0: 4 entries, 1 loads, 3 instants\nslot 15: 4 entries, 1 loads, 3 instants\ncheck: refused 15 1 10\n";
+    "policy: 10 entries\nslot 0: 4 entries, 1 loads, 3 instants\nslot 15: 4 entries, 1 loads, \
+    3 instants\ncheck: refused 15 1 10\n";
 
 #[test]
 fn the_report_of_the_opening_script(rt: HostRuntime) -> Result<(), Fail> {

@@ -107,8 +107,8 @@ fn policy_of(alloc: Global, entries: Vec<Entry>) -> Result<PolicyJournal, Fail> 
     Ok(policy)
 }
 
-/// Sixteen journals, of which those of these two numbers have these entries and all others none;
-/// of one number the first counts.
+/// Sixteen journals: those with these two numbers have these entries, and all others have none.
+/// Where both numbers are the same, the first counts.
 fn journals_of(
     alloc: Global,
     first: (usize, Vec<SlotEntry>),

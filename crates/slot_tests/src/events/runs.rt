@@ -25,7 +25,7 @@ const CHIEF: [Line; 9] = [
     ("1 - login ann chief", "login 2 13"),
 ];
 
-/// SeatNumber 1 has seen nothing when it gives its first command, but the slot bears 9.
+/// Seat 1 has seen nothing when it gives its first command, but the slot is at version 9.
 #[test]
 fn a_version_behind_or_ahead(rt: HostRuntime) {
     let world = follow(
@@ -47,8 +47,8 @@ fn a_version_behind_or_ahead(rt: HostRuntime) {
     assert_eq!(rt; world.entries().len(), 9);
 }
 
-/// No session lives before version 5, and there no load is granted yet; O may be observed from
-/// version 8 on; seat 0 has seen 9 by its grants.
+/// No session lives before version 5, and no load is granted there yet. O may be observed from
+/// version 8 on. Seat 0 has seen 9 through its grants.
 #[test]
 fn each_command_at_its_version(rt: HostRuntime) {
     let world = follow(
@@ -72,8 +72,8 @@ fn each_command_at_its_version(rt: HostRuntime) {
     assert_eq!(rt; seen(&rt, &world, "2"), 7);
 }
 
-/// What was offered before the permission was revoked stands in the next instant; nothing more may
-/// be offered.
+/// What was offered before the permission was revoked is in the next instant; nothing more may be
+/// offered.
 #[test]
 fn a_revocation_leaves_what_was_offered(rt: HostRuntime) {
     let _world = follow(
@@ -119,7 +119,7 @@ fn a_discard_and_an_unload_take_what_was_offered(rt: HostRuntime) {
     );
 }
 
-/// An order of roles that would give a session both of the separated ones is refused, and so adds
+/// An order of roles that would give a session both of the separated roles is refused, and so adds
 /// no entry.
 #[test]
 fn duties_are_kept_apart_on_two_seats(rt: HostRuntime) {
@@ -136,7 +136,7 @@ fn duties_are_kept_apart_on_two_seats(rt: HostRuntime) {
     assert_eq!(rt; seen(&rt, &world, "0"), 13);
 }
 
-/// At version 13 the session lives still.
+/// At version 13 the session still lives.
 #[test]
 fn a_session_is_ended(rt: HostRuntime) {
     let world = follow(

@@ -24,7 +24,7 @@ fn seat(rt: &impl Abort, text: &str) -> SeatNumber {
     SeatNumber::new(number).expect(rt, "a seat")
 }
 
-/// The text that is loaded by these words, with a module M.
+/// The text that these words load, with a module M.
 fn text_of(words: &[&str]) -> &'static str {
     match words {
         ["load", "two_outputs"] => TWO_OUTPUTS,
@@ -79,7 +79,7 @@ fn compare(rt: &impl Abort, alloc: Global, replies: &[Reply], lines: &[Line]) {
     }
 }
 
-/// The run of these events. Where it is refused memory there is no world, and the same run is done
+/// The run of these events. Where memory is refused there is no world, and the same run is done
 /// with memory.
 fn run(rt: &impl Abort, alloc: Global, events: &[Event]) -> World {
     match run_events(alloc, events) {

@@ -70,7 +70,7 @@ fn tell<B: BoardName, R: Wait + Abort>(rt: &R, alloc: Global, fresh: Fresh) -> S
     }
 }
 
-/// With both seats the server is closed, and its journals have the entries of the story.
+/// With both seats the server is closed; its journals have the entries of the story.
 fn close<B: BoardName, R: Wait + Abort>(rt: &R, alloc: Global, fresh: Fresh) -> usize
     requires { fresh.seen.book ≡ B.book }
 {
@@ -95,7 +95,7 @@ fn close<B: BoardName, R: Wait + Abort>(rt: &R, alloc: Global, fresh: Fresh) -> 
     histories.policy.len()
 }
 
-/// A seat is held back, and its receipts are missing.
+/// A seat is held back, so its receipts are missing.
 fn hold_back<B: BoardName, R: Wait + Abort>(rt: &R, alloc: Global, fresh: Fresh) -> Option<Mismatch>
     requires { fresh.seen.book ≡ B.book }
 {

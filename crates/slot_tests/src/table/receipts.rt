@@ -18,7 +18,8 @@ use std::process::Abort;
 use std::sync::Wait;
 use std::test::Fail;
 
-/// The receipt that the seat keeps last, which is of a slot command; the seat keeps so many.
+/// The receipt that the seat keeps last, which is of a slot command; the seat keeps `count`
+/// receipts.
 fn last<B: BoardName, R: Abort>(rt: &R, seat: &Seat<B>, count: usize) -> SlotReceipt {
     let kept = seat.kept();
     assert_eq!(rt; kept.len(), count);

@@ -78,7 +78,7 @@ pub(crate) fn load<R: Abort>(rt: &R, alloc: Global) -> SlotCommand {
     }
 }
 
-/// A board with so many seats, and its slots.
+/// A board with n seats, and its slots.
 pub(crate) fn open<B: BoardName, R: Wait + Abort>(
     rt: &R,
     alloc: Global,
@@ -128,7 +128,8 @@ pub(crate) fn enter<B: BoardName, R: Wait + Abort>(
     assert_eq!(rt; give(rt, board, seat, None, command), 5);
 }
 
-/// Grants root loads and steps of the slot, and loads the module there: the first entry of the slot.
+/// Grants root loads and steps of the slot, and loads the module there: the first entry of the
+/// slot.
 pub(crate) fn begin<B: BoardName, R: Wait + Abort>(
     rt: &R,
     alloc: Global,

@@ -19,6 +19,6 @@ before_signals = key (codes "signals") ∷ begin_array ∷ []
 abbrev pub shown_tokens : ShownSignal → List Token
 shown_tokens signal = begin_array ∷ string signal.name ∷ boolean signal.present ∷ end_array ∷ []
 
--- what stands behind the signals
+-- what stands after the signals
 abbrev pub behind_signals : (version : ℕ) → List Token
 behind_signals version = end_array ∷ key (codes "version") ∷ number (decimal version) ∷ end_object ∷ []

@@ -11,7 +11,8 @@ returns-then-is_none c = too_many (body_of c.args.flat.now.body) (search rules)
 pub statement-requires-clause-small : goal.statement-requires-clause-small
 statement-requires-clause-small c =
     let few : reduced_statements (body_of c.args.flat.now.body) ≤ 2048 = search (rules, arith) in
-    small_term c.args.flat.now.interface (body_of c.args.flat.now.body) c.in_ok-interface.ensures.bound few c.args.flat.now.bound
+    small_term c.args.flat.now.interface (body_of c.args.flat.now.body) c.in_ok-interface.ensures.bound few
+    c.args.flat.now.bound
 
 pub build-requires : goal.build-requires
 build-requires c = rw (c.in_ok-root.ensures, c.in_ok-interface.ensures.same)

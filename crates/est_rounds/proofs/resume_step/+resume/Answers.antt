@@ -2,7 +2,9 @@ use Rattle.std.proofs.Common.{rules, ◌≡◌, Bool, true, false, ◌||◌, ref
 use Rattle.est_kernel.specs.CodeViews.{code_of}
 use Rattle.est_kernel.specs.declared.statement.Statement.TheFolds.{the_lemmas}
 use Rattle.est_meaning.proofs.SteppingLemmas.{ready, stays_dead, second_dead}
-use Rattle.est_rounds.proofs.Resuming.{code_is, code_is_not, ready_to_resume, moved_still, first_moves, second_resumes, seq_waits, seq_second_resumes, seq_stuck, seq_moves, loop_stuck, loop_races, loop_moves, held_moves, ended_side, moved_side, par_moves, par_sleeps}
+use Rattle.est_rounds.proofs.Resuming.{code_is, code_is_not, ready_to_resume, moved_still, first_moves, second_resumes}
+use Rattle.est_rounds.proofs.Resuming.{seq_waits, seq_second_resumes, seq_stuck, seq_moves, loop_stuck, loop_races}
+use Rattle.est_rounds.proofs.Resuming.{loop_moves, held_moves, ended_side, moved_side, par_moves, par_sleeps}
 use Rattle.est_rounds.proofs.resume_step.+resume.Goals as goal
 
 first_live : (x y : Bool) → x ≡ true → (x || y) ≡ true
@@ -18,7 +20,7 @@ pub resume_step-resume_step-requires-in-Asleep : goal.resume_step-resume_step-re
 resume_step-resume_step-requires-in-Asleep t c = (
   search (rules, the_lemmas),
   (
-    rw c.deref-in-Asleep.ensures (rw c.in-Present.is at c.requires.fits).2,
+    rw c.deref-in-Asleep.ensures (rw c.in-Present.is at c.requires.fits).1,
     ready_to_resume c.in-Present.p.value c.in-Present.q.value _ _ _ _ _ c.deref.ensures c.deref-in-Asleep.ensures
         (rw c.in-Present.is at c.requires.distinct) (rw c.in-Present.is at c.requires.exclusive).1
         (rw c.in-Present.is at c.requires.clear) c.resume_step.ensures.others,
@@ -62,14 +64,17 @@ resume_seq-resume_step-requires-in-Asleep t c = (
 
 pub resume_seq-start_step-requires-clause-clear : goal.resume_seq-start_step-requires-clause-clear
 resume_seq-start_step-requires-clause-clear t c =
-    (ready c.args.p.now c.args.q.now _ _ _ _ refl refl c.requires.distinct c.requires.clear c.resume_step.ensures.others).1
+    (ready c.args.p.now c.args.q.now _ _ _ _ refl refl c.requires.distinct c.requires.clear
+    c.resume_step.ensures.others).1
 
 pub resume_seq-returns-in-Asleep-clause-resumed : goal.resume_seq-returns-in-Asleep-clause-resumed
 resume_seq-returns-in-Asleep-clause-resumed t c = λ x y.
     let h = c.in-Asleep.ensures.resumed in
     let dead =
-    stays_dead c.args.p.now c.args.q.now _ _ _ refl c.requires.distinct h.still c.resume_step-in-Asleep.ensures.others in
-    seq_second_resumes _ _ c.resume_step-in-Asleep.result _ _ _ _ _ h.asleep dead c.resume_step-in-Asleep.ensures.resumed
+    stays_dead c.args.p.now c.args.q.now _ _ _ refl c.requires.distinct h.still
+    c.resume_step-in-Asleep.ensures.others in
+    seq_second_resumes _ _ c.resume_step-in-Asleep.result _ _ _ _ _ h.asleep dead
+    c.resume_step-in-Asleep.ensures.resumed
 
 pub resume_seq-returns-then-not-is_end-clause-resumed : goal.resume_seq-returns-then-not-is_end-clause-resumed
 resume_seq-returns-then-not-is_end-clause-resumed t c = λ x y.
@@ -78,7 +83,8 @@ resume_seq-returns-then-not-is_end-clause-resumed t c = λ x y.
 
 pub resume_seq-returns-in-None-clause-resumed : goal.resume_seq-returns-in-None-clause-resumed
 resume_seq-returns-in-None-clause-resumed t c =
-    λ x y. seq_stuck (code_is _ _ _ c.is_end.ensures c.if-not-is_end.false) c.in-Moved.ensures.resumed c.in-None.ensures.none
+    λ x y. seq_stuck (code_is _ _ _ c.is_end.ensures c.if-not-is_end.false) c.in-Moved.ensures.resumed
+    c.in-None.ensures.none
 
 pub resume_seq-returns-in-Some-clause-resumed : goal.resume_seq-returns-in-Some-clause-resumed
 resume_seq-returns-in-Some-clause-resumed t c = λ x y.
@@ -92,7 +98,8 @@ resume_seq-returns-in-Some-clause-resumed t c = λ x y.
 
 pub resume_loop-returns-in-None-clause-resumed : goal.resume_loop-returns-in-None-clause-resumed
 resume_loop-returns-in-None-clause-resumed t c =
-    λ x. loop_stuck (code_is _ _ _ c.is_end.ensures c.if-not-is_end.false) c.in-Moved.ensures.resumed c.in-None.ensures.none
+    λ x. loop_stuck (code_is _ _ _ c.is_end.ensures c.if-not-is_end.false) c.in-Moved.ensures.resumed
+    c.in-None.ensures.none
 
 pub resume_loop-returns-then-is_end-clause-resumed : goal.resume_loop-returns-then-is_end-clause-resumed
 resume_loop-returns-then-is_end-clause-resumed t c = λ x.
@@ -133,21 +140,25 @@ resume_par-both-requires-clause-left t c =
     rw c.quiet.ensures.completion (stays_dead c.args.p.now c.args.q.now _ _ _ refl c.requires.distinct h.still
     c.resume_step-in-Asleep.ensures.others)
 
-pub resume_par-both-requires-in-Asleep-resume_step-2-clause-left : goal.resume_par-both-requires-in-Asleep-resume_step-2-clause-left
+pub resume_par-both-requires-in-Asleep-resume_step-2-clause-left :
+    goal.resume_par-both-requires-in-Asleep-resume_step-2-clause-left
 resume_par-both-requires-in-Asleep-resume_step-2-clause-left t c =
     (moved_still c.args.p.now c.args.q.now _ _ _ _ _ _ refl c.requires.distinct c.resume_step-in-Moved.ensures.others
     c.in-Moved.ensures.resumed).steps.live
 
-pub resume_par-both-requires-in-Moved-resume_step-2-clause-left : goal.resume_par-both-requires-in-Moved-resume_step-2-clause-left
+pub resume_par-both-requires-in-Moved-resume_step-2-clause-left :
+    goal.resume_par-both-requires-in-Moved-resume_step-2-clause-left
 resume_par-both-requires-in-Moved-resume_step-2-clause-left t c =
     (moved_still c.args.p.now c.args.q.now _ _ _ _ _ _ refl c.requires.distinct c.resume_step-in-Moved.ensures.others
     c.in-Moved.ensures.resumed).steps.live
 
-pub resume_par-returns-in-Asleep-resume_step-clause-resumed : goal.resume_par-returns-in-Asleep-resume_step-clause-resumed
+pub resume_par-returns-in-Asleep-resume_step-clause-resumed :
+    goal.resume_par-returns-in-Asleep-resume_step-clause-resumed
 resume_par-returns-in-Asleep-resume_step-clause-resumed t c = λ x y.
     let h = c.in-Asleep.ensures.resumed in
     let dead =
-    stays_dead c.args.p.now c.args.q.now _ _ _ refl c.requires.distinct h.still c.resume_step-in-Asleep.ensures.others in
+    stays_dead c.args.p.now c.args.q.now _ _ _ refl c.requires.distinct h.still
+    c.resume_step-in-Asleep.ensures.others in
     par_sleeps h.asleep dead c.in-Asleep-resume_step.ensures.resumed
 
 pub resume_par-returns-in-Moved-resume_step-clause-resumed : goal.resume_par-returns-in-Moved-resume_step-clause-resumed
@@ -155,17 +166,21 @@ resume_par-returns-in-Moved-resume_step-clause-resumed t c = λ x y.
     let h = c.in-Asleep.ensures.resumed in
     let g = c.in-Moved-resume_step.ensures.resumed in
     let dead =
-    stays_dead c.args.p.now c.args.q.now _ _ _ refl c.requires.distinct h.still c.resume_step-in-Asleep.ensures.others in
-    let first = ended_side c.args.p.now _ _ _ _ _ h.asleep dead c.quiet.ensures.signals (ap code_of c.quiet.ensures.completion) in
+    stays_dead c.args.p.now c.args.q.now _ _ _ refl c.requires.distinct h.still
+    c.resume_step-in-Asleep.ensures.others in
+    let first = ended_side c.args.p.now _ _ _ _ _ h.asleep dead c.quiet.ensures.signals
+    (ap code_of c.quiet.ensures.completion) in
     par_moves c.quiet.result c.in-Moved-resume_step.right first (moved_side g) (second_live _ _ g.live)
     c.both.ensures.signals c.both.ensures.code c.both.ensures.kept c.both.ensures.left_ended c.both.ensures.right_ended
 
-pub resume_par-returns-in-Asleep-resume_step-2-clause-resumed : goal.resume_par-returns-in-Asleep-resume_step-2-clause-resumed
+pub resume_par-returns-in-Asleep-resume_step-2-clause-resumed :
+    goal.resume_par-returns-in-Asleep-resume_step-2-clause-resumed
 resume_par-returns-in-Asleep-resume_step-2-clause-resumed t c = λ x y.
     let h = c.in-Moved.ensures.resumed in
     let g = c.in-Asleep-resume_step-2.ensures.resumed in
     let first =
-    moved_still c.args.p.now c.args.q.now _ _ _ _ _ _ refl c.requires.distinct c.resume_step-in-Moved.ensures.others h in
+    moved_still c.args.p.now c.args.q.now _ _ _ _ _ _ refl c.requires.distinct c.resume_step-in-Moved.ensures.others
+    h in
     let second = ended_side c.args.q.now _ _ _ _ _ g.asleep g.still c.quiet-in-Asleep-resume_step-2.ensures.signals
     (ap code_of c.quiet-in-Asleep-resume_step-2.ensures.completion) in
     par_moves c.in-Moved.left c.quiet-in-Asleep-resume_step-2.result (moved_side first) second (first_live _ _ h.live)
@@ -173,12 +188,14 @@ resume_par-returns-in-Asleep-resume_step-2-clause-resumed t c = λ x y.
     c.both-in-Asleep-resume_step-2.ensures.kept c.both-in-Asleep-resume_step-2.ensures.left_ended
     c.both-in-Asleep-resume_step-2.ensures.right_ended
 
-pub resume_par-returns-in-Moved-resume_step-2-clause-resumed : goal.resume_par-returns-in-Moved-resume_step-2-clause-resumed
+pub resume_par-returns-in-Moved-resume_step-2-clause-resumed :
+    goal.resume_par-returns-in-Moved-resume_step-2-clause-resumed
 resume_par-returns-in-Moved-resume_step-2-clause-resumed t c = λ x y.
     let h = c.in-Moved.ensures.resumed in
     let g = c.in-Moved-resume_step-2.ensures.resumed in
     let first =
-    moved_still c.args.p.now c.args.q.now _ _ _ _ _ _ refl c.requires.distinct c.resume_step-in-Moved.ensures.others h in
+    moved_still c.args.p.now c.args.q.now _ _ _ _ _ _ refl c.requires.distinct c.resume_step-in-Moved.ensures.others
+    h in
     par_moves c.in-Moved.left c.in-Moved-resume_step-2.right (moved_side first) (moved_side g) (first_live _ _ h.live)
     c.both-in-Moved-resume_step-2.ensures.signals c.both-in-Moved-resume_step-2.ensures.code
     c.both-in-Moved-resume_step-2.ensures.kept c.both-in-Moved-resume_step-2.ensures.left_ended

@@ -9,5 +9,6 @@ pub returns : goal.returns
 returns c =
     next_known_is c.args.judged (state_term c.args.kernel.now.root c.args.state.now) (env_of c.args.env.now)
     c.judge-acts.result.must.signals c.judge-acts.result.can.signals c.args.env.now.present c.args.env.now.possible _ _
-    refl (ap (λ (a : Acts). a.signals) c.judge-acts.ensures.must) (ap (λ (a : Acts). a.signals) c.judge-acts.ensures.can)
+    refl (ap (λ (a : Acts). a.signals) c.judge-acts.ensures.must)
+    (ap (λ (a : Acts). a.signals) c.judge-acts.ensures.can)
     c.judged_again.ensures c.judged_again-2.ensures

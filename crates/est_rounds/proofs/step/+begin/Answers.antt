@@ -1,7 +1,9 @@
 use Rattle.std.proofs.Common.{refl, rules}
 use Rattle.est_kernel.specs.declared.statement.Statement.TheFolds.{the_lemmas}
 use Rattle.est_meaning.proofs.AgreementLemmas.{apart_left}
-use Rattle.est_meaning.proofs.SteppingLemmas.{ready, stays_dead, second_dead, seq_stays, seq_goes, seq_none, loop_none, present_on, present_off, par_settles, none_from, some_weaker, first_dead, steps_same}
+use Rattle.est_meaning.proofs.SteppingLemmas.{ready, stays_dead, second_dead, seq_stays, seq_goes, seq_none, loop_none}
+use Rattle.est_meaning.proofs.SteppingLemmas.{present_on, present_off, par_settles, none_from, some_weaker, first_dead}
+use Rattle.est_meaning.proofs.SteppingLemmas.{steps_same}
 use Rattle.est_rounds.proofs.Resuming.{code_is, code_is_not}
 use Rattle.est_rounds.proofs.step.+begin.Goals as goal
 
@@ -52,7 +54,8 @@ start_seq-returns-in_ok-start_step-clause-some t c = λ x y.
     let h = rw zero at (c.in_ok-first.ensures.some) in
     rw (c.then.ensures.signals, c.then.ensures.completion)
     (seq_goes h c.in_ok-start_step.ensures.some
-    (stays_dead c.args.p.now c.args.q.now _ _ _ refl c.requires.distinct h.live c.start_step-then-is_end.ensures.others))
+    (stays_dead c.args.p.now c.args.q.now _ _ _ refl c.requires.distinct h.live
+    c.start_step-then-is_end.ensures.others))
 
 pub start_seq-returns-else-is_end-clause-some : goal.start_seq-returns-else-is_end-clause-some
 start_seq-returns-else-is_end-clause-some t c = λ x y.
@@ -79,12 +82,14 @@ start_par-start_step-requires-2 t c = (
 pub start_par-both-requires-clause-left : goal.start_par-both-requires-clause-left
 start_par-both-requires-clause-left t c =
     (steps_same c.args.p.now _ _ _ _ _ _
-    (apart_left c.args.p.now c.args.q.now _ _ c.requires.distinct.2 c.start_step-2.ensures.others) c.in_ok-left.ensures.some).live
+    (apart_left c.args.p.now c.args.q.now _ _ c.requires.distinct.2 c.start_step-2.ensures.others)
+    c.in_ok-left.ensures.some).live
 
 pub start_par-returns-clause-some : goal.start_par-returns-clause-some
 start_par-returns-clause-some t c = λ x y.
     let h = steps_same c.args.p.now _ _ _ _ _ _
-    (apart_left c.args.p.now c.args.q.now _ _ c.requires.distinct.2 c.start_step-2.ensures.others) c.in_ok-left.ensures.some in
+    (apart_left c.args.p.now c.args.q.now _ _ c.requires.distinct.2 c.start_step-2.ensures.others)
+    c.in_ok-left.ensures.some in
     let kept = rw c.both.ensures.code at c.both.ensures.kept in
     let left = rw c.both.ensures.code at c.both.ensures.left_ended in
     let right = rw c.both.ensures.code at c.both.ensures.right_ended in

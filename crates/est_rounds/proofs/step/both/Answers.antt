@@ -4,15 +4,19 @@ use Rattle.est_kernel.specs.CodeViews.{code_of}
 use Rattle.est_meaning.proofs.AgreementLemmas.{live_same, cleared_dead, apart_left, apart_right}
 use Rattle.est_rounds.proofs.Resuming.{code_is}
 use Rattle.est_rounds.proofs.step.both.Goals as goal
-use Rattle.est_rounds.proofs.step.both.Goals.{then-not-is_pause+then-is_pause, then-not-is_pause+else-is_pause+then-is_pause-2, then-not-is_pause+else-is_pause+else-is_pause-2, else-not-is_pause}
+use Rattle.est_rounds.proofs.step.both.Goals.{then-not-is_pause+then-is_pause}
+use Rattle.est_rounds.proofs.step.both.Goals.{then-not-is_pause+else-is_pause+then-is_pause-2}
+use Rattle.est_rounds.proofs.step.both.Goals.{then-not-is_pause+else-is_pause+else-is_pause-2, else-not-is_pause}
 
 pub returns-clause-left_ended : goal.returns-clause-left_ended
 returns-clause-left_ended c d = elim c.if-not-is_pause.branch [
-  | then-not-is_pause+then-is_pause w ↦ rw w.next-is (cleared_dead c.args.p.now _ (λ i h. w.clear.ensures i ∙ rw h refl))
+  | then-not-is_pause+then-is_pause w ↦
+      rw w.next-is (cleared_dead c.args.p.now _ (λ i h. w.clear.ensures i ∙ rw h refl))
   | then-not-is_pause+else-is_pause+then-is_pause-2 w ↦
       let dead = c.requires.left ∙ (sym w.is_pause-then-not-is_pause.ensures ∙ w.if-is_pause.false) in
       rw w.next-is (sym (live_same c.args.p.now _ _
-      (apart_left c.args.p.now c.args.q.now _ _ c.requires.apart (λ i h. w.clear-then-is_pause-2.ensures i ∙ rw h refl))) ∙ dead)
+      (apart_left c.args.p.now c.args.q.now _ _ c.requires.apart
+      (λ i h. w.clear-then-is_pause-2.ensures i ∙ rw h refl))) ∙ dead)
   | then-not-is_pause+else-is_pause+else-is_pause-2 w ↦
       rw w.next-is (c.requires.left ∙ (sym w.is_pause-then-not-is_pause.ensures ∙ w.if-is_pause.false))
   | else-not-is_pause w ↦ absurd (d (code_is _ _ _ c.is_pause.ensures w.if-not-is_pause.false))

@@ -23,5 +23,11 @@ relations-preserved c =
           ∙ map-append relation_view items (next ∷ []));
       passes = λ s. c.relations.invariant.passes s ∙ ap (run MOST_OPEN_UNITS (later_relations ∷ s)) comma
           ∙ c.in_ok-next.ensures.reads.passes (later_relations ∷ s);
-      shorter = omega (arith, c.relations.invariant.shorter, ap (length {A = Token}) comma, c.in_ok-next.ensures.reads.shorter);
+      shorter =
+          omega (
+            arith,
+            c.relations.invariant.shorter,
+            ap (length {A = Token}) comma,
+            c.in_ok-next.ensures.reads.shorter,
+          );
     }

@@ -17,11 +17,13 @@ returns-in_err-first-clause-err c =
 
 pub returns-in_err-expect_symbol-clause-err : goal.returns-in_err-expect_symbol-clause-err
 returns-in_err-expect_symbol-clause-err c =
-    let p = err_from_is_err_and c.from_residual-in_err-expect_symbol.result c.from_residual-in_err-expect_symbol.ensures.1 in
+    let p = err_from_is_err_and c.from_residual-in_err-expect_symbol.result
+    c.from_residual-in_err-expect_symbol.ensures.1 in
     let mid = c.expect_name.new.self in
     rw (p.1, p.2) (fails_from (relation_want ∷ []) (one (Symbol Hash) ∷ [])
     (λ s. name ∷ later_members ∷ s) c.args.cursor.now c.take_symbol.new.self c.in_err-expect_symbol.field-0.0
     (λ s. ap (run MOST_OPEN_UNITS (relation_want ∷ s)) c.in_ok-first.ensures.ok
     ∙ relation_tail_is s mid (c.if-take_symbol.ensures.other refl)
-    ∙ ap (run MOST_OPEN_UNITS (one (Symbol Hash) ∷ name ∷ later_members ∷ s)) (sym (c.if-take_symbol.ensures.same refl)))
+    ∙ ap (run MOST_OPEN_UNITS (one (Symbol Hash) ∷ name ∷ later_members ∷ s))
+    (sym (c.if-take_symbol.ensures.same refl)))
     c.in_err-expect_symbol.ensures.err)

@@ -18,14 +18,16 @@ modules-preserved c =
     let items = c.modules.modules.items in
     let next = c.in_ok-next.next in
     let all =
-    ap (λ (ps : List Module). map module_view ps) c.in_ok-push.ensures.items ∙ map-append module_view items (next ∷ []) in
+    ap (λ (ps : List Module). map module_view ps) c.in_ok-push.ensures.items
+    ∙ map-append module_view items (next ∷ []) in
     subst (λ (ps : List ModuleTree). AreModules ps c.args.cursor.now c.module.new.cursor) (sym all)
     (one_more_module (map module_view items)
     (module_view next) c.args.cursor.now c.modules.cursor c.take_keyword.new.self c.module.new.cursor
     c.modules.invariant (c.modules-test.ensures.first refl) c.in_ok-next.ensures.ok)
 
 pub modules-smaller : goal.modules-smaller
-modules-smaller c = omega (arith, ap (length {A = Token}) (c.modules-test.ensures.first refl), c.in_ok-next.ensures.ok.shorter)
+modules-smaller c =
+    omega (arith, ap (length {A = Token}) (c.modules-test.ensures.first refl), c.in_ok-next.ensures.ok.shorter)
 
 pub returns-in_err-next-clause-err : goal.returns-in_err-next-clause-err
 returns-in_err-next-clause-err c =

@@ -6,7 +6,8 @@ use Rattle.est_text.specs.declared.keyword.Keyword.TheVariants as keyword
 use Rattle.est_syntax.specs.Views.{declaration_view, statement_view}
 use Rattle.est_syntax.specs.Machine.{run, one, statement, modules, kw_end}
 use Rattle.est_syntax.specs.declared.parse.TheConstants.{MOST_OPEN_UNITS}
-use Rattle.est_syntax.proofs.Libraries.{stops_from, stops_in, wants, behind, round_module, heading, headed, bodied, module_part}
+use Rattle.est_syntax.proofs.Libraries.{stops_from, stops_in, wants, behind, round_module, heading, headed, bodied}
+use Rattle.est_syntax.proofs.Libraries.{module_part}
 use Rattle.est_syntax.proofs.modules.module.Goals as goal
 
 pub returns-in_err-body-clause-err : goal.returns-in_err-body-clause-err
@@ -20,11 +21,13 @@ returns-in_err-body-clause-err c =
     let h = headed n ds old c.expect_symbol.new.self c.declarations.new.cursor a c.in_ok-declarations.ensures.spelt
     c.in_ok-declarations.ensures.reads in
     rw (p.1, p.2) (stops_in MOST_OPEN_UNITS (Some true) wants
-    (statement ∷ []) behind old c.declarations.new.cursor c.in_err-body.field-0.0 round_module h.passes c.in_err-body.ensures.err)
+    (statement ∷ []) behind old c.declarations.new.cursor c.in_err-body.field-0.0 round_module h.passes
+    c.in_err-body.ensures.err)
 
 pub returns-in_err-expect_keyword-clause-err : goal.returns-in_err-expect_keyword-clause-err
 returns-in_err-expect_keyword-clause-err c =
-    let p = err_from_is_err_and c.from_residual-in_err-expect_keyword.result c.from_residual-in_err-expect_keyword.ensures.1 in
+    let p = err_from_is_err_and c.from_residual-in_err-expect_keyword.result
+    c.from_residual-in_err-expect_keyword.ensures.1 in
     let n = c.in_ok-name.name in
     let ds = map declaration_view c.in_ok-declarations.declarations.items in
     let old = c.args.cursor.now in
@@ -53,7 +56,8 @@ returns-in_err-expect_keyword-2-clause-err c =
     c.in_ok-body.ensures.ok in
     rw (p.1, p.2) (stops_from wants (one (Keyword keyword.Module) ∷ [])
     (modules ∷ []) old c.expect_keyword.new.self c.in_err-expect_keyword-2.field-0.0
-    (b.passes ∙ ap (run MOST_OPEN_UNITS behind) c.in_ok-expect_keyword.ensures.ok) c.in_err-expect_keyword-2.ensures.err)
+    (b.passes ∙ ap (run MOST_OPEN_UNITS behind) c.in_ok-expect_keyword.ensures.ok)
+    c.in_err-expect_keyword-2.ensures.err)
 
 pub returns-clause-ok : goal.returns-clause-ok
 returns-clause-ok c =

@@ -7,7 +7,8 @@ use Rattle.est_syntax.proofs.names.later_names.Given as goal
 abbrev pub invariant-names : goal.invariant-names
 invariant-names l = record {
   spelt : l.fn.cursor ≡ later_names_onto l.names.items l.cursor;
-  passes : (s : List Want) → run MOST_OPEN_UNITS (later_names ∷ s) l.fn.cursor ≡ run MOST_OPEN_UNITS (later_names ∷ s) l.cursor;
+  passes : (s : List Want) → run MOST_OPEN_UNITS (later_names ∷ s) l.fn.cursor
+      ≡ run MOST_OPEN_UNITS (later_names ∷ s) l.cursor;
   shorter : length l.cursor ≤ length l.fn.cursor;
 }
 

@@ -18,7 +18,8 @@ pub renamings-preserved : goal.renamings-preserved
 renamings-preserved c =
     let items = c.renamings.renamings.items in
     let next = c.in_ok-next.next in
-    let comma : c.renamings.cursor ≡ Symbol Comma ∷ c.take_symbol-in-renamings.new.self = c.renamings-test.ensures.first refl in
+    let comma : c.renamings.cursor ≡ Symbol Comma ∷ c.take_symbol-in-renamings.new.self =
+    c.renamings-test.ensures.first refl in
     record {
       spelt = one_more_renaming c.args.cursor.now c.take_symbol-in-renamings.new.self c.renamings.cursor
           c.renaming-in-renamings.new.cursor (map renaming_view items)
@@ -30,12 +31,19 @@ renamings-preserved c =
       passes = λ s. c.renamings.invariant.passes s
           ∙ ap (run MOST_OPEN_UNITS (later_renamings ∷ one (Symbol CloseBracket) ∷ s)) comma
           ∙ c.in_ok-next.ensures.reads.passes (later_renamings ∷ one (Symbol CloseBracket) ∷ s);
-      shorter = omega (arith, c.renamings.invariant.shorter, ap (length {A = Token}) comma, c.in_ok-next.ensures.reads.shorter);
+      shorter =
+          omega (
+            arith,
+            c.renamings.invariant.shorter,
+            ap (length {A = Token}) comma,
+            c.in_ok-next.ensures.reads.shorter,
+          );
     }
 
 pub returns-in_err-expect_symbol-clause-err : goal.returns-in_err-expect_symbol-clause-err
 returns-in_err-expect_symbol-clause-err c =
-    let p = err_from_is_err_and c.from_residual-in_err-expect_symbol.result c.from_residual-in_err-expect_symbol.ensures.1 in
+    let p = err_from_is_err_and c.from_residual-in_err-expect_symbol.result
+    c.from_residual-in_err-expect_symbol.ensures.1 in
     let same : c.take_symbol-in-renamings.new.self ≡ c.renamings.cursor = c.renamings-test.ensures.same refl in
     rw (p.1, p.2) (fails_from (renamings_want ∷ []) (one (Symbol CloseBracket) ∷ [])
     (λ s. s) c.args.cursor.now c.take_symbol-in-renamings.new.self c.in_err-expect_symbol.field-0.0

@@ -28,7 +28,8 @@ pub returns-in-Err-Syntax-clause-fault : goal.returns-in-Err-Syntax-clause-fault
 returns-in-Err-Syntax-clause-fault c =
     let at = length c.as_slice-located.result.now - c.in-Err-Syntax.left in
     let stop = subst (λ (bs : List Token). Stops start bs (Syntax c.in-Err-Syntax.left)) c.new-cursor.ensures
-    (subst (λ (e : Fault). Stops start c.new-cursor.result e) c.in-Err-Syntax.field-0-is c.in-Err-Syntax.ensures.err) in (
+    (subst (λ (e : Fault). Stops start c.new-cursor.result e) c.in-Err-Syntax.field-0-is
+    c.in-Err-Syntax.ensures.err) in (
       at,
       c.place.ensures,
       subst (λ (ls : List Located). IsSyntaxFault MOST_OPEN_UNITS (tokens_of ls) at) c.as_slice-located.ensures.same
@@ -39,7 +40,8 @@ pub returns-in-Err-TooDeep-clause-fault : goal.returns-in-Err-TooDeep-clause-fau
 returns-in-Err-TooDeep-clause-fault c =
     let at = length c.as_slice-located.result.now - c.in-Err-TooDeep.left in
     let stop = subst (λ (bs : List Token). Stops start bs (TooDeep c.in-Err-TooDeep.left)) c.new-cursor.ensures
-    (subst (λ (e : Fault). Stops start c.new-cursor.result e) c.in-Err-TooDeep.field-0-is c.in-Err-TooDeep.ensures.err) in (
+    (subst (λ (e : Fault). Stops start c.new-cursor.result e) c.in-Err-TooDeep.field-0-is
+    c.in-Err-TooDeep.ensures.err) in (
       at,
       c.place-in-Err-TooDeep.ensures,
       subst (λ (ls : List Located). IsTooDeep MOST_OPEN_UNITS (tokens_of ls) at) c.as_slice-located.ensures.same
@@ -61,6 +63,7 @@ returns-in-Err-Syntax-clause-takes c = λ l e r.
 pub returns-in-Err-TooDeep-clause-takes : goal.returns-in-Err-TooDeep-clause-takes
 returns-in-Err-TooDeep-clause-takes c = λ l e r.
     let stop = subst (λ (bs : List Token). Stops start bs (TooDeep c.in-Err-TooDeep.left)) c.new-cursor.ensures
-    (subst (λ (x : Fault). Stops start c.new-cursor.result x) c.in-Err-TooDeep.field-0-is c.in-Err-TooDeep.ensures.err) in
+    (subst (λ (x : Fault). Stops start c.new-cursor.result x) c.in-Err-TooDeep.field-0-is
+    c.in-Err-TooDeep.ensures.err) in
     absurd (never_deep c.as_slice-located.result.now c.in-Err-TooDeep.left l stop
     (ap tokens_of c.as_slice-located.ensures.same ∙ e) r)

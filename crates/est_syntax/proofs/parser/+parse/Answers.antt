@@ -11,14 +11,16 @@ use Rattle.est_syntax.specs.declared.tree.Sequence.{Sequence as SequenceValue}
 use Rattle.est_syntax.specs.declared.units.Opener.TheVariants as opener
 use Rattle.est_syntax.specs.Tree.{UnitTree, SequenceTree, StatementTree}
 use Rattle.est_syntax.specs.Tree.{sequence as sequence_tree, statement as statement_tree}
-use Rattle.est_syntax.specs.Grammar.{unit_onto, unit_depth, sequence_onto, sequence_depth, statement_onto, statement_depth}
+use Rattle.est_syntax.specs.Grammar.{unit_onto, unit_depth, sequence_onto, sequence_depth, statement_onto}
+use Rattle.est_syntax.specs.Grammar.{statement_depth}
 use Rattle.est_syntax.specs.Views.{unit_view, sequence_view, statement_view, units_of, sequences_of}
-use Rattle.est_syntax.specs.Machine.{run, wrong, name, branches, leave, unit, sequence, sequence_tail, statement, statement_tail}
+use Rattle.est_syntax.specs.Machine.{run, wrong, test, branches, leave, unit, sequence, sequence_tail, statement}
+use Rattle.est_syntax.specs.Machine.{statement_tail}
 use Rattle.est_syntax.specs.Frames.{IsPlain, IsOpened, IsTail, opener_token, opener_wants, frame_wants, head_wants}
-use Rattle.est_syntax.specs.Parsing.{IsPart, FailsIn, FailsBefore}
+use Rattle.est_syntax.specs.Parsing.{IsPart, FailsIn}
 use Rattle.est_syntax.specs.declared.parse.TheConstants.{MOST_OPEN_UNITS}
 use Rattle.est_syntax.proofs.Runs.{sequence_is, statement_is}
-use Rattle.est_syntax.proofs.Opening.{in_leaf, in_in, round_tail, round_side, round_any, round_branches}
+use Rattle.est_syntax.proofs.Opening.{in_in, round_tail, round_side, round_any, round_open, round_branches}
 use Rattle.est_syntax.proofs.Parts as part
 use Rattle.est_syntax.proofs.parser.+parse.Goals as goal
 
@@ -39,7 +41,8 @@ sequence-returns-in_err-later-clause-err t c =
     rw (p.1, p.2) (in_in c.args.room c.args.room (Some c.args.ends) (Some c.args.ends) (sequence ∷ [])
     (sequence_tail ∷ []) (λ s. s) bs c.unit.new.cursor c.in_err-later.field-0.0 (λ s r. r)
     (λ s r. sequence_is MOST_OPEN_UNITS s bs
-    ∙ c.in_ok-first.ensures.ok.passes (sequence_tail ∷ s) (round_tail c.args.room c.args.ends s r)) c.in_err-later.ensures.err)
+    ∙ c.in_ok-first.ensures.ok.passes (sequence_tail ∷ s) (round_tail c.args.room c.args.ends s r))
+    c.in_err-later.ensures.err)
 
 pub sequence-returns-clause-ok : goal.sequence-returns-clause-ok
 sequence-returns-clause-ok t c =
@@ -52,7 +55,8 @@ sequence-returns-clause-ok t c =
       later = c.in_ok-later.later;
       closed = c.in_ok-later.closed;
     }) ≡ sequence_tree (unit_view c.in_ok-first-2.first.value) us c.in_ok-later.closed = search (rules, the_lemmas) in
-    let e = q ∙ ap (λ (u : UnitValue). sequence_tree (unit_view u) us c.in_ok-later.closed) c.in_ok-first-2.ensures.ok in
+    let e = q ∙ ap (λ (u : UnitValue). sequence_tree (unit_view u) us c.in_ok-later.closed)
+    c.in_ok-first-2.ensures.ok in
     subst (λ (x : SequenceTree). IsPart c.args.room (Some c.args.ends) (sequence ∷ [])
     (sequence_onto x c.later_units.new.cursor) (sequence_depth x) c.args.cursor.now c.later_units.new.cursor) (sym e) p
 
@@ -64,7 +68,8 @@ statement-returns-in_err-first-clause-err t c =
     let bs = c.args.cursor.now in
     rw (p.1, p.2) (in_in c.args.room c.args.room (Some c.args.ends) (Some c.args.ends) (statement ∷ [])
     (sequence ∷ []) (λ s. statement_tail ∷ s) bs bs c.in_err-first.field-0.0
-    (λ s r. round_side c.args.room c.args.ends s r) (λ s r. statement_is MOST_OPEN_UNITS s bs) c.in_err-first.ensures.err)
+    (λ s r. round_side c.args.room c.args.ends s r) (λ s r. statement_is MOST_OPEN_UNITS s bs)
+    c.in_err-first.ensures.err)
 
 pub statement-returns-in_err-later-clause-err : goal.statement-returns-in_err-later-clause-err
 statement-returns-in_err-later-clause-err t c =
@@ -73,7 +78,8 @@ statement-returns-in_err-later-clause-err t c =
     rw (p.1, p.2) (in_in c.args.room c.args.room (Some c.args.ends) (Some c.args.ends) (statement ∷ [])
     (statement_tail ∷ []) (λ s. s) bs c.sequence.new.cursor c.in_err-later.field-0.0 (λ s r. r)
     (λ s r. statement_is MOST_OPEN_UNITS s bs
-    ∙ c.in_ok-first.ensures.ok.passes (statement_tail ∷ s) (round_side c.args.room c.args.ends s r)) c.in_err-later.ensures.err)
+    ∙ c.in_ok-first.ensures.ok.passes (statement_tail ∷ s) (round_side c.args.room c.args.ends s r))
+    c.in_err-later.ensures.err)
 
 pub statement-returns-clause-ok : goal.statement-returns-clause-ok
 statement-returns-clause-ok t c =
@@ -85,29 +91,32 @@ statement-returns-clause-ok t c =
     ≡ statement_tree (sequence_view c.in_ok-first-2.first.value) qs = search (rules, the_lemmas) in
     let e = q ∙ ap (λ (x : SequenceValue). statement_tree (sequence_view x) qs) c.in_ok-first-2.ensures.ok in
     subst (λ (x : StatementTree). IsPart c.args.room (Some c.args.ends) (statement ∷ [])
-    (statement_onto x c.later_sequences.new.cursor) (statement_depth x) c.args.cursor.now c.later_sequences.new.cursor) (sym e) p
+    (statement_onto x c.later_sequences.new.cursor) (statement_depth x) c.args.cursor.now c.later_sequences.new.cursor)
+    (sym e) p
 
 -- ---- a test
 
-pub tested-returns-in_err-signal-clause-err : goal.tested-returns-in_err-signal-clause-err
-tested-returns-in_err-signal-clause-err t c =
+pub tested-returns-in_err-asked-clause-err : goal.tested-returns-in_err-asked-clause-err
+tested-returns-in_err-asked-clause-err t c =
     let p = err_from_is_err_and c.from_residual.result c.from_residual.ensures.1 in
     let bs = c.args.cursor.now in
-    rw (p.1, p.2) (in_leaf (suc c.args.room) None (name ∷ branches ∷ leave ∷ []) (name ∷ [])
-    (λ s. branches ∷ leave ∷ s) bs bs c.in_err-signal.field-0.0 (λ s r. refl) c.in_err-signal.ensures.err)
+    rw (p.1, p.2) (in_in (suc c.args.room) c.args.room None None (test ∷ branches ∷ leave ∷ []) (test ∷ [])
+    (λ s. branches ∷ leave ∷ s) bs bs c.in_err-asked.field-0.0
+    (λ s r. round_open c.args.room branches None s r refl) (λ s r. refl) c.in_err-asked.ensures.err)
 
-pub tested-returns-in_err-test-clause-err : goal.tested-returns-in_err-test-clause-err
-tested-returns-in_err-test-clause-err t c =
-    let p = err_from_is_err_and c.from_residual-in_err-test.result c.from_residual-in_err-test.ensures.1 in
-    rw (p.1, p.2) (in_in (suc c.args.room) c.args.room None None (name ∷ branches ∷ leave ∷ []) (branches ∷ [])
-    (λ s. leave ∷ s) c.args.cursor.now c.expect_name.new.self c.in_err-test.field-0.0
+pub tested-returns-in_err-chosen-clause-err : goal.tested-returns-in_err-chosen-clause-err
+tested-returns-in_err-chosen-clause-err t c =
+    let p = err_from_is_err_and c.from_residual-in_err-chosen.result c.from_residual-in_err-chosen.ensures.1 in
+    rw (p.1, p.2) (in_in (suc c.args.room) c.args.room None None (test ∷ branches ∷ leave ∷ []) (branches ∷ [])
+    (λ s. leave ∷ s) c.args.cursor.now c.test.new.cursor c.in_err-chosen.field-0.0
     (λ s r. round_branches c.args.room None s r)
-    (λ s r. ap (run MOST_OPEN_UNITS (name ∷ branches ∷ leave ∷ s)) c.in_ok-signal.ensures.ok) c.in_err-test.ensures.err)
+    (λ s r. c.in_ok-asked.ensures.ok.passes (branches ∷ leave ∷ s) (round_open c.args.room branches None s r refl))
+    c.in_err-chosen.ensures.err)
 
 pub tested-returns-clause-ok : goal.tested-returns-clause-ok
 tested-returns-clause-ok t c =
-    part.tested_part c.args.room c.in_ok-signal.signal c.in_ok-test.test c.args.cursor.now c.expect_name.new.self
-    c.branches.new.cursor c.in_ok-signal.ensures.ok c.in_ok-test.ensures.ok
+    part.tested_part c.args.room c.in_ok-asked.asked c.in_ok-chosen.chosen c.args.cursor.now c.test.new.cursor
+    c.branches.new.cursor c.in_ok-asked.ensures.ok c.in_ok-chosen.ensures.ok
 
 -- ---- a frame
 
@@ -115,8 +124,9 @@ pub framed-returns-in_err-head-clause-err : goal.framed-returns-in_err-head-clau
 framed-returns-in_err-head-clause-err t c =
     let p = err_from_is_err_and c.from_residual.result c.from_residual.ensures.1 in
     let bs = c.args.cursor.now in
-    rw (p.1, p.2) (in_leaf (suc c.args.room) (Some c.args.ends) (frame_wants c.args.frame) (frame_wants c.args.frame)
-    (λ s. s) bs bs c.in_err-head.field-0.0 (λ s r. refl) c.in_err-head.ensures.err)
+    rw (p.1, p.2) (in_in (suc c.args.room) (suc c.args.room) (Some c.args.ends) None (frame_wants c.args.frame)
+    (frame_wants c.args.frame) (λ s. s) bs bs c.in_err-head.field-0.0
+    (λ s r. round_any (suc c.args.room) (Some c.args.ends) s r) (λ s r. refl) c.in_err-head.ensures.err)
 
 pub framed-returns-in_err-body-clause-err : goal.framed-returns-in_err-body-clause-err
 framed-returns-in_err-body-clause-err t c =
@@ -130,7 +140,8 @@ framed-returns-clause-ok t c =
     let old = c.args.cursor.now in
     let new = c.tail.new.cursor in
     let body = statement_view c.in_ok-body.body in
-    IfOk-weaker c.tail.result (λ (u : UnitValue). IsTail c.args.ends c.in_ok-head.head body u c.statement.new.cursor
+    IfOk-weaker c.tail.result
+    (λ (u : UnitValue). IsTail c.args.room (Some c.args.ends) c.in_ok-head.head body u c.statement.new.cursor
     new) (λ (u : UnitValue). IsOpened c.args.room (Some c.args.ends) (opener.Frame c.args.frame) u old new)
     (λ u h. part.framed_part c.args.room c.args.ends c.args.frame c.in_ok-head.head c.takes_end.result body u old
     c.head_of.new.cursor c.statement.new.cursor new c.in_ok-head.ensures.ok c.takes_end.ensures
@@ -140,7 +151,7 @@ pub framed-returns-clause-err : goal.framed-returns-clause-err
 framed-returns-clause-err t c =
     let old = c.args.cursor.now in
     let body = statement_view c.in_ok-body.body in
-    IfErr-weaker c.tail.result (λ (x : Fault). FailsBefore c.args.ends
+    IfErr-weaker c.tail.result (λ (x : Fault). FailsIn (suc c.args.room) (Some c.args.ends)
     (head_wants c.in_ok-head.head) c.statement.new.cursor x)
     (λ (x : Fault). FailsIn (suc c.args.room) (Some c.args.ends) (frame_wants c.args.frame) old x)
     (λ x h. part.framed_tail_fails c.args.room c.args.ends c.args.frame c.in_ok-head.head c.takes_end.result body old
@@ -159,8 +170,9 @@ unit-returns-in_default-clause-err t c = (
 pub unit-returns-in_err-plain-clause-err : goal.unit-returns-in_err-plain-clause-err
 unit-returns-in_err-plain-clause-err t c =
     let p = err_from_is_err_and c.from_residual.result c.from_residual.ensures.1 in
-    rw (p.1, p.2) (in_leaf c.args.room (Some c.args.ends) (unit ∷ []) (unit ∷ []) (λ s. s) c.args.cursor.now
-    (c.in-Some.first.now ∷ c.next.new.self) c.in_err-plain.field-0.0
+    rw (p.1, p.2) (in_in c.args.room c.args.room (Some c.args.ends) None (unit ∷ []) (unit ∷ []) (λ s. s)
+    c.args.cursor.now (c.in-Some.first.now ∷ c.next.new.self) c.in_err-plain.field-0.0
+    (λ s r. round_any c.args.room (Some c.args.ends) s r)
     (λ s r. ap (run MOST_OPEN_UNITS (unit ∷ s)) c.in-Some.ensures) c.in_err-plain.ensures.err)
 
 pub unit-returns-in-Some-2-clause-ok : goal.unit-returns-in-Some-2-clause-ok
@@ -168,14 +180,16 @@ unit-returns-in-Some-2-clause-ok t c =
     let mid = c.next.new.self in
     let new = c.plain_unit.new.cursor in
     part.plain_part c.args.room c.args.ends c.in-Some.first.now c.in-Some-2.plain c.args.cursor.now mid new
-    c.in-Some.ensures (subst (λ (o : Option UnitValue). IsPlain c.in-Some.first.now o mid new) c.in-Some-2.is
+    c.in-Some.ensures
+    (subst (λ (o : Option UnitValue). IsPlain c.args.room c.in-Some.first.now o mid new) c.in-Some-2.is
     c.in_ok-plain.ensures.ok)
 
 pub unit-returns-in_default-opener_of-clause-err : goal.unit-returns-in_default-opener_of-clause-err
 unit-returns-in_default-opener_of-clause-err t c =
     let first = c.in-Some.first.now in
     let mid = c.next.new.self in
-    let plain = subst (λ (o : Option UnitValue). IsPlain first o mid c.plain_unit.new.cursor) c.in_default-2.is
+    let plain = subst (λ (o : Option UnitValue). IsPlain c.args.room first o mid c.plain_unit.new.cursor)
+    c.in_default-2.is
     c.in_ok-plain.ensures.ok in (
       c.args.cursor.now,
       c.count-here.ensures,
@@ -198,7 +212,8 @@ unit-returns-in-Test-clause-ok t c =
     let new = c.tested.new.cursor in
     let first = c.in-Some.first.now in
     let plain =
-    subst (λ (o : Option UnitValue). IsPlain first o c.next.new.self mid) c.in_default-2.is c.in_ok-plain.ensures.ok in
+    subst (λ (o : Option UnitValue). IsPlain c.args.room first o c.next.new.self mid) c.in_default-2.is
+    c.in_ok-plain.ensures.ok in
     let start : old ≡ first ∷ mid = c.in-Some.ensures ∙ ap (λ (l : List Token). first ∷ l) (sym plain.0) in
     let less : c.args.room ≡ suc (c.args.room - 1) = omega (arith, c.if-room-eq0.false) in
     IfOk-weaker c.tested.result (λ (u : UnitValue). IsOpened (c.args.room - 1) None opener.Test u mid new)
@@ -215,7 +230,8 @@ unit-returns-in-Test-clause-err t c =
     let mid = c.plain_unit.new.cursor in
     let first = c.in-Some.first.now in
     let plain =
-    subst (λ (o : Option UnitValue). IsPlain first o c.next.new.self mid) c.in_default-2.is c.in_ok-plain.ensures.ok in
+    subst (λ (o : Option UnitValue). IsPlain c.args.room first o c.next.new.self mid) c.in_default-2.is
+    c.in_ok-plain.ensures.ok in
     let start : old ≡ first ∷ mid = c.in-Some.ensures ∙ ap (λ (l : List Token). first ∷ l) (sym plain.0) in
     let less : c.args.room ≡ suc (c.args.room - 1) = omega (arith, c.if-room-eq0.false) in
     IfErr-weaker c.tested.result (λ (x : Fault). FailsIn (suc (c.args.room - 1)) None
@@ -232,7 +248,8 @@ unit-returns-in-Frame-clause-ok t c =
     let first = c.in-Some.first.now in
     let frame = opener.Frame c.in-Frame.frame in
     let plain =
-    subst (λ (o : Option UnitValue). IsPlain first o c.next.new.self mid) c.in_default-2.is c.in_ok-plain.ensures.ok in
+    subst (λ (o : Option UnitValue). IsPlain c.args.room first o c.next.new.self mid) c.in_default-2.is
+    c.in_ok-plain.ensures.ok in
     let start : old ≡ first ∷ mid = c.in-Some.ensures ∙ ap (λ (l : List Token). first ∷ l) (sym plain.0) in
     let less : c.args.room ≡ suc (c.args.room - 1) = omega (arith, c.if-room-eq0.false) in
     IfOk-weaker c.framed.result (λ (u : UnitValue). IsOpened (c.args.room - 1) (Some c.args.ends) frame u mid new)
@@ -249,7 +266,8 @@ unit-returns-in-Frame-clause-err t c =
     let first = c.in-Some.first.now in
     let frame = opener.Frame c.in-Frame.frame in
     let plain =
-    subst (λ (o : Option UnitValue). IsPlain first o c.next.new.self mid) c.in_default-2.is c.in_ok-plain.ensures.ok in
+    subst (λ (o : Option UnitValue). IsPlain c.args.room first o c.next.new.self mid) c.in_default-2.is
+    c.in_ok-plain.ensures.ok in
     let start : old ≡ first ∷ mid = c.in-Some.ensures ∙ ap (λ (l : List Token). first ∷ l) (sym plain.0) in
     let less : c.args.room ≡ suc (c.args.room - 1) = omega (arith, c.if-room-eq0.false) in
     IfErr-weaker c.framed.result (λ (x : Fault). FailsIn (suc (c.args.room - 1)) (Some c.args.ends)
@@ -288,7 +306,8 @@ later_units-units-preserved t c =
     let items = c.units.units.items in
     let next = c.in_ok-next.next in
     let all =
-    ap (λ (is : List UnitValue). map unit_view is) c.in_ok-push.ensures.items ∙ map-append unit_view items (next ∷ []) in
+    ap (λ (is : List UnitValue). map unit_view is) c.in_ok-push.ensures.items
+    ∙ map-append unit_view items (next ∷ []) in
     subst (λ (us : List UnitTree). part.UnitsSoFar c.args.room c.args.ends
     (units_of us) c.args.cursor.now c.unit.new.cursor) (sym all)
     (part.one_more_unit c.args.room c.args.ends (map unit_view items)
@@ -336,7 +355,8 @@ pub later_sequences-returns-clause-ok : goal.later_sequences-returns-clause-ok
 later_sequences-returns-clause-ok t c =
     part.sequences_over c.args.room c.args.ends
     (sequences_of (map sequence_view c.sequences.sequences.items)) c.args.cursor.now c.sequences.cursor
-    c.take_symbol.new.self c.sequences.invariant (c.sequences-test.ensures.same refl) (c.sequences-test.ensures.other refl)
+    c.take_symbol.new.self c.sequences.invariant (c.sequences-test.ensures.same refl)
+    (c.sequences-test.ensures.other refl)
 
 -- ---- branches
 

@@ -12,7 +12,7 @@ use Rattle.est_syntax.specs.declared.parse.TheConstants.{MOST_OPEN_UNITS}
 use Rattle.est_syntax.proofs.Folding.{group_is}
 use Rattle.est_syntax.specs.Grammar.{unit_onto, unit_depth}
 use Rattle.est_syntax.specs.Tree.{UnitTree}
-use Rattle.est_syntax.proofs.Runs.{leave_over}
+use Rattle.est_syntax.proofs.TestRuns.{leave_over}
 use Rattle.est_syntax.proofs.Reading.{fails_from}
 use Rattle.est_syntax.proofs.units.grouped.Goals as goal
 
@@ -26,8 +26,9 @@ returns-in_err-expect_symbol-clause-err c =
 pub returns-clause-ok : goal.returns-clause-ok
 returns-clause-ok c = record {
   spelt = ap (λ (l : List Token). Symbol symbol.OpenBracket ∷ statement_onto (statement_view c.args.body) l)
-      c.in_ok-expect_symbol.ensures.ok ∙ ap (λ (u : UnitTree). unit_onto u c.expect_symbol.new.self) (sym (group_is c.args.body));
-  depth = ap unit_depth (group_is c.args.body);
+      c.in_ok-expect_symbol.ensures.ok ∙ ap (λ (u : UnitTree). unit_onto u c.expect_symbol.new.self)
+      (sym (group_is c.args.body));
+  depth = ap unit_depth (group_is c.args.body) ∙ omega arith;
   passes = λ s. ap (run MOST_OPEN_UNITS (one (Symbol symbol.CloseBracket) ∷ leave ∷ s))
       c.in_ok-expect_symbol.ensures.ok ∙ leave_over MOST_OPEN_UNITS s c.expect_symbol.new.self;
   shorter = omega (arith, ap (length {A = Token}) c.in_ok-expect_symbol.ensures.ok);

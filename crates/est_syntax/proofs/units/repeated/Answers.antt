@@ -12,7 +12,7 @@ use Rattle.est_syntax.specs.declared.parse.TheConstants.{MOST_OPEN_UNITS}
 use Rattle.est_syntax.proofs.Folding.{every_is}
 use Rattle.est_syntax.specs.Grammar.{unit_onto, unit_depth}
 use Rattle.est_syntax.specs.Tree.{UnitTree}
-use Rattle.est_syntax.proofs.Runs.{leave_over}
+use Rattle.est_syntax.proofs.TestRuns.{leave_over}
 use Rattle.est_syntax.proofs.Reading.{fails_from}
 use Rattle.est_syntax.proofs.units.repeated.Goals as goal
 
@@ -20,14 +20,16 @@ pub returns-in_err-again-clause-err : goal.returns-in_err-again-clause-err
 returns-in_err-again-clause-err c =
     let p = err_from_is_err_and c.from_residual.result c.from_residual.ensures.1 in
     rw (p.1, p.2) (fails_from (again_wants (Keyword keyword.Every)) (one kw_end ∷ may (Keyword keyword.Every) ∷ [])
-    (λ s. leave ∷ s) c.args.cursor.now c.args.cursor.now c.in_err-again.field-0.0 (λ s. refl) c.in_err-again.ensures.err)
+    (λ s. leave ∷ s) c.args.cursor.now c.args.cursor.now c.in_err-again.field-0.0
+    (λ s. refl) c.in_err-again.ensures.err)
 
 pub returns-clause-ok : goal.returns-clause-ok
 returns-clause-ok c = record {
-  spelt = ap (λ (l : List Token). head_onto (head.Every c.args.signal)
+  spelt = ap (λ (l : List Token). head_onto (head.Every c.args.every)
       (statement_onto (statement_view c.args.body) l)) c.in_ok-again.ensures.spelt
-      ∙ ap (λ (u : UnitTree). unit_onto u c.end_again.new.cursor) (sym (every_is c.args.signal c.args.body c.in_ok-again.again));
-  depth = ap unit_depth (every_is c.args.signal c.args.body c.in_ok-again.again);
+      ∙ ap (λ (u : UnitTree). unit_onto u c.end_again.new.cursor)
+      (sym (every_is c.args.every c.args.body c.in_ok-again.again));
+  depth = ap unit_depth (every_is c.args.every c.args.body c.in_ok-again.again);
   passes = λ s. c.in_ok-again.ensures.reads.passes (leave ∷ s) ∙ leave_over MOST_OPEN_UNITS s c.end_again.new.cursor;
   shorter = c.in_ok-again.ensures.reads.shorter;
 }

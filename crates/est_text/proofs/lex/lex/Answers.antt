@@ -22,7 +22,8 @@ loop-rest-preserved c =
         far.0 ++ cut ∷ [],
         subst (ArePieces text (far.0 ++ cut ∷ [])) (sym c.split_at.ensures.back)
             (ArePieces-more far.0 text rest c.in-Some.piece c.in-Some.count far.1 found),
-        c.in_ok-add.ensures ∙ ap (λ (l : List Located). l ++ located c.in-Some.piece c.loop-rest.start c.in-Some.count) far.2
+        c.in_ok-add.ensures ∙ ap (λ (l : List Located). l ++ located c.in-Some.piece c.loop-rest.start c.in-Some.count)
+            far.2
             ∙ sym (tokens-more far.0 text rest 0 c.loop-rest.start cut far.1 (omega arith)
             ∙ ap (λ (n : ℕ). tokens_from 0 far.0 ++ located c.in-Some.piece c.loop-rest.start n) long),
       );

@@ -18,7 +18,8 @@ returns-in-Some-keyword_of-clause-found c =
     let e = rw c.split_at.ensures.front at c.from_bytes.ensures in
     let read = identifier_read (take n rest) c.in-Some.name c.from_bytes.result e c.in-Some.is in
     let same : c.as_str.result.now ≡ take n rest = c.as_str.ensures.same ∙ read.1 in
-    keyword_found c.in-Some-keyword_of.keyword rest n c.word_len-count.ensures.within c.word_len-count.ensures.stops read.0
+    keyword_found c.in-Some-keyword_of.keyword rest n c.word_len-count.ensures.within c.word_len-count.ensures.stops
+    read.0
     (ap keyword_of (sym same) ∙ sym c.keyword_of.ensures ∙ c.in-Some-keyword_of.is)
 
 pub returns-in-None-clause-found : goal.returns-in-None-clause-found

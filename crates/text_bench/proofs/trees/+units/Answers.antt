@@ -10,7 +10,8 @@ units_of_sequence-returns t c =
     let parts = out-Sequence s in
     c.loop-unit.invariant
     ∙ ap (so_far unit_number (unit_number parts.first.value))
-    (take_all c.loop-unit.unit-index c.deref-unit-items.result.now c.loop-unit-test.false ∙ c.deref-unit-items.ensures.value)
+    (take_all c.loop-unit.unit-index c.deref-unit-items.result.now c.loop-unit-test.false
+    ∙ c.deref-unit-items.ensures.value)
     ∙ whole_sum unit_number (unit_number parts.first.value) parts.later.items
     ∙ ap (λ n. n % 2 ^ 64) (sym (sequence_whole s))
 

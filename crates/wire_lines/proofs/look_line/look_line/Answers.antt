@@ -17,5 +17,7 @@ returns c =
     c.new-writer.ensures.tokens c.in_ok-begin_look.ensures.tokens c.in_ok-write_word.ensures.tokens
     c.in_ok-begin_signals.ensures.tokens c.in_ok-write_signals.ensures.tokens c.in_ok-end_look.ensures.tokens in
     c.in_ok-push.ensures.items
-    ∙ ap (λ (text : List ℕ). text ++ 10 ∷ []) (c.into_inner-line.ensures.items ∙ ap (λ (before : List ℕ). before ++ print c.end_look.new.writer.tokens) nothing ∙ ap print tokens)
+    ∙ ap (λ (text : List ℕ). text ++ 10 ∷ [])
+    (c.into_inner-line.ensures.items ∙ ap (λ (before : List ℕ). before ++ print c.end_look.new.writer.tokens) nothing
+    ∙ ap print tokens)
     ∙ look_is c.args.instant c.args.signals.now c.args.version

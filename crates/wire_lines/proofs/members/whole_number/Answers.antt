@@ -37,7 +37,7 @@ integer_is p h =
     let first = and_parts (nat_lt 0 (length p.whole)) (not p.point) both.0 in
     (ltb-true 0 (length p.whole) first.0, not-true p.point first.1, eqb-true (length p.exponent) 0 both.1)
 
--- a numeral is the number of its digits exactly where it has no point or exponent and fits
+-- a numeral is the number of its digits exactly when it has no point or exponent and fits
 whole_from : (p : Parts) (found : Option ℕ) → SomeIff found (IsInteger p × (digits_of p < 2 ^ 64)) (digits_of p)
     → found ≡ option_and_then as_u64 (number_from false p)
 whole_from p None h =
@@ -50,7 +50,7 @@ whole_from p (Some n) h =
     let fits = lt-ltb (digits_of p) (2 ^ 64) h.0.1 in
     rw (some, h.0.0.1, h.0.0.2, fits) (ap (λ (m : ℕ). Some m) h.1)
 
--- a text without a sign is the number of its numeral, one with a minus sign that of what follows
+-- a text without a sign is the number of its numeral; a text with a minus sign is that of what follows the sign
 number_is : (s : List ℕ) → (get_or s 0 0 == 45) ≡ false → number_of s ≡ number_from false (scan s)
 unfolding number_of
 number_is s plain = rw plain refl

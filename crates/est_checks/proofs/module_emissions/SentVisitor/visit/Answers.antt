@@ -1,11 +1,8 @@
 use Rattle.std.proofs.Common.{◌≡◌, OnOk, refl, sym, subst, map}
-use Rattle.est_syntax.specs.Views.{names_view}
 use Rattle.est_checks.specs.Emissions.{emitted_of}
 use Rattle.est_checks.specs.Inner.Noted.{noted_of, noted_behind}
 use Rattle.est_modules.specs.Modules.{program_of}
-use Rattle.est_modules.specs.Occurrences.{tests, exits, binds}
 use Rattle.est_modules.specs.Scopes.{act_of, binders_of}
-use Rattle.est_checks.proofs.Noting.{nothing_added}
 use Rattle.est_checks.proofs.module_emissions.SentVisitor.visit.Goals as goal
 
 pub returns-in-Emits : goal.returns-in-Emits
@@ -20,21 +17,21 @@ returns-in-Tests c =
     let ps = map program_of c.args.self.now.heads.now in
     let em = emitted_of c.args.self.now.table.now in
     let k = noted_of c.args.seen.now in
-    subst (λ act. k ≡ noted_behind ps em k (record { act = act_of act; round = binders_of c.args.scope.now })) (sym c.in-Tests.is) (nothing_added ps em k (binders_of c.args.scope.now) (tests c.in-Tests.field-0) refl (λ s. refl) (λ m. refl))
+    subst (λ act. k ≡ noted_behind ps em k (record { act = act_of act; round = binders_of c.args.scope.now })) (sym c.in-Tests.is) refl
 
 pub returns-in-Exits : goal.returns-in-Exits
 returns-in-Exits c =
     let ps = map program_of c.args.self.now.heads.now in
     let em = emitted_of c.args.self.now.table.now in
     let k = noted_of c.args.seen.now in
-    subst (λ act. k ≡ noted_behind ps em k (record { act = act_of act; round = binders_of c.args.scope.now })) (sym c.in-Exits.is) (nothing_added ps em k (binders_of c.args.scope.now) (exits c.in-Exits.field-0) refl (λ s. refl) (λ m. refl))
+    subst (λ act. k ≡ noted_behind ps em k (record { act = act_of act; round = binders_of c.args.scope.now })) (sym c.in-Exits.is) refl
 
 pub returns-in-Binds : goal.returns-in-Binds
 returns-in-Binds c =
     let ps = map program_of c.args.self.now.heads.now in
     let em = emitted_of c.args.self.now.table.now in
     let k = noted_of c.args.seen.now in
-    subst (λ act. k ≡ noted_behind ps em k (record { act = act_of act; round = binders_of c.args.scope.now })) (sym c.in-Binds.is) (nothing_added ps em k (binders_of c.args.scope.now) (binds (names_view c.in-Binds.field-0.now)) refl (λ s. refl) (λ m. refl))
+    subst (λ act. k ≡ noted_behind ps em k (record { act = act_of act; round = binders_of c.args.scope.now })) (sym c.in-Binds.is) refl
 
 pub returns-in-Runs : goal.returns-in-Runs
 returns-in-Runs c =

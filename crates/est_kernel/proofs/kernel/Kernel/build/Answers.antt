@@ -9,7 +9,8 @@ is_none None h = refl
 is_none (Some x) h = absurd (h x refl)
 
 pub number-requires : goal.number-requires
-number-requires c = omega (arith, pauses_within_limits c.args.root (sym c.limit_passed.ensures ∙ is_none _ c.in_default.not-Some))
+number-requires c =
+    omega (arith, pauses_within_limits c.args.root (sym c.limit_passed.ensures ∙ is_none _ c.in_default.not-Some))
 
 pub start_codes-requires : goal.start_codes-requires
 start_codes-requires c =

@@ -23,7 +23,8 @@ returns-then-is_pause-clause-ok c =
     (state_term c.args.kernel.now.root c.args.state.now)) c.judged_signals-judged.ensures in
     let root = c.args.kernel.now.root in
     record {
-      reacts = paused_reacts (judged_of c.args.kernel.now) (bits c.args.inputs.now.signals) root
+      reacts = paused_reacts (judged_of c.args.kernel.now (bits c.args.inputs.now.signals))
+          (bits c.args.inputs.now.signals) root
           (state_term root c.args.state.now) _ c.in-Some.step.signals
           (code_of c.in-Some.step.completion) c.step_of.new.next known
           (code_is _ _ _ c.is_pause.ensures c.if-is_pause.true) c.in-Some.ensures.some;
@@ -39,7 +40,8 @@ returns-else-is_pause-clause-ok c =
     (state_term c.args.kernel.now.root c.args.state.now)) c.judged_signals-judged.ensures in
     let root = c.args.kernel.now.root in
     record {
-      reacts = ended_reacts (judged_of c.args.kernel.now) (bits c.args.inputs.now.signals) root
+      reacts = ended_reacts (judged_of c.args.kernel.now (bits c.args.inputs.now.signals))
+          (bits c.args.inputs.now.signals) root
           (state_term root c.args.state.now) _ c.in-Some.step.signals (code_of c.in-Some.step.completion) _ known
           (code_is_not _ _ _ c.is_pause.ensures c.if-is_pause.false) c.in-Some.ensures.some;
       next = tt;
@@ -50,10 +52,11 @@ returns-in-None-clause-stuck c =
     let known = c.last_known-env.ensures
     ∙ ap (λ (j : JudgedSignals). last_env j (bits c.args.inputs.now.signals)
     (state_term c.args.kernel.now.root c.args.state.now)) c.judged_signals-judged.ensures in
-    let judged = judged_of c.args.kernel.now in
+    let judged = judged_of c.args.kernel.now (bits c.args.inputs.now.signals) in
     let last = last_env judged (bits c.args.inputs.now.signals) (state_term c.args.kernel.now.root c.args.state.now) in
     record {
-      cannot = subst (λ (e : Env). HasNoRule (state_term c.args.kernel.now.root c.args.state.now) e) known c.in-None.ensures.none;
+      cannot = subst (λ (e : Env). HasNoRule (state_term c.args.kernel.now.root c.args.state.now) e) known
+          c.in-None.ensures.none;
       undecided = λ n.
           undecided_is c.last_known-env.result c.judged_signals-judged.result.signals _ c.undecided_of.ensures n
           ∙ (ap (λ (e : Env). bits c.judged_signals-judged.result.signals n && is_unknown (e (outer n))) known

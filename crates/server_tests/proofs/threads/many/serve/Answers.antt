@@ -6,6 +6,7 @@ use Rattle.server_tests.proofs.threads.many.serve.Goals as goal
 
 pub run_over-requires-sync-T : goal.run_over-requires-sync-T
 run_over-requires-sync-T g c =
-    let reads : IsSend (reader.the_row (param 0 g.row.B) g.B.BoardName) = record { owned = c.may_cross.ensures.owned; leaving = λ k d w. tt } in
+    let reads : IsSend (reader.the_row (param 0 g.row.B) g.B.BoardName) =
+    record { owned = c.may_cross.ensures.owned; leaving = λ k d w. tt } in
     let shares = table_shares (param 0 g.row.B) g.B.BoardName reads in
     search shares

@@ -6,6 +6,7 @@ use Rattle.server_tests.proofs.threads.revocation.serve.Goals as goal
 
 pub play-giver-requires-sync-T : goal.play-giver-requires-sync-T
 play-giver-requires-sync-T g c =
-    let reads : IsSend (reader.the_row (param 0 g.row.B) g.B.BoardName) = record { owned = c.may_cross.ensures.owned; leaving = λ k d w. tt } in
+    let reads : IsSend (reader.the_row (param 0 g.row.B) g.B.BoardName) =
+    record { owned = c.may_cross.ensures.owned; leaving = λ k d w. tt } in
     let shares = table_shares (param 0 g.row.B) g.B.BoardName reads in
     search shares

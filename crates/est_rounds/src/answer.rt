@@ -1,0 +1,39 @@
+//! What is known of a test.
+//!
+//! Recursion is as deep as the expressions of the test are nested, however many operands they have:
+//! at most 128 levels for a test that was read.
+
+ghost use Rattle.std.specs.Prelude.{◌≡◌};
+ghost use Rattle.est_kernel.specs.View.{joint_of, query_of};
+ghost use Rattle.est_meaning.specs.Status.{status_of, status_of_joint};
+ghost use Rattle.est_rounds.specs.Views.{env_of};
+
+use crate::signal_set::{Env, status_of_signal};
+use est_kernel::statement::{Connective, Operands, Test};
+use est_meaning::status::Status;
+
+/// What is known of what a test asks.
+#[cycle(answer)]
+pub fn answer_to(env: &Env, test: &Test) -> Status
+    ensures { result ≡ status_of (env_of env.now) (query_of test.now) }
+{
+    match test {
+        Test::Tick => Status::Present,
+        Test::Status(s) => status_of_signal(env, *s),
+        Test::Not(t) => answer_to(env, t).opposite(),
+        Test::Joined(connective, operands) => answer_to_joined(env, *connective, operands),
+    }
+}
+
+/// What is known of operands with this connective between them.
+#[cycle(answer)]
+fn answer_to_joined(env: &Env, connective: Connective, operands: &Operands) -> Status
+    ensures { result ≡ status_of_joint connective (env_of env.now) (joint_of operands.now) }
+{
+    let first = answer_to(env, &operands.first);
+    let mut status = first.joined(connective, answer_to(env, &operands.second));
+    for test in &operands.later {
+        status = status.joined(connective, answer_to(env, test));
+    }
+    status
+}
