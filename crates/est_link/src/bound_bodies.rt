@@ -46,7 +46,7 @@ fn bind_sent(binding: &Binding<'_>, signal: BoundSignal) -> Result<BoundSignal, 
 
 /// What is asked in place of a test of the body: each name of it is bound. It goes as deep as the expressions lie in one
 /// another.
-#[cycle(test)]
+#[cycle(tests)]
 fn bind_test(binding: &Binding<'_>, test: &BoundTest) -> Result<BoundTest, AllocError>
     ensures { IfOk result (λ t. query_view t ≡ bound_query (binding_of binding.now)
         binding.now.locals (query_view test.now)) }
@@ -60,7 +60,7 @@ fn bind_test(binding: &Binding<'_>, test: &BoundTest) -> Result<BoundTest, Alloc
 }
 
 /// The same of operands with this connective between them.
-#[cycle(test)]
+#[cycle(tests)]
 fn bind_joined(
     binding: &Binding<'_>,
     connective: Connective,

@@ -17,7 +17,7 @@ use est_syntax::tree::{Conjunction, Expression, Literal, Test};
 use std::alloc::AllocError;
 
 /// What a literal asks.
-#[cycle(test)]
+#[cycle(tests)]
 fn find_literal(place: &Place<'_>, literal: &Literal) -> Result<BoundTest, AllocError>
     ensures { IfOk result (λ t. query_view t ≡ literal_asked
         (signal_at (program_of place.now.linker.now.home.now) (binders_of place.now.scope.now))
@@ -33,7 +33,7 @@ fn find_literal(place: &Place<'_>, literal: &Literal) -> Result<BoundTest, Alloc
 }
 
 /// What literals with `and` between them ask.
-#[cycle(test)]
+#[cycle(tests)]
 fn find_conjunction(place: &Place<'_>, conjunction: &Conjunction) -> Result<BoundTest, AllocError>
     ensures { IfOk result (λ t. query_view t ≡ conjunction_asked
         (signal_at (program_of place.now.linker.now.home.now) (binders_of place.now.scope.now))
@@ -52,7 +52,7 @@ fn find_conjunction(place: &Place<'_>, conjunction: &Conjunction) -> Result<Boun
 }
 
 /// What an expression asks.
-#[cycle(test)]
+#[cycle(tests)]
 fn find_expression(place: &Place<'_>, expression: &Expression) -> Result<BoundTest, AllocError>
     ensures { IfOk result (λ t. query_view t ≡ expression_asked
         (signal_at (program_of place.now.linker.now.home.now) (binders_of place.now.scope.now))

@@ -17,7 +17,7 @@ use est_syntax::tree::{Conjunction, Expression, Literal, Test};
 use std::alloc::AllocError;
 
 /// Visits the names of a literal.
-#[cycle(test)]
+#[cycle(tests)]
 fn walk_literal<V: Visitor>(
     visitor: &V,
     seen: &mut V::Seen,
@@ -38,7 +38,7 @@ fn walk_literal<V: Visitor>(
 }
 
 /// Visits the names of literals with `and` between them.
-#[cycle(test)]
+#[cycle(tests)]
 fn walk_conjunction<V: Visitor>(
     visitor: &V,
     seen: &mut V::Seen,
@@ -59,7 +59,7 @@ fn walk_conjunction<V: Visitor>(
 }
 
 /// Visits the names of an expression.
-#[cycle(test)]
+#[cycle(tests)]
 fn walk_expression<V: Visitor>(
     visitor: &V,
     seen: &mut V::Seen,

@@ -27,7 +27,7 @@ pub enum BoundSignal {
 
 /// What a statement asks: an expression over signals.
 #[derive(Drop)]
-#[cycle(test)]
+#[cycle(tests)]
 pub enum BoundTest {
     /// `tick`, which is present in every instant.
     Tick,
@@ -42,7 +42,7 @@ pub enum BoundTest {
 /// Two tests or more, with one connective between them. They are a list, so that recursion is no
 /// deeper than expressions are nested.
 #[derive(Drop)]
-#[cycle(test)]
+#[cycle(tests)]
 pub struct BoundOperands {
     /// The first test.
     pub first: Box<BoundTest>,

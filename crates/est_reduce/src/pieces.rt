@@ -27,7 +27,7 @@ pub fn signal(bound: BoundSignal) -> Signal
 
 /// A copy of what is asked, by numbers that fit the kernel's types, or memory was refused.
 /// Recursion is as deep as expressions are nested.
-#[cycle(test)]
+#[cycle(tests)]
 pub fn test(alloc: Global, bound: &BoundTest) -> Result<Test, AllocError>
     requires small { IsSmallQuery (bound_query bound.now) }
     ensures { IfOk result (λ t. query_of t ≡ bound_query bound.now) }
@@ -41,7 +41,7 @@ pub fn test(alloc: Global, bound: &BoundTest) -> Result<Test, AllocError>
 }
 
 /// A copy of operands with this connective between them.
-#[cycle(test)]
+#[cycle(tests)]
 fn joined(
     alloc: Global,
     connective: Connective,

@@ -9,7 +9,7 @@ use est_text::identifier::Identifier;
 
 /// A part of a test: what `and` stands between.
 #[derive(Drop)]
-#[cycle(test)]
+#[cycle(tests)]
 pub enum Literal {
     /// `S`
     Signal(Identifier),
@@ -21,7 +21,7 @@ pub enum Literal {
 
 /// Literals with `and` between them: all of them hold.
 #[derive(Drop)]
-#[cycle(test)]
+#[cycle(tests)]
 pub struct Conjunction {
     /// The first literal.
     pub first: Box<Literal>,
@@ -31,7 +31,7 @@ pub struct Conjunction {
 
 /// Conjunctions with `or` between them: one of them holds.
 #[derive(Drop)]
-#[cycle(test)]
+#[cycle(tests)]
 pub struct Expression {
     /// The first conjunction.
     pub first: Box<Conjunction>,

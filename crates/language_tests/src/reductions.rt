@@ -21,7 +21,7 @@ fn write_signal(signal: Signal, text: &mut String) -> Result<(), AllocError> {
 }
 
 /// A test as it is written; operands stand in parentheses.
-#[cycle(test)]
+#[cycle(tests)]
 fn write_test(test: &Test, text: &mut String) -> Result<(), AllocError> {
     match test {
         Test::Tick => text.push_str("tick"),
@@ -35,7 +35,7 @@ fn write_test(test: &Test, text: &mut String) -> Result<(), AllocError> {
 }
 
 /// Operands with their connective between them.
-#[cycle(test)]
+#[cycle(tests)]
 fn write_operands(
     connective: Connective,
     operands: &Operands,

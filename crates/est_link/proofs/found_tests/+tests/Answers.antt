@@ -10,7 +10,7 @@ use Rattle.est_modules.specs.Scopes.{binders_of}
 use Rattle.est_reduce.specs.Views.{bound_query as query_view}
 use Rattle.est_link.specs.Linking.{signal_at}
 use Rattle.est_link.proofs.Asked.{literal_seen, conjunction_seen, more_seen, more_literals, more_conjunctions}
-use Rattle.est_link.proofs.found_tests.+test.Goals as goal
+use Rattle.est_link.proofs.found_tests.+tests.Goals as goal
 
 -- src/found_tests.rt:46:5
 pub find_conjunction-loop-literal-preserved : goal.find_conjunction-loop-literal-preserved

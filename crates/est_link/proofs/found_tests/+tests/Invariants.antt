@@ -4,7 +4,7 @@ use Rattle.est_modules.specs.Modules.{program_of}
 use Rattle.est_modules.specs.Scopes.{binders_of}
 use Rattle.est_reduce.specs.Views.{bound_query as query_view}
 use Rattle.est_link.proofs.Asked.{literal_seen, conjunction_seen}
-use Rattle.est_link.proofs.found_tests.+test.Given as goal
+use Rattle.est_link.proofs.found_tests.+tests.Given as goal
 
 abbrev pub invariant-find_conjunction-loop-literal : goal.invariant-find_conjunction-loop-literal
 invariant-find_conjunction-loop-literal l =

@@ -4,7 +4,7 @@ use Rattle.std.specs.List.{fold}
 use Rattle.est_syntax.specs.declared.tree.Literal.TheViews.{out-Conjunction, out-Expression}
 use Rattle.est_modules.specs.Scopes.{binders_of}
 use Rattle.est_modules.proofs.TestPassing.{literal_passed, conjunction_passed, conjunction_whole, expression_whole}
-use Rattle.est_modules.proofs.test_walk.+test.Goals as goal
+use Rattle.est_modules.proofs.test_walk.+tests.Goals as goal
 
 pub walk_conjunction-returns : goal.walk_conjunction-returns
 walk_conjunction-returns g t c =

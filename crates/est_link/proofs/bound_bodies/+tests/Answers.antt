@@ -7,7 +7,7 @@ use Rattle.est_reduce.proofs.Tests.{operands_seen}
 use Rattle.est_link.specs.Inner.Binds.{binding_of}
 use Rattle.est_link.specs.Linking.{bound_query, bound_queries}
 use Rattle.est_link.proofs.Binding.{test_bound, listed_bound}
-use Rattle.est_link.proofs.bound_bodies.+test.Goals as goal
+use Rattle.est_link.proofs.bound_bodies.+tests.Goals as goal
 
 pub bind_joined-returns : goal.bind_joined-returns
 bind_joined-returns t c =

@@ -9,7 +9,7 @@ use Rattle.est_reduce.specs.Views.{bound_query}
 use Rattle.est_reduce.specs.declared.body.BoundTest.{BoundTest}
 use Rattle.est_reduce.specs.declared.body.BoundTest.TheFolds.{the_lemmas}
 use Rattle.est_reduce.proofs.Tests.{operands_seen, small_parts, each_at}
-use Rattle.est_reduce.proofs.pieces.+test.Goals as goal
+use Rattle.est_reduce.proofs.pieces.+tests.Goals as goal
 
 pub joined-test-requires-2 : goal.joined-test-requires-2
 joined-test-requires-2 t c = (

@@ -3,7 +3,7 @@ use Rattle.std.specs.List.{fold}
 use Rattle.est_syntax.specs.declared.tree.Literal.TheViews.{out-Conjunction, out-Expression}
 use Rattle.est_modules.specs.Scopes.{binders_of}
 use Rattle.est_modules.proofs.TestPassing.{literal_passed, conjunction_passed}
-use Rattle.est_modules.proofs.test_walk.+test.Given as goal
+use Rattle.est_modules.proofs.test_walk.+tests.Given as goal
 
 abbrev pub invariant-walk_conjunction-loop-literal : goal.invariant-walk_conjunction-loop-literal
 invariant-walk_conjunction-loop-literal g l =
