@@ -174,6 +174,11 @@ def inside_signal(names):
     return filled(f"module M:signal {listed} in ", "run N;", f"halt end end module module N:output {listed};halt end module")
 
 
+def one_test(words):
+    """A module that asks for one signal this many times and once more, in one test."""
+    return f"module M:input S;present S{' and S' * words} then nothing end end module"
+
+
 def relations():
     last = short_names(2000, MOST_BYTES)
     head = "module M:input " + ",".join(last) + ";relation A=>A"
@@ -202,6 +207,9 @@ def texts():
         ("17,185 local names", f"module M:signal {every} in nothing end end module", "TooLarge(Statements)"),
         ("7,000 outputs, and emissions of the last", filled("module M:output " + ",".join(half) + ";", f"emit {half[-1]};", "halt end module"), "TooLarge(Signals)"),
         ("9,900 relations over 2,000 inputs", relations(), "TooLarge(Signals)"),
+        ("a test of 10,913 words", filled("module M:input S;present S", " and S", " then nothing end end module"), "TooLarge(Statements)"),
+        ("a test of 2,045 words", one_test(2045), "a kernel of 1 signals"),
+        ("as many tests of 20 words as a line holds", filled("module M:input S;", f"present S{' and S' * 20} then nothing end;", "halt end module"), "TooLarge(Statements)"),
         (
             "500 outputs of two modules, of which one runs the other as often as a line holds",
             filled(f"module M:output {few};", "run N;", f"halt end module module N:output {few};halt end module"),

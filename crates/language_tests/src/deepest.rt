@@ -12,7 +12,7 @@ const STAMP: Stamp = Stamp {
     session: 1,
 };
 
-/// What stands round `sustain O`, so many times in each of so many modules that run one another.
+/// What stands around `sustain O`: how often in each module, and how many modules run one another.
 struct Nest {
     before: &'static str,
     behind: &'static str,
@@ -20,7 +20,8 @@ struct Nest {
     modules: u32,
 }
 
-/// Each comes to 2,048 statements of the kernel, with the four of `sustain O`: the most that a kernel may have.
+/// Each comes to 2,048 statements of the kernel, with the four of `sustain O`: the most that a
+/// kernel may have.
 const NESTS: [Nest; 4] = [
     Nest {
         before: "suspend ",
@@ -85,7 +86,8 @@ fn with_two_instants(alloc: Global, journal: Journal, text: &str) -> Option<Reac
     Some(reactor)
 }
 
-/// Whether a module is read, has its instants and is let go; and is read again behind the journal of the first time.
+/// Whether a module is read, has its instants and is let go; and is read again after the journal
+/// of the first time.
 fn lives_twice(alloc: Global, text: &str) -> Option<usize> {
     let reactor = with_two_instants(alloc, Journal::new(alloc), text)?;
     let reactor = with_two_instants(alloc, reactor.into_journal(), text)?;

@@ -24,7 +24,7 @@ const PLACES: [(&str, u64, u64, &str); 15] = [
     ("%{ ⊥𝄞 }%\temt O", 1, 15, "%{ ⊥𝄞 }%\temt O\n        \t^\n"),
     // within a character, which begins before the place
     ("%é", 1, 3, "%é\n  ^\n"),
-    // at the end of a line, of the text, and behind its last LF
+    // at the end of a line, of the text, and after its last LF
     ("emit\nO", 1, 5, "emit\n    ^\n"),
     ("emit\nO", 2, 2, "O\n ^\n"),
     ("emit O;\n", 2, 1, "\n^\n"),
@@ -32,7 +32,7 @@ const PLACES: [(&str, u64, u64, &str); 15] = [
     // a CR is part of its line
     ("emit O;\r\n  emt P\r\n", 2, 3, "  emt P\r\n  ^\n"),
     ("emit O\r\n", 1, 7, "emit O\r\n      ^\n"),
-    // behind the end of the line, behind the text, and before the first line and column
+    // after the end of the line, after the text, and before the first line and column
     ("emit\nO", 1, 90, "emit\n    ^\n"),
     ("emit\nO", 3, 2, "\n^\n"),
     ("emit\nO", 0, 0, "emit\n^\n"),

@@ -49,8 +49,8 @@ fn number(rt: &impl Abort, text: &str) -> u16 {
     text.parse::<u16>().ok().expect(rt, "a number")
 }
 
-/// The statement of these words: `pause`, `nothing`, an emission of the first local signal or the first output, or
-/// `exit` and how many traps lie between.
+/// The statement of these words: `pause`, `nothing`, an emission of the first local signal or the
+/// first output, or `exit` and how many traps lie between.
 fn innermost(rt: &impl Abort, words: &str) -> Statement {
     match words {
         "pause" => Statement::pause(),
@@ -63,8 +63,8 @@ fn innermost(rt: &impl Abort, words: &str) -> Statement {
     }
 }
 
-/// A statement with what these words put before it or around it: so many pauses, loops, traps or local signals, or the
-/// local signal of a number.
+/// A statement with what these words put before it or around it: that many pauses, loops, traps or
+/// local signals, or the local signal of a number.
 fn grown(rt: &impl Abort, alloc: Global, inside: Statement, words: &str) -> Statement {
     let (word, count) = words.split_once(' ').expect(rt, "a word and a number");
     let count = number(rt, count);
@@ -140,7 +140,7 @@ fn limits(rt: HostRuntime) {
     expect_made(&rt, rt.alloc(), &LIMITS);
 }
 
-/// Seven local signals behind seventeen loops: the loops are told.
+/// Seven local signals after seventeen loops: the loops are named.
 #[test]
 fn first_limit(rt: HostRuntime) {
     let row = ("pause, loops 17 then pause, locals 7", "TooLarge(Loops)");
@@ -264,7 +264,8 @@ fn inner_numbers(s: &Statement) -> Option<(u16, (u16, u16))> {
     }
 }
 
-/// `signal S in signal T in pause; pause end end`: each pause gets a number of its own, and each binder keeps its own.
+/// `signal S in signal T in pause; pause end end`: each pause gets a number of its own, and each
+/// binder keeps its own.
 #[test]
 fn numbers(rt: HostRuntime) {
     let kernel = kernel_of(&rt, rt.alloc(), "pause, pauses 1, locals 2");

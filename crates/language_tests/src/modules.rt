@@ -42,8 +42,8 @@ fn heads_of<'a>(rt: &impl Abort, alloc: Global, library: &'a Library) -> Vec<Hea
     heads
 }
 
-/// The number of statements of the linked module at a place, which the limit may refuse, or why the modules of the text
-/// have no order.
+/// The number of statements of the linked module at a place, which the limit may refuse, or why the
+/// modules of the text have no order.
 fn counted(rt: &impl Abort, alloc: Global, text: &str, place: usize) -> String {
     let tokens = lex(alloc, text).expect(rt, "tokens");
     let library = parse(alloc, &tokens).expect(rt, "a library");
@@ -59,7 +59,8 @@ fn counted(rt: &impl Abort, alloc: Global, text: &str, place: usize) -> String {
     words.expect(rt, "room")
 }
 
-/// Texts, the place of a module in each, and the number of statements of that module before reduction.
+/// Texts, the place of a module in each, and the number of statements of that module before
+/// reduction.
 const COUNTS: [(&str, usize, &str); 6] = [
     (
         "module M: nothing; pause; || emit S end module",

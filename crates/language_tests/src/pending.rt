@@ -69,8 +69,8 @@ fn relations(rt: &impl Abort, alloc: Global, interface: &Interface, text: &str) 
     relations
 }
 
-/// Relations, and what is done under them in turn with what is answered: a name is offered, `inputs` shows what is
-/// pending, with A as the last digit.
+/// Relations, and what is done under them in turn with what is answered: a name is offered,
+/// `inputs` shows what is pending, with A as the last digit.
 const OFFERS: [(&str, &str); 4] = [
     (
         "A # B",

@@ -1,4 +1,5 @@
-//! Each derived statement against its kernel statement, written out. The interface is `input S; output O`.
+//! Each derived statement against its kernel statement, written out. The interface is `input S;
+//! output O`.
 
 use crate::told::expect_told;
 use est_kernel::interface::Interface;
@@ -200,8 +201,8 @@ fn aborts(rt: HostRuntime) {
     expect_reduced(&rt, rt.alloc(), &ABORTS);
 }
 
-/// Tests of more than one signal, as often as the table of reductions has them. `not` binds tighter than `and`, and that
-/// tighter than `or`.
+/// Tests of more than one signal, as often as the table of reductions has them. `not` binds tighter
+/// than `and`, and that tighter than `or`.
 const TESTS: [(&str, &str); 6] = [
     (
         "await [not S or O and tick]",
@@ -281,7 +282,8 @@ fn repetitions(rt: HostRuntime) {
     expect_reduced(&rt, rt.alloc(), &REPETITIONS);
 }
 
-/// Loops whose body takes no time, always and where S isn't there, and more local signals than a kernel may have.
+/// Loops whose body takes no time, always and where S isn't there, and more local signals than a
+/// kernel may have.
 const FAULTS: [(&str, &str); 3] = [
     ("loop emit O end", "InstantLoop"),
     ("loop present S then pause end end", "InstantLoop"),
@@ -312,8 +314,8 @@ fn so_many_names_are_never_built(rt: HostRuntime) {
     expect_told(&rt, found.as_str(), "TooLarge(Statements)", "so many names");
 }
 
-/// Bodies with a test of so many words, and whether the kernel term is within the limit: a test counts as often as it stands in
-/// the reduction.
+/// Bodies, how many words their test has, and whether the kernel term is within the limit: a test
+/// counts as often as it stands in the reduction.
 const SIZES: [(&str, usize, bool); 8] = [
     ("await S", 2041, true),
     ("await S", 2042, false),

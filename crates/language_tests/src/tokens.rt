@@ -52,7 +52,7 @@ const LONGEST: &str = "Aa0_Aa0_Aa0_Aa0_Aa0_Aa0_Aa0_Aa0_Aa0_Aa0_Aa0_Aa0_";
 const LONGEST_TWICE: &str = "Aa0_Aa0_Aa0_Aa0_Aa0_Aa0_Aa0_Aa0_Aa0_Aa0_Aa0_Aa0_ \
     inputoutputinputoutputinputoutputinputoutputend0";
 
-/// One byte more, and a fault behind.
+/// One byte more, and a fault after it.
 const TOO_LONG: &str = "% x\n  Aa0_Aa0_Aa0_Aa0_Aa0_Aa0_Aa0_Aa0_Aa0_Aa0_Aa0_Aa0_A ?";
 
 /// Texts, how many tokens they have, and line and column just after them.
@@ -224,7 +224,8 @@ fn add_slice(
         .expect(rt, "room");
 }
 
-/// Places and slices of a text's tokens, with commas between them. There is no token behind the last.
+/// Places and slices of a text's tokens, with commas between them. There is no token after the
+/// last.
 fn slices_of(rt: &impl Abort, alloc: Global, text: &str) -> String {
     let tokens = lex(alloc, text).expect(rt, "tokens");
     let count = tokens.as_slice().len();

@@ -1,4 +1,5 @@
-//! The one comparison of what is told with what is wanted: it costs a proof once, and not in each test.
+//! The one comparison of what is told with what is wanted: it costs a proof once, and not in each
+//! test.
 use std::process::Abort;
 
 /// Fails where something else is told of a row.

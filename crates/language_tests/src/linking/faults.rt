@@ -201,7 +201,8 @@ const BEHIND_ORDER: [(&str, Kind, &str); 23] = [
     ),
 ];
 
-/// Libraries of which M passes: a local signal hides an input, and an input of a run that isn't emitted may be one.
+/// Libraries of which M passes: a local signal hides an input, and an input of a run that isn't
+/// emitted may be one.
 const PASSED: [&str; 6] = [
     "module M: input I; signal I in emit I end end module",
     "module M: input I; output A; run N [signal I/B] end module module N: output B, A; emit A end module",
@@ -257,8 +258,8 @@ fn told(fault: LinkFault) -> Option<(Kind, Identifier)> {
     }
 }
 
-/// The first fault of a library whose main module is M: of the checks before the order of its modules, and of those
-/// behind it.
+/// The first fault of a library whose main module is M: of the checks before the order of its
+/// modules, and of those after it.
 fn faults_of(alloc: Global, text: &str) -> Result<(Option<LinkFault>, Option<LinkFault>), Fail> {
     let tokens = lex(alloc, text)?;
     let library = parse(alloc, &tokens)?;
@@ -357,7 +358,8 @@ fn expect_emissions(
     Ok(())
 }
 
-/// Libraries of a module N and one that runs it, what N emits, and what the other emits where N is told to emit A.
+/// Libraries of a module N and one that runs it, what N emits, and what the other emits where N is
+/// told to emit A.
 const EMITTED: [(&str, &[&str], &[&str]); 2] = [
     // by one run A, and by the other the O that stands for it
     (

@@ -59,7 +59,8 @@ const FIRST_FAULTS: [(&str, Kind, &str); 20] = [
         Kind::Emit,
         "I",
     ),
-    // emissions through modules that stand behind those that run them, and in one that main doesn't run
+    // emissions through modules that stand after those that run them, and in one that main doesn't
+    // run
     (
         "module M: input I; run N [signal I/A] end module module N: output A; run P [signal A/B] end module \
          module P: output B; emit B end module",
@@ -71,7 +72,8 @@ const FIRST_FAULTS: [(&str, Kind, &str); 20] = [
         Kind::Emit,
         "A",
     ),
-    // an input that a module emits which was run before, inside a `signal` that hides it or with a renaming
+    // an input that a module emits which was run before, inside a `signal` that hides it or with a
+    // renaming
     (
         "module M: input A; run P end module module P: output A; signal A in run N end; run N end module \
          module N: output A; emit A end module",
@@ -84,7 +86,8 @@ const FIRST_FAULTS: [(&str, Kind, &str); 20] = [
         Kind::Emit,
         "A",
     ),
-    // an input that its own module emits: a run that stands before that module and binds it to an input is answered
+    // an input that its own module emits: a run that stands before that module and binds it to an
+    // input is answered
     (
         "module M: input I; run N [signal I/A] end module module N: input A; emit A end module",
         Kind::Emit,
@@ -126,7 +129,8 @@ const FIRST_FAULTS: [(&str, Kind, &str); 20] = [
     ),
 ];
 
-/// Libraries whose main module M has a lawless relation, and the number of the first. Only M's relations are asked. A name that isn't declared is no input, as `tick` is none.
+/// Libraries whose main module M has a lawless relation, and the number of the first. Only M's
+/// relations are asked. A name that isn't declared is no input, as `tick` is none.
 const LAWLESS: [(&str, usize); 4] = [
     (
         "module M: input I; output O; relation I => I, I # O, O => I; nothing end module",
@@ -258,8 +262,8 @@ fn libraries_are_linked(rt: HostRuntime) -> Result<(), Fail> {
     Ok(())
 }
 
-/// What a module of a row has: so many inputs after the first, so many relations after the first, each written so, and so many `pause`
-/// after the first.
+/// What a module of a row has: how many inputs and relations follow the first,
+/// how each relation is written, and how many `pause` follow the first.
 struct Size {
     inputs: usize,
     relation: &'static str,
@@ -267,7 +271,7 @@ struct Size {
     pauses: usize,
 }
 
-/// Adds a part so many times.
+/// Adds a part `times` times.
 fn repeat(text: &mut String, part: &str, times: usize) -> Result<(), Fail> {
     for _ in 0..times {
         text.push_str(part)?;
@@ -290,7 +294,7 @@ fn module_of(alloc: Global, size: &Size) -> Result<String, Fail> {
     Ok(text)
 }
 
-/// A chain of modules each of which runs the next twice, so many long: the last has one statement.
+/// A chain of modules, each of which runs the next twice; the last has one statement.
 pub fn with_runs(alloc: Global, length: usize) -> Result<String, Fail> {
     let mut text = String::new(alloc);
     text.push_str("module M: run R0 end module ")?;
@@ -304,8 +308,8 @@ pub fn with_runs(alloc: Global, length: usize) -> Result<String, Fail> {
     Ok(text)
 }
 
-/// Sizes of M, and its first fault: each limit is kept by the most that it lets pass, and passed by one more; of two that are passed the
-/// first is told, and a lawless relation before all.
+/// Sizes of M, and its first fault: each limit is kept by the most that it lets pass, and passed by
+/// one more; of two that are passed the first is told, and a lawless relation before all.
 const SIZES: [(Size, Option<LinkFault>); 9] = [
     (
         Size {
@@ -402,8 +406,8 @@ fn limits_are_asked(rt: HostRuntime) -> Result<(), Fail> {
     Ok(())
 }
 
-/// A chain of runs that doubles ten times keeps the limit, and one more passes it; the statements are counted before a run is replaced,
-/// so one that doubles a hundred times is never written out.
+/// A chain of runs that doubles ten times keeps the limit, and one more passes it; the statements
+/// are counted before a run is replaced, so one that doubles a hundred times is never written out.
 #[test]
 fn runs_are_counted(rt: HostRuntime) -> Result<(), Fail> {
     let alloc = rt.alloc();
@@ -417,8 +421,8 @@ fn runs_are_counted(rt: HostRuntime) -> Result<(), Fail> {
     Ok(())
 }
 
-/// A statement is counted as it is written: of 1,024 `halt` with `;` between them there are 2,047, though each `halt` is two
-/// statements of the kernel.
+/// A statement is counted as it is written: of 1,024 `halt` with `;` between them there are 2,047,
+/// though each `halt` is two statements of the kernel.
 #[test]
 fn derived_statements_are_counted_once(rt: HostRuntime) -> Result<(), Fail> {
     let alloc = rt.alloc();

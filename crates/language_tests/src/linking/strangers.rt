@@ -1,5 +1,5 @@
-//! Texts that a stranger may send in one line of 64 KiB, made so that a load would cost much, and the answer of each. How long each takes is
-//! said by `bench/loads.py`.
+//! Texts that a stranger may send in one line of 64 KiB, made so that a load would cost much, and
+//! the answer of each. How long each takes is said by `bench/loads.py`.
 use crate::linking::links::{Kind, is_told, link_text, with_runs};
 use est_checks::fault::{Limit, LinkFault};
 use est_reduce::reduce::reduce;
@@ -12,7 +12,7 @@ const MOST_BYTES: usize = 65_536;
 /// What a load is answered.
 #[derive(Clone, Copy)]
 enum Answer {
-    /// A kernel with so many signals.
+    /// A kernel with this many signals.
     Kernel(usize),
     /// A fault of this kind, with this name.
     Named(Kind, &'static str),
@@ -28,7 +28,7 @@ fn module_name(alloc: Global, number: usize) -> Result<String, Fail> {
     Ok(format!(in alloc; "M{number}")?)
 }
 
-/// So many modules that each run the next one between two parts, and what the last one does there.
+/// A chain of modules, each of which runs the next between two parts, and what the last one does.
 fn chain(alloc: Global, modules: u16, parts: (&str, &str), last: &str) -> Result<String, Fail> {
     let (before, behind) = parts;
     let mut text = String::new(alloc);
@@ -43,7 +43,7 @@ fn chain(alloc: Global, modules: u16, parts: (&str, &str), last: &str) -> Result
     Ok(text)
 }
 
-/// Names with numbers, so many, with commas between them.
+/// Numbered names, as many as `count` says, with commas between them.
 fn listed(alloc: Global, letter: &str, count: u32) -> Result<String, Fail> {
     let mut names = format!(in alloc; "{letter}0")?;
     for number in 1..count {
@@ -52,7 +52,8 @@ fn listed(alloc: Global, letter: &str, count: u32) -> Result<String, Fail> {
     Ok(names)
 }
 
-/// A run of N with 64 renamings of its 65 inputs: a name of the caller stands twice, and one input keeps its name.
+/// A run of N with 64 renamings of its 65 inputs: a name of the caller stands twice, and one input
+/// keeps its name.
 fn renamed_run(alloc: Global) -> Result<String, Fail> {
     let mut run = format!(in alloc; "run N[signal B0/A0")?;
     for number in 1..64u32 {
@@ -72,13 +73,14 @@ fn renamings(alloc: Global) -> Result<String, Fail> {
     )?)
 }
 
-/// So many runs of a module that stands at the end, and one of a module that isn't there.
+/// Runs of a module that stands at the end, as many as `runs` says, and one of a module that isn't
+/// there.
 fn missing(alloc: Global, runs: usize) -> Result<String, Fail> {
     let runs = "run N;".repeat(alloc, runs)?;
     Ok(format!(in alloc; "module M:{runs}run Z end module module N:halt end module")?)
 }
 
-/// So many names of a `signal`, and so many runs inside it of a module that has them as outputs.
+/// A `signal` of `names` names, and inside it `runs` runs of a module that has them as outputs.
 fn runs_inside(alloc: Global, names: u32, runs: usize) -> Result<String, Fail> {
     let names = listed(alloc, "A", names)?;
     let runs = "run N;".repeat(alloc, runs)?;
@@ -92,7 +94,7 @@ const LETTERS: [char; 26] = [
     'T', 'U', 'V', 'W', 'X', 'Y', 'Z',
 ];
 
-/// A module of so many inputs, each of three letters.
+/// A module of `count` inputs, each of three letters.
 fn declared(alloc: Global, count: usize) -> Result<String, Fail> {
     let mut text = format!(in alloc; "module M:input S")?;
     for number in 0..count {
@@ -129,8 +131,9 @@ fn expect_answer(alloc: Global, title: &str, text: String, answer: Answer) -> Re
     Ok(())
 }
 
-/// As many brackets as a line can hold, in one another within each module and through the runs of all of them; and suspensions, one
-/// statement more than a kernel may have. As many as it may have are read by `slot_tests`, on a stack of their own.
+/// As many brackets as a line can hold, in one another within each module and through the runs of
+/// all of them; and suspensions, one statement more than a kernel may have. As many as it may have
+/// are read by `slot_tests`, on a stack of their own.
 #[test]
 fn deep_texts(rt: HostRuntime) -> Result<(), Fail> {
     let alloc = rt.alloc();
@@ -174,4 +177,21 @@ fn many_names(rt: HostRuntime) -> Result<(), Fail> {
     let inside = runs_inside(alloc, 500, 9_900)?;
     let large = Answer::Large(Limit::Statements);
     expect_answer(alloc, "runs inside a signal", inside, large)
+}
+
+/// A line that is one expression, and one whose expression is as long as a kernel may be.
+#[test]
+fn long_expressions(rt: HostRuntime) -> Result<(), Fail> {
+    let alloc = rt.alloc();
+    let longest = " and S".repeat(alloc, 10_900)?;
+    let text = format!(in alloc; "module M:input S;await S{longest} end module")?;
+    expect_answer(
+        alloc,
+        "10,900 words",
+        text,
+        Answer::Large(Limit::Statements),
+    )?;
+    let within = " or not S".repeat(alloc, 1020)?;
+    let text = format!(in alloc; "module M:input S;await S{within} end module")?;
+    expect_answer(alloc, "2,040 words", text, Answer::Kernel(1))
 }

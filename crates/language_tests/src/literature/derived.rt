@@ -1,4 +1,5 @@
-//! Each derived statement beside its kernel form, as two modules that are stepped over all sequences of four instants with two inputs.
+//! Each derived statement beside its kernel form, as two modules that are stepped over all
+//! sequences of four instants with two inputs.
 
 ghost use Rattle.est_meaning.specs.States.{IsState};
 
@@ -11,7 +12,7 @@ use std::test::Fail;
 /// What stands before each body.
 const HEAD: &str = "module M: input A, B; output O, P; ";
 
-/// What stands behind each body: modules that it may run.
+/// The text after each body: modules that it may run.
 const REST: &str = " end module module N: input S; output T; await S; emit T end module \
     module R: output T; signal S in run N || pause; emit S end end module";
 
@@ -226,7 +227,8 @@ fn text_of(alloc: Global, body: &str) -> Result<String, AllocError> {
     format!(in alloc; "{HEAD}{body}{REST}")
 }
 
-/// Whether two kernels show the same in four instants. The inputs of each are two bits of the code, those of the first the lowest.
+/// Whether two kernels show the same in four instants. The inputs of each are two bits of the code,
+/// those of the first the lowest.
 fn agree(first: &Kernel, second: &Kernel, code: u64) -> bool {
     let mut left = State::Fresh;
     let mut right = State::Fresh;

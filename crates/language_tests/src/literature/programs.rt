@@ -7,7 +7,8 @@ use est_kernel::state::State;
 use std::alloc::Global;
 use std::test::Fail;
 
-/// What an instant is given, and what it shows: its outputs, or those that stay undecided; names with blanks between them.
+/// What an instant is given, and what it shows: its outputs, or those that stay undecided; names
+/// with blanks between them.
 type Entry = (&'static str, Result<&'static str, &'static str>);
 
 /// A program, and its first instants.
@@ -16,8 +17,8 @@ struct Program {
     instants: &'static [Entry],
 }
 
-/// Waits, resets and runs of modules: Berry, *The Esterel v5 Language Primer*; a car's belt alarm, as co-design tools had it for
-/// their example; the sender of the alternating bit protocol.
+/// Waits, resets and runs of modules: Berry, *The Esterel v5 Language Primer*; a car's belt alarm,
+/// as co-design tools had it for their example; the sender of the alternating bit protocol.
 const WAITING: [Program; 8] = [
     // ABRO: O once A and B have come, anew after each R
     Program {
@@ -122,7 +123,8 @@ const WAITING: [Program; 8] = [
             ("KeyOn", Ok("Start")),
         ],
     },
-    // the sender of the alternating bit: a frame again at each Timer, until it is acknowledged by its own bit
+    // the sender of the alternating bit: a frame again at each Timer, until it is acknowledged by
+    // its own bit
     Program {
         text: "module M: input Send, Ack0, Ack1, Timer; output Frame0, Frame1, Ready; \
             loop run Half [signal Ack0/Ack, Frame0/Frame]; run Half [signal Ack1/Ack, Frame1/Frame] end end module \
@@ -146,7 +148,8 @@ const WAITING: [Program; 8] = [
     },
 ];
 
-/// Programs that abort, suspend and leave: after Berry's runner and reflex game; a mine's pump, as books on real-time systems have it.
+/// Programs that abort, suspend and leave: after Berry's runner and reflex game; a mine's pump, as
+/// books on real-time systems have it.
 const LEAVING: [Program; 6] = [
     // a runner: each Morning, turns of walking until Second, running until Lap, and a jump
     Program {
@@ -247,8 +250,8 @@ const LEAVING: [Program; 6] = [
     },
 ];
 
-/// Loops whose body is left and begun again in one instant, circuits in a ring, and instants that are undecided: after Berry, *The
-/// Constructive Semantics of Pure Esterel*.
+/// Loops whose body is left and begun again in one instant, circuits in a ring, and instants that
+/// are undecided: after Berry, *The Constructive Semantics of Pure Esterel*.
 const CIRCUITS: [Program; 7] = [
     // a signal that is left is not the one that is declared anew
     Program {
@@ -279,8 +282,8 @@ const CIRCUITS: [Program; 7] = [
             ("T", Ok("High")),
         ],
     },
-    // a bus arbiter of six cells in a ring: the cell with the token T, or that is passed the turn N, acknowledges its request, or else
-    // passes the turn on
+    // a bus arbiter of six cells in a ring: the cell with the token T, or that is passed the turn
+    // N, acknowledges its request, or else passes the turn on
     Program {
         text: "module M: input R0, R1, R2, R3, R4, R5; \
             output K0, K1, K2, K3, K4, K5, N0, N1, N2, N3, N4, N5, T0, T1, T2, T3, T4, T5; \
@@ -343,7 +346,8 @@ const EXPRESSIONS: [Program; 9] = [
             [present A then emit B end || loop present B then emit O end; pause end] end module",
         instants: &[("A", Ok("B O")), ("B", Ok("O")), ("", Ok(""))],
     },
-    // what is offered is there before anything is emitted, and another inputoutput is not known before
+    // what is offered is there before anything is emitted, and another inputoutput is not known
+    // before
     Program {
         text: "module M: inputoutput B; output O; loop present B then emit O else emit B end; pause end end module",
         instants: &[("B", Ok("O")), ("", Err("B O")), ("B", Ok("O"))],

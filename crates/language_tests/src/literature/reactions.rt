@@ -11,7 +11,8 @@ use std::alloc::{AllocError, Global};
 use std::process::Abort;
 use std::test::Fail;
 
-/// Programs, and four instants of each: before `>` the inputs, behind it the outputs, or `stuck` and the outputs that are undecided.
+/// Programs, and four instants of each: before `>` the inputs, after it the outputs, or `stuck`
+/// and the outputs that are undecided.
 const EXAMPLES: [(&str, &str); 18] = [
     ("emit O; pause; emit P", "> O; > P; >; >"),
     ("suspend [pause; emit O] when I", "I >; I >; I >; > O"),

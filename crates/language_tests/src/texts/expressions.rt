@@ -44,8 +44,9 @@ fn tests_stand_where_signals_are_asked(rt: HostRuntime) {
     }
 }
 
-/// What stands before the `not` or `(` of a test and behind them, and the most that may stand there: in an `await` as many
-/// as units may be open, and one less where a unit is open. The bracket of a test opens none.
+/// What stands before the `not` or `(` of a test and after them, and the most that may stand
+/// there: in an `await` as many as units may be open, and one less where a unit is open. The
+/// bracket of a test opens none.
 const DEPTHS: [(&str, &str, &str, &str, usize); 8] = [
     ("await ", "not ", "", "", 128),
     ("await ", "(", ")", "", 128),
@@ -57,7 +58,7 @@ const DEPTHS: [(&str, &str, &str, &str, usize); 8] = [
     ("every immediate ", "(", ")", " do pause end", 127),
 ];
 
-/// A test with so many of these in one another, in a module.
+/// A test with `depth` of these in one another, in a module.
 fn nested(
     rt: &impl Abort,
     alloc: Global,

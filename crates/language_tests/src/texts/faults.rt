@@ -4,7 +4,8 @@ use super::{KEYWORDS, expect_answer, expect_answers};
 use std::alloc::Global;
 use std::process::Abort;
 
-/// What the documents show: one fault of each kind, and the forms that are easily mistaken for Esterel's.
+/// What the documents show: one fault of each kind, and the forms that are easily mistaken for
+/// Esterel's.
 const WORKED: [(&str, Answer); 10] = [
     ("module M: await 3 S end module", Lexical(1, 17)),
     ("module M: pause. end module", Lexical(1, 16)),
@@ -112,7 +113,7 @@ const STATEMENTS: [(&str, Answer); 48] = [
     ("suspend pause end module", Syntax(1, 25)),
     ("abort pause end module", Syntax(1, 23)),
     ("abort pause when end module", Syntax(1, 28)),
-    // Behind an `end`, another unit's word.
+    // After an `end`, another unit's word.
     ("present S then pause end loop end module", Syntax(1, 36)),
     ("suspend pause when S end abort end module", Syntax(1, 36)),
     ("abort pause when S end suspend end module", Syntax(1, 34)),

@@ -32,8 +32,8 @@ const NESTS: [(&str, &str); 24] = [
     ("[pause || ", ";]"),
 ];
 
-/// So many units in one another, of all kinds in turn, from this one on, in a module; and the column of the token that opens
-/// the last of them.
+/// Units in one another, of all kinds in turn, from this one on, in a module; and the
+/// column of the token that opens the last of them.
 fn mixed(rt: &impl Abort, alloc: Global, first: usize, depth: usize) -> (String, u64) {
     let mut text = String::new(alloc);
     let mut closes = String::new(alloc);
@@ -50,7 +50,7 @@ fn mixed(rt: &impl Abort, alloc: Global, first: usize, depth: usize) -> (String,
     (text, column)
 }
 
-/// So many units of one kind in one another, in a module.
+/// Units of one kind in one another, in a module.
 fn alike(rt: &impl Abort, alloc: Global, open: &str, close: &str, depth: usize) -> String {
     let opens = open.repeat(alloc, depth).expect(rt, "room");
     let closes = close.repeat(alloc, depth).expect(rt, "room");
@@ -84,25 +84,25 @@ fn mixed_units_are_counted(rt: HostRuntime) {
     }
 }
 
-/// So many `[` and then an end, what the reader answers, and what the row shows.
+/// How many `[`, the end after them, what the reader answers, and what the row shows.
 const GROUPS: [(usize, &str, Answer); 9] = [
     // The text ends too early.
     (128, "", Syntax(1, 139)),
     // The unit too many is opened before the text ends.
     (129, "", TooLarge(1, 139)),
     (10_000, "", TooLarge(1, 139)),
-    // A fault before the unit too many, and one behind it.
+    // A fault before the unit too many, and one after it.
     (128, "; [pause", Syntax(1, 139)),
     (129, ";", TooLarge(1, 139)),
     // A place where no token stands goes before both.
     (129, "?", Lexical(1, 140)),
-    // A unit that is closed does not count, but those round it do.
+    // A unit that is closed does not count, but those around it do.
     (127, "[pause]; [pause] || [pause; [pause", TooLarge(1, 166)),
     (127, "weak abort ", Syntax(1, 149)),
     (128, "weak loop", TooLarge(1, 139)),
 ];
 
-/// Fails where so many `[` and an end have another answer.
+/// Fails where that many `[` and an end have another answer.
 fn expect_groups(rt: &impl Abort, alloc: Global, rows: &[(usize, &str, Answer)]) {
     for (count, end, answer) in rows {
         let groups = "[".repeat(alloc, *count).expect(rt, "room");

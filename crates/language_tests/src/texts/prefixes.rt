@@ -7,9 +7,9 @@ use est_text::token::{Located, Token};
 use est_text::tokens::Tokens;
 use std::process::Abort;
 
-/// A module with each declaration and each statement, with and without the words that may be left out: what stands
-/// before a comment over lines, the comment, and what stands behind it. Neither has another comment with two ends, and
-/// `module` is the first word and the last, and no other.
+/// A module with each declaration and each statement, with and without the words that may be left
+/// out: what stands before a comment over lines, the comment, and what stands after it. Neither
+/// has another comment with two ends, and `module` is the first word and the last, and no other.
 const HEAD: &str = "\
 module Whole: % }% | = the rest of a line\r
 \tinput I, J2, order; % %{\r
@@ -71,8 +71,8 @@ fn syntax(text: &str) -> Answer {
     Syntax(line, column)
 }
 
-/// Whether a front of the text ends in the comment over lines. With its first byte alone it ends in one to the end of
-/// the line.
+/// Whether a front of the text ends in the comment over lines. With its first byte alone it ends in
+/// one to the end of the line.
 fn ends_in_comment(front: &str) -> bool {
     match front.strip_prefix(HEAD) {
         Some(rest) => rest.len() > 1 && rest.len() < COMMENT.len(),
@@ -80,7 +80,7 @@ fn ends_in_comment(front: &str) -> bool {
     }
 }
 
-/// The token of the text that is cut after so many bytes, if one is.
+/// The token in which the first `count` bytes end, if they end in one.
 fn cut_token(whole: &Tokens<'_>, count: usize) -> Option<Located> {
     for located in whole.as_slice() {
         if located.span.start < count && count < located.span.end {
@@ -90,13 +90,14 @@ fn cut_token(whole: &Tokens<'_>, count: usize) -> Option<Located> {
     None
 }
 
-/// The answer to a front of the text, by where it is cut. Since the whole text is a library and no other ends within it,
-/// only what the cut leaves can be wrong; the parser has no part in this:
+/// The answer to a front of the text, by where it is cut. Since the whole text is a library and no
+/// other ends within it, only what the cut leaves can be wrong; the parser has no part in this:
 /// - in the comment with two ends, the comment is the fault;
 /// - in `||` or `=>`, its first byte is;
-/// - in a word, another word is left. Where the whole word is a name, or the `immediate` before one, a name may stand:
-///   the text ends too early, unless the word that is left is a keyword. Else that word is the fault;
-/// - behind a token, and in a blank or a comment to the end of its line, the text ends too early.
+/// - in a word, another word is left. Where the whole word is a name, or the `immediate` before
+/// one, a name may stand: the text ends too early, unless the word that is left is a keyword. Else
+/// that word is the fault;
+/// - after a token, and in a blank or a comment to the end of its line, the text ends too early.
 fn expected(rt: &impl Abort, whole: &Tokens<'_>, front: &str) -> Answer {
     if ends_in_comment(front) {
         return lexical(HEAD);

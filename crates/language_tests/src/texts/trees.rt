@@ -9,7 +9,8 @@ use est_text::lex::lex;
 use std::alloc::Global;
 use std::process::Abort;
 
-/// Bodies of modules: each form of the grammar, and `;` and `||` in each place where they may stand.
+/// Bodies of modules: each form of the grammar, and `;` and `||` in each place where they may
+/// stand.
 const BODIES: [&str; 27] = [
     "nothing",
     "pause;",
@@ -40,7 +41,8 @@ const BODIES: [&str; 27] = [
     "input I; output O, P; relation A # B # C, I => O; input J; relation A => B, A # B; pause",
 ];
 
-/// Texts of modules: blanks and comments between tokens, and around them, and the least that stands between two words.
+/// Texts of modules: blanks and comments between tokens, and around them, and the least that stands
+/// between two words.
 const TEXTS: [&str; 9] = [
     "module M:pause end module",
     "\tmodule\nM\r\n:\x0cpause end\r\nmodule\n",
@@ -139,8 +141,9 @@ fn last_words_are_kept(rt: HostRuntime) {
     expect_last_words(&rt, rt.alloc(), &CLOSINGS);
 }
 
-/// Texts, and a sketch of their trees: of each module its name, how many declarations it has, and its body, in which a
-/// unit is one word and a `;` before `||` or the end closes a sequence. Of a run the module and its renamings are told.
+/// Texts, and a sketch of their trees: of each module its name, how many declarations it has, and
+/// its body, in which a unit is one word and a `;` before `||` or the end closes a sequence. Of a
+/// run the module and its renamings are told.
 const SKETCHES: [(&str, &str); 3] = [
     (
         "module M: input I, J; relation A # B # C; pause; halt; nothing; || nothing || pause; nothing end module \
