@@ -78,24 +78,6 @@ pub fn has_local(a: SignalSet, s: LocalSignal) -> bool
     mask::has(a.local, s.index as u8)
 }
 
-/// Whether the number is in the mask. A number without a bit is not.
-#[tactic(auto, using(est_kernel::proofs::Masks::bits_above))]
-fn has_place(mask: u64, n: u16) -> bool
-    ensures { result ≡ bits mask n }
-{
-    n < 64 && mask::has(mask, n as u8)
-}
-
-/// Whether the signal is a member.
-pub fn has_signal(a: SignalSet, s: Signal) -> bool
-    ensures { result ≡ set_of a (name_of s) }
-{
-    match s {
-        Signal::Interface(s) => mask::has(a.interface, s.index),
-        Signal::Local(s) => has_place(a.local, s.index),
-    }
-}
-
 /// What is known of each signal: those that are present, and those that may be.
 #[derive(Clone, Copy, PartialEq, Eq)]
 pub struct Env {
@@ -105,11 +87,28 @@ pub struct Env {
     pub possible: SignalSet,
 }
 
-/// What is known of a signal. A local signal without a bit is absent.
+/// The verdict on a local signal by two masks, from its number. One without a bit is absent.
+fn decide_local(present: u64, possible: u64, n: u16) -> Status
+    ensures { result ≡ verdict (bits present n) (bits possible n) }
+{
+    if n < 64 {
+        decide(mask::has(present, n as u8), mask::has(possible, n as u8))
+    } else {
+        Status::Absent
+    }
+}
+
+/// What is known of a signal.
 pub fn status_of_signal(env: &Env, s: Signal) -> Status
     ensures { result ≡ env_of env.now (name_of s) }
 {
-    decide(has_signal(env.present, s), has_signal(env.possible, s))
+    match s {
+        Signal::Interface(s) => decide(
+            mask::has(env.present.interface, s.index),
+            mask::has(env.possible.interface, s.index),
+        ),
+        Signal::Local(s) => decide_local(env.present.local, env.possible.local, s.index),
+    }
 }
 
 /// The verdict on a signal, from whether it must be emitted and whether it can be.
