@@ -258,7 +258,7 @@ def wrong_members(modules: List[ModuleTree], number: str, main: str) -> List[Pla
         return []
     offered = {token.text for token in module.inputs + module.inputoutputs}
     return [
-        Place(token, main, f"{token.text} is no input of {main}")
+        Place(token, main, f"{token.text} is neither an input nor an inputoutput of {main}")
         for token in module.relations[int(number) - 1]
         if token.text not in offered
     ]

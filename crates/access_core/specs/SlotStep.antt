@@ -91,7 +91,7 @@ pub record AddsEntry (action : Action) (told : (place version : ℕ) → Reply) 
   pub replied : reply ≡ told (length after) stamp.version
 
 -- the next instant has no outcome: its pending inputs have no constructive reaction, and the refusal names those of the
--- undecided outputs that the session may observe
+-- undecided outputs and inputoutputs that the session may observe
 pub record NamesUndecided (entries : List Entry) (slot session : ℕ) (journal : List SlotEntry)
     (refusal : Refusal) : Type 0 where
   pub undecided : ℕ

@@ -23,8 +23,8 @@ pub enum Refusal {
     Policy(PolicyRefusal),
     /// The module refuses the command.
     Module(ModuleRefusal),
-    /// The inputs have no constructive reaction. It names those undecided outputs that the session
-    /// may observe.
+    /// The inputs have no constructive reaction. It names those undecided outputs and inputoutputs
+    /// that the session may observe.
     Stuck { undecided: SignalNames },
     /// There is no slot of this number.
     NoSlot,

@@ -112,8 +112,8 @@ fn show_instant(
     }
 }
 
-/// The refusal of a step that has no reaction: it names the undecided outputs that the session may
-/// observe.
+/// The refusal of a step that has no reaction: it names the undecided outputs and inputoutputs that
+/// the session may observe.
 fn refuse_stuck(
     alloc: Global,
     policy: &Policy,

@@ -25,7 +25,7 @@ pub record LoadsModule (main text : List ℕ) (before : List SlotEntry) (a : Act
   pub gives : Gives main text given
   pub is : a ≡ action.Load (load_of main text)
 
--- an offer of an input of the running module that isn't pending, and with which no exclusion is broken
+-- an offer of an input or inputoutput of the running module that isn't pending, and with which no exclusion is broken
 pub record OffersInput (signal : List ℕ) (before : List SlotEntry) (a : Action) : Type 0 where
   pub running : Running
   pub runs : Runs before running

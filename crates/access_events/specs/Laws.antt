@@ -36,8 +36,9 @@ abbrev pub EntersWhereOffered : (past : List Moment) → Moment → Type 0
 EntersWhereOffered past m =
     (slot : ℕ) (name : List ℕ) → Accepts slot IsStep m → (Enters m slot name ↔ WasOffered past slot name)
 
--- an offer of an input that isn't pending, in a slot where a module runs, is accepted exactly when the session may
--- offer that signal there at the version of the event and no exclusion would be broken, unless a limit is met
+-- an offer of an input or inputoutput that isn't pending, in a slot where a module runs, is accepted exactly when the
+-- session may offer that signal there at the version of the event and no exclusion would be broken, unless a limit is
+-- met
 abbrev pub OffersWhereAllowed : (past : List Moment) → Moment → Type 0
 OffersWhereAllowed past m =
     (seat version slot session : ℕ) (name : List ℕ) (running : Running)

@@ -39,9 +39,9 @@ pub fn signals_enter_where_offered()
     one_module();
 }
 
-/// Entry: an offer of an input that isn't pending, in a slot where a module runs, is accepted
-/// exactly when its session may offer the signal at the version of the event and no exclusion would
-/// be broken.
+/// Entry: an offer of an input or inputoutput that isn't pending, in a slot where a module runs, is
+/// accepted exactly when its session may offer the signal at the version of the event and no
+/// exclusion would be broken.
 pub fn offers_are_accepted_where_allowed()
     ensures { InEachRun OffersWhereAllowed }
 {

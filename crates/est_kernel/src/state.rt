@@ -32,7 +32,7 @@ pub struct Outcome {
 /// Why there is no reaction.
 #[derive(Clone, Copy, PartialEq, Eq, Debug)]
 pub struct Stuck {
-    /// The outputs whose status is not decided: a bit for each signal of the interface, in
-    /// declaration order.
+    /// The outputs and inputoutputs whose status is not decided: a bit for each signal of the
+    /// interface, in declaration order.
     pub undecided: u64,
 }

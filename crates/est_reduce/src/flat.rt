@@ -13,11 +13,11 @@ use est_relations::relations::Relations;
 pub struct Flat {
     /// Its signals, in declaration order.
     pub interface: Interface,
-    /// The relations between its inputs, in the order of the text.
+    /// The relations between what may be offered to it, in the order of the text.
     pub relations: Relations,
     /// What it does.
     pub body: Body,
-    /// Each signal of a relation is an input.
+    /// Each signal of a relation is an input or an inputoutput.
     pub ghost over_inputs: { AreOverInputs interface relations },
     /// Every name of the body is bound.
     pub ghost bound: { IsBound interface 0 0 (body_of body) } by { IsBound-prop

@@ -1,4 +1,4 @@
-//! The kernel statements of which the reductions are made.
+//! Each derived statement as a kernel statement: a function for each row of specs/Reductions.
 ghost use Rattle.std.specs.Prelude.{◌≡◌, IfOk, false};
 ghost use Rattle.est_kernel.specs.Term.{joined};
 ghost use Rattle.est_kernel.specs.View.{term_of, name_of, query_of};

@@ -1,5 +1,5 @@
--- Relations between inputs, and which sets of inputs keep them (Berry, The Esterel v5 Language Primer, input
--- relations).
+-- Relations between signals that may be offered, and which sets of offers keep them (Berry, The Esterel v5 Language
+-- Primer, input relations).
 use Rattle.std.specs.Prelude.{◌≡◌, ℕ, Bool, true, ◌&&◌, ◌||◌, not, nat_eq, List}
 use Rattle.std.specs.List.{list_all}
 use Rattle.est_kernel.specs.Interfaces.{offerable}
@@ -36,6 +36,6 @@ abbrev pub is_within : (signals : ℕ → Bool) → Relation → Bool
 is_within signals (Exclusion members) = list_all signals members
 is_within signals (Implication condition implied) = signals condition.index && signals implied.index
 
--- each signal of each relation is an input
+-- each signal of each relation may be offered: it is an input or an inputoutput
 abbrev pub AreOverInputs : List Declaration → List Relation → Type 0
 AreOverInputs interface relations = list_all (is_within (offerable interface)) relations ≡ true

@@ -34,7 +34,7 @@ place_of interface name = position (is_named name) interface
 abbrev pub with_place : (mask place : ℕ) → ℕ
 with_place mask place = bit_or mask (2 ^ place)
 
--- the pending inputs are inputs and keep each exclusion, and the relations are between inputs
+-- what is pending may be offered and keeps each exclusion, and the relations are between signals that may be offered
 pub record KeepsExclusions (interface : List Declaration) (relations : List Relation) (mask : ℕ) : Type 0 where
   pub over_inputs : AreOverInputs interface relations
   pub inputs : (n : ℕ) → bits mask n ≡ true → offerable interface n ≡ true

@@ -10,6 +10,6 @@ use est_relations::relations::Relations;
 pub struct Module {
     pub kernel: Kernel,
     pub relations: Relations,
-    /// Each signal of a relation is an input.
+    /// Each signal of a relation is an input or an inputoutput.
     pub ghost over_inputs: { AreOverInputs kernel.interface relations },
 }

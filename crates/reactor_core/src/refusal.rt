@@ -105,7 +105,8 @@ pub enum ModuleRefusal {
     InstantLoop,
     /// The text is beyond this limit.
     TooLarge(Limit),
-    /// The main module's relation of this number has a member that is no input.
+    /// The main module's relation of this number has a member that is neither an input nor an
+    /// inputoutput.
     Semantics(usize),
 }
 

@@ -130,7 +130,7 @@ const FIRST_FAULTS: [(&str, Kind, &str); 20] = [
 ];
 
 /// Libraries whose main module M has a lawless relation, and the number of the first. Only M's
-/// relations are asked. A name that isn't declared is no input, as `tick` is none.
+/// relations are asked. A name that isn't declared may not be offered, nor may `tick`.
 const LAWLESS: [(&str, usize); 4] = [
     (
         "module M: input I; output O; relation I => I, I # O, O => I; nothing end module",
