@@ -13,10 +13,11 @@ import sys
 import tempfile
 import time
 import unittest
+import unittest.mock
 
 from support import CLIENTS, ROOT
 
-import estserve
+from estserve_client import commands
 
 MANUAL = CLIENTS / "man" / "estserve-client.1"
 COMPLETIONS = CLIENTS / "completions"
@@ -44,11 +45,9 @@ echo "the program: $*"
 
 def options():
     """The long options of each of the client's own commands."""
-    held = estserve.NEIGHBOURS
-    estserve.NEIGHBOURS = ()
-    parser = estserve.make_parser()
-    estserve.NEIGHBOURS = held
-    commands = next(
+    with unittest.mock.patch.object(commands, "NEIGHBOURS", ()):
+        parser = commands.make_parser()
+    subparsers = next(
         action for action in parser._actions if isinstance(action, argparse._SubParsersAction)
     )
     return {
@@ -58,7 +57,7 @@ def options():
             for word in action.option_strings
             if word.startswith("--")
         }
-        for name, command in commands.choices.items()
+        for name, command in subparsers.choices.items()
     }
 
 
