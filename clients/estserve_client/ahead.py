@@ -2,121 +2,123 @@
 the same time.
 
 Nearly all answers of a run have one form, and few of its instants differ from all others. So the
-answers to an instant are held against that form at once, and are read one by one where they have
-another, or where what they show is new.
+answers to all instants that were sent at once are held against that form at once, and are read one
+by one where they have another.
 """
 from __future__ import annotations
 
+import bisect
 import itertools
 import re
 import time
 
-from .connection import Refusal, line_of
+from .connection import Disconnected, Refusal, answer_of, line_of
 from .known import Known
 
 TYPE_CHECKING = False
 if TYPE_CHECKING:
-    from typing import Callable, Iterable, Iterator, List, Optional, Tuple
+    from typing import Callable, Iterable, Iterator, List, Tuple
 
     from .connection import Answer, Batch, Client
     from .pictures import Instant
 
-# Two batches of this many bytes, each with one instant more, fit into a pipe: so no write waits for
-# a program that itself waits until its answers are read.
-BATCH_BYTES = 20_000
 MOST_AT_ONCE = 512  # instants of a batch
 SOON, LATE = 0.05, 0.1  # a batch is longer after one that took less, and shorter after one over
-OFFERED = rb'\{"ok":"offer","place":\d+,"version":\d+\}\n'
-STEPPED = rb'\{"instant":\d+,"ok":"step","place":\d+,"version":\d+\}\n'
-LOOKED = rb'\{"instant":\d+,"ok":"look","signals":(\[.*\]),"version":\d+\}\n'
+LOOK = b'%b{"cmd":"look","instant":%d,"slot":0}\n'  # after the lines before it
+# the answers to an instant, in the group what it shows
+FORM = re.compile(
+    rb'(?:\{"ok":"offer","place":\d+,"version":\d+\}\n)*'
+    rb'\{"instant":\d+,"ok":"step","place":\d+,"version":\d+\}\n'
+    rb'\{"instant":\d+,"ok":"look","signals":(\[.*\]),"version":\d+\}\n'
+)
 
 
-def commands_of(names: List[str], number: int) -> List[Answer]:
+def commands_of(names: Iterable[str], number: int) -> List[Answer]:
     """The commands of one instant: its offers, the step, and a look at it."""
     offered = [{"cmd": "offer", "slot": 0, "signal": name} for name in names]
     return [*offered, {"cmd": "step", "slot": 0}, {"cmd": "look", "slot": 0, "instant": number}]
 
 
+def instant_of(shown: bytes) -> Instant:
+    """The instant that is shown by these bytes of an answer. Raises Disconnected."""
+    return dict(answer_of(b'{"ok":"look","signals":%b}' % shown)["signals"])
+
+
 class Turn:
-    """What an instant with these inputs asks: its lines up to the look, how many answers come, and
-    their form where none is a refusal.
+    """What an instant with these inputs asks: its lines up to the look, and how many answers
+    come.
     """
 
-    def __init__(self, names: List[str]) -> None:
+    def __init__(self, names: Tuple[str, ...]) -> None:
         *others, _ = commands_of(names, 0)
         self.names, self.count = names, len(names) + 2
         self.lines = b"".join(map(line_of, others))
-        self.form = re.compile(b"(?:%b){%d}%b%b" % (OFFERED, len(names), STEPPED, LOOKED))
+
+
+class Asked:
+    """Instants that are sent at once: the number of the first, and what each of them asks."""
+
+    def __init__(self, first: int, turns: List[Turn]) -> None:
+        self.first, self.turns = first, turns
+        self.count = sum(turn.count for turn in turns)  # of the answers
 
 
 class Ahead:
     """A run of the module in slot 0 of a client's program."""
 
-    def __init__(self, client: Client, inputs: Iterable[List[str]]) -> None:
+    def __init__(self, client: Client, inputs: List[List[str]]) -> None:
         """`inputs` has the names that are offered before each step."""
-        self.client, self.left = client, enumerate(inputs, 1)
-        self.number = 0  # of the instant whose answers are received
-        self.turns = Known()  # by the names
-        self.seen = Known()  # instants, by the bytes that show them
+        self.client, self.inputs = client, inputs
+        self.sent = 0  # this many of them
+        self.number = 0  # of the instant whose answers are received one by one
+        self.turns = Known(Turn)  # by the names
+        self.seen = Known(instant_of)  # by the bytes that show them
         self.size, self.since = 1, time.monotonic()
 
-    def instants(self, stopped: Callable[[], bool]) -> Iterator[Instant]:
-        """The instants as they come, until it is stopped; those that are alike are one object.
+    def instants(self, stopped: Callable[[], bool]) -> Iterator[List[Instant]]:
+        """The instants as they come, in lists of those that came at once, until it is stopped;
+        those that are alike are one object.
 
         Raises Refusal where one is refused: `number` says which; Disconnected, TimedOut, NotText.
         """
         return self.client.ask_ahead(self.batches(), self.instants_of, stopped)
 
-    def turn_of(self, names: List[str]) -> Turn:
-        """What an instant with these inputs asks."""
-        key = tuple(names)
-        return self.turns.get(key) or self.turns.add(key, Turn(names))
-
     def batches(self) -> Iterator[Batch]:
         """The instants that are sent at once, batch after batch."""
-        batch = self.next_batch()
-        while batch[0]:
-            yield batch
-            batch = self.next_batch()
+        while self.sent < len(self.inputs):
+            yield self.next_batch()
 
     def next_batch(self) -> Batch:
-        """The instants that are sent next, none at the end."""
-        asked, lines, count, size = [], [], 0, 0
-        for number, names in itertools.islice(self.left, self.size):
-            turn = self.turn_of(names)
-            look = b'{"cmd":"look","instant":%d,"slot":0}\n' % number
-            asked.append((number, turn))
-            lines += turn.lines, look
-            count += turn.count
-            size += len(turn.lines) + len(look)
-            if size >= BATCH_BYTES:
-                break
-        return asked, b"".join(lines), count
+        """The instants that are sent next: one, or as many as have room in a batch."""
+        names = self.inputs[self.sent : self.sent + self.size]
+        turns = list(map(self.turns.__getitem__, map(tuple, names)))
+        lines = [LOOK % (turn.lines, number) for number, turn in enumerate(turns, self.sent + 1)]
+        room = max(1, bisect.bisect(list(itertools.accumulate(map(len, lines))), self.client.room))
+        asked = Asked(self.sent + 1, turns[:room])
+        self.sent += len(asked.turns)
+        return asked, b"".join(lines[:room]), asked.count
 
-    def instants_of(self, asked: List[Tuple[int, Turn]]) -> Iterator[Instant]:
+    def instants_of(self, asked: Asked) -> Iterator[List[Instant]]:
         """What comes of instants that were sent. Raises Refusal, Disconnected, TimedOut."""
-        client, seen = self.client, self.seen
-        for self.number, turn in asked:
-            usual = client.match_answers(turn.form, turn.count)
-            instant = seen.get(usual[1]) if usual else None
-            if usual and instant is not None:
-                client.pass_answers(usual, turn.count)
-                yield instant
-            else:
-                yield self.read_instant(turn, usual and usual[1])
+        try:
+            shown = self.client.take_answers(FORM, len(asked.turns), asked.count)
+        except Disconnected:  # after those answers that are there
+            shown = None
+        if shown is None:
+            yield from self.read_instants(asked)
+        else:
+            yield list(map(self.seen.__getitem__, shown))
         self.set_pace()
 
-    def read_instant(self, turn: Turn, shown: Optional[bytes]) -> Instant:
-        """What comes of an instant whose answers show what is new, or have a form of their own.
-        Raises as `instants_of`.
-        """
-        commands = commands_of(turn.names, self.number)
-        answers = list(self.client.answers_to(commands))
-        for command, answer in zip(commands, answers):
-            if "code" in answer:
-                raise Refusal(answer, command)
-        instant = dict(answers[-1]["signals"])
-        return self.seen.add(shown, instant) if shown else instant
+    def read_instants(self, asked: Asked) -> Iterator[List[Instant]]:
+        """What comes of instants that were sent, one by one. Raises as `instants_of`."""
+        for self.number, turn in enumerate(asked.turns, asked.first):
+            commands = commands_of(turn.names, self.number)
+            answers = list(self.client.answers_to(commands))
+            for command, answer in zip(commands, answers):
+                if "code" in answer:
+                    raise Refusal(answer, command)
+            yield [dict(answers[-1]["signals"])]
 
     def set_pace(self) -> None:
         """Sends more at once while a batch is answered soon, and less where it takes long: what is

@@ -9,6 +9,7 @@ as `TooLong`, one that is no text as `NotText`.
 from __future__ import annotations
 
 import collections
+import contextlib
 import io
 import json
 import os
@@ -16,7 +17,8 @@ import sys
 
 TYPE_CHECKING = False  # stands for typing's, which takes its time to import
 if TYPE_CHECKING:
-    from re import Match, Pattern
+    import subprocess
+    from re import Pattern
     from typing import (
         Any,
         BinaryIO,
@@ -50,6 +52,11 @@ END_SECONDS = (
     10  # a program that was started ends in this many when its input has ended, or is stopped
 )
 READS = 1_000_000  # a connection ends after this many reads of the server
+PIPE_BYTES = 1_048_576  # the pipes of a program have room for this many, where the system allows it
+# Commands that may be sent ahead at once, in bytes. Two such batches, each with a further instant,
+# fit into a pipe, of the usual size and of the one above: so no write waits for a program that
+# itself waits until its answers are read.
+ROOM, WIDE_ROOM = 20_000, 100_000
 READ_BYTES = 4_096  # what is sent at once may take the server a read for each of these
 
 
@@ -200,6 +207,7 @@ class Client:
         self.timeout, self._again, self.reads = timeout, again, reads
         self.when_renewed: Callable[[Answer], None] = lambda answer: None
         self.when_waiting: Callable[[], None] = lambda: None
+        self.room = ROOM  # this many bytes of commands may be sent ahead at once
         self._login: Optional[Tuple[str, List[str]]] = None  # the user and the active roles
         self._begin()
 
@@ -251,26 +259,27 @@ class Client:
         self._owed -= 1
         return line
 
-    def _hold_more(self) -> None:
-        """Reads once, and holds what comes. Raises Disconnected, TimedOut."""
+    def _hold_more(self) -> bytes:
+        """Reads once, and holds what comes, which it gives. Raises Disconnected, TimedOut."""
         more = self._read_more()
         self._held, self._at = self._held[self._at :] + more, 0
+        return more
 
-    def match_answers(self, form: Pattern[bytes], count: int) -> Optional[Match[bytes]]:
-        """Waits for this many answers, and gives the match where their lines have this form.
+    def take_answers(self, form: Pattern[bytes], times: int, count: int) -> Optional[List[bytes]]:
+        """Waits for this many answers, and takes them where their lines have this form this many
+        times: gives what its one group matched each time.
 
-        They are still to be received, or passed by `pass_answers`. Raises Disconnected, TimedOut.
+        Else they are still to be received. Raises Disconnected, TimedOut.
         """
-        while True:
-            found = form.match(self._held, self._at)
-            if found or self._held.count(b"\n", self._at) >= count:
-                return found
-            self._hold_more()
-
-    def pass_answers(self, found: Match[bytes], count: int) -> None:
-        """Takes this many answers as received, whose lines were matched."""
-        self._at = found.end()
+        ended = self._held.count(b"\n", self._at)
+        while ended < count:
+            ended += self._hold_more().count(b"\n")
+        *parts, rest = form.split(self._held[self._at :], times)
+        if len(parts) != 2 * times or any(parts[::2]) or rest.count(b"\n") != ended - count:
+            return None
+        self._held, self._at = rest, 0
         self._owed -= count
+        return parts[1::2]
 
     def _read_more(self) -> bytes:
         """The next bytes that come. Raises Disconnected, TimedOut."""
@@ -687,6 +696,51 @@ def unproved_program() -> Path:
     return ran.stdout.strip()
 
 
+def widen(pipe: Any) -> bool:
+    """Lets a pipe hold more, so that a program seldom waits for the client. Answers whether it
+    does.
+    """
+    try:
+        import fcntl
+
+        return fcntl.fcntl(pipe, fcntl.F_SETPIPE_SZ, PIPE_BYTES) >= PIPE_BYTES
+    except (ImportError, AttributeError, OSError):  # known to Linux, and Python 3.10 and later
+        return False
+
+
+def wait_for_end(child: subprocess.Popen[bytes], seconds: float) -> None:
+    """Waits for the end of a program that was started, for at most this many seconds. Where the
+    system doesn't tell it, `wait` looks from time to time, and sees it up to 0.05 seconds late.
+    """
+    import select
+    import subprocess
+
+    try:
+        ended = os.pidfd_open(child.pid)
+    except (AttributeError, OSError):
+        with contextlib.suppress(subprocess.TimeoutExpired):
+            child.wait(seconds)
+        return
+    try:
+        poll = select.poll()
+        poll.register(ended, select.POLLIN)
+        poll.poll(seconds * 1000)
+    finally:
+        os.close(ended)
+
+
+def end_program(child: subprocess.Popen[bytes]) -> None:
+    """Ends the input of a program that was started, and waits for its end. One that goes on for
+    too long is stopped.
+    """
+    close_all((child.stdin, child.stdout))
+    try:
+        wait_for_end(child, END_SECONDS)
+    finally:
+        child.kill()
+        child.wait()
+
+
 def start(program: Optional[Path] = None, timeout: Optional[float] = None) -> Client:
     """A client of a program that is started for it alone, as `estserve script`. Raises
     Disconnected.
@@ -705,15 +759,8 @@ def start(program: Optional[Path] = None, timeout: Optional[float] = None) -> Cl
         told = getattr(fault, "strerror", None) or fault
         raise Disconnected(f"{command[0]} cannot be started: {told}") from fault
 
-    def close() -> None:
-        close_all((child.stdin, child.stdout))
-        try:
-            child.wait(END_SECONDS)
-        except subprocess.TimeoutExpired:
-            pass
-        finally:
-            child.kill()
-            child.wait()
-
     assert isinstance(child.stdout, io.BufferedReader) and child.stdin
-    return Client(child.stdout, child.stdin, close, timeout)
+    client = Client(child.stdout, child.stdin, lambda: end_program(child), timeout)
+    if widen(child.stdin) and widen(child.stdout):
+        client.room = WIDE_ROOM
+    return client

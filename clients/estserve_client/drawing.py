@@ -47,8 +47,7 @@ def table_for(seen: Seen, scenario: Scenario, hidden: FrozenSet[str] = frozenset
     """
     shown = [name for name in scenario.module.kinds() if name not in hidden]
     table = Table(seen)
-    inputs = {tuple(offers.names) for offers in scenario.instants}
-    table.widen(instant_of(shown, names) for names in inputs)
+    table.widen(instant_of(shown, names) for names in scenario.inputs.different())
     return table
 
 
@@ -73,11 +72,12 @@ class Drawing:
             self.table = table_for(self.seen, scenario, hidden)
             print(self.table.head(), flush=True)
 
-    def add(self, instant: Instant) -> None:
-        """Adds an instant."""
-        self.seen.instants.append(instant)
+    def add(self, instants: List[Instant]) -> None:
+        """Adds instants that came."""
+        first = len(self.seen.instants) + 1
+        self.seen.instants += instants
         if self.table:
-            self.rows.append(self.table.row(len(self.seen.instants), instant))
+            self.rows += self.table.rows(first, instants)
 
     def show(self) -> None:
         """Shows the rows that came since it was called last."""

@@ -8,7 +8,7 @@ from __future__ import annotations
 
 TYPE_CHECKING = False
 if TYPE_CHECKING:
-    from typing import Dict, List
+    from typing import Dict, Iterator, List
 
 
 class Offers:
@@ -18,6 +18,27 @@ class Offers:
 
     def __init__(self, names: List[str], line: int) -> None:
         self.names, self.line = names, line
+
+
+class Inputs:
+    """The instants of a list of inputs, in their order. Lines that are alike are read once."""
+
+    def __init__(self, lines: List[str]) -> None:
+        self.lines = lines
+        self.read: Dict[str, List[List[str]]] = {text: names_of_line(text) for text in set(lines)}
+        self.names = [names for text in lines for names in self.read[text]]  # of each instant
+
+    def __len__(self) -> int:
+        return len(self.names)
+
+    def __iter__(self) -> Iterator[Offers]:
+        for line, text in enumerate(self.lines, 1):
+            for names in self.read[text]:
+                yield Offers(names, line)
+
+    def different(self) -> List[List[str]]:
+        """The names of each instant, those of lines that are alike once, in no order."""
+        return [names for instants in self.read.values() for names in instants]
 
 
 def names_of_line(text: str) -> List[List[str]]:
@@ -31,20 +52,14 @@ def names_of_line(text: str) -> List[List[str]]:
     return [list(dict.fromkeys(piece.split())) for piece in pieces]
 
 
-def offers_of_line(text: str, line: int) -> List[Offers]:
-    """The instants of one line."""
-    return [Offers(names, line) for names in names_of_line(text)]
-
-
 def is_blank(text: str) -> bool:
     """Whether a line has neither a name nor a `;`."""
     return not text.partition("%")[0].strip()
 
 
-def read_inputs(text: str) -> List[Offers]:
-    """The instants of a list of inputs, in their order. Lines that are alike are read once."""
+def read_inputs(text: str) -> Inputs:
+    """The instants of a list of inputs."""
     lines = text.split("\n")
     while lines and is_blank(lines[-1]):
         lines.pop()
-    read: Dict[str, List[List[str]]] = {text: names_of_line(text) for text in set(lines)}
-    return [Offers(names, line) for line, text in enumerate(lines, 1) for names in read[text]]
+    return Inputs(lines)

@@ -3,7 +3,7 @@ from __future__ import annotations
 
 TYPE_CHECKING = False
 if TYPE_CHECKING:
-    from typing import Any
+    from typing import Any, Callable
 
 MOST = 4_096
 
@@ -11,8 +11,13 @@ MOST = 4_096
 class Known(dict):
     """Values by their keys, at most MOST at a time: all are given up where one more comes."""
 
-    def add(self, key: Any, value: Any) -> Any:
-        """Keeps a value, and gives it back."""
+    def __init__(self, make: Callable[[Any], Any]) -> None:
+        """`make` gives the value of a key that is asked for, as `known[key]`, and isn't there."""
+        super().__init__()
+        self.make = make
+
+    def __missing__(self, key: Any) -> Any:
+        value = self.make(key)
         if len(self) >= MOST:
             self.clear()
         self[key] = value

@@ -7,7 +7,7 @@ not be observed: it shows as `.`, and a VCD file leaves it out where no instant 
 """
 from __future__ import annotations
 
-from .known import Known
+from .known import MOST
 
 TYPE_CHECKING = False
 if TYPE_CHECKING:
@@ -77,7 +77,7 @@ class Table:
             max(len(head), len(" ".join(names)))
             for head, names in zip(self.heads[1:-1], self.kinds[1:-1])
         ]
-        self.drawn = Known()  # instants, each with its cells as they are drawn, by its identity
+        self.drawn: Dict[int, Tuple[Instant, str]] = {}  # cells of instants, by their identity
 
     def widen(self, instants: Iterable[Instant]) -> None:
         """Makes room for what these instants show."""
@@ -94,17 +94,23 @@ class Table:
         """The line over the instants."""
         return self.line("instant", self.heads)
 
-    def row(self, number: int, instant: Instant) -> str:
-        """The line of an instant, which is not changed afterwards."""
+    def rows(self, first: int, instants: List[Instant]) -> List[str]:
+        """The lines of instants, which are not changed afterwards, from this number on."""
         # Instants that are alike are mostly one object, and it takes long to hash a dictionary.
         # While an object is kept here, no other one has its identity.
-        _, cells = self.drawn.get(id(instant)) or self.draw(instant)
-        return f"{number:>7}{cells}"
+        drawn, draw = self.drawn.get, self.draw
+        return [
+            f"{number:>7}{(drawn(id(instant)) or draw(instant))[1]}"
+            for number, instant in enumerate(instants, first)
+        ]
 
     def draw(self, instant: Instant) -> Tuple[Instant, str]:
         """An instant with its cells, as they stand after its number."""
         line = self.line("", [present_of(names, instant) for names in self.kinds])
-        return self.drawn.add(id(instant), (instant, line[7:]))
+        if len(self.drawn) >= MOST:
+            self.drawn.clear()
+        self.drawn[id(instant)] = drawn = (instant, line[7:])
+        return drawn
 
 
 def table_lines(seen: Seen) -> List[str]:
@@ -113,8 +119,7 @@ def table_lines(seen: Seen) -> List[str]:
     """
     table = Table(seen)
     table.widen(seen.instants)
-    rows = [table.row(number, instant) for number, instant in enumerate(seen.instants, seen.first)]
-    return [table.head(), *rows]
+    return [table.head(), *table.rows(seen.first, seen.instants)]
 
 
 def ruler_of(first: int, last: int) -> str:

@@ -68,19 +68,20 @@ def place_to_run(arguments: argparse.Namespace) -> Iterator[Union[Stage, SharedS
 def play(
     place: Union[Stage, SharedSlot],
     scenario: Scenario,
-    add: Callable[[Instant], None],
+    add: Callable[[List[Instant]], None],
     progress: Progress,
 ) -> Optional[Refused]:
-    """Runs the module that is loaded, and gives each instant to `add`. Answers the refusal that
-    ended it, if one did.
+    """Runs the module that is loaded, and gives the instants to `add` as they come. Answers the
+    refusal that ended it, if one did.
 
     Raises Interrupted after the first Ctrl-C, when what was sent is answered.
     """
-    number, total = 0, len(scenario.instants)
+    number, total = 0, len(scenario.inputs)
     with stopping() as stopped:
         try:
-            for number, instant in enumerate(place.play(scenario, stopped), 1):
-                add(instant)
+            for instants in place.play(scenario, stopped):
+                add(instants)
+                number += len(instants)
                 progress.at(number)
         except Refused as refusal:
             return refusal
@@ -114,7 +115,7 @@ def draw_run(
     place.client.when_waiting = drawing.show
     is_silent = bool(arguments.wave or arguments.vcd) or not sys.stdout.isatty()
     try:
-        refusal = play(place, scenario, drawing.add, Progress(len(scenario.instants), is_silent))
+        refusal = play(place, scenario, drawing.add, Progress(len(scenario.inputs), is_silent))
     finally:
         drawing.end()
     if refusal:
@@ -130,7 +131,7 @@ def hold_run(
     from .expecting import first_difference, outcome_lines, read_expected, update
 
     seen = Seen(scenario.module.name, chosen(scenario.module, arguments.signals), [])
-    refusal = play(place, scenario, seen.instants.append, Progress(len(scenario.instants), True))
+    refusal = play(place, scenario, seen.instants.extend, Progress(len(scenario.inputs), True))
     lines = outcome_lines(seen, refusal.told if refusal else None)
     if arguments.update:
         written = update(arguments.expect, lines)

@@ -11,7 +11,7 @@ from typing import Any, Dict, Iterable, List, Set, Tuple
 
 from .connection import CannotBeSent, Client, Refusal, TimedOut
 from .drawing import waves_for, write_vcd
-from .inputs import offers_of_line
+from .inputs import names_of_line
 from .instants import Instant
 from .library_text import LibraryText
 from .load_faults import load_fault
@@ -119,11 +119,11 @@ class Shell(cmd.Cmd):
         """Offers the names of each instant of a line, steps, and shows what came out. A refusal
         ends the line.
         """
-        for offers in offers_of_line(line, self.line):
+        for names in names_of_line(line):
             try:
-                print(self.instant_line(self.slot, self.client.instant(self.slot, offers.names)))
+                print(self.instant_line(self.slot, self.client.instant(self.slot, names)))
             except Refusal as refusal:
-                raise Failed(self.refused_instant(refusal, offers.names)) from refusal
+                raise Failed(self.refused_instant(refusal, names)) from refusal
         return False
 
     def refused_instant(self, refusal: Refusal, names: List[str]) -> str:
@@ -385,9 +385,7 @@ class Shell(cmd.Cmd):
             table.widen(new.instants)
             wide = table.wide
             lines = [] if is_headed else [table.head()]
-            lines += [
-                table.row(number, instant) for number, instant in enumerate(new.instants, shown + 1)
-            ]
+            lines += table.rows(shown + 1, new.instants)
             print("".join(told + "\n" for told in lines), end="", flush=True)
             shown, is_headed = shown + len(new.instants), True
             time.sleep(WATCHED)

@@ -15,7 +15,7 @@ if TYPE_CHECKING:
     from typing import Any, Callable, Dict, Iterator, List, Optional, Set, Tuple
 
     from .connection import Answer, Client
-    from .inputs import Offers
+    from .inputs import Inputs
     from .library_text import LibraryText
     from .module_text import Module
     from .pictures import Instant
@@ -28,12 +28,12 @@ LOGIN = {"cmd": "login", "user": "root", "roles": ["root"]}
 class Scenario:
     """A module, the text that it stands in, and the inputs of its instants."""
 
-    def __init__(self, library: LibraryText, module: Module, instants: List[Offers]) -> None:
-        self.library, self.module, self.instants = library, module, instants
+    def __init__(self, library: LibraryText, module: Module, inputs: Inputs) -> None:
+        self.library, self.module, self.inputs = library, module, inputs
 
     def entries(self) -> int:
         """How many entries of a journal it takes."""
-        return 2 + sum(len(offers.names) + 1 for offers in self.instants)
+        return 2 + len(self.inputs) + sum(map(len, self.inputs.names))
 
 
 class Refused(Failed):
@@ -80,11 +80,15 @@ def grants_of(module: Module, slot: int = 0) -> List[Answer]:
 def fault_of_inputs(scenario: Scenario) -> Optional[str]:
     """What is said of the first name that the module can't be offered; None where each can be."""
     inputs = set(scenario.module.inputs())
-    for offers in scenario.instants:
-        if not inputs.issuperset(offers.names):
-            wrong = next(name for name in offers.names if name not in inputs)
-            return f"line {offers.line} of the inputs: {scenario.module.name} has no input {wrong}"
-    return None
+    if all(map(inputs.issuperset, scenario.inputs.different())):
+        return None
+    line, wrong = next(
+        (offers.line, name)
+        for offers in scenario.inputs
+        for name in offers.names
+        if name not in inputs
+    )
+    return f"line {line} of the inputs: {scenario.module.name} has no input {wrong}"
 
 
 def never() -> bool:
@@ -163,12 +167,14 @@ class Stage:
 
             raise Failed(f"root cannot load the module: {sentence(refusals[0])}")
 
-    def play(self, scenario: Scenario, stopped: Callable[[], bool] = never) -> Iterator[Instant]:
-        """The instants of the module that is loaded, as they come, until it is stopped. Raises
-        Failed.
+    def play(
+        self, scenario: Scenario, stopped: Callable[[], bool] = never
+    ) -> Iterator[List[Instant]]:
+        """The instants of the module that is loaded, as they come, until it is stopped: lists of
+        those that came at once. Raises Failed.
         """
         assert self.client is not None
-        ahead = Ahead(self.client, [offers.names for offers in scenario.instants])
+        ahead = Ahead(self.client, scenario.inputs.names)
         try:
             yield from ahead.instants(stopped)
         except Refusal as refusal:
@@ -219,16 +225,20 @@ class SharedSlot:
         answers = self.client.ask_all(asked)
         return {name for name, answer in zip(objects, answers) if not answer.get("allowed")}
 
-    def play(self, scenario: Scenario, stopped: Callable[[], bool] = never) -> Iterator[Instant]:
-        """The instants as they come, until it is stopped. Raises Failed where one is refused."""
-        for number, offers in enumerate(scenario.instants, 1):
+    def play(
+        self, scenario: Scenario, stopped: Callable[[], bool] = never
+    ) -> Iterator[List[Instant]]:
+        """The instants as they come, each a list of its own, until it is stopped. Raises Failed
+        where one is refused.
+        """
+        for number, names in enumerate(scenario.inputs.names, 1):
             if stopped():
                 return
             try:
-                signals = self.client.instant(self.slot, offers.names).signals
+                signals = self.client.instant(self.slot, names).signals
             except Refusal as refusal:
                 raise refused(refusal, number, scenario) from refusal
-            yield signals
+            yield [signals]
 
 
 @contextlib.contextmanager

@@ -46,7 +46,7 @@ def outcome(
     if fault:
         raise Failed(fault)
     seen = Seen(module.name, module.signals, [])
-    refusal = play(stage, scenario, seen.instants.append, Progress(len(scenario.instants), True))
+    refusal = play(stage, scenario, seen.instants.extend, Progress(len(scenario.inputs), True))
     return seen, outcome_lines(seen, refusal.told if refusal else None)
 
 

@@ -12,7 +12,7 @@ import support  # noqa: F401  (lets the package be found)
 
 from estserve_client import known
 from estserve_client.ahead import Ahead
-from estserve_client.connection import Client, Disconnected, Refusal
+from estserve_client.connection import ROOM, Client, Disconnected, Refusal
 from estserve_client.drawing import Drawing
 from estserve_client.pictures import Seen, Table
 
@@ -80,7 +80,8 @@ def client_of(program):
 
 
 def instants_of(program, inputs=INPUTS, stopped=never):
-    return list(Ahead(client_of(program), inputs).instants(stopped))
+    came = Ahead(client_of(program), inputs).instants(stopped)
+    return list(itertools.chain.from_iterable(came))
 
 
 class Answers(unittest.TestCase):
@@ -118,8 +119,8 @@ class Answers(unittest.TestCase):
             program.refused[7] = {"code": 68, "fault": "Stuck", "undecided": ["O"]}
             ahead, seen = Ahead(client_of(program), INPUTS), []
             with self.assertRaises(Refusal) as raised:
-                for instant in ahead.instants(never):
-                    seen.append(instant)
+                for instants in ahead.instants(never):
+                    seen += instants
             self.assertEqual((seen, ahead.number), (self.wanted[:6], 7))
             self.assertEqual(raised.exception.fault, "Stuck")
             self.assertEqual(raised.exception.command, json.loads(STEP))
@@ -135,8 +136,8 @@ class Answers(unittest.TestCase):
 
             seen = []
             with self.subTest(wrong), self.assertRaisesRegex(Disconnected, "no answer of estserve"):
-                for instant in Ahead(client_of(Wrong()), INPUTS).instants(never):
-                    seen.append(instant)
+                for instants in Ahead(client_of(Wrong()), INPUTS).instants(never):
+                    seen += instants
             self.assertEqual(seen, self.wanted[:5])
 
 
@@ -152,7 +153,8 @@ class Batches(unittest.TestCase):
                 instants_of(program, [names] * 3_000)
             steps = self.steps(program)
             self.assertEqual((steps[:2], sum(steps)), ([1, 1], 3_000))
-            self.assertGreater(len(max(program.sent, key=len)), 20_000)
+            longest = len(max(program.sent, key=len))
+            self.assertTrue(ROOM - 7_000 < longest <= ROOM, longest)
             pairs = zip(program.sent, program.sent[1:])
             self.assertLess(max(len(one) + len(other) for one, other in pairs), PIPE * 7 // 8)
 
@@ -182,8 +184,8 @@ class Rows(unittest.TestCase):
 
         client.when_waiting = show
         with contextlib.redirect_stdout(io.StringIO()) as printed:
-            for instant in Ahead(client, INPUTS).instants(never):
-                drawing.add(instant)
+            for instants in Ahead(client, INPUTS).instants(never):
+                drawing.add(instants)
             drawing.end()
         self.assertEqual([rows for rows, _ in counts], [instants for _, instants in counts])
         self.assertGreater(len(counts), 5)

@@ -314,7 +314,7 @@ class Pictures(unittest.TestCase):
         seen = Seen("M", [(name, "inout") for name in names] + [("O", "output")], [])
         table = Table(seen)
         rows = [{name: name in present for name in [*names, "O"]} for present in (["O"], names)]
-        lines = [table.head(), *(table.row(number, row) for number, row in enumerate(rows, 1))]
+        lines = [table.head(), *table.rows(1, rows)]
         self.assertEqual(lines[0], "instant  inputs  inouts                outputs")
         self.assertEqual(lines[1], "      1" + " " * 32 + "O")
         self.assertEqual(

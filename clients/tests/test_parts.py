@@ -31,7 +31,9 @@ SEEN = Seen(
 
 class Inputs(unittest.TestCase):
     def names(self, text):
-        return [instant.names for instant in read_inputs(text)]
+        inputs = read_inputs(text)
+        self.assertEqual([offers.names for offers in inputs], inputs.names)
+        return inputs.names
 
     def test_a_line_is_an_instant(self):
         self.assertEqual(self.names("A\nB C\n\nA\n"), [["A"], ["B", "C"], [], ["A"]])
@@ -50,8 +52,8 @@ class Inputs(unittest.TestCase):
         self.assertEqual(self.names("% nothing\nA % then B\n;% empty\n"), [["A"], []])
 
     def test_a_name_counts_once_and_the_line_is_kept(self):
-        instants = read_inputs("% first\nA A\n")
-        self.assertEqual([(i.names, i.line) for i in instants], [(["A"], 2)])
+        inputs = read_inputs("% first\nA A\n")
+        self.assertEqual([(offers.names, offers.line) for offers in inputs], [(["A"], 2)])
 
 
 class Texts(unittest.TestCase):
@@ -105,7 +107,7 @@ class Pictures(unittest.TestCase):
 
     def test_a_table_that_goes_on_keeps_its_columns(self):
         table = Table(SEEN, 9)
-        self.assertEqual(table.row(2, SEEN.instants[1]), "      2  I .        O")
+        self.assertEqual(table.rows(2, SEEN.instants[1:]), ["      2  I .        O"])
 
     def test_waves_go_on_in_blocks_within_the_columns(self):
         instants = [{"I": number % 2 == 0, "J": False, "O": True} for number in range(7)]

@@ -12,7 +12,7 @@ import unittest
 from support import CLIENTS, EXAMPLES, needs_program, run_client, run_words, serve
 
 from estserve_client.drawing import Progress
-from estserve_client.inputs import Offers
+from estserve_client.inputs import read_inputs
 from estserve_client.library_text import join_texts
 from estserve_client.module_text import Module
 from estserve_client.running import play
@@ -219,16 +219,16 @@ class Interrupts(unittest.TestCase):
                     os.kill(os.getpid(), signal.SIGINT)
                 if stopped():
                     return
-                yield {"number": number}
+                yield [{"number": number}]
 
     def test_it_is_told_how_many_instants_there_were(self):
         module = Module("M", [], [], [])
-        scenario = Scenario(join_texts([("m.strl", "")]), module, [Offers([], 1)] * 3)
+        scenario = Scenario(join_texts([("m.strl", "")]), module, read_inputs(";\n" * 3))
         for number, count in ((2, 1), (3, 2), (4, 3)):
             seen = []
 
-            def add(instant, number=number, seen=seen):
-                seen.append(instant)
+            def add(instants, number=number, seen=seen):
+                seen += instants
                 if len(seen) == number - 1 == 3:  # after the last instant, before the run has ended
                     os.kill(os.getpid(), signal.SIGINT)
 
