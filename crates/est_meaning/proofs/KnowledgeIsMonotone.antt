@@ -266,11 +266,11 @@ in_doubt t h sure e = h.eased e
 in_doubt t h maybe e = same_within _
 
 -- with more known of the sides, more is known of a test
-opposite_below : (v w : Status) → IsBelow v w → IsBelow (opposite v) (opposite w)
+pub opposite_below : (v w : Status) → IsBelow v w → IsBelow (opposite v) (opposite w)
 opposite_below v w (inl h) = inl (ap opposite h)
 opposite_below v w (inr h) = inr (ap opposite h)
 
-and_below : (v w x y : Status) → IsBelow v w → IsBelow x y → IsBelow (and_status v x) (and_status w y)
+pub and_below : (v w x y : Status) → IsBelow v w → IsBelow x y → IsBelow (and_status v x) (and_status w y)
 and_below v w x y (inr h) (inr i) = inr (rw (h, i) refl)
 and_below v w x y (inr h) (inl i) = rw (h, i) (unknown_side w)
   where
@@ -310,7 +310,7 @@ joint_below And v w x y h i = and_below v w x y h i
 joint_below Or v w x y h i = or_below v w x y h i
 
 mutual
-  query_below : (e f : Env) (t : Query) → KnowsLess e f → IsBelow (status_of e t) (status_of f t)
+  pub query_below : (e f : Env) (t : Query) → KnowsLess e f → IsBelow (status_of e t) (status_of f t)
   query_below e f tick k = inr refl
   query_below e f (of s) k = k s
   query_below e f (negated t) k = opposite_below _ _ (query_below e f t k)

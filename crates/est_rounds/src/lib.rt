@@ -5,13 +5,13 @@
 //! for every kernel and takes no memory.
 #![tactic(auto)]
 
-mod acts;
-mod answer;
+pub mod acts;
+pub mod answer;
 pub mod engine;
 mod judged;
-mod resume;
+pub mod resume;
 mod resume_step;
 pub mod rounds;
-mod signal_set;
+pub mod signal_set;
 mod start;
 mod step;

@@ -1,0 +1,15 @@
+mod Told
+mod SweepsAreSound
+mod SweepsComeToRest
+mod Frames
+mod Telling
+mod Nodes
+mod BegunNodes
+mod ResumedNodes
+mod Rounds
+mod Exchanging
+mod OpenTables
+mod Limits
+mod Settling
+mod Outcomes
+mod Collecting

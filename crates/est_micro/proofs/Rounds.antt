@@ -1,0 +1,234 @@
+-- What a round decides, the meaning decides so; where it changes nothing, nothing more can be decided.
+use Rattle.std.specs.Prelude.{◌≡◌, ◌<◌, ◌+◌, ◌⊎◌, ℕ, zero, suc, Bool, true, false, not, ◌&&◌, cond, List, length}
+use Rattle.std.proofs.Common.{refl, ap, sym, ◌∙◌, arith, inl, inr, subst}
+use Rattle.est_kernel.specs.Bits.{bits}
+use Rattle.est_kernel.specs.Interfaces.{emittable}
+use Rattle.est_kernel.specs.Pauses.{pauses_of}
+use Rattle.est_kernel.specs.Term.{outer, inner, Term}
+use Rattle.est_kernel.specs.declared.interface.Declaration.{Declaration}
+use Rattle.est_kernel.specs.declared.state.State.{State}
+use Rattle.est_kernel.specs.declared.state.State.TheVariants.{Fresh, Done, Paused}
+use Rattle.est_kernel.specs.declared.statement.Statement.{Statement}
+use Rattle.est_meaning.specs.Knowledge.{IsBelow, KnowsLess}
+use Rattle.est_meaning.specs.Laws.{IsWithinPlaces}
+use Rattle.est_meaning.specs.Rounds.{JudgedSignals, judged_signals, first_env, round, env_after, last_env, how_many}
+use Rattle.est_meaning.specs.Signals.{Signals}
+use Rattle.est_meaning.specs.States.{state_term}
+use Rattle.est_meaning.specs.Status.{Env, verdict}
+use Rattle.est_meaning.specs.declared.status.Status.{Status}
+use Rattle.est_meaning.specs.declared.status.Status.TheVariants.{Present, Absent}
+use Rattle.est_cells.proofs.WholeTable.{table_sound}
+use Rattle.est_cells.specs.Tables.{Sheet, Below, emits, is_sure, is_possible}
+use Rattle.est_cells.specs.Whole.{Table, TableBelow, known, sheet_gates, sheet_meaning, table_gates, table_meaning}
+use Rattle.est_net.specs.Cells.{cell_at, learned}
+use Rattle.est_net.specs.Layout.{output_count, rank, sheet_in}
+use Rattle.est_rounds.specs.Views.{env_of, set_of}
+use Rattle.est_rounds.specs.declared.signal_set.Env.{Env as Known}
+use Rattle.est_rounds.specs.declared.signal_set.SignalSet.{SignalSet}
+use Rattle.est_micro.specs.Runs.{sheet_swept, output_cells, output_gate, IsRound, table_of}
+use Rattle.est_micro.specs.declared.cells.Found.{Found}
+use Rattle.est_micro.proofs.Frames.{sheet_same}
+use Rattle.est_micro.proofs.SweepsAreSound.{swept_sound, live_swept_sound}
+use Rattle.est_micro.proofs.SweepsComeToRest.{swept_quiet, live_swept_quiet}
+use Rattle.est_micro.proofs.Told.{learned_below, nothing_learnt}
+
+sheet_swept_sound : (s : Statement) (x : State) (e l : Env) (T : Sheet true s) → KnowsLess l e
+    → Below true s T (sheet_meaning s x e) → Below true s (sheet_swept s x l T) (sheet_meaning s x e)
+sheet_swept_sound s Fresh e l T k c = swept_sound true s Present Present e l T (inr refl) k c
+sheet_swept_sound s Done e l T k c = swept_sound true s Absent Absent e l T (inr refl) k c
+sheet_swept_sound s (Paused p) e l T k c = live_swept_sound s (pauses_of p) Present Present e l T (inr refl) k c
+
+sheet_swept_quiet : (s : Statement) (x : State) (e l : Env) (T : Sheet true s) → KnowsLess l e
+    → Below true s T (sheet_meaning s x e) → sheet_swept s x l T ≡ T → Below true s (sheet_gates s x l T) T
+sheet_swept_quiet s Fresh e l T k c q = swept_quiet true s Present Present e l T (inr refl) k c q
+sheet_swept_quiet s Done e l T k c q = swept_quiet true s Absent Absent e l T (inr refl) k c q
+sheet_swept_quiet s (Paused p) e l T k c q = live_swept_quiet s (pauses_of p) Present Present e l T (inr refl) k c q
+
+-- what the cells of the signals say is below the last round, if each is
+other_first : (j : JudgedSignals) (inputs : ℕ → Bool) (n : ℕ) → j.has n ≡ false
+    → first_env j inputs (outer n) ≡ verdict (inputs n) false
+unfolding first_env
+other_first j inputs n h = rw h refl
+
+other_round : (j : JudgedSignals) (t : Term) (e : Env) (n : ℕ) → j.has n ≡ false → round j t e (outer n) ≡ e (outer n)
+unfolding round
+other_round j t e n h = rw h refl
+
+inner_first : (j : JudgedSignals) (inputs : ℕ → Bool) (n : ℕ) → first_env j inputs (inner n) ≡ Absent
+unfolding first_env
+inner_first j inputs n = refl
+
+inner_round : (j : JudgedSignals) (t : Term) (e : Env) (n : ℕ) → round j t e (inner n) ≡ e (inner n)
+unfolding round
+inner_round j t e n = refl
+
+offered : (m : ℕ) (j : JudgedSignals) (inputs : ℕ → Bool) (t : Term) (n : ℕ) → j.has n ≡ false
+    → env_after m j t (first_env j inputs) (outer n) ≡ verdict (inputs n) false
+offered zero j inputs t n h = other_first j inputs n h
+offered (suc m) j inputs t n h = other_round j t _ n h ∙ offered m j inputs t n h
+
+unbound : (m : ℕ) (j : JudgedSignals) (inputs : ℕ → Bool) (t : Term) (n : ℕ)
+    → env_after m j t (first_env j inputs) (inner n) ≡ Absent
+unbound zero j inputs t n = inner_first j inputs n
+unbound (suc m) j inputs t n = inner_round j t _ n ∙ unbound m j inputs t n
+
+known_below : (j : JudgedSignals) (inputs : ℕ → Bool) (outputs : ℕ → Status) (e : Env)
+    → ((n : ℕ) → j.has n ≡ true → IsBelow (outputs n) (e (outer n)))
+    → ((n : ℕ) → j.has n ≡ false → e (outer n) ≡ verdict (inputs n) false) → ((n : ℕ) → e (inner n) ≡ Absent)
+    → KnowsLess (known j inputs outputs) e
+unfolding known
+known_below j inputs outputs e f g h (outer n) = go (j.has n) refl
+  where
+    go : (b : Bool) → j.has n ≡ b → IsBelow (cond b (outputs n) (verdict (inputs n) false)) (e (outer n))
+    go true l = f n l
+    go false l = rw (g n l) (inr refl)
+known_below j inputs outputs e f g h (inner n) = rw (h n) (inr refl)
+
+table_known : (j : JudgedSignals) (inputs : ℕ → Bool) (s : Statement) (x : State) (T : Table s)
+    → TableBelow j s T (table_meaning j inputs s x) → KnowsLess (known j inputs T.outputs)
+    (last_env j inputs (state_term s x))
+table_known j inputs s x T c =
+    let t = state_term s x in
+    known_below j inputs T.outputs (last_env j inputs t) c.outputs (offered (how_many j.has j.places) j inputs t)
+    (unbound (how_many j.has j.places) j inputs t)
+
+-- where a signal is judged, it may be emitted, was not offered, and is one of the interface
+pub not_input : (i : List Declaration) (inputs : ℕ → Bool) (n : ℕ) → (emittable i n && not (inputs n)) ≡ true
+    → inputs n ≡ false
+not_input i inputs n h = go (emittable i n) (inputs n) h refl
+  where
+    go : (a b : Bool) → (a && not b) ≡ true → b ≡ inputs n → inputs n ≡ false
+    go a false h e = sym e
+    go true true h e = let z : false ≡ true = h in cc
+    go false true h e = let z : false ≡ true = h in cc
+
+pub may_be : (i : List Declaration) (inputs : ℕ → Bool) (n : ℕ) → (emittable i n && not (inputs n)) ≡ true
+    → emittable i n ≡ true
+may_be i inputs n h = go (emittable i n) (inputs n) h refl
+  where
+    go : (a b : Bool) → (a && not b) ≡ true → a ≡ emittable i n → emittable i n ≡ true
+    go true b h e = sym e
+    go false b h e = let z : false ≡ true = h in cc
+
+set_at : (a : SignalSet) (f : Signals) (n : ℕ) → set_of a ≡ f → bits a.interface n ≡ f (outer n)
+unfolding set_of
+set_at a f n e = ap (λ (g : Signals). g (outer n)) e
+
+pub gate_is : (inputs a b : ℕ → Bool) (n : ℕ) → inputs n ≡ false → output_gate inputs a b n ≡ verdict (a n) (b n)
+gate_is inputs a b n h = rw h refl
+
+-- the sheet after a round is the one after its sweep
+pub round_sheet : (i : List Declaration) (inputs : ℕ → Bool) (s : Statement) (x : State) (e f : Known)
+    (old new : List Status)
+    (r : Found) → (h : IsRound i inputs s x e f old new r)
+    → sheet_in (cell_at new) true s (output_count i) 0 ≡ sheet_in (cell_at h.mid) true s (output_count i) 0
+round_sheet i inputs s x e f old new r h =
+    sheet_same (cell_at new) (cell_at h.mid) true s (output_count i) 0 (λ k l u. h.exchange.changes.after k l)
+
+-- the signals' cells before the exchange are those before the round
+before_round : (i : List Declaration) (inputs : ℕ → Bool) (s : Statement) (x : State) (e f : Known)
+    (old new : List Status)
+    (r : Found) → (h : IsRound i inputs s x e f old new r) → (n : ℕ) → rank i n < output_count i
+    → output_cells i h.mid n ≡ output_cells i old n
+before_round i inputs s x e f old new r h n l = h.sweep.changes.before (rank i n) l
+
+-- an emittable signal's cell is one of the first
+pub rank_within : (f : ℕ → Bool) (m n : ℕ) → n < m → f n ≡ true → how_many f n < how_many f m
+rank_within f zero n l h = absurd (omega arith)
+rank_within f (suc m) n l h = elim (last m n l) [
+  | inl z ↦ subst (λ (u : ℕ). how_many f u < how_many f (suc m)) (sym z)
+      (let o : f m ≡ true = subst (λ (u : ℕ). f u ≡ true) z h in one m o)
+  | inr z ↦ let k = rank_within f m n z h in more m k
+]
+  where
+    last : (m n : ℕ) → n < suc m → (n ≡ m) ⊎ (n < m)
+    last zero zero l = inl refl
+    last zero (suc n) l = absurd (omega arith)
+    last (suc m) zero l = inr (omega arith)
+    last (suc m) (suc n) l = elim (last m n (omega arith)) [ inl z ↦ inl (ap suc z) | inr z ↦ inr (omega arith) ]
+
+    one : (m : ℕ) → f m ≡ true → how_many f m < how_many f m + cond (f m) 1 0
+    one m o = rw o (omega arith)
+
+    more : (m : ℕ) → how_many f n < how_many f m → how_many f n < how_many f m + cond (f m) 1 0
+    more m k = omega arith
+
+-- the outputs after a round
+told_cell : (i : List Declaration) (inputs : ℕ → Bool) (s : Statement) (x : State) (e f : Known) (old new : List Status)
+    (r : Found)
+    → (h : IsRound i inputs s x e f old new r) → (n : ℕ) → n < length i → (emittable i n && not (inputs n)) ≡ true
+    → output_cells i new n ≡ learned (output_cells i old n)
+    (verdict (emits is_sure true s (sheet_in (cell_at h.mid) true s (output_count i) 0) (outer n))
+    (emits is_possible true s (sheet_in (cell_at h.mid) true s (output_count i) 0) (outer n)))
+told_cell i inputs s x e f old new r h n l j =
+    let emitted = may_be i inputs n j in
+    let a = bits r.judged.must.signals.interface in
+    let b = bits r.judged.can.signals.interface in
+    let S = sheet_in (cell_at h.mid) true s (output_count i) 0 in
+    let found = h.sweep.found in
+    h.exchange.told n l emitted
+    ∙ (ap (λ (v : Status). learned v (output_gate inputs a b n))
+    (before_round i inputs s x e f old new r h n (rank_within (emittable i) (length i) n l emitted))
+    ∙ ap (λ (v : Status). learned (output_cells i old n) v)
+    (gate_is inputs a b n (not_input i inputs n j)
+    ∙ (ap (λ (z : Bool). verdict z (b n)) (set_at r.judged.must.signals (emits is_sure true s S) n found.emits)
+    ∙ ap (λ (z : Bool). verdict (emits is_sure true s S (outer n)) z)
+    (set_at r.judged.can.signals (emits is_possible true s S) n found.may_emit))))
+
+pub round_sound : (i : List Declaration) (inputs : ℕ → Bool) (s : Statement) (x : State) (e f : Known)
+    (old new : List Status)
+    (r : Found) → IsWithinPlaces (judged_signals i inputs)
+    → env_of e ≡ known (judged_signals i inputs) inputs (output_cells i old) → IsRound i inputs s x e f old new r
+    → TableBelow (judged_signals i inputs) s (table_of i s old) (table_meaning (judged_signals i inputs) inputs s x)
+    → TableBelow (judged_signals i inputs) s (table_of i s new) (table_meaning (judged_signals i inputs) inputs s x)
+round_sound i inputs s x e f old new r w k h c =
+    let j = judged_signals i inputs in
+    let last = last_env j inputs (state_term s x) in
+    let S = sheet_in (cell_at h.mid) true s (output_count i) 0 in
+    let less : KnowsLess (env_of e) last = subst (λ (z : Env). KnowsLess z last) (sym k)
+    (table_known j inputs s x (table_of i s old) c) in
+    let swept : Below true s S (sheet_meaning s x last) =
+    subst (λ (z : Sheet true s). Below true s z (sheet_meaning s x last))
+    (sym h.sweep.sheet)
+    (sheet_swept_sound s x last (env_of e) (sheet_in (cell_at old) true s (output_count i) 0) less c.sheet) in
+    let T : Table s = record { outputs = output_cells i old; sheet = S } in
+    let t : TableBelow j s T (table_meaning j inputs s x) = record { outputs = c.outputs; sheet = swept } in
+    let g = table_sound j w inputs s x T t in
+    record {
+      outputs = λ n l. subst (λ (v : Status). IsBelow v (last (outer n)))
+          (sym (told_cell i inputs s x e f old new r h n (w n l) l))
+          (learned_below (output_cells i old n) _ (last (outer n)) (c.outputs n l) (g.outputs n l));
+      sheet = subst (λ (z : Sheet true s). Below true s z (sheet_meaning s x last))
+          (sym (round_sheet i inputs s x e f old new r h)) swept;
+    }
+
+pub round_quiet : (i : List Declaration) (inputs : ℕ → Bool) (s : Statement) (x : State) (e f : Known)
+    (old new : List Status)
+    (r : Found) → IsWithinPlaces (judged_signals i inputs)
+    → env_of e ≡ known (judged_signals i inputs) inputs (output_cells i old) → (h : IsRound i inputs s x e f old new r)
+    → TableBelow (judged_signals i inputs) s (table_of i s old) (table_meaning (judged_signals i inputs) inputs s x)
+    → h.mid ≡ old → new ≡ old
+    → TableBelow (judged_signals i inputs) s (table_gates (judged_signals i inputs) inputs s x (table_of i s old))
+    (table_of i s old)
+round_quiet i inputs s x e f old new r w k h c mid_is new_is =
+    let j = judged_signals i inputs in
+    let last = last_env j inputs (state_term s x) in
+    let O = sheet_in (cell_at old) true s (output_count i) 0 in
+    let less = table_known j inputs s x (table_of i s old) c in
+    let same : sheet_in (cell_at h.mid) true s (output_count i) 0 ≡ O
+    = ap (λ (z : List Status). sheet_in (cell_at z) true s (output_count i) 0) mid_is in
+    let rest : sheet_swept s x (known j inputs (output_cells i old)) O ≡ O
+    = ap (λ (z : Env). sheet_swept s x z O) (sym k) ∙ (sym h.sweep.sheet ∙ same) in
+    let g = table_sound j w inputs s x (table_of i s old) c in
+    record {
+      outputs = λ n l.
+          let told : learned (output_cells i old n)
+          (verdict (emits is_sure true s O (outer n)) (emits is_possible true s O (outer n)))
+          ≡ output_cells i old n
+          = ap (λ (z : Sheet true s). learned (output_cells i old n)
+          (verdict (emits is_sure true s z (outer n)) (emits is_possible true s z (outer n)))) (sym same)
+          ∙ (sym (told_cell i inputs s x e f old new r h n (w n l) l)
+          ∙ ap (λ (z : List Status). output_cells i z n) new_is) in
+          nothing_learnt (output_cells i old n) _ (last (outer n)) (c.outputs n l) (g.outputs n l) told;
+      sheet = sheet_swept_quiet s x last (known j inputs (output_cells i old)) O less c.sheet rest;
+    }

@@ -1,0 +1,149 @@
+-- Rounds until nothing changes.
+use Rattle.std.specs.Prelude.{◌≡◌, ◌≤◌, ◌+◌, ◌-◌, ℕ, Bool, true, false, List, [], ◌∷◌, length, replicate}
+use Rattle.std.proofs.Common.{ap, sym, ◌∙◌, arith, inl, subst}
+use Rattle.std.proofs.lemmas.List.Sums.{sum_by-cons}
+use Rattle.est_kernel.specs.Interfaces.{emittable}
+use Rattle.est_kernel.specs.View.{term_of}
+use Rattle.est_kernel.specs.Pauses.{pauses_of}
+use Rattle.est_kernel.specs.Scope.{IsClosed}
+use Rattle.est_kernel.specs.declared.interface.Declaration.{Declaration}
+use Rattle.est_kernel.specs.declared.kernel.Kernel.{Kernel}
+use Rattle.est_kernel.specs.declared.state.State.{State}
+use Rattle.est_kernel.specs.declared.state.State.TheVariants.{Fresh, Done, Paused}
+use Rattle.est_meaning.specs.Laws.{IsWithinPlaces}
+use Rattle.est_meaning.specs.Rounds.{judged_signals, last_env}
+use Rattle.est_meaning.specs.States.{state_term}
+use Rattle.est_meaning.specs.Status.{Env, verdict}
+use Rattle.est_meaning.specs.declared.status.Status.{Status}
+use Rattle.est_meaning.specs.declared.status.Status.TheVariants.{Present, Absent, Unknown}
+use Rattle.est_cells.proofs.OpenTable.{opened_begun, opened_resumed}
+use Rattle.est_cells.specs.Opening.{open_sheet}
+use Rattle.est_cells.specs.Tables.{Sheet, Below}
+use Rattle.est_cells.specs.Whole.{TableBelow, known, sheet_meaning, table_gates, table_meaning}
+use Rattle.est_net.specs.Cells.{cell_at, decided, learned, steps_of}
+use Rattle.est_net.specs.Layout.{cell_count, output_count, rank, sheet_in}
+use Rattle.est_rounds.specs.Views.{env_of}
+use Rattle.est_rounds.specs.declared.signal_set.Env.{Env as Known}
+use Rattle.est_micro.specs.Runs.{output_cells, output_gate, IsExchanged, IsRound, IsSettled, table_of}
+use Rattle.est_micro.specs.declared.cells.Found.{Found}
+use Rattle.est_micro.specs.declared.run.Settled.{Settled}
+use Rattle.est_micro.proofs.Exchanging.{emittable_within}
+use Rattle.est_micro.proofs.Frames.{sheet_same}
+use Rattle.est_micro.proofs.Nodes.{JudgedOf}
+use Rattle.est_micro.proofs.OpenTables.{all_open, sheet_open, open_there}
+use Rattle.est_micro.proofs.Rounds.{round_sheet, round_sound, round_quiet, rank_within, may_be, not_input, gate_is}
+
+pub within_places : (i : List Declaration) (inputs : ℕ → Bool) → IsWithinPlaces (judged_signals i inputs)
+within_places i inputs n h = emittable_within i n (may_be i inputs n h)
+
+step_small : (v : Status) → steps_of v ≤ 1
+step_small Present = omega arith
+step_small Absent = omega arith
+step_small Unknown = omega arith
+
+pub decided_within : (cells : List Status) → decided cells ≤ length cells
+decided_within [] = omega arith
+decided_within (x ∷ xs) =
+    let k = decided_within xs in
+    let o = step_small x in
+    let e : decided (x ∷ xs) ≡ steps_of x + decided xs = sum_by-cons steps_of x xs in
+    omega arith
+
+-- what holds before a round
+pub record Ready (k : Kernel) (x : State) (inputs : ℕ → Bool) (cells : List Status) (env : Known) : Type 0 where
+  pub size : length cells ≡ cell_count k
+  pub sound : TableBelow (judged_signals k.interface inputs) k.root (table_of k.interface k.root cells)
+      (table_meaning (judged_signals k.interface inputs) inputs k.root x)
+  pub knows : env_of env ≡ known (judged_signals k.interface inputs) inputs (output_cells k.interface cells)
+
+-- what holds after one
+pub record Settling (k : Kernel) (x : State) (inputs : ℕ → Bool) (before now : ℕ) (cells : List Status) (found : Found)
+    (env : Known)
+    : Type 0 where
+  pub ready : Ready k x inputs cells env
+  pub counted : now ≡ decided cells
+  pub rising : before ≤ now
+  pub says : JudgedOf true k.root (sheet_in (cell_at cells) true k.root (output_count k.interface) 0) found.judged
+  pub rest : now ≡ before → TableBelow (judged_signals k.interface inputs) k.root
+      (table_gates (judged_signals k.interface inputs) inputs k.root x (table_of k.interface k.root cells))
+      (table_of k.interface k.root cells)
+
+pub round_made : (k : Kernel) (x : State) (inputs : ℕ → Bool) (e f : Known) (old new : List Status) (r : Found)
+    (before now : ℕ)
+    → Ready k x inputs old e → IsRound k.interface inputs k.root x e f old new r → before ≡ decided old
+    → now ≡ decided new
+    → Settling k x inputs before now new r f
+round_made k x inputs e f old new r before now ready h before_is now_is =
+    let j = judged_signals k.interface inputs in
+    let w = within_places k.interface inputs in
+    let sweep = h.sweep.changes in
+    let exchange = h.exchange.changes in
+    let p = sweep.more in
+    let q = exchange.more in
+    record {
+      ready = record {
+        size = exchange.size ∙ (sweep.size ∙ ready.size);
+        sound = round_sound k.interface inputs k.root x e f old new r w ready.knows h ready.sound;
+        knows = h.exchange.knows;
+      };
+      counted = now_is;
+      rising = omega arith;
+      says = subst (λ (z : Sheet true k.root). JudgedOf true k.root z r.judged)
+          (sym (round_sheet k.interface inputs k.root x e f old new r h)) h.sweep.found;
+      rest = λ same.
+          let m : h.mid ≡ old = sweep.quiet (omega arith) in
+          let n : new ≡ h.mid = exchange.quiet (omega arith) in
+          subst (λ (z : List Status). TableBelow j k.root
+          (table_gates j inputs k.root x (table_of k.interface k.root z))
+          (table_of k.interface k.root z)) (sym (n ∙ m))
+          (round_quiet k.interface inputs k.root x e f old new r w ready.knows h ready.sound m (n ∙ m));
+    }
+
+pub settled : (k : Kernel) (x : State) (inputs : ℕ → Bool) (before now : ℕ) (cells : List Status) (r : Settled)
+    → Settling k x inputs before now cells r.found r.env → now ≡ before → IsSettled k x inputs cells r
+settled k x inputs before now cells r h e = record {
+  size = h.ready.size;
+  sound = h.ready.sound;
+  closed = h.rest e;
+  found = h.says;
+  knows = h.ready.knows;
+}
+
+-- the open table, with nothing told
+open_meaning : (k : Kernel) (x : State) (e : Env) → IsClosed k.interface 0 0 (term_of k.root)
+    → Below true k.root (open_sheet true k.root 0) (sheet_meaning k.root x e)
+open_meaning k Fresh e c = opened_begun true k.root Present e k.interface 0 0 c
+open_meaning k Done e c = opened_begun true k.root Absent e k.interface 0 0 c
+open_meaning k (Paused p) e c = opened_resumed k.root (pauses_of p) Present e k.interface 0 0 c
+
+pub start_ready : (k : Kernel) (x : State) (inputs sure possible : ℕ → Bool) (n : ℕ) (new : List Status) (e : Known)
+    → IsClosed k.interface 0 0 (term_of k.root) → n ≡ cell_count k → ((i : ℕ) → sure i ≡ false)
+    → possible ≡ emittable k.interface
+    → IsExchanged k.interface inputs sure possible (replicate n Unknown) new e
+    → length (replicate n Unknown) ≡ n → Ready k x inputs new e
+start_ready k x inputs sure possible n new e closed size none all h long =
+    let i = k.interface in
+    let j = judged_signals i inputs in
+    let last = last_env j inputs (state_term k.root x) in
+    let same : sheet_in (cell_at new) true k.root (output_count i) 0 ≡ open_sheet true k.root 0
+    = sheet_same (cell_at new) all_open true k.root (output_count i) 0
+    (λ a l u. h.changes.after a l ∙ open_there n a (omega arith)) ∙ sheet_open true k.root (output_count i) 0 in
+    record {
+      size = h.changes.size ∙ (long ∙ size);
+      sound = record {
+        outputs = λ m l.
+            let o = may_be i inputs m l in
+            let r = rank_within (emittable i) (length i) m (within_places i inputs m l) o in
+            let t : output_cells i new m ≡ Unknown
+            = h.told m (within_places i inputs m l) o
+            ∙ (ap (λ (v : Status). learned v (output_gate inputs sure possible m))
+            (open_there n (rank i m) (omega arith))
+            ∙ (gate_is inputs sure possible m (not_input i inputs m l)
+            ∙ (ap (λ (b : Bool). verdict b (possible m)) (none m)
+            ∙ ap (λ (b : Bool). verdict false b) (ap (λ (g : ℕ → Bool). g m) all ∙ o)))) in
+            inl t;
+        sheet = subst (λ (z : Sheet true k.root). Below true k.root z (sheet_meaning k.root x last)) (sym same)
+            (open_meaning k x last closed);
+      };
+      knows = h.knows;
+    }

@@ -1,0 +1,168 @@
+-- Code cells that are told one after another, and read so.
+use Rattle.std.specs.Prelude.{◌≡◌, ◌≢◌, ◌<◌, ◌≤◌, ◌+◌, ◌⊎◌, ℕ, zero, suc, Bool, true, false, ltb, nat_eq, ◌&&◌, ◌||◌}
+use Rattle.std.specs.Prelude.{List, length}
+use Rattle.std.proofs.Common.{refl, ap, sym, ◌∙◌, arith, inl, inr, subst}
+use Rattle.std.proofs.lemmas.Bool.{ltb-true, lt-ltb, eq-eqb, eqb-true}
+use mathlib.Core.Path.{fun_ext}
+use Rattle.est_kernel.specs.Codes.{Codes, code, either_code}
+use Rattle.est_kernel.specs.CodeViews.{codes_of}
+use Rattle.est_meaning.specs.Status.{verdict}
+use Rattle.est_meaning.specs.declared.status.Status.{Status}
+use Rattle.est_meaning.specs.declared.status.Status.TheVariants.{Present, Absent, Unknown}
+use Rattle.est_cells.specs.Tables.{is_sure, is_possible}
+use Rattle.est_net.specs.Cells.{cell_at, decided, learned, Learns}
+use Rattle.est_net.specs.Layout.{sure_codes, possible_codes}
+use Rattle.est_rounds.specs.declared.acts.Judgement.{Judgement}
+use Rattle.est_micro.specs.Sweeps.{sure_told, may_told}
+use Rattle.est_micro.specs.Views.{AreTold}
+
+-- the first n code cells from place c on are told
+pub record ToldSoFar (c n : ℕ) (j : Judgement) (old new : List Status) : Type 0 where
+  pub told : (k : ℕ) → k < n
+      → cell_at new (c + k) ≡ learned (cell_at old (c + k)) (verdict (codes_of j.must.codes k) (codes_of j.can.codes k))
+  pub before : (i : ℕ) → i < c → cell_at new i ≡ cell_at old i
+  pub after : (i : ℕ) → c + n ≤ i → cell_at new i ≡ cell_at old i
+  pub size : length new ≡ length old
+  pub more : decided old ≤ decided new
+  pub quiet : decided new ≡ decided old → new ≡ old
+
+pub told_none : (c : ℕ) (j : Judgement) (old : List Status) → ToldSoFar c 0 j old old
+told_none c j old = record {
+  told = λ k l. absurd (omega arith);
+  before = λ i l. refl;
+  after = λ i l. refl;
+  size = refl;
+  more = omega arith;
+  quiet = λ e. refl;
+}
+
+pub same_or_less : (k n : ℕ) → k < n + 1 → (k ≡ n) ⊎ (k < n)
+same_or_less zero zero l = inl refl
+same_or_less zero (suc n) l = inr (omega arith)
+same_or_less (suc k) zero l = absurd (omega arith)
+same_or_less (suc k) (suc n) l = elim (same_or_less k n (omega arith))
+    [ inl e ↦ inl (ap suc e) | inr d ↦ inr (omega arith) ]
+
+pub told_more : (c n : ℕ) (j : Judgement) (old mid new : List Status) (now : Status) → ToldSoFar c n j old mid
+    → Learns (c + n) now mid new → now ≡ verdict (codes_of j.must.codes n) (codes_of j.can.codes n)
+    → ToldSoFar c (n + 1) j old new
+told_more c n j old mid new now x y e =
+    let p = x.more in
+    let q = y.more in
+    record {
+      told = λ k l. elim (same_or_less k n l) [
+        | inl z ↦ subst (λ (u : ℕ). cell_at new (c + u)
+            ≡ learned (cell_at old (c + u)) (verdict (codes_of j.must.codes u) (codes_of j.can.codes u))) (sym z)
+            (y.here ∙ (ap (λ (v : Status). learned v now) (x.after (c + n) (omega arith))
+            ∙ ap (λ (v : Status). learned (cell_at old (c + n)) v) e))
+        | inr z ↦ y.others (c + k) (omega arith) ∙ x.told k z
+      ];
+      before = λ i l. y.others i (omega arith) ∙ x.before i l;
+      after = λ i l. y.later i (omega arith) ∙ x.after i (omega arith);
+      size = y.size ∙ x.size;
+      more = omega arith;
+      quiet = λ d. y.quiet (omega arith) ∙ x.quiet (omega arith);
+    }
+
+status_back : (v : Status) → verdict (is_sure v) (is_possible v) ≡ v
+status_back Present = refl
+status_back Absent = refl
+status_back Unknown = refl
+
+code_told : (pick : Status → Bool) (b : Bool) (v w n : Status) → pick Absent ≡ false → (b ≡ true → n ≡ learned v w)
+    → (b && pick n) ≡ pick (learned (verdict (b && is_sure v) (b && is_possible v)) w)
+code_told pick true v w n e h = ap pick (h refl ∙ ap (λ (x : Status). learned x w) (sym (status_back v)))
+code_told pick false v w n e h = sym e
+
+pub told_done : (c n : ℕ) (j : Judgement) (old new : List Status) → ToldSoFar c n j old new → AreTold c n j old new
+unfolding sure_codes possible_codes sure_told may_told
+told_done c n j old new x = record {
+  changes = record { before = x.before; after = x.after; size = x.size; more = x.more; quiet = x.quiet };
+  sure = fun_ext (λ k. code_told is_sure (ltb k n) (cell_at old (c + k)) _ _ refl (λ b. x.told k (ltb-true k n b)));
+  may = fun_ext (λ k. code_told is_possible (ltb k n) (cell_at old (c + k)) _ _ refl (λ b. x.told k (ltb-true k n b)));
+}
+
+-- a code that is added to a set
+pub nat_eq_same : (n : ℕ) → nat_eq n n ≡ true
+nat_eq_same n = eq-eqb n n refl
+
+pub nat_eq_other : (m n : ℕ) → n ≢ m → nat_eq m n ≡ false
+nat_eq_other m n d = not_same (nat_eq m n) refl
+  where
+    not_same : (b : Bool) → nat_eq m n ≡ b → b ≡ false
+    not_same true e = absurd (d (sym (eqb-true m n e)))
+    not_same false e = refl
+
+or_true : (a : Bool) → (a || true) ≡ true
+or_true true = refl
+or_true false = refl
+
+or_false : (a : Bool) → (a || false) ≡ a
+or_false true = refl
+or_false false = refl
+
+pub with_here : (R A S : Codes) (n m : ℕ) → R ≡ either_code A S → S ≡ code m → m ≡ n → R n ≡ (A n || true)
+unfolding either_code code
+with_here R A S n m r s e =
+    ap (λ (g : Codes). g n) r ∙ (ap (λ (g : Codes). A n || g n) s
+    ∙ (ap (λ (z : ℕ). A n || nat_eq z n) e ∙ ap (λ (z : Bool). A n || z) (nat_eq_same n)))
+
+pub with_others : (R A S : Codes) (n m : ℕ) → R ≡ either_code A S → S ≡ code m → m ≡ n → (k : ℕ) → k ≢ n → R k ≡ A k
+unfolding either_code code
+with_others R A S n m r s e k d =
+    ap (λ (g : Codes). g k) r ∙ (ap (λ (g : Codes). A k || g k) s
+    ∙ (ap (λ (z : ℕ). A k || nat_eq z k) e ∙ (ap (λ (z : Bool). A k || z) (nat_eq_other n k d) ∙ or_false (A k))))
+
+-- the first n codes of a set are read
+abbrev pub ReadSoFar : Codes → (ℕ → Bool) → ℕ → Type 0
+ReadSoFar codes f n = (k : ℕ) → codes k ≡ (ltb k n && f k)
+
+ltb_same : (n : ℕ) → ltb n n ≡ false
+ltb_same n = not_less (ltb n n) refl
+  where
+    not_less : (b : Bool) → ltb n n ≡ b → b ≡ false
+    not_less true e = absurd (let l : n < n = ltb-true n n e in omega arith)
+    not_less false e = refl
+
+ltb_next : (k n : ℕ) → k ≢ n → ltb k n ≡ ltb k (n + 1)
+ltb_next k n d = go (ltb k n) refl (ltb k (n + 1)) refl
+  where
+    go : (a : Bool) → ltb k n ≡ a → (b : Bool) → ltb k (n + 1) ≡ b → a ≡ b
+    go true e true f = refl
+    go false e false f = refl
+    go true e false f = let l : k < n = ltb-true k n e in
+        (let m : k < n + 1 = omega arith in sym (sym f ∙ lt-ltb k (n + 1) m))
+    go false e true f = elim (same_or_less k n (ltb-true k (n + 1) f))
+        [ inl z ↦ absurd (d z) | inr l ↦ sym e ∙ lt-ltb k n l ]
+
+pub same_or_not : (x y : ℕ) → (x ≡ y) ⊎ (x ≢ y)
+same_or_not zero zero = inl refl
+same_or_not zero (suc y) = inr (λ e. absurd (omega arith))
+same_or_not (suc x) zero = inr (λ e. absurd (omega arith))
+same_or_not (suc x) (suc y) = elim (same_or_not x y) [ inl e ↦ inl (ap suc e) | inr d ↦ inr (λ e. d (omega arith)) ]
+
+pub read_none : (codes : Codes) (f : ℕ → Bool) → ((k : ℕ) → codes k ≡ false) → ReadSoFar codes f 0
+read_none codes f h k = h k ∙ sym (none (ltb k 0) refl)
+  where
+    none : (b : Bool) → ltb k 0 ≡ b → (b && f k) ≡ false
+    none true e = absurd (let l : k < 0 = ltb-true k 0 e in omega arith)
+    none false e = refl
+
+pub read_more : (old new : Codes) (f : ℕ → Bool) (n : ℕ) (b : Bool) → ReadSoFar old f n → new n ≡ (old n || b)
+    → ((k : ℕ) → k ≢ n → new k ≡ old k) → b ≡ f n → ReadSoFar new f (n + 1)
+read_more old new f n b h here others e k = elim (same_or_not k n) [
+  | inl z ↦ subst (λ (u : ℕ). new u ≡ (ltb u (n + 1) && f u)) (sym z)
+      (here ∙ (ap (λ (x : Bool). x || b) (h n ∙ ap (λ (x : Bool). x && f n) (ltb_same n))
+      ∙ (e ∙ ap (λ (x : Bool). x && f n) (sym (lt-ltb n (n + 1) (omega arith))))))
+  | inr d ↦ others k d ∙ (h k ∙ ap (λ (x : Bool). x && f k) (ltb_next k n d))
+]
+
+pub read_sure_done : (codes : Codes) (f : ℕ → Status) (c n : ℕ) → ReadSoFar codes (λ k. is_sure (f (c + k))) n
+    → codes ≡ sure_codes f c n
+unfolding sure_codes
+read_sure_done codes f c n h = fun_ext h
+
+pub read_possible_done : (codes : Codes) (f : ℕ → Status) (c n : ℕ) → ReadSoFar codes (λ k. is_possible (f (c + k))) n
+    → codes ≡ possible_codes f c n
+unfolding possible_codes
+read_possible_done codes f c n h = fun_ext h

@@ -1,0 +1,161 @@
+use Rattle.std.proofs.Common.{ap, ◌∙◌, ◌+◌, rules}
+use Rattle.est_kernel.specs.declared.statement.Statement.TheFolds.{the_lemmas}
+use Rattle.est_meaning.specs.Status.{with_local}
+use Rattle.est_meaning.specs.declared.status.Status.{Status}
+use Rattle.est_rounds.specs.Views.{env_of}
+use Rattle.est_micro.proofs.BegunNodes.{present_begun, seq_begun, par_begun, suspend_begun, trap_begun, again_begun}
+use Rattle.est_micro.proofs.BegunNodes.{loop_begun, local_begun, within_one, within_two, within_next, within_local}
+use Rattle.est_micro.proofs.BegunNodes.{within_told}
+use Rattle.est_micro.proofs.begin.+begin.Goals as goal
+
+pub begin_present-returns : goal.begin_present-returns
+begin_present-returns t c = λ q a b asks.
+    present_begun c.args.at q a c.args.p.now b c.args.q.now c.args.gate c.args.asked _ _ _ _ c.args.env.now _ _ _ _ _ _
+    _ _ _ asks
+    c.learn-go.ensures.learns c.learn-go.ensures.known c.and.ensures c.opposite.ensures c.and-2.ensures
+    c.begin-first.ensures
+    c.begin-second.ensures c.either-own.ensures c.leave.ensures
+
+pub begin_suspend-returns : goal.begin_suspend-returns
+begin_suspend-returns t c = λ q a.
+    suspend_begun c.args.at q a c.args.p.now c.args.gate _ c.args.env.now _ _ _ _ _ _ c.learn-go.ensures.learns
+    c.learn-go.ensures.known c.begin-body.ensures c.leave.ensures
+
+pub begin_seq-returns : goal.begin_seq-returns
+begin_seq-returns t c = λ a b.
+    seq_begun c.args.at a c.args.p.now b c.args.q.now c.args.gate _ _ c.args.env.now _ _ _ _ _ _ _ _ _
+    c.learn-go.ensures.learns c.learn-go.ensures.known c.ends-later.ensures c.begin-first.ensures c.begin-second.ensures
+    c.followed-own.ensures c.leave.ensures
+
+pub begin_par-returns : goal.begin_par-returns
+begin_par-returns t c = λ a b.
+    par_begun c.args.at a c.args.p.now b c.args.q.now c.args.gate _ c.args.env.now _ _ _ _ _ _ _ _ _
+    c.learn-go.ensures.learns c.learn-go.ensures.known c.begin-first.ensures c.begin-second.ensures
+    c.beside-own.ensures c.leave.ensures
+
+pub begin_trap-returns : goal.begin_trap-returns
+begin_trap-returns t c = λ a.
+    trap_begun c.args.at a c.args.p.now c.args.gate _ c.args.env.now _ _ _ _ _ _ _ c.learn-go.ensures.learns
+    c.learn-go.ensures.known c.begin-body.ensures c.out_of_trap-own.ensures c.leave.ensures
+
+pub begin_again-returns : goal.begin_again-returns
+begin_again-returns t c = λ a.
+    again_begun c.args.at.main c.args.at.cell c.args.at.traps a c.args.p.now c.args.gate _ c.args.env.now _ _ _ _ _ _
+    c.requires.main c.learn-go.ensures.learns c.learn-go.ensures.known c.begin-body.ensures c.leave.ensures
+
+pub begin_loop-returns : goal.begin_loop-returns
+begin_loop-returns t c = λ a.
+    loop_begun c.args.at.main c.args.at.cell c.args.at.traps a c.args.p.now c.args.gate _ c.args.env.now _ _ _ _ _ _ _ _
+    _
+    c.requires.main c.learn-go.ensures.learns c.learn-go.ensures.known c.begin-first.ensures c.begin-again.ensures
+    c.emitting-own.ensures c.leave.ensures
+
+pub begin_local-returns : goal.begin_local-returns
+begin_local-returns t c = λ a.
+    local_begun c.args.at c.args.s a c.args.p.now c.args.gate _ _ c.args.env.now _ _ _ _ _ _ _ _ _
+    c.learn-go.ensures.learns c.learn-go.ensures.known
+    (c.set_local-inside.ensures ∙ ap (λ (v : Status). with_local (env_of c.args.env.now) c.args.s.index v)
+    c.status.ensures)
+    c.begin-body.ensures c.status_of.ensures c.learn.ensures.learns
+    c.hiding-own.ensures c.leave.ensures
+
+pub begin_again-leave-requires-clause-within : goal.begin_again-leave-requires-clause-within
+begin_again-leave-requires-clause-within t c =
+    within_one _ _ c.args.table.now.cells.items _ _ _ _ _ _ _ c.requires.within c.learn-go.ensures.learns.size
+    c.begin-body.ensures
+
+pub begin_suspend-leave-requires-clause-within : goal.begin_suspend-leave-requires-clause-within
+begin_suspend-leave-requires-clause-within t c =
+    within_one _ _ c.args.table.now.cells.items _ _ _ _ _ _ _ c.requires.within c.learn-go.ensures.learns.size
+    c.begin-body.ensures
+
+pub begin_trap-leave-requires-clause-within : goal.begin_trap-leave-requires-clause-within
+begin_trap-leave-requires-clause-within t c =
+    within_one _ _ c.args.table.now.cells.items _ _ _ _ _ _ _ c.requires.within c.learn-go.ensures.learns.size
+    c.begin-body.ensures
+
+pub begin_loop-leave-requires-clause-within : goal.begin_loop-leave-requires-clause-within
+begin_loop-leave-requires-clause-within t c =
+    within_two _ _ _ c.args.table.now.cells.items _ _ _ _ _ _ _ _ _ _ _ _ _ c.requires.within
+    c.learn-go.ensures.learns.size c.begin-first.ensures
+    c.begin-again.ensures
+
+pub begin_seq-leave-requires-clause-within : goal.begin_seq-leave-requires-clause-within
+begin_seq-leave-requires-clause-within t c =
+    within_two _ _ _ c.args.table.now.cells.items _ _ _ _ _ _ _ _ _ _ _ _ _ c.requires.within
+    c.learn-go.ensures.learns.size c.begin-first.ensures
+    c.begin-second.ensures
+
+pub begin_seq-begin-second-requires : goal.begin_seq-begin-second-requires
+begin_seq-begin-second-requires t c = (
+  search (rules, the_lemmas),
+  (
+    c.requires.fits.1,
+    (
+      within_next c.args.table.now.cells.items _ _ _ _ _ _ _ _ c.begin-first.ensures c.requires.within
+          c.learn-go.ensures.learns.size,
+      c.requires.second_traps,
+    ),
+  ),
+)
+
+pub begin_par-leave-requires-clause-within : goal.begin_par-leave-requires-clause-within
+begin_par-leave-requires-clause-within t c =
+    within_two _ _ _ c.args.table.now.cells.items _ _ _ _ _ _ _ _ _ _ _ _ _ c.requires.within
+    c.learn-go.ensures.learns.size c.begin-first.ensures
+    c.begin-second.ensures
+
+pub begin_par-begin-second-requires : goal.begin_par-begin-second-requires
+begin_par-begin-second-requires t c = (
+  search (rules, the_lemmas),
+  (
+    c.requires.fits.1,
+    (
+      within_next c.args.table.now.cells.items _ _ _ _ _ _ _ _ c.begin-first.ensures c.requires.within
+          c.learn-go.ensures.learns.size,
+      c.requires.second_traps,
+    ),
+  ),
+)
+
+pub begin_present-leave-requires-clause-within : goal.begin_present-leave-requires-clause-within
+begin_present-leave-requires-clause-within t c =
+    within_two _ _ _ c.args.table.now.cells.items _ _ _ _ _ _ _ _ _ _ _ _ _ c.requires.within
+    c.learn-go.ensures.learns.size c.begin-first.ensures
+    c.begin-second.ensures
+
+pub begin_present-begin-second-requires : goal.begin_present-begin-second-requires
+begin_present-begin-second-requires t c = (
+  search (rules, the_lemmas),
+  (
+    c.requires.fits.1,
+    (
+      within_next c.args.table.now.cells.items _ _ _ _ _ _ _ _ c.begin-first.ensures c.requires.within
+          c.learn-go.ensures.learns.size,
+      c.requires.second_traps,
+    ),
+  ),
+)
+
+pub begin_loop-begin-again-requires : goal.begin_loop-begin-again-requires
+begin_loop-begin-again-requires t c = (
+  search (rules, the_lemmas),
+  (
+    c.requires.fits,
+    (
+      within_next c.args.table.now.cells.items _ _ _ _ _ _ _ _ c.begin-first.ensures
+          (rw c.requires.main c.requires.within) c.learn-go.ensures.learns.size,
+      c.requires.traps,
+    ),
+  ),
+)
+
+pub begin_local-learn-requires : goal.begin_local-learn-requires
+begin_local-learn-requires t c =
+    within_local (c.args.at.cell + c.args.at.traps) _ c.args.table.now.cells.items _ _ _ _ _ _ _ c.requires.within
+    c.learn-go.ensures.learns.size c.begin-body.ensures
+
+pub begin_local-leave-requires-clause-within : goal.begin_local-leave-requires-clause-within
+begin_local-leave-requires-clause-within t c =
+    within_told (c.args.at.cell + c.args.at.traps) _ c.args.table.now.cells.items _ _ _ _ _ _ _ _ c.requires.within
+    c.learn-go.ensures.learns.size c.begin-body.ensures c.learn.ensures.learns.size

@@ -1,0 +1,22 @@
+use Rattle.est_micro.proofs.Outcomes.{done_values, reaction_done}
+use Rattle.est_micro.proofs.micro.Micro.run.Goals as goal
+
+pub returns-in-Done-clause-ok : goal.returns-in-Done-clause-ok
+returns-in-Done-clause-ok c =
+    rw c.in-Done.is
+    (reaction_done c.args.kernel.now c.args.inputs.now _ c.settle-settled.result c.args.kernel.now.loop_safe
+    (rw c.in-Done.is at c.settle-settled.ensures))
+
+pub returns-in-Done-clause-values : goal.returns-in-Done-clause-values
+returns-in-Done-clause-values c =
+    rw c.in-Done.is (done_values c.args.kernel.now _ _ c.settle-settled.result c.args.kernel.now.loop_safe
+    (rw c.in-Done.is at c.settle-settled.ensures))
+
+pub outcome-requires-clause-lives : goal.outcome-requires-clause-lives
+outcome-requires-clause-lives c = λ h. cc (c.in-Fresh.is, h)
+
+pub outcome-requires-clause-from : goal.outcome-requires-clause-from
+outcome-requires-clause-from c = λ p h. cc (c.in-Fresh.is, h)
+
+pub outcome-requires-in-Paused-clause-lives : goal.outcome-requires-in-Paused-clause-lives
+outcome-requires-in-Paused-clause-lives c = λ h. cc (c.in-Paused.is, h)

@@ -1,0 +1,27 @@
+-- What the engine promises beside the contract of every engine (this project's own form).
+use Rattle.std.specs.Prelude.{◌≡◌, ℕ, Bool, List, length}
+use Rattle.est_kernel.specs.declared.kernel.Kernel.{Kernel}
+use Rattle.est_kernel.specs.Pauses.{pauses_of}
+use Rattle.est_kernel.specs.declared.pause_set.PauseSet.{PauseSet}
+use Rattle.est_kernel.specs.declared.state.State.{State}
+use Rattle.est_kernel.specs.declared.state.State.TheVariants.{Paused}
+use Rattle.est_meaning.specs.declared.status.Status.{Status}
+use Rattle.est_cells.specs.Decided.{IsReactionOf, TableDecided}
+use Rattle.est_meaning.specs.Rounds.{judged_signals}
+use Rattle.est_net.specs.Layout.{cell_count, output_count}
+use Rattle.est_net.specs.declared.net.Net.{Net}
+use Rattle.est_micro.specs.Runs.{table_of}
+
+-- the table is that of the kernel
+pub record IsNetOf (net : Net) (k : Kernel) : Type 0 where
+  pub size : length net.table.cells.items ≡ cell_count k
+  pub outputs : net.outputs ≡ output_count k.interface
+
+-- every cell is decided, with its value in the reaction
+pub record HasValues (k : Kernel) (x : State) (inputs : ℕ → Bool) (cells : List Status) : Type 0 where
+  pub decided : TableDecided (judged_signals k.interface inputs) k.root (table_of k.interface k.root cells)
+  pub values : IsReactionOf (judged_signals k.interface inputs) inputs k.root x (table_of k.interface k.root cells)
+
+-- the pauses from which a state goes on, if it does
+abbrev pub GoesOnFrom : State → (ℕ → Bool) → Type 0
+GoesOnFrom x from = (p : PauseSet) → x ≡ Paused p → from ≡ pauses_of p

@@ -1,0 +1,7 @@
+pub mod Sweeps
+pub mod Laws
+pub mod Views
+pub mod Runs
+pub mod Outputs
+pub mod Engine
+pub mod Pausing

@@ -1,0 +1,135 @@
+-- One sweep over a sheet, in program order: each cell that is open is told what its gate says then (this project's own
+-- form).
+use Rattle.std.specs.Prelude.{ℕ, Bool, true, false, cond}
+use Rattle.est_kernel.specs.Codes.{Codes}
+use Rattle.est_kernel.specs.View.{query_of}
+use Rattle.est_kernel.specs.declared.statement.Statement.{Statement}
+use Rattle.est_kernel.specs.declared.statement.Statement.TheVariants.{Nothing, Pause, Emit, Present', Suspend', Seq'}
+use Rattle.est_kernel.specs.declared.statement.Statement.TheVariants.{Loop', Par', Trap', Exit, Local' as Binder'}
+use Rattle.est_meaning.specs.States.{is_live}
+use Rattle.est_meaning.specs.Status.{Env, opposite, and_status, status_of, with_local, verdict}
+use Rattle.est_meaning.specs.declared.status.Status.{Status}
+use Rattle.est_meaning.specs.declared.status.Status.TheVariants.{Absent}
+use Rattle.est_cells.specs.Gates.{ends, emitted_status, gates, live_gates}
+use Rattle.est_cells.specs.Tables.{Cells, Node, Parts, Sheet, map_again, is_sure, is_possible}
+use Rattle.est_net.specs.Cells.{learned}
+
+-- of code cells, m those that are true and n those that aren't false, that are told a, what is surely given, and b,
+-- what is possibly: those that are then true, and those that aren't false
+unfoldable pub sure_told : (m n a b : Codes) → Codes
+sure_told m n a b k = is_sure (learned (verdict (m k) (n k)) (verdict (a k) (b k)))
+
+unfoldable pub may_told : (m n a b : Codes) → Codes
+may_told m n a b k = is_possible (learned (verdict (m k) (n k)) (verdict (a k) (b k)))
+
+-- the node with this in its go cell, and with these parts
+abbrev pub entered : {P : Type 0} → Status → Node P → P → Node P
+entered h T x = record { cells = record { go = h; must = T.cells.must; may = T.cells.may }; parts = x }
+
+-- the node with its code cells told
+abbrev pub left : {P : Type 0} → Node P → Cells → Node P
+left U y = record {
+  cells = record {
+    go = U.cells.go;
+    must = sure_told U.cells.must U.cells.may y.must y.may;
+    may = may_told U.cells.must U.cells.may y.must y.may;
+  };
+  parts = U.parts;
+}
+
+-- the sheet of a statement that is begun, if at all, by the gate g, after a sweep; f sweeps the parts, by what is in
+-- the go cell
+abbrev pub sweep_by : (main : Bool) (s : Statement) → (Status → Parts main s → Parts main s) → Env → Status
+    → Sheet main s
+    → Sheet main s
+sweep_by main s f e g T =
+    let h = learned T.cells.go g in
+    let U = entered h T (f h T.parts) in
+    left U (gates main s g e U).cells
+
+-- the parts of a statement that is begun, if at all, after a sweep; h is in its go cell
+abbrev pub swept_parts : (main : Bool) (s : Statement) → Env → Status → Parts main s → Parts main s
+swept_parts main Nothing e h x = tt
+swept_parts main (Pause n) e h x = tt
+swept_parts main (Emit s) e h x = tt
+swept_parts main (Exit k) e h x = tt
+swept_parts main (Present' t a p b q) e h x =
+    let v = status_of e (query_of t) in
+    record {
+      first = sweep_by main p (swept_parts main p e) e (and_status h v) x.first;
+      second = sweep_by main q (swept_parts main q e) e (and_status h (opposite v)) x.second;
+    }
+swept_parts main (Suspend' t a p) e h x = sweep_by main p (swept_parts main p e) e h x
+swept_parts main (Seq' a p b q) e h x =
+    let y = sweep_by main p (swept_parts main p e) e h x.first in
+    record { first = y; second = sweep_by main q (swept_parts main q e) e (ends y.cells) x.second }
+swept_parts main (Loop' a p) e h x = record {
+  first = sweep_by main p (swept_parts main p e) e h x.first;
+  second = map_again main (sweep_by false p (swept_parts false p e) e Absent) x.second;
+}
+swept_parts main (Par' a p b q) e h x = record {
+  first = sweep_by main p (swept_parts main p e) e h x.first;
+  second = sweep_by main q (swept_parts main q e) e h x.second;
+}
+swept_parts main (Trap' a p) e h x = sweep_by main p (swept_parts main p e) e h x
+swept_parts main (Binder' s a p) e h x =
+    let f = with_local e s.index x.status in
+    let y = sweep_by main p (swept_parts main p f) f h x.body in
+    record { status = learned x.status (emitted_status main p s.index y); body = y }
+
+-- the sheet of a statement that is begun, if at all, by the gate g, after a sweep
+abbrev pub swept : (main : Bool) (s : Statement) → Env → Status → Sheet main s → Sheet main s
+swept main s e g T = sweep_by main s (swept_parts main s e) e g T
+
+-- the sheet of a statement that goes on, if it is run, by r, after a sweep
+abbrev pub live_sweep_by : (s : Statement) → (Status → Parts true s → Parts true s) → (ℕ → Bool) → Status → Env
+    → Sheet true s
+    → Sheet true s
+live_sweep_by s f bits r e T =
+    let h = learned T.cells.go Absent in
+    let U = entered h T (f h T.parts) in
+    left U (live_gates s bits r e U).cells
+
+-- the parts of a statement that goes on, if it is run, by r, after a sweep; h is in its go cell
+abbrev pub live_swept_parts : (s : Statement) → (ℕ → Bool) → Status → Env → Status → Parts true s → Parts true s
+live_swept_parts Nothing bits r e h x = tt
+live_swept_parts (Pause n) bits r e h x = tt
+live_swept_parts (Emit s) bits r e h x = tt
+live_swept_parts (Exit k) bits r e h x = tt
+live_swept_parts (Present' t a p b q) bits r e h x =
+    let v = status_of e (query_of t) in
+    record {
+      first = cond (is_live p bits) (live_sweep_by p (live_swept_parts p bits r e) bits r e x.first)
+          (sweep_by true p (swept_parts true p e) e (and_status h v) x.first);
+      second = cond (is_live p bits) (sweep_by true q (swept_parts true q e) e (and_status h (opposite v)) x.second)
+          (live_sweep_by q (live_swept_parts q bits r e) bits r e x.second);
+    }
+live_swept_parts (Suspend' t a p) bits r e h x =
+    let inside = and_status r (opposite (status_of e (query_of t))) in
+    live_sweep_by p (live_swept_parts p bits inside e) bits inside e x
+live_swept_parts (Seq' a p b q) bits r e h x =
+    let y = cond (is_live p bits) (live_sweep_by p (live_swept_parts p bits r e) bits r e x.first)
+    (sweep_by true p (swept_parts true p e) e h x.first) in
+    record {
+      first = y;
+      second = cond (is_live p bits) (sweep_by true q (swept_parts true q e) e (ends y.cells) x.second)
+          (live_sweep_by q (live_swept_parts q bits r e) bits r e x.second);
+    }
+live_swept_parts (Loop' a p) bits r e h x =
+    let y = live_sweep_by p (live_swept_parts p bits r e) bits r e x.first in
+    record { first = y; second = sweep_by false p (swept_parts false p e) e (ends y.cells) x.second }
+live_swept_parts (Par' a p b q) bits r e h x = record {
+  first = cond (is_live p bits) (live_sweep_by p (live_swept_parts p bits r e) bits r e x.first)
+      (sweep_by true p (swept_parts true p e) e h x.first);
+  second = cond (is_live q bits) (live_sweep_by q (live_swept_parts q bits r e) bits r e x.second)
+      (sweep_by true q (swept_parts true q e) e h x.second);
+}
+live_swept_parts (Trap' a p) bits r e h x = live_sweep_by p (live_swept_parts p bits r e) bits r e x
+live_swept_parts (Binder' s a p) bits r e h x =
+    let f = with_local e s.index x.status in
+    let y = live_sweep_by p (live_swept_parts p bits r f) bits r f x.body in
+    record { status = learned x.status (emitted_status true p s.index y); body = y }
+
+-- the sheet of a statement that goes on from its pauses, if it is run, by r, after a sweep
+abbrev pub live_swept : (s : Statement) → (ℕ → Bool) → Status → Env → Sheet true s → Sheet true s
+live_swept s bits r e T = live_sweep_by s (live_swept_parts s bits r e) bits r e T

@@ -1,0 +1,330 @@
+//! A sweep through the cells of a statement that is begun, if at all.
+//!
+//! What calls itself here does so on a part of the statement that it was given, and goes as deep as
+//! the statement is.
+
+ghost use Rattle.std.specs.Prelude.{◌≡◌, ◌<◌, ◌≤◌, ◌+◌, true, false, length};
+ghost use Rattle.est_kernel.specs.CodeViews.{code_of};
+ghost use Rattle.est_kernel.specs.Limits.{trap_depth};
+ghost use Rattle.est_kernel.specs.Masks.{FitsMasks, HasSignalBit};
+ghost use Rattle.est_kernel.specs.View.{query_of, term_of};
+ghost use Rattle.est_kernel.specs.declared.statement.Statement.TheVariants.{Nothing, Pause, Emit};
+ghost use Rattle.est_kernel.specs.declared.statement.Statement.TheVariants.{Present', Suspend'};
+ghost use Rattle.est_kernel.specs.declared.statement.Statement.TheVariants.{Seq', Loop', Par'};
+ghost use Rattle.est_kernel.specs.declared.statement.Statement.TheVariants.{Trap', Exit};
+ghost use Rattle.est_kernel.specs.declared.statement.Statement.TheVariants.{Local' as Binder'};
+ghost use Rattle.est_meaning.specs.Status.{status_of};
+ghost use Rattle.est_cells.specs.Tables.{sheet_size};
+ghost use Rattle.est_rounds.specs.Views.{env_of};
+ghost use Rattle.est_micro.specs.Views.{IsBegun};
+
+use crate::cells::{self, Found, Place};
+use est_kernel::completion::Completion;
+use est_kernel::statement::{LocalSignal, Signal, Statement};
+use est_meaning::status::Status;
+use est_net::table::Table;
+use est_rounds::answer::answer_to;
+use est_rounds::signal_set::{self, Env};
+
+/// Sweeps a statement without parts that gives this code where it is begun.
+fn begin_leaf(table: &mut Table, at: Place, completion: Completion, gate: Status) -> Found
+    requires code { code_of completion < 64 }
+    requires within { at.cell + at.traps + 3 ≤ length table.old.cells.items }
+    requires few { at.traps ≤ 62 }
+    ensures nothing { (e : _) → code_of completion ≡ 0
+        → IsBegun Nothing at gate e table.old.cells.items table.new.cells.items result }
+    ensures pause { (e n : _) → code_of completion ≡ 1
+        → IsBegun (Pause n) at gate e table.old.cells.items table.new.cells.items result }
+    ensures exit { (e k : _) → code_of completion ≡ k.index + 2
+        → IsBegun (Exit k) at gate e table.old.cells.items table.new.cells.items result }
+{
+    let go = table.learn(at.cell, gate);
+    let own = cells::leaf(go, completion);
+    cells::leave(table, at, &own, at.cell + at.traps + 3)
+}
+
+/// Sweeps an emission.
+fn begin_emit(table: &mut Table, at: Place, signal: Signal, gate: Status) -> Found
+    requires bit { HasSignalBit signal }
+    requires within { at.cell + at.traps + 3 ≤ length table.old.cells.items }
+    requires few { at.traps ≤ 62 }
+    ensures { (e : _)
+        → IsBegun (Emit signal) at gate e table.old.cells.items table.new.cells.items result }
+{
+    let go = table.learn(at.cell, gate);
+    let own = cells::emission(go, signal);
+    cells::leave(table, at, &own, at.cell + at.traps + 3)
+}
+
+/// Sweeps a `present` whose test has this status.
+#[cycle(begin)]
+fn begin_present(
+    table: &mut Table,
+    at: Place,
+    asked: Status,
+    p: &Statement,
+    q: &Statement,
+    gate: Status,
+    env: &Env,
+) -> Found
+    requires fits { FitsMasks p.now × FitsMasks q.now }
+    requires within { at.cell + at.traps + 3 + sheet_size at.main p.now at.traps
+        + sheet_size at.main q.now at.traps
+        ≤ length table.old.cells.items }
+    requires first_traps { at.traps + trap_depth (term_of p.now) ≤ 62 }
+    requires second_traps { at.traps + trap_depth (term_of q.now) ≤ 62 }
+    ensures { (t a b : _) → asked ≡ status_of (env_of env.now) (query_of t)
+        → IsBegun (Present' t a p.now b q.now) at gate env.now table.old.cells.items
+        table.new.cells.items result }
+{
+    let go = table.learn(at.cell, gate);
+    let place = Place {
+        main: at.main,
+        cell: at.cell + at.traps + 3,
+        traps: at.traps,
+    };
+    let first = begin(table, place, p, go.and(asked), env);
+    let place = Place {
+        main: at.main,
+        cell: first.past,
+        traps: at.traps,
+    };
+    let second = begin(table, place, q, go.and(asked.opposite()), env);
+    let own = cells::either(&first.judged, &second.judged);
+    cells::leave(table, at, &own, second.past)
+}
+
+/// Sweeps a `suspend`.
+#[cycle(begin)]
+fn begin_suspend(table: &mut Table, at: Place, p: &Statement, gate: Status, env: &Env) -> Found
+    requires fits { FitsMasks p.now }
+    requires within { at.cell + at.traps + 3 + sheet_size at.main p.now at.traps
+        ≤ length table.old.cells.items }
+    requires traps { at.traps + trap_depth (term_of p.now) ≤ 62 }
+    ensures { (t a : _)
+        → IsBegun (Suspend' t a p.now) at gate env.now table.old.cells.items table.new.cells.items
+        result }
+{
+    let go = table.learn(at.cell, gate);
+    let place = Place {
+        main: at.main,
+        cell: at.cell + at.traps + 3,
+        traps: at.traps,
+    };
+    let body = begin(table, place, p, go, env);
+    cells::leave(table, at, &body.judged, body.past)
+}
+
+/// Sweeps a `;`.
+#[cycle(begin)]
+fn begin_seq(
+    table: &mut Table,
+    at: Place,
+    p: &Statement,
+    q: &Statement,
+    gate: Status,
+    env: &Env,
+) -> Found
+    requires fits { FitsMasks p.now × FitsMasks q.now }
+    requires within { at.cell + at.traps + 3 + sheet_size at.main p.now at.traps
+        + sheet_size at.main q.now at.traps
+        ≤ length table.old.cells.items }
+    requires first_traps { at.traps + trap_depth (term_of p.now) ≤ 62 }
+    requires second_traps { at.traps + trap_depth (term_of q.now) ≤ 62 }
+    ensures { (a b : _)
+        → IsBegun (Seq' a p.now b q.now) at gate env.now table.old.cells.items table.new.cells.items
+        result }
+{
+    let go = table.learn(at.cell, gate);
+    let place = Place {
+        main: at.main,
+        cell: at.cell + at.traps + 3,
+        traps: at.traps,
+    };
+    let first = begin(table, place, p, go, env);
+    let later = cells::ends(&first.judged);
+    let place = Place {
+        main: at.main,
+        cell: first.past,
+        traps: at.traps,
+    };
+    let second = begin(table, place, q, later, env);
+    let own = cells::followed(&first.judged, &second.judged);
+    cells::leave(table, at, &own, second.past)
+}
+
+/// Sweeps a loop that can go on.
+#[cycle(begin)]
+fn begin_loop(table: &mut Table, at: Place, p: &Statement, gate: Status, env: &Env) -> Found
+    requires main { at.main ≡ true }
+    requires fits { FitsMasks p.now }
+    requires within { at.cell + at.traps + 3 + sheet_size true p.now at.traps
+        + sheet_size false p.now at.traps
+        ≤ length table.old.cells.items }
+    requires traps { at.traps + trap_depth (term_of p.now) ≤ 62 }
+    ensures { (a : _)
+        → IsBegun (Loop' a p.now) at gate env.now table.old.cells.items
+        table.new.cells.items result }
+{
+    let go = table.learn(at.cell, gate);
+    let place = Place {
+        main: at.main,
+        cell: at.cell + at.traps + 3,
+        traps: at.traps,
+    };
+    let first = begin(table, place, p, go, env);
+    let place = Place {
+        main: false,
+        cell: first.past,
+        traps: at.traps,
+    };
+    let again = begin(table, place, p, Status::Absent, env);
+    let own = cells::emitting(&first.judged, &again.judged);
+    cells::leave(table, at, &own, again.past)
+}
+
+/// Sweeps a loop that was begun again.
+#[cycle(begin)]
+fn begin_again(table: &mut Table, at: Place, p: &Statement, gate: Status, env: &Env) -> Found
+    requires main { at.main ≡ false }
+    requires fits { FitsMasks p.now }
+    requires within { at.cell + at.traps + 3 + sheet_size false p.now at.traps
+        ≤ length table.old.cells.items }
+    requires traps { at.traps + trap_depth (term_of p.now) ≤ 62 }
+    ensures { (a : _)
+        → IsBegun (Loop' a p.now) at gate env.now table.old.cells.items
+        table.new.cells.items result }
+{
+    let go = table.learn(at.cell, gate);
+    let place = Place {
+        main: at.main,
+        cell: at.cell + at.traps + 3,
+        traps: at.traps,
+    };
+    let body = begin(table, place, p, go, env);
+    cells::leave(table, at, &body.judged, body.past)
+}
+
+/// Sweeps a `||`.
+#[cycle(begin)]
+fn begin_par(
+    table: &mut Table,
+    at: Place,
+    p: &Statement,
+    q: &Statement,
+    gate: Status,
+    env: &Env,
+) -> Found
+    requires fits { FitsMasks p.now × FitsMasks q.now }
+    requires within { at.cell + at.traps + 3 + sheet_size at.main p.now at.traps
+        + sheet_size at.main q.now at.traps
+        ≤ length table.old.cells.items }
+    requires first_traps { at.traps + trap_depth (term_of p.now) ≤ 62 }
+    requires second_traps { at.traps + trap_depth (term_of q.now) ≤ 62 }
+    ensures { (a b : _)
+        → IsBegun (Par' a p.now b q.now) at gate env.now table.old.cells.items table.new.cells.items
+        result }
+{
+    let go = table.learn(at.cell, gate);
+    let place = Place {
+        main: at.main,
+        cell: at.cell + at.traps + 3,
+        traps: at.traps,
+    };
+    let first = begin(table, place, p, go, env);
+    let place = Place {
+        main: at.main,
+        cell: first.past,
+        traps: at.traps,
+    };
+    let second = begin(table, place, q, go, env);
+    let own = cells::beside(&first.judged, &second.judged);
+    cells::leave(table, at, &own, second.past)
+}
+
+/// Sweeps a trap.
+#[cycle(begin)]
+fn begin_trap(table: &mut Table, at: Place, p: &Statement, gate: Status, env: &Env) -> Found
+    requires fits { FitsMasks p.now }
+    requires within { at.cell + at.traps + 3 + sheet_size at.main p.now
+        (at.traps + 1) ≤ length table.old.cells.items }
+    requires traps { at.traps + 1 + trap_depth (term_of p.now) ≤ 62 }
+    ensures { (a : _)
+        → IsBegun (Trap' a p.now) at gate env.now table.old.cells.items
+        table.new.cells.items result }
+{
+    let go = table.learn(at.cell, gate);
+    let place = Place {
+        main: at.main,
+        cell: at.cell + at.traps + 3,
+        traps: at.traps + 1,
+    };
+    let body = begin(table, place, p, go, env);
+    let own = cells::out_of_trap(&body.judged);
+    cells::leave(table, at, &own, body.past)
+}
+
+/// Sweeps a local signal's binder: its body, and then the cell of its status, by what the body
+/// emits.
+#[cycle(begin)]
+fn begin_local(
+    table: &mut Table,
+    at: Place,
+    s: LocalSignal,
+    p: &Statement,
+    gate: Status,
+    env: &Env,
+) -> Found
+    requires fits { (s.index < 64) × FitsMasks p.now }
+    requires within { at.cell + at.traps + 4 + sheet_size at.main p.now at.traps
+        ≤ length table.old.cells.items }
+    requires traps { at.traps + trap_depth (term_of p.now) ≤ 62 }
+    ensures { (a : _)
+        → IsBegun (Binder' s a p.now) at gate env.now table.old.cells.items table.new.cells.items
+        result }
+{
+    let go = table.learn(at.cell, gate);
+    let cell = at.cell + at.traps + 3;
+    let inside = signal_set::set_local(env, s, table.status(cell));
+    let place = Place {
+        main: at.main,
+        cell: cell + 1,
+        traps: at.traps,
+    };
+    let body = begin(table, place, p, go, &inside);
+    table.learn(cell, cells::status_of(&body.judged, s));
+    let own = cells::hiding(&body.judged, s);
+    cells::leave(table, at, &own, body.past)
+}
+
+/// Sweeps the cells of a statement that is begun, if at all, by the gate.
+#[cycle(begin)]
+pub fn begin(table: &mut Table, at: Place, s: &Statement, gate: Status, env: &Env) -> Found
+    requires fits { FitsMasks s.now }
+    requires within { at.cell + sheet_size at.main s.now at.traps ≤ length table.old.cells.items }
+    requires traps { at.traps + trap_depth (term_of s.now) ≤ 62 }
+    ensures { IsBegun s.now at gate env.now table.old.cells.items table.new.cells.items result }
+{
+    match s {
+        Statement::Nothing => begin_leaf(table, at, Completion::End, gate),
+        Statement::Pause(_) => begin_leaf(table, at, Completion::Pause, gate),
+        Statement::Exit(k) => begin_leaf(table, at, Completion::Exit(*k), gate),
+        Statement::Emit(signal) => begin_emit(table, at, *signal, gate),
+        Statement::Present(t, p, q) => {
+            let asked = answer_to(env, t);
+            begin_present(table, at, asked, p, q, gate, env)
+        }
+        Statement::Suspend(_, p) => begin_suspend(table, at, p, gate, env),
+        Statement::Seq(p, q) => begin_seq(table, at, p, q, gate, env),
+        Statement::Loop(p) => {
+            if at.main {
+                begin_loop(table, at, p, gate, env)
+            } else {
+                begin_again(table, at, p, gate, env)
+            }
+        }
+        Statement::Par(p, q) => begin_par(table, at, p, q, gate, env),
+        Statement::Trap(p) => begin_trap(table, at, p, gate, env),
+        Statement::Local(s, p) => begin_local(table, at, *s, p, gate, env),
+    }
+}

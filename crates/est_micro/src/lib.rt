@@ -1,0 +1,22 @@
+//! The microstep engine: it reacts by deciding the cells of a table, each once, until nothing more
+//! can be decided.
+//!
+//! `Micro` keeps the promise of every engine, for the kernel of its table: an outcome exactly where
+//! there is a reaction, and else exactly the undecided outputs. After an outcome each cell is
+//! decided, with its value in the reaction. A run takes no memory.
+//!
+//! A run goes over the statement in sweeps (`begin`, `resume`), and tells each open cell what
+//! follows from the others, in program order. After each sweep it tells the cells of the signals
+//! what is emitted (`outputs`). It ends after a sweep that decides nothing. The laws of `laws` say
+//! that this is enough: what a sweep decides is so, and where a sweep changes nothing, nothing more
+//! follows.
+#![tactic(auto)]
+
+mod begin;
+mod cells;
+pub mod laws;
+pub mod micro;
+mod next;
+mod outputs;
+mod resume;
+mod run;

@@ -1,0 +1,159 @@
+//! The microstep engine.
+
+ghost use Rattle.std.specs.Prelude.{◌≡◌, ◌≤◌, length, IfOk, IfErr, OnOk};
+ghost use Rattle.est_kernel.specs.Bits.{bits};
+ghost use Rattle.est_kernel.specs.Pauses.{pauses_of};
+ghost use Rattle.est_kernel.specs.declared.state.State.TheVariants.{Done};
+ghost use Rattle.est_meaning.specs.States.{IsState};
+ghost use Rattle.est_net.specs.Cells.{decided};
+ghost use Rattle.est_net.specs.Layout.{output_count};
+ghost use Rattle.est_rounds.specs.Contract.{HasNoReaction, IsReaction};
+ghost use Rattle.est_micro.specs.Engine.{GoesOnFrom, HasValues, IsNetOf};
+ghost use Rattle.est_micro.specs.Runs.{IsSettled};
+
+use crate::cells::Place;
+use crate::next::collect;
+use crate::run::{Settled, settle};
+use est_kernel::completion::Completion;
+use est_kernel::kernel::Kernel;
+use est_kernel::mask;
+use est_kernel::pause_set::PauseSet;
+use est_kernel::state::{Inputs, Outcome, State, Stuck};
+use est_net::net::Net;
+use est_net::table::Table;
+use est_rounds::engine::Engine;
+
+/// The engine that decides the cells of a table, each once, until nothing more can be decided.
+#[derive(Drop)]
+pub struct Micro {
+    net: Net,
+}
+
+/// The outcome of a kernel that has not ended, where nothing more can be decided: its pauses are
+/// read off the cells.
+fn outcome(
+    table: &Table,
+    kernel: &Kernel,
+    outputs: usize,
+    state: &State,
+    from: &PauseSet,
+    inputs: &Inputs,
+    settled: &Settled,
+) -> Result<Outcome, Stuck>
+    requires state { IsState kernel.now.root state.now }
+    requires lives { state.now ≡ Done → ⊥ }
+    requires from { GoesOnFrom state.now (pauses_of from.now) }
+    requires outputs { outputs ≡ output_count kernel.now.interface }
+    requires settled { IsSettled kernel.now state.now (bits inputs.now.signals)
+        table.now.cells.items settled.now }
+    ensures ok { IfOk result (λ o. IsReaction kernel.now state.now inputs.now o) }
+    ensures values { OnOk result
+        (HasValues kernel.now state.now (bits inputs.now.signals) table.now.cells.items) }
+    ensures stuck { IfErr result (λ s. HasNoReaction kernel.now state.now inputs.now s) }
+{
+    let must = settled.found.judged.must;
+    if must.codes.has(Completion::Pause) {
+        let mut next = PauseSet::new();
+        let place = Place {
+            main: true,
+            cell: outputs,
+            traps: 0,
+        };
+        collect(table, place, kernel.root(), true, from, &mut next);
+        return Ok(Outcome {
+            outputs: must.signals.interface,
+            next: State::Paused(next),
+        });
+    }
+    if must.codes.has(Completion::End) {
+        return Ok(Outcome {
+            outputs: must.signals.interface,
+            next: State::Done,
+        });
+    }
+    Err(Stuck {
+        undecided: mask::minus(
+            settled.env.possible.interface,
+            settled.env.present.interface,
+        ),
+    })
+}
+
+impl Micro {
+    /// The engine on this table.
+    pub fn new(net: Net) -> Micro
+        ensures { result.net ≡ net }
+    {
+        Micro { net }
+    }
+
+    /// The table, as the last run left it.
+    pub fn net(&self) -> &Net
+        ensures { result.now ≡ self.now.net }
+    {
+        &self.net
+    }
+
+    /// How many cells the last run decided.
+    pub fn steps(&self) -> usize
+        ensures count { result ≡ decided self.now.net.table.cells.items }
+        ensures bound { result ≤ length self.now.net.table.cells.items }
+    {
+        self.net.table.decided()
+    }
+
+    /// Reacts to the inputs of an instant, for the kernel of its table. Where there is a reaction,
+    /// each cell is decided, with its value in it.
+    pub fn run(&mut self, kernel: &Kernel, state: &State, inputs: &Inputs) -> Result<Outcome, Stuck>
+        requires net { IsNetOf self.old.net kernel.now }
+        requires state { IsState kernel.now.root state.now }
+        ensures net { IsNetOf self.new.net kernel.now }
+        ensures ok { IfOk result (λ o. IsReaction kernel.now state.now inputs.now o) }
+        ensures values { OnOk result
+            (HasValues kernel.now state.now (bits inputs.now.signals)
+            self.new.net.table.cells.items) }
+        ensures stuck { IfErr result (λ s. HasNoReaction kernel.now state.now inputs.now s) }
+    {
+        let outputs = self.net.outputs;
+        let settled = settle(&mut self.net.table, kernel, outputs, state, inputs.signals);
+        match state {
+            State::Done => Ok(Outcome {
+                outputs: settled.found.judged.must.signals.interface,
+                next: State::Done,
+            }),
+            State::Fresh => {
+                let from = PauseSet::new();
+                outcome(
+                    &self.net.table,
+                    kernel,
+                    outputs,
+                    state,
+                    &from,
+                    inputs,
+                    &settled,
+                )
+            }
+            State::Paused(from) => {
+                outcome(
+                    &self.net.table,
+                    kernel,
+                    outputs,
+                    state,
+                    from,
+                    inputs,
+                    &settled,
+                )
+            }
+        }
+    }
+}
+
+impl Engine for Micro {
+    ghost use Rattle.est_micro.specs.Engine.{IsNetOf};
+
+    ghost is_for = { λ m k. IsNetOf m.net k };
+
+    fn react(&mut self, kernel: &Kernel, state: &State, inputs: &Inputs) -> Result<Outcome, Stuck> {
+        self.run(kernel, state, inputs)
+    }
+}

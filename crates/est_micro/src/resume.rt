@@ -1,0 +1,404 @@
+//! A sweep through the cells of a statement that goes on from its pauses, if it is run.
+//!
+//! What calls itself here does so on a part of the statement that it was given, and goes as deep as
+//! the statement is.
+
+ghost use Rattle.std.specs.Prelude.{◌≡◌, ◌<◌, ◌≤◌, ◌+◌, ◌||◌, cond, true, false, length};
+ghost use Rattle.est_kernel.specs.CodeViews.{codes_of};
+ghost use Rattle.est_kernel.specs.Limits.{trap_depth};
+ghost use Rattle.est_kernel.specs.Masks.{FitsMasks};
+ghost use Rattle.est_kernel.specs.Pauses.{pauses_of};
+ghost use Rattle.est_kernel.specs.View.{query_of, term_of};
+ghost use Rattle.est_kernel.specs.declared.statement.Statement.TheVariants.{Pause, Present'};
+ghost use Rattle.est_kernel.specs.declared.statement.Statement.TheVariants.{Suspend', Seq', Loop'};
+ghost use Rattle.est_kernel.specs.declared.statement.Statement.TheVariants.{Par', Trap'};
+ghost use Rattle.est_kernel.specs.declared.statement.Statement.TheVariants.{Local' as Binder'};
+ghost use Rattle.est_meaning.specs.States.{is_live};
+ghost use Rattle.est_meaning.specs.Status.{status_of};
+ghost use Rattle.est_cells.specs.Gates.{sure_code, may_code};
+ghost use Rattle.est_cells.specs.Tables.{sheet_size};
+ghost use Rattle.est_rounds.specs.Views.{env_of, set_of};
+ghost use Rattle.est_micro.specs.Views.{IsChosen, IsJudged, IsResumed};
+
+use crate::begin::begin;
+use crate::cells::{self, Found, Place};
+use est_kernel::completion::Completion;
+use est_kernel::pause_set::PauseSet;
+use est_kernel::statement::{LocalSignal, Statement};
+use est_meaning::status::Status;
+use est_net::table::Table;
+use est_rounds::acts::Judgement;
+use est_rounds::answer::answer_to;
+use est_rounds::resume::has_live;
+use est_rounds::signal_set::{self, Env};
+
+/// Sweeps a pause, which ends where it is run.
+fn resume_pause(table: &mut Table, at: Place, run: Status) -> Found
+    requires within { at.cell + at.traps + 3 ≤ length table.old.cells.items }
+    requires few { at.traps ≤ 62 }
+    ensures { (e n pauses : _)
+        → IsResumed (Pause n) at pauses run e table.old.cells.items table.new.cells.items result }
+{
+    table.learn(at.cell, Status::Absent);
+    let own = cells::leaf(run, Completion::End);
+    cells::leave(table, at, &own, at.cell + at.traps + 3)
+}
+
+/// Sweeps a part that goes on, if it is run, where it is on, and else is begun, if at all, by the
+/// gate.
+#[cycle(resume)]
+fn part(
+    table: &mut Table,
+    at: Place,
+    p: &Statement,
+    pauses: &PauseSet,
+    is_on: bool,
+    gate: Status,
+    run: Status,
+    env: &Env,
+) -> Found
+    requires main { at.main ≡ true }
+    requires live { is_on ≡ true → is_live p.now (pauses_of pauses.now) ≡ true }
+    requires fits { FitsMasks p.now }
+    requires within { at.cell + sheet_size true p.now at.traps ≤ length table.old.cells.items }
+    requires traps { at.traps + trap_depth (term_of p.now) ≤ 62 }
+    ensures { IsChosen p.now at pauses.now is_on gate run env.now table.old.cells.items
+        table.new.cells.items result }
+{
+    if is_on {
+        resume(table, at, p, pauses, run, env)
+    } else {
+        begin(table, at, p, gate, env)
+    }
+}
+
+/// Sweeps a `present` whose test has this status.
+#[cycle(resume)]
+fn resume_present(
+    table: &mut Table,
+    at: Place,
+    asked: Status,
+    p: &Statement,
+    q: &Statement,
+    pauses: &PauseSet,
+    run: Status,
+    env: &Env,
+) -> Found
+    requires main { at.main ≡ true }
+    requires live { (is_live p.now (pauses_of pauses.now) || is_live q.now (pauses_of pauses.now))
+        ≡ true }
+    requires fits { FitsMasks p.now × FitsMasks q.now }
+    requires within { at.cell + at.traps + 3 + sheet_size true p.now at.traps
+        + sheet_size true q.now at.traps
+        ≤ length table.old.cells.items }
+    requires first_traps { at.traps + trap_depth (term_of p.now) ≤ 62 }
+    requires second_traps { at.traps + trap_depth (term_of q.now) ≤ 62 }
+    ensures { (t a b : _) → asked ≡ status_of (env_of env.now) (query_of t)
+        → IsResumed (Present' t a p.now b q.now) at pauses.now run env.now table.old.cells.items
+        table.new.cells.items result }
+{
+    let go = table.learn(at.cell, Status::Absent);
+    let is_on = has_live(p, pauses);
+    let place = Place {
+        main: at.main,
+        cell: at.cell + at.traps + 3,
+        traps: at.traps,
+    };
+    let first = part(table, place, p, pauses, is_on, go.and(asked), run, env);
+    let place = Place {
+        main: at.main,
+        cell: first.past,
+        traps: at.traps,
+    };
+    let second = part(
+        table,
+        place,
+        q,
+        pauses,
+        !is_on,
+        go.and(asked.opposite()),
+        run,
+        env,
+    );
+    let own = cells::either(&first.judged, &second.judged);
+    cells::leave(table, at, &own, second.past)
+}
+
+/// Sweeps a `suspend` whose test has this status.
+#[cycle(resume)]
+fn resume_suspend(
+    table: &mut Table,
+    at: Place,
+    asked: Status,
+    p: &Statement,
+    pauses: &PauseSet,
+    run: Status,
+    env: &Env,
+) -> Found
+    requires main { at.main ≡ true }
+    requires live { is_live p.now (pauses_of pauses.now) ≡ true }
+    requires fits { FitsMasks p.now }
+    requires within { at.cell + at.traps + 3 + sheet_size true p.now at.traps
+        ≤ length table.old.cells.items }
+    requires traps { at.traps + trap_depth (term_of p.now) ≤ 62 }
+    ensures { (t a : _) → asked ≡ status_of (env_of env.now) (query_of t)
+        → IsResumed (Suspend' t a p.now) at pauses.now run env.now table.old.cells.items
+        table.new.cells.items result }
+{
+    table.learn(at.cell, Status::Absent);
+    let place = Place {
+        main: at.main,
+        cell: at.cell + at.traps + 3,
+        traps: at.traps,
+    };
+    let body = resume(table, place, p, pauses, run.and(asked.opposite()), env);
+    let held = cells::leaf(run.and(asked), Completion::Pause);
+    let own = cells::with_codes(&body.judged, &held);
+    cells::leave(table, at, &own, body.past)
+}
+
+/// Sweeps a `;`.
+#[cycle(resume)]
+fn resume_seq(
+    table: &mut Table,
+    at: Place,
+    p: &Statement,
+    q: &Statement,
+    pauses: &PauseSet,
+    run: Status,
+    env: &Env,
+) -> Found
+    requires main { at.main ≡ true }
+    requires live { (is_live p.now (pauses_of pauses.now) || is_live q.now (pauses_of pauses.now))
+        ≡ true }
+    requires fits { FitsMasks p.now × FitsMasks q.now }
+    requires within { at.cell + at.traps + 3 + sheet_size true p.now at.traps
+        + sheet_size true q.now at.traps
+        ≤ length table.old.cells.items }
+    requires first_traps { at.traps + trap_depth (term_of p.now) ≤ 62 }
+    requires second_traps { at.traps + trap_depth (term_of q.now) ≤ 62 }
+    ensures { (a b : _)
+        → IsResumed (Seq' a p.now b q.now) at pauses.now run env.now table.old.cells.items
+        table.new.cells.items result }
+{
+    let go = table.learn(at.cell, Status::Absent);
+    let is_on = has_live(p, pauses);
+    let place = Place {
+        main: at.main,
+        cell: at.cell + at.traps + 3,
+        traps: at.traps,
+    };
+    let first = part(table, place, p, pauses, is_on, go, run, env);
+    let later = cells::ends(&first.judged);
+    let place = Place {
+        main: at.main,
+        cell: first.past,
+        traps: at.traps,
+    };
+    let second = part(table, place, q, pauses, !is_on, later, run, env);
+    let own = cells::followed(&first.judged, &second.judged);
+    cells::leave(table, at, &own, second.past)
+}
+
+/// Sweeps a loop.
+#[cycle(resume)]
+fn resume_loop(
+    table: &mut Table,
+    at: Place,
+    p: &Statement,
+    pauses: &PauseSet,
+    run: Status,
+    env: &Env,
+) -> Found
+    requires main { at.main ≡ true }
+    requires live { is_live p.now (pauses_of pauses.now) ≡ true }
+    requires fits { FitsMasks p.now }
+    requires within { at.cell + at.traps + 3 + sheet_size true p.now at.traps
+        + sheet_size false p.now at.traps
+        ≤ length table.old.cells.items }
+    requires traps { at.traps + trap_depth (term_of p.now) ≤ 62 }
+    ensures { (a : _)
+        → IsResumed (Loop' a p.now) at pauses.now run env.now table.old.cells.items
+        table.new.cells.items result }
+{
+    table.learn(at.cell, Status::Absent);
+    let place = Place {
+        main: at.main,
+        cell: at.cell + at.traps + 3,
+        traps: at.traps,
+    };
+    let first = resume(table, place, p, pauses, run, env);
+    let later = cells::ends(&first.judged);
+    let place = Place {
+        main: false,
+        cell: first.past,
+        traps: at.traps,
+    };
+    let again = begin(table, place, p, later, env);
+    let own = cells::followed(&first.judged, &again.judged);
+    cells::leave(table, at, &own, again.past)
+}
+
+/// What counts of a side of a `||`: one that has ended gives code 0 where the `||` is run.
+fn side(is_on: bool, found: &Found, run: Status) -> Judgement
+    ensures { IsJudged (cond is_on (codes_of found.now.judged.must.codes) (sure_code run 0))
+        (cond is_on (codes_of found.now.judged.can.codes) (may_code run 0))
+        (set_of found.now.judged.must.signals) (set_of found.now.judged.can.signals) result }
+{
+    if is_on {
+        found.judged
+    } else {
+        let ended = cells::leaf(run, Completion::End);
+        cells::giving(&ended, &found.judged)
+    }
+}
+
+/// Sweeps a `||`.
+#[cycle(resume)]
+fn resume_par(
+    table: &mut Table,
+    at: Place,
+    p: &Statement,
+    q: &Statement,
+    pauses: &PauseSet,
+    run: Status,
+    env: &Env,
+) -> Found
+    requires main { at.main ≡ true }
+    requires fits { FitsMasks p.now × FitsMasks q.now }
+    requires within { at.cell + at.traps + 3 + sheet_size true p.now at.traps
+        + sheet_size true q.now at.traps
+        ≤ length table.old.cells.items }
+    requires first_traps { at.traps + trap_depth (term_of p.now) ≤ 62 }
+    requires second_traps { at.traps + trap_depth (term_of q.now) ≤ 62 }
+    ensures { (a b : _)
+        → IsResumed (Par' a p.now b q.now) at pauses.now run env.now table.old.cells.items
+        table.new.cells.items result }
+{
+    let go = table.learn(at.cell, Status::Absent);
+    let first_on = has_live(p, pauses);
+    let second_on = has_live(q, pauses);
+    let place = Place {
+        main: at.main,
+        cell: at.cell + at.traps + 3,
+        traps: at.traps,
+    };
+    let first = part(table, place, p, pauses, first_on, go, run, env);
+    let place = Place {
+        main: at.main,
+        cell: first.past,
+        traps: at.traps,
+    };
+    let second = part(table, place, q, pauses, second_on, go, run, env);
+    let left = side(first_on, &first, run);
+    let right = side(second_on, &second, run);
+    let own = cells::beside(&left, &right);
+    cells::leave(table, at, &own, second.past)
+}
+
+/// Sweeps a trap.
+#[cycle(resume)]
+fn resume_trap(
+    table: &mut Table,
+    at: Place,
+    p: &Statement,
+    pauses: &PauseSet,
+    run: Status,
+    env: &Env,
+) -> Found
+    requires main { at.main ≡ true }
+    requires live { is_live p.now (pauses_of pauses.now) ≡ true }
+    requires fits { FitsMasks p.now }
+    requires within { at.cell + at.traps + 3 + sheet_size true p.now
+        (at.traps + 1) ≤ length table.old.cells.items }
+    requires traps { at.traps + 1 + trap_depth (term_of p.now) ≤ 62 }
+    ensures { (a : _)
+        → IsResumed (Trap' a p.now) at pauses.now run env.now table.old.cells.items
+        table.new.cells.items result }
+{
+    table.learn(at.cell, Status::Absent);
+    let place = Place {
+        main: at.main,
+        cell: at.cell + at.traps + 3,
+        traps: at.traps + 1,
+    };
+    let body = resume(table, place, p, pauses, run, env);
+    let own = cells::out_of_trap(&body.judged);
+    cells::leave(table, at, &own, body.past)
+}
+
+/// Sweeps a local signal's binder: its body, and then the cell of its status, by what the body
+/// emits.
+#[cycle(resume)]
+fn resume_local(
+    table: &mut Table,
+    at: Place,
+    s: LocalSignal,
+    p: &Statement,
+    pauses: &PauseSet,
+    run: Status,
+    env: &Env,
+) -> Found
+    requires main { at.main ≡ true }
+    requires live { is_live p.now (pauses_of pauses.now) ≡ true }
+    requires fits { (s.index < 64) × FitsMasks p.now }
+    requires within { at.cell + at.traps + 4 + sheet_size true p.now at.traps
+        ≤ length table.old.cells.items }
+    requires traps { at.traps + trap_depth (term_of p.now) ≤ 62 }
+    ensures { (a : _)
+        → IsResumed (Binder' s a p.now) at pauses.now run env.now table.old.cells.items
+        table.new.cells.items result }
+{
+    table.learn(at.cell, Status::Absent);
+    let cell = at.cell + at.traps + 3;
+    let inside = signal_set::set_local(env, s, table.status(cell));
+    let place = Place {
+        main: at.main,
+        cell: cell + 1,
+        traps: at.traps,
+    };
+    let body = resume(table, place, p, pauses, run, &inside);
+    table.learn(cell, cells::status_of(&body.judged, s));
+    let own = cells::hiding(&body.judged, s);
+    cells::leave(table, at, &own, body.past)
+}
+
+/// Sweeps the cells of a statement that goes on from its pauses, if it is run.
+#[cycle(resume)]
+pub fn resume(
+    table: &mut Table,
+    at: Place,
+    s: &Statement,
+    pauses: &PauseSet,
+    run: Status,
+    env: &Env,
+) -> Found
+    requires main { at.main ≡ true }
+    requires live { is_live s.now (pauses_of pauses.now) ≡ true }
+    requires fits { FitsMasks s.now }
+    requires within { at.cell + sheet_size true s.now at.traps ≤ length table.old.cells.items }
+    requires traps { at.traps + trap_depth (term_of s.now) ≤ 62 }
+    ensures { IsResumed s.now at pauses.now run env.now table.old.cells.items table.new.cells.items
+        result }
+{
+    match s {
+        Statement::Present(t, p, q) => {
+            let asked = answer_to(env, t);
+            resume_present(table, at, asked, p, q, pauses, run, env)
+        }
+        Statement::Suspend(t, p) => {
+            let asked = answer_to(env, t);
+            resume_suspend(table, at, asked, p, pauses, run, env)
+        }
+        Statement::Seq(p, q) => resume_seq(table, at, p, q, pauses, run, env),
+        Statement::Loop(p) => resume_loop(table, at, p, pauses, run, env),
+        Statement::Par(p, q) => resume_par(table, at, p, q, pauses, run, env),
+        Statement::Trap(p) => resume_trap(table, at, p, pauses, run, env),
+        Statement::Local(s, p) => resume_local(table, at, *s, p, pauses, run, env),
+        Statement::Pause(_) => resume_pause(table, at, run),
+        // These have no pause.
+        Statement::Nothing => resume_pause(table, at, run),
+        Statement::Emit(_) => resume_pause(table, at, run),
+        Statement::Exit(_) => resume_pause(table, at, run),
+    }
+}

@@ -1,0 +1,102 @@
+//! Rounds over the table of a kernel, until nothing more can be decided.
+
+ghost use Rattle.std.specs.Prelude.{◌≡◌, ◌≤◌, ◌+◌, true, length};
+ghost use Rattle.est_kernel.specs.Bits.{bits};
+ghost use Rattle.est_kernel.specs.Limits.{trap_depth};
+ghost use Rattle.est_kernel.specs.Masks.{FitsMasks};
+ghost use Rattle.est_kernel.specs.View.{term_of};
+ghost use Rattle.est_meaning.specs.States.{IsState};
+ghost use Rattle.est_cells.specs.Tables.{sheet_size};
+ghost use Rattle.est_net.specs.Layout.{cell_count, output_count};
+ghost use Rattle.est_rounds.specs.Views.{env_of};
+ghost use Rattle.est_micro.specs.Runs.{IsRound, IsSettled, sheet_swept};
+ghost use Rattle.est_micro.specs.Views.{IsSwept};
+
+use crate::begin::begin;
+use crate::cells::{Found, Place};
+use crate::outputs::{exchange, in_doubt};
+use crate::resume::resume;
+use est_kernel::kernel::Kernel;
+use est_kernel::state::State;
+use est_kernel::statement::Statement;
+use est_meaning::status::Status;
+use est_net::table::Table;
+use est_rounds::signal_set::Env;
+
+/// Sweeps the cells of a kernel's statement from this state.
+fn sweep(table: &mut Table, root: &Statement, outputs: usize, state: &State, env: &Env) -> Found
+    requires state { IsState root.now state.now }
+    requires fits { FitsMasks root.now }
+    requires traps { 0 + trap_depth (term_of root.now) ≤ 62 }
+    requires within { outputs + sheet_size true root.now 0 ≤ length table.old.cells.items }
+    ensures { IsSwept true root.now outputs 0 (sheet_swept root.now state.now (env_of env.now))
+        table.old.cells.items
+        table.new.cells.items result }
+{
+    let place = Place {
+        main: true,
+        cell: outputs,
+        traps: 0,
+    };
+    match state {
+        State::Fresh => begin(table, place, root, Status::Present, env),
+        State::Done => begin(table, place, root, Status::Absent, env),
+        State::Paused(pauses) => resume(table, place, root, pauses, Status::Present, env),
+    }
+}
+
+/// Makes one round: a sweep by what is known, and then the cells of the signals.
+fn round(
+    table: &mut Table,
+    kernel: &Kernel,
+    outputs: usize,
+    state: &State,
+    inputs: u64,
+    env: &mut Env,
+) -> Found
+    requires state { IsState kernel.now.root state.now }
+    requires outputs { outputs ≡ output_count kernel.now.interface }
+    requires size { length table.old.cells.items ≡ cell_count kernel.now }
+    ensures { IsRound kernel.now.interface (bits inputs) kernel.now.root state.now env.old env.new
+        table.old.cells.items table.new.cells.items result }
+{
+    let found = sweep(table, kernel.root(), outputs, state, env);
+    *env = exchange(table, kernel, inputs, &found.judged);
+    found
+}
+
+/// What is found where nothing more can be decided.
+#[derive(Clone, Copy)]
+pub struct Settled {
+    /// What the cells of the statement say.
+    pub found: Found,
+    /// What is known of the signals of the interface.
+    pub env: Env,
+}
+
+/// Opens the table, and makes rounds until nothing more can be decided.
+pub fn settle(
+    table: &mut Table,
+    kernel: &Kernel,
+    outputs: usize,
+    state: &State,
+    inputs: u64,
+) -> Settled
+    requires state { IsState kernel.now.root state.now }
+    requires outputs { outputs ≡ output_count kernel.now.interface }
+    requires size { length table.old.cells.items ≡ cell_count kernel.now }
+    ensures { IsSettled kernel.now state.now (bits inputs) table.new.cells.items result }
+{
+    table.clear();
+    let doubt = in_doubt(kernel);
+    let mut env = exchange(table, kernel, inputs, &doubt);
+    let mut before = table.decided();
+    let mut found = round(table, kernel, outputs, state, inputs, &mut env);
+    let mut now = table.decided();
+    while now != before {
+        before = now;
+        found = round(table, kernel, outputs, state, inputs, &mut env);
+        now = table.decided();
+    }
+    Settled { found, env }
+}

@@ -1,0 +1,11 @@
+//! The table of cells of a kernel.
+//!
+//! Each statement stands in the table once for each incarnation, with one cell for whether it is
+//! begun, one for each code that it may give, and one for the status of its local signal. Each
+//! signal that may be emitted has a cell too. `Net::build` promises a table of exactly these cells,
+//! all of them open. A cell is decided once, by one assignment, which changes no other cell.
+#![tactic(auto)]
+
+mod lay;
+pub mod net;
+pub mod table;

@@ -1,0 +1,141 @@
+//! Cells, each open or decided.
+
+ghost use Rattle.std.specs.Prelude.{◌≡◌, ◌<◌, ◌+◌, length, set, slice_get, Some};
+ghost use Rattle.std.specs.Prelude.{option_map, replicate};
+ghost use Rattle.est_net.specs.Cells.{Learns, cell_at, decided, known_as, value_of};
+ghost use Rattle.est_meaning.specs.declared.status.Status.TheVariants.{Unknown};
+
+use est_meaning::status::Status;
+
+/// Cells, each open or decided.
+#[derive(Drop)]
+pub struct Table {
+    cells: Vec<Status>,
+}
+
+/// What a cell with this value knows.
+fn knowing(value: bool) -> Status
+    ensures { result ≡ known_as value }
+{
+    if value {
+        Status::Present
+    } else {
+        Status::Absent
+    }
+}
+
+/// Decides a cell that is open. No other assignment decides a cell.
+#[inline(always)]
+fn decide(cells: &mut [Status], cell: usize, value: bool)
+    requires { slice_get cells.old cell ≡ Some Unknown }
+    ensures cells { cells.new ≡ set cells.old cell (known_as value) }
+    ensures count { decided cells.new ≡ decided cells.old + 1 }
+{
+    cells[cell] = knowing(value);
+}
+
+/// Opens all cells.
+fn open_all(cells: &mut [Status])
+    ensures { cells.new ≡ replicate (length cells.old) Unknown }
+{
+    cells.fill(Status::Unknown);
+}
+
+/// Tells a cell something. It is decided by it where it is open and this is no doubt.
+fn tell(cells: &mut [Status], cell: usize, now: Status)
+    requires { cell < length cells.old }
+    ensures { Learns cell now cells.old cells.new }
+{
+    if cells[cell] == Status::Unknown {
+        match now {
+            Status::Present => decide(cells, cell, true),
+            Status::Absent => decide(cells, cell, false),
+            Status::Unknown => {}
+        }
+    }
+}
+
+/// How many cells are decided.
+fn count_decided(cells: &[Status]) -> usize
+    ensures { result ≡ decided cells.now }
+{
+    let mut count = 0;
+    for cell in cells {
+        if *cell != Status::Unknown {
+            count += 1;
+        }
+    }
+    count
+}
+
+impl Table {
+    /// These cells, all of them opened.
+    pub(crate) fn new(cells: Vec<Status>) -> Table
+        ensures { result.cells.items ≡ replicate (length cells.items) Unknown }
+    {
+        let mut table = Table { cells };
+        table.clear();
+        table
+    }
+
+    /// How many cells there are.
+    pub fn len(&self) -> usize
+        ensures { result ≡ length self.now.cells.items }
+    {
+        self.cells.len()
+    }
+
+    /// What a cell knows.
+    pub fn status(&self, cell: usize) -> Status
+        requires { cell < length self.now.cells.items }
+        ensures { result ≡ cell_at self.now.cells.items cell }
+    {
+        self.cells[cell]
+    }
+
+    /// The value of a cell, if it is decided.
+    pub fn value(&self, cell: usize) -> Option<bool>
+        requires { cell < length self.now.cells.items }
+        ensures { option_map value_of (slice_get self.now.cells.items cell) ≡ Some result }
+    {
+        match self.cells[cell] {
+            Status::Present => Some(true),
+            Status::Absent => Some(false),
+            Status::Unknown => None,
+        }
+    }
+
+    /// Decides a cell that is open. No other cell changes.
+    pub fn write(&mut self, cell: usize, value: bool)
+        requires { slice_get self.old.cells.items cell ≡ Some Unknown }
+        ensures cells { self.new.cells.items ≡ set self.old.cells.items cell (known_as value) }
+        ensures count { decided self.new.cells.items ≡ decided self.old.cells.items + 1 }
+    {
+        decide(self.cells.as_mut_slice(), cell, value);
+    }
+
+    /// Tells a cell something, and answers what it then knows. It is decided by it where it is open
+    /// and this is no doubt.
+    pub fn learn(&mut self, cell: usize, now: Status) -> Status
+        requires { cell < length self.old.cells.items }
+        ensures learns { Learns cell now self.old.cells.items self.new.cells.items }
+        ensures known { result ≡ cell_at self.new.cells.items cell }
+    {
+        tell(self.cells.as_mut_slice(), cell, now);
+        self.cells[cell]
+    }
+
+    /// How many cells are decided.
+    pub fn decided(&self) -> usize
+        ensures { result ≡ decided self.now.cells.items }
+    {
+        count_decided(&self.cells)
+    }
+
+    /// Opens all cells.
+    pub fn clear(&mut self)
+        ensures { self.new.cells.items ≡ replicate (length self.old.cells.items) Unknown }
+    {
+        open_all(self.cells.as_mut_slice());
+    }
+}
