@@ -11,5 +11,6 @@ mod Exchanging
 mod OpenTables
 mod Limits
 mod Settling
+mod AllDecided
 mod Outcomes
 mod Collecting

@@ -51,6 +51,7 @@ use Rattle.est_micro.specs.Runs.{IsSettled, output_cells, table_of}
 use Rattle.est_micro.specs.Engine.{GoesOnFrom, HasValues}
 use Rattle.est_micro.specs.declared.run.Settled.{Settled}
 use Rattle.est_micro.proofs.Settling.{within_places}
+use Rattle.est_micro.proofs.AllDecided.{all_cells_decided}
 
 never : {A : Type 0} → false ≡ true → A
 never h = cc
@@ -120,6 +121,8 @@ values_of : (k : Kernel) (x : State) (inputs : ℕ → Bool) (cells : List Statu
     → TableDecided (judged_signals k.interface inputs) k.root (table_of k.interface k.root cells)
     → HasValues k x inputs cells
 values_of k x inputs cells r safe q h d = record {
+  all = all_cells_decided k inputs cells h.size d h.offered;
+  offered = h.offered;
   decided = d;
   values = all_decided (judged_signals k.interface inputs) (within_places k.interface inputs) inputs k.root safe x q
       (table_of k.interface k.root cells) h.sound d;

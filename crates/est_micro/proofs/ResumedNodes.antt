@@ -18,7 +18,7 @@ use Rattle.est_meaning.specs.declared.status.Status.{Status}
 use Rattle.est_meaning.specs.declared.status.Status.TheVariants.{Absent}
 use Rattle.est_cells.proofs.ValuesAreMeant.{two}
 use Rattle.est_cells.specs.Gates.{ends, emitted_status, live_gates, then_codes, sure_code, may_code}
-use Rattle.est_cells.specs.Tables.{Sheet, sheet_size, emits}
+use Rattle.est_cells.specs.Tables.{Sheet, sheet_size}
 use Rattle.est_net.specs.Cells.{cell_at, learned, Learns}
 use Rattle.est_net.specs.Layout.{sheet_in}
 use Rattle.est_rounds.specs.Views.{env_of, set_of}

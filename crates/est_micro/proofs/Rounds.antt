@@ -126,7 +126,7 @@ round_sheet i inputs s x e f old new r h =
     sheet_same (cell_at new) (cell_at h.mid) true s (output_count i) 0 (λ k l u. h.exchange.changes.after k l)
 
 -- the signals' cells before the exchange are those before the round
-before_round : (i : List Declaration) (inputs : ℕ → Bool) (s : Statement) (x : State) (e f : Known)
+pub before_round : (i : List Declaration) (inputs : ℕ → Bool) (s : Statement) (x : State) (e f : Known)
     (old new : List Status)
     (r : Found) → (h : IsRound i inputs s x e f old new r) → (n : ℕ) → rank i n < output_count i
     → output_cells i h.mid n ≡ output_cells i old n

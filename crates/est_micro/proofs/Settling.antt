@@ -1,7 +1,8 @@
 -- Rounds until nothing changes.
-use Rattle.std.specs.Prelude.{◌≡◌, ◌≤◌, ◌+◌, ◌-◌, ℕ, Bool, true, false, List, [], ◌∷◌, length, replicate}
-use Rattle.std.proofs.Common.{ap, sym, ◌∙◌, arith, inl, subst}
+use Rattle.std.specs.Prelude.{◌≡◌, ◌≤◌, ◌+◌, ℕ, Bool, true, false, List, [], ◌∷◌, length, replicate}
+use Rattle.std.proofs.Common.{refl, ap, sym, ◌∙◌, arith, inl, subst}
 use Rattle.std.proofs.lemmas.List.Sums.{sum_by-cons}
+use Rattle.est_kernel.specs.Bits.{bits}
 use Rattle.est_kernel.specs.Interfaces.{emittable}
 use Rattle.est_kernel.specs.View.{term_of}
 use Rattle.est_kernel.specs.Pauses.{pauses_of}
@@ -10,6 +11,7 @@ use Rattle.est_kernel.specs.declared.interface.Declaration.{Declaration}
 use Rattle.est_kernel.specs.declared.kernel.Kernel.{Kernel}
 use Rattle.est_kernel.specs.declared.state.State.{State}
 use Rattle.est_kernel.specs.declared.state.State.TheVariants.{Fresh, Done, Paused}
+use Rattle.est_kernel.specs.declared.statement.Statement.{Statement}
 use Rattle.est_meaning.specs.Laws.{IsWithinPlaces}
 use Rattle.est_meaning.specs.Rounds.{judged_signals, last_env}
 use Rattle.est_meaning.specs.States.{state_term}
@@ -24,14 +26,15 @@ use Rattle.est_net.specs.Cells.{cell_at, decided, learned, steps_of}
 use Rattle.est_net.specs.Layout.{cell_count, output_count, rank, sheet_in}
 use Rattle.est_rounds.specs.Views.{env_of}
 use Rattle.est_rounds.specs.declared.signal_set.Env.{Env as Known}
-use Rattle.est_micro.specs.Runs.{output_cells, output_gate, IsExchanged, IsRound, IsSettled, table_of}
+use Rattle.est_micro.specs.Runs.{AreOfferedTrue, output_cells, output_gate, IsExchanged, IsRound, IsSettled, table_of}
 use Rattle.est_micro.specs.declared.cells.Found.{Found}
 use Rattle.est_micro.specs.declared.run.Settled.{Settled}
 use Rattle.est_micro.proofs.Exchanging.{emittable_within}
 use Rattle.est_micro.proofs.Frames.{sheet_same}
 use Rattle.est_micro.proofs.Nodes.{JudgedOf}
 use Rattle.est_micro.proofs.OpenTables.{all_open, sheet_open, open_there}
-use Rattle.est_micro.proofs.Rounds.{round_sheet, round_sound, round_quiet, rank_within, may_be, not_input, gate_is}
+use Rattle.est_micro.proofs.Rounds.{before_round, round_sheet, round_sound, round_quiet, rank_within, may_be, not_input}
+use Rattle.est_micro.proofs.Rounds.{gate_is}
 
 pub within_places : (i : List Declaration) (inputs : ℕ → Bool) → IsWithinPlaces (judged_signals i inputs)
 within_places i inputs n h = emittable_within i n (may_be i inputs n h)
@@ -55,6 +58,7 @@ pub record Ready (k : Kernel) (x : State) (inputs : ℕ → Bool) (cells : List 
   pub sound : TableBelow (judged_signals k.interface inputs) k.root (table_of k.interface k.root cells)
       (table_meaning (judged_signals k.interface inputs) inputs k.root x)
   pub knows : env_of env ≡ known (judged_signals k.interface inputs) inputs (output_cells k.interface cells)
+  pub offered : AreOfferedTrue k.interface inputs cells
 
 -- what holds after one
 pub record Settling (k : Kernel) (x : State) (inputs : ℕ → Bool) (before now : ℕ) (cells : List Status) (found : Found)
@@ -67,6 +71,20 @@ pub record Settling (k : Kernel) (x : State) (inputs : ℕ → Bool) (before now
   pub rest : now ≡ before → TableBelow (judged_signals k.interface inputs) k.root
       (table_gates (judged_signals k.interface inputs) inputs k.root x (table_of k.interface k.root cells))
       (table_of k.interface k.root cells)
+
+-- a signal that was offered is told to be present, and what is present stays so
+told_offered : (inputs sure possible : ℕ → Bool) (n : ℕ) → inputs n ≡ true
+    → learned Unknown (output_gate inputs sure possible n) ≡ Present
+told_offered inputs sure possible n h = rw h refl
+
+stay_true : (i : List Declaration) (inputs : ℕ → Bool) (s : Statement) (x : State) (e f : Known) (old new : List Status)
+    (r : Found) → IsRound i inputs s x e f old new r → AreOfferedTrue i inputs old → AreOfferedTrue i inputs new
+stay_true i inputs s x e f old new r h was n l o p =
+    let a = bits r.judged.must.signals.interface in
+    let b = bits r.judged.can.signals.interface in
+    h.exchange.told n l o
+    ∙ ap (λ (v : Status). learned v (output_gate inputs a b n))
+    (before_round i inputs s x e f old new r h n (rank_within (emittable i) (length i) n l o) ∙ was n l o p)
 
 pub round_made : (k : Kernel) (x : State) (inputs : ℕ → Bool) (e f : Known) (old new : List Status) (r : Found)
     (before now : ℕ)
@@ -85,6 +103,7 @@ round_made k x inputs e f old new r before now ready h before_is now_is =
         size = exchange.size ∙ (sweep.size ∙ ready.size);
         sound = round_sound k.interface inputs k.root x e f old new r w ready.knows h ready.sound;
         knows = h.exchange.knows;
+        offered = stay_true k.interface inputs k.root x e f old new r h ready.offered;
       };
       counted = now_is;
       rising = omega arith;
@@ -107,6 +126,7 @@ settled k x inputs before now cells r h e = record {
   closed = h.rest e;
   found = h.says;
   knows = h.ready.knows;
+  offered = h.ready.offered;
 }
 
 -- the open table, with nothing told
@@ -146,4 +166,9 @@ start_ready k x inputs sure possible n new e closed size none all h long =
             (open_meaning k x last closed);
       };
       knows = h.knows;
+      offered = λ m l o p.
+          let r = rank_within (emittable i) (length i) m l o in
+          h.told m l o
+          ∙ (ap (λ (v : Status). learned v (output_gate inputs sure possible m)) (open_there n (rank i m) (omega arith))
+          ∙ told_offered inputs sure possible m p);
     }

@@ -8,17 +8,20 @@ use Rattle.est_kernel.specs.declared.state.State.TheVariants.{Paused}
 use Rattle.est_meaning.specs.declared.status.Status.{Status}
 use Rattle.est_cells.specs.Decided.{IsReactionOf, TableDecided}
 use Rattle.est_meaning.specs.Rounds.{judged_signals}
+use Rattle.est_net.specs.Cells.{decided}
 use Rattle.est_net.specs.Layout.{cell_count, output_count}
 use Rattle.est_net.specs.declared.net.Net.{Net}
-use Rattle.est_micro.specs.Runs.{table_of}
+use Rattle.est_micro.specs.Runs.{AreOfferedTrue, table_of}
 
 -- the table is that of the kernel
 pub record IsNetOf (net : Net) (k : Kernel) : Type 0 where
   pub size : length net.table.cells.items ≡ cell_count k
   pub outputs : net.outputs ≡ output_count k.interface
 
--- every cell is decided, with its value in the reaction
+-- every cell is decided, with its value in the reaction; a signal that was offered is present
 pub record HasValues (k : Kernel) (x : State) (inputs : ℕ → Bool) (cells : List Status) : Type 0 where
+  pub all : decided cells ≡ length cells
+  pub offered : AreOfferedTrue k.interface inputs cells
   pub decided : TableDecided (judged_signals k.interface inputs) k.root (table_of k.interface k.root cells)
   pub values : IsReactionOf (judged_signals k.interface inputs) inputs k.root x (table_of k.interface k.root cells)
 

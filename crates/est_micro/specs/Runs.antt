@@ -60,6 +60,11 @@ pub record IsRound (i : List Declaration) (inputs : ℕ → Bool) (s : Statement
 abbrev pub table_of : List Declaration → (s : Statement) → List Status → Table s
 table_of i s cells = table_in i s (cell_at cells)
 
+-- the cell of each signal that may be emitted and was offered is true
+abbrev pub AreOfferedTrue : List Declaration → (ℕ → Bool) → List Status → Type 0
+AreOfferedTrue i inputs cells = (n : ℕ) → n < length i → emittable i n ≡ true → inputs n ≡ true
+    → output_cells i cells n ≡ Present
+
 -- nothing more can be decided: each cell that is decided is as the meaning says, the gates decide nothing more, and
 -- this is what the cells say
 pub record IsSettled (k : Kernel) (x : State) (inputs : ℕ → Bool) (cells : List Status) (r : Settled) : Type 0 where
@@ -72,3 +77,4 @@ pub record IsSettled (k : Kernel) (x : State) (inputs : ℕ → Bool) (cells : L
   pub found : let T = sheet_in (cell_at cells) true k.root (output_count k.interface) 0 in
       IsJudged T.cells.must T.cells.may (emits is_sure true k.root T) (emits is_possible true k.root T) r.found.judged
   pub knows : env_of r.env ≡ known (judged_signals k.interface inputs) inputs (output_cells k.interface cells)
+  pub offered : AreOfferedTrue k.interface inputs cells

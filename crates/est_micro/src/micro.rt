@@ -103,7 +103,7 @@ impl Micro {
     }
 
     /// Reacts to the inputs of an instant, for the kernel of its table. Where there is a reaction,
-    /// each cell is decided, with its value in it.
+    /// each cell is decided, with its value in it, so `steps` is then the number of cells.
     pub fn run(&mut self, kernel: &Kernel, state: &State, inputs: &Inputs) -> Result<Outcome, Stuck>
         requires net { IsNetOf self.old.net kernel.now }
         requires state { IsState kernel.now.root state.now }
@@ -149,11 +149,24 @@ impl Micro {
 }
 
 impl Engine for Micro {
-    ghost use Rattle.est_micro.specs.Engine.{IsNetOf};
+    ghost use Rattle.std.specs.Prelude.{IfOk, IfErr, OnOk};
+    ghost use Rattle.est_kernel.specs.Bits.{bits};
+    ghost use Rattle.est_meaning.specs.States.{IsState};
+    ghost use Rattle.est_rounds.specs.Contract.{AreInputs, HasNoReaction, IsReaction};
+    ghost use Rattle.est_micro.specs.Engine.{HasValues, IsNetOf};
 
     ghost is_for = { λ m k. IsNetOf m.net k };
 
-    fn react(&mut self, kernel: &Kernel, state: &State, inputs: &Inputs) -> Result<Outcome, Stuck> {
+    fn react(&mut self, kernel: &Kernel, state: &State, inputs: &Inputs) -> Result<Outcome, Stuck>
+        requires engine { IsNetOf self.old.net kernel.now }
+        requires state { IsState kernel.now.root state.now }
+        requires inputs { AreInputs kernel.now inputs.now }
+        ensures engine { IsNetOf self.new.net kernel.now }
+        ensures ok { IfOk result (λ o. IsReaction kernel.now state.now inputs.now o) }
+        ensures values { OnOk result (HasValues kernel.now state.now (bits inputs.now.signals)
+            self.new.net.table.cells.items) }
+        ensures stuck { IfErr result (λ s. HasNoReaction kernel.now state.now inputs.now s) }
+    {
         self.run(kernel, state, inputs)
     }
 }

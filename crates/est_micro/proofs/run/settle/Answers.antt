@@ -1,4 +1,4 @@
-use Rattle.std.proofs.Common.{◌-◌, List, length, subst, arith}
+use Rattle.std.proofs.Common.{List, length, subst, arith}
 use Rattle.std.proofs.lemmas.List.{length-replicate}
 use Rattle.est_kernel.specs.Bits.{bits}
 use Rattle.est_meaning.specs.declared.status.Status.{Status}
