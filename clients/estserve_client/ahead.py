@@ -1,9 +1,9 @@
 """Instants of slot 0 that are asked for ahead of their answers, so that client and program work at
 the same time.
 
-Nearly all answers of a run have one form, and few of its instants differ from all others. So the
-answers to all instants that were sent at once are held against that form at once, and are read one
-by one where they have another.
+Nearly all answers of a run have one form, and few of its instants differ from all others. So all
+answers that come at once are held against that form at once, and are read one by one where they
+have another.
 """
 from __future__ import annotations
 
@@ -12,17 +12,18 @@ import itertools
 import re
 import time
 
-from .connection import Disconnected, Refusal, answer_of, line_of
+from .connection import Refusal, answer_of, line_of
 from .known import Known
 
 TYPE_CHECKING = False
 if TYPE_CHECKING:
-    from typing import Callable, Iterable, Iterator, List, Tuple
+    from typing import Callable, Iterator, List
 
     from .connection import Answer, Batch, Client
+    from .inputs import Names
     from .pictures import Instant
 
-MOST_AT_ONCE = 512  # instants of a batch
+MOST_AT_ONCE = 256  # instants of a batch
 SOON, LATE = 0.05, 0.1  # a batch is longer after one that took less, and shorter after one over
 LOOK = b'%b{"cmd":"look","instant":%d,"slot":0}\n'  # after the lines before it
 # the answers to an instant, in the group what it shows
@@ -33,7 +34,7 @@ FORM = re.compile(
 )
 
 
-def commands_of(names: Iterable[str], number: int) -> List[Answer]:
+def commands_of(names: Names, number: int) -> List[Answer]:
     """The commands of one instant: its offers, the step, and a look at it."""
     offered = [{"cmd": "offer", "slot": 0, "signal": name} for name in names]
     return [*offered, {"cmd": "step", "slot": 0}, {"cmd": "look", "slot": 0, "instant": number}]
@@ -49,7 +50,7 @@ class Turn:
     come.
     """
 
-    def __init__(self, names: Tuple[str, ...]) -> None:
+    def __init__(self, names: Names) -> None:
         *others, _ = commands_of(names, 0)
         self.names, self.count = names, len(names) + 2
         self.lines = b"".join(map(line_of, others))
@@ -60,13 +61,13 @@ class Asked:
 
     def __init__(self, first: int, turns: List[Turn]) -> None:
         self.first, self.turns = first, turns
-        self.count = sum(turn.count for turn in turns)  # of the answers
+        self.counts = [turn.count for turn in turns]  # of the answers to each
 
 
 class Ahead:
     """A run of the module in slot 0 of a client's program."""
 
-    def __init__(self, client: Client, inputs: List[List[str]]) -> None:
+    def __init__(self, client: Client, inputs: List[Names]) -> None:
         """`inputs` has the names that are offered before each step."""
         self.client, self.inputs = client, inputs
         self.sent = 0  # this many of them
@@ -90,29 +91,30 @@ class Ahead:
 
     def next_batch(self) -> Batch:
         """The instants that are sent next: one, or as many as have room in a batch."""
-        names = self.inputs[self.sent : self.sent + self.size]
-        turns = list(map(self.turns.__getitem__, map(tuple, names)))
+        turns = list(map(self.turns.__getitem__, self.inputs[self.sent : self.sent + self.size]))
         lines = [LOOK % (turn.lines, number) for number, turn in enumerate(turns, self.sent + 1)]
         room = max(1, bisect.bisect(list(itertools.accumulate(map(len, lines))), self.client.room))
         asked = Asked(self.sent + 1, turns[:room])
         self.sent += len(asked.turns)
-        return asked, b"".join(lines[:room]), asked.count
+        return asked, b"".join(lines[:room]), sum(asked.counts)
 
     def instants_of(self, asked: Asked) -> Iterator[List[Instant]]:
         """What comes of instants that were sent. Raises Refusal, Disconnected, TimedOut."""
-        try:
-            shown = self.client.take_answers(FORM, len(asked.turns), asked.count)
-        except Disconnected:  # after those answers that are there
-            shown = None
-        if shown is None:
-            yield from self.read_instants(asked)
-        else:
+        came, counts = 0, asked.counts
+        while came < len(counts):
+            shown = self.client.take_answers(FORM, counts[came:])
+            if shown is None:
+                yield from self.read_instants(asked, came)
+                return
             yield list(map(self.seen.__getitem__, shown))
+            came += len(shown)
         self.set_pace()
 
-    def read_instants(self, asked: Asked) -> Iterator[List[Instant]]:
-        """What comes of instants that were sent, one by one. Raises as `instants_of`."""
-        for self.number, turn in enumerate(asked.turns, asked.first):
+    def read_instants(self, asked: Asked, came: int) -> Iterator[List[Instant]]:
+        """What comes of instants that were sent, after this many of them, one by one. Raises as
+        `instants_of`.
+        """
+        for self.number, turn in enumerate(asked.turns[came:], asked.first + came):
             commands = commands_of(turn.names, self.number)
             answers = list(self.client.answers_to(commands))
             for command, answer in zip(commands, answers):

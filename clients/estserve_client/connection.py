@@ -56,7 +56,7 @@ PIPE_BYTES = 1_048_576  # the pipes of a program have room for this many, where 
 # Commands that may be sent ahead at once, in bytes. Two such batches, each with a further instant,
 # fit into a pipe, of the usual size and of the one above: so no write waits for a program that
 # itself waits until its answers are read.
-ROOM, WIDE_ROOM = 20_000, 100_000
+ROOM, WIDE_ROOM = 20_000, 300_000
 READ_BYTES = 4_096  # what is sent at once may take the server a read for each of these
 
 
@@ -259,27 +259,29 @@ class Client:
         self._owed -= 1
         return line
 
-    def _hold_more(self) -> bytes:
-        """Reads once, and holds what comes, which it gives. Raises Disconnected, TimedOut."""
+    def _hold_more(self) -> None:
+        """Reads once, and holds what comes. Raises Disconnected, TimedOut."""
         more = self._read_more()
         self._held, self._at = self._held[self._at :] + more, 0
-        return more
 
-    def take_answers(self, form: Pattern[bytes], times: int, count: int) -> Optional[List[bytes]]:
-        """Waits for this many answers, and takes them where their lines have this form this many
-        times: gives what its one group matched each time.
+    def take_answers(self, form: Pattern[bytes], counts: List[int]) -> Optional[List[bytes]]:
+        """Takes answers of this form, as many as were read already, but one at least, for which it
+        waits: gives what the form's one group matched in each. `counts` has how many lines the
+        next ones have.
 
-        Else they are still to be received. Raises Disconnected, TimedOut.
+        None where there are answers of another form, which are still to be received. Raises
+        Disconnected, TimedOut.
         """
-        ended = self._held.count(b"\n", self._at)
-        while ended < count:
-            ended += self._hold_more().count(b"\n")
-        *parts, rest = form.split(self._held[self._at :], times)
-        if len(parts) != 2 * times or any(parts[::2]) or rest.count(b"\n") != ended - count:
-            return None
-        self._held, self._at = rest, 0
-        self._owed -= count
-        return parts[1::2]
+        while True:
+            *parts, rest = form.split(self._held[self._at :], len(counts))
+            taken = parts[1::2]
+            if any(parts[::2]) or (not taken and rest.count(b"\n") >= counts[0]):
+                return None
+            if taken:
+                self._held, self._at = rest, 0
+                self._owed -= sum(counts[: len(taken)])
+                return taken
+            self._hold_more()
 
     def _read_more(self) -> bytes:
         """The next bytes that come. Raises Disconnected, TimedOut."""

@@ -6,9 +6,13 @@ unless no instant with names or `;` comes after it; a line with nothing but a co
 """
 from __future__ import annotations
 
+from itertools import chain
+
 TYPE_CHECKING = False
 if TYPE_CHECKING:
-    from typing import Dict, Iterator, List
+    from typing import Dict, Iterator, List, Tuple
+
+    Names = Tuple[str, ...]
 
 
 class Offers:
@@ -16,7 +20,7 @@ class Offers:
 
     __slots__ = ("names", "line")
 
-    def __init__(self, names: List[str], line: int) -> None:
+    def __init__(self, names: Names, line: int) -> None:
         self.names, self.line = names, line
 
 
@@ -25,8 +29,8 @@ class Inputs:
 
     def __init__(self, lines: List[str]) -> None:
         self.lines = lines
-        self.read: Dict[str, List[List[str]]] = {text: names_of_line(text) for text in set(lines)}
-        self.names = [names for text in lines for names in self.read[text]]  # of each instant
+        self.read: Dict[str, List[Names]] = {text: names_of_line(text) for text in set(lines)}
+        self.names = list(chain.from_iterable(map(self.read.__getitem__, lines)))  # of each instant
 
     def __len__(self) -> int:
         return len(self.names)
@@ -36,12 +40,12 @@ class Inputs:
             for names in self.read[text]:
                 yield Offers(names, line)
 
-    def different(self) -> List[List[str]]:
+    def different(self) -> List[Names]:
         """The names of each instant, those of lines that are alike once, in no order."""
         return [names for instants in self.read.values() for names in instants]
 
 
-def names_of_line(text: str) -> List[List[str]]:
+def names_of_line(text: str) -> List[Names]:
     """The inputs of each instant of one line."""
     written, comment, _ = text.partition("%")
     if comment and not written.strip():
@@ -49,7 +53,7 @@ def names_of_line(text: str) -> List[List[str]]:
     pieces = written.split(";")
     if len(pieces) > 1 and not pieces[-1].strip():
         pieces.pop()
-    return [list(dict.fromkeys(piece.split())) for piece in pieces]
+    return [tuple(dict.fromkeys(piece.split())) for piece in pieces]
 
 
 def is_blank(text: str) -> bool:

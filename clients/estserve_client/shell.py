@@ -126,7 +126,7 @@ class Shell(cmd.Cmd):
                 raise Failed(self.refused_instant(refusal, names)) from refusal
         return False
 
-    def refused_instant(self, refusal: Refusal, names: List[str]) -> str:
+    def refused_instant(self, refusal: Refusal, names: Tuple[str, ...]) -> str:
         """What is said of an instant that was refused: what was offered for it stays pending."""
         name = refusal.command.get("signal")
         offered = names[: names.index(name)] if name in names else names

@@ -19,7 +19,7 @@ from estserve_client.pictures import Seen, Table
 PIPE = 65_536
 STEP = '{"cmd":"step","slot":0}'
 SIGNALS = ["A", "B", "O"]
-INPUTS = [["A"], ["A", "B"], [], ["B"], ["A"]] * 8
+INPUTS = [("A",), ("A", "B"), (), ("B",), ("A",)] * 8
 
 
 class Program:
@@ -109,7 +109,7 @@ class Answers(unittest.TestCase):
                 return {f"S{bit}": bool(number >> bit & 1) for bit in range(13)}
 
         program = Counter()
-        seen = instants_of(program, [[]] * (known.MOST + 100))
+        seen = instants_of(program, [()] * (known.MOST + 100))
         self.assertEqual(seen, program.instants)
         self.assertEqual(len({id(instant) for instant in seen}), len(seen))
 
@@ -147,7 +147,7 @@ class Batches(unittest.TestCase):
         return [lines.decode().count(STEP) for lines in program.sent]
 
     def test_they_grow_while_they_are_answered_soon(self):
-        for names in ([], ["A", "B"], [f"S{number:047}" for number in range(64)]):
+        for names in ((), ("A", "B"), tuple(f"S{number:047}" for number in range(64))):
             program = Program()
             with unittest.mock.patch("time.monotonic", lambda: 0):
                 instants_of(program, [names] * 3_000)

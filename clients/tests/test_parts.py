@@ -33,7 +33,7 @@ class Inputs(unittest.TestCase):
     def names(self, text):
         inputs = read_inputs(text)
         self.assertEqual([offers.names for offers in inputs], inputs.names)
-        return inputs.names
+        return list(map(list, inputs.names))
 
     def test_a_line_is_an_instant(self):
         self.assertEqual(self.names("A\nB C\n\nA\n"), [["A"], ["B", "C"], [], ["A"]])
@@ -53,7 +53,7 @@ class Inputs(unittest.TestCase):
 
     def test_a_name_counts_once_and_the_line_is_kept(self):
         inputs = read_inputs("% first\nA A\n")
-        self.assertEqual([(offers.names, offers.line) for offers in inputs], [(["A"], 2)])
+        self.assertEqual([(offers.names, offers.line) for offers in inputs], [(("A",), 2)])
 
 
 class Texts(unittest.TestCase):
