@@ -30,6 +30,7 @@ use Rattle.reactor_core.specs.Meaning.{with_signal, mask_of, ModuleOf, Running, 
 use Rattle.reactor_core.specs.Meaning.{discarded, stepped, is_loaded}
 use Rattle.reactor_core.specs.Standing.{IsRunning, IsNext, AreKept, JoinsAs, given_by, pending_inputs}
 use Rattle.reactor_core.specs.Instants.{IsOutcome, HasNoOutcome, AddsInstant}
+use Rattle.reactor_core.specs.Left.{IsKernelOf, IsLeftOf}
 use Rattle.reactor_core.specs.Answers.{HasRoom, ShownAnswer, within_mask}
 use Rattle.reactor_core.proofs.Joining.{adds_where}
 
@@ -82,6 +83,21 @@ module _ {journal : List SlotEntry} {m : Module} {state : State} {pending : ℕ}
     offered = i.offered;
     past = i.past;
   }
+
+  -- the kernel of a reactor's parts is that of the last load's module
+  pub kernel_of : (i : IsRunning journal m state pending instants) → IsKernelOf journal m.kernel
+  kernel_of i = record {
+    load = i.load;
+    last = i.last;
+    given = given_by m;
+    is = i.is;
+    declares = refl;
+    begins = refl;
+  }
+
+  -- what is left to run of a reactor's parts
+  pub left_of : (i : IsRunning journal m state pending instants) → IsLeftOf journal m.kernel state
+  left_of i = record { kernel = kernel_of i; fits = i.fits; leaves = i.leaves }
 
   -- an outcome's entry leaves its term
   leaves_next : (i : IsRunning journal m state pending instants) (stamp : Stamp) (outputs : ℕ) (next : State)

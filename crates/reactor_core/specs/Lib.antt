@@ -8,3 +8,4 @@ pub mod Offers
 pub mod Standing
 pub mod Answers
 pub mod Instants
+pub mod Left

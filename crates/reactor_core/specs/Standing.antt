@@ -4,6 +4,7 @@ use Rattle.est_kernel.specs.View.{term_of}
 use Rattle.est_kernel.specs.declared.state.Outcome.{Outcome}
 use Rattle.est_kernel.specs.declared.state.State.{State}
 use Rattle.est_meaning.specs.States.{IsState, state_term}
+use Rattle.est_micro.specs.Engine.{IsNetOf}
 use Rattle.est_relations.specs.Offers.{PendingInputs, KeepsExclusions, IsFirstImplied, OfferAnswer as PendingAnswer}
 use Rattle.est_relations.specs.declared.refusal.Refusal.{Refusal as PendingRefusal}
 use Rattle.reactor_core.specs.declared.entry.PastInstant.{PastInstant}
@@ -49,9 +50,10 @@ pub record IsNext (m : Module) (state : State) (pending outputs : ℕ) (next : S
   pub reacts : ReactsWith m.kernel.interface (state_term m.kernel.root state) pending outputs
       (state_term m.kernel.root next)
 
--- the parts of a reactor run
-abbrev pub AreRunning : Parts → Type 0
-AreRunning p = IsRunning p.journal p.loaded p.state p.pending p.instants.items
+-- the parts of a reactor run, and the engine's table is that of the kernel
+pub record AreRunning (p : Parts) : Type 0 where
+  pub running : IsRunning p.journal p.loaded p.state p.pending p.instants.items
+  pub engine : IsNetOf p.engine.net p.loaded.kernel
 
 -- this is the outcome of their next instant
 abbrev pub HaveOutcome : Parts → Outcome → Type 0

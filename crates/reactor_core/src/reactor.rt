@@ -1,12 +1,17 @@
 //! A running module with its journal.
 ghost use Rattle.std.specs.Prelude.{◌≡◌, ◌⊎◌, ◌<◌, ◌-◌, ◌++◌, ◌∷◌, [], length, Some, MatchResult};
 ghost use Rattle.std.specs.Prelude.{MatchOption, IfOk, IfErr, IsTrue, true, false, slice_get};
+ghost use Rattle.est_kernel.specs.Bits.{bits};
+ghost use Rattle.est_kernel.specs.Interfaces.{offerable};
+ghost use Rattle.est_meaning.specs.Knowledge.{IsIn};
+ghost use Rattle.est_micro.specs.Engine.{IsNetOf};
 ghost use Rattle.est_text.specs.Identifiers.{is_identifier};
 ghost use Rattle.reactor_core.specs.Meaning.{Running, Runs, ModuleOf, is_loaded, instants_of};
 ghost use Rattle.reactor_core.specs.Meaning.{entry};
 ghost use Rattle.reactor_core.specs.Loading.{IsLoadFault};
 ghost use Rattle.reactor_core.specs.Standing.{given_by};
 ghost use Rattle.reactor_core.specs.Instants.{OpenAnswer};
+ghost use Rattle.reactor_core.specs.Left.{IsKernelOf, IsLeftOf};
 ghost use Rattle.reactor_core.specs.Answers.{LoadAnswer, OfferAnswer, DiscardAnswer, UnloadAnswer};
 ghost use Rattle.reactor_core.specs.Answers.{ShownAnswer, HasRoom, RefusesEntry, load_of};
 
@@ -14,12 +19,14 @@ use crate::entry::{Action, Load, PastInstant, SlotEntry, Stamp};
 use crate::journal::Journal;
 use crate::loaded::Module;
 use crate::reactor::instant::Instant;
-use crate::reactor::parts::{Parts, check_relations, join};
+use crate::reactor::parts::{Parts, check_relations, engine_of, join};
 use crate::reading::read_module;
 use crate::refusal::{ModuleRefusal, Refusal};
 use crate::text::Text;
 use est_kernel::interface::Interface;
+use est_kernel::kernel::Kernel;
 use est_kernel::state::State;
+use est_micro::micro::Micro;
 use est_text::identifier::Identifier;
 use std::alloc::Global;
 use std::marker::Model;
@@ -70,12 +77,13 @@ fn instant_at(instants: &[PastInstant], n: u64) -> Option<PastInstant>
     Some(instants[(n - 1) as usize])
 }
 
-/// The load of the module `main` of a text: its entry keeps copies of both, and its module is read
-/// from the text.
-fn read_load(alloc: Global, main: &str, text: &str) -> Result<(Load, Module), Refusal>
+/// The load of the module `main` of a text: its entry keeps copies of both, its module is read from
+/// the text, and the engine is that of the module's kernel.
+fn read_load(alloc: Global, main: &str, text: &str) -> Result<(Load, Module, Micro), Refusal>
     requires { IsTrue (is_identifier main.now) }
     ensures entry { IfOk result (λ read. read.0 ≡ load_of main.now text.now) }
     ensures given { IfOk result (λ read. ModuleOf read.0 (given_by read.1)) }
+    ensures engine { IfOk result (λ read. IsNetOf read.2.net read.1.kernel) }
     ensures fault { IfErr result (IsLoadFault main.now text.now) }
 {
     let Some(main) = Identifier::from_text(main) else {
@@ -83,7 +91,8 @@ fn read_load(alloc: Global, main: &str, text: &str) -> Result<(Load, Module), Re
     };
     let text = Text::copied(alloc, text)?;
     let loaded = read_module(alloc, main.as_str(), text.as_str())?;
-    Ok((Load { main, text }, loaded))
+    let engine = engine_of(alloc, &loaded.kernel)?;
+    Ok((Load { main, text }, loaded, engine))
 }
 
 impl Reactor {
@@ -92,6 +101,21 @@ impl Reactor {
         ensures { (r : Running) × Runs self.now r × (result.now ≡ r.interface) }
     {
         self.parts.loaded.kernel.interface()
+    }
+
+    /// The kernel of the module that runs. It takes no memory.
+    pub fn kernel(&self) -> &Kernel
+        ensures { IsKernelOf self.now result.now }
+    {
+        &self.parts.loaded.kernel
+    }
+
+    /// What is left to run: the kernel, and the state of it that stands for the term that is left.
+    /// It takes no memory.
+    pub fn state(&self) -> (&Kernel, &State)
+        ensures { IsLeftOf self.now result.0.now result.1.now }
+    {
+        (&self.parts.loaded.kernel, &self.parts.state)
     }
 
     /// The journal, whose last load runs.
@@ -120,7 +144,9 @@ impl Reactor {
     /// The inputs that are offered and not yet taken by a step, as a mask over the interface in the
     /// order of declaration.
     pub fn pending(&self) -> u64
-        ensures { (r : Running) × Runs self.now r × (result ≡ r.pending) }
+        ensures mask { (r : Running) × Runs self.now r × (result ≡ r.pending) }
+        ensures inputs { (r : Running) × Runs self.now r
+            × IsIn (bits result) (offerable r.interface) }
     {
         self.parts.pending
     }
@@ -140,21 +166,25 @@ impl Reactor {
         ensures { LoadAnswer journal stamp main.now text.now result }
     {
         match read_load(alloc, main, text) {
-            Ok((load, loaded)) => Reactor::begin(alloc, journal, stamp, load, loaded),
+            Ok((load, loaded, engine)) => {
+                Reactor::begin(alloc, journal, stamp, load, loaded, engine)
+            }
             Err(fault) => Err((fault, journal)),
         }
     }
 
-    /// The reactor of a load and its module: it has not begun, and its journal has the load's
-    /// entry. A refusal, JournalFull or Memory, gives the journal back as it was.
+    /// The reactor of a load, its module and its engine: it has not begun, and its journal has the
+    /// load's entry. A refusal, JournalFull or Memory, gives the journal back as it was.
     fn begin(
         alloc: Global,
         journal: Journal,
         stamp: Stamp,
         load: Load,
         loaded: Module,
+        engine: Micro,
     ) -> Result<Reactor, (Refusal, Journal)>
-        requires { ModuleOf load (given_by loaded) }
+        requires given { ModuleOf load (given_by loaded) }
+        requires engine { IsNetOf engine.net loaded.kernel }
         ensures { MatchResult result
             (λ r. HasRoom journal × (r ≡ journal ++ entry stamp (Action.Load load) ∷ []))
             (λ refused. RefusesEntry journal refused.0 × (refused.1 ≡ journal)) }
@@ -169,6 +199,7 @@ impl Reactor {
                 parts: Parts {
                     journal,
                     loaded,
+                    engine,
                     state: State::Fresh,
                     pending: 0,
                     instants: Vec::new(alloc),

@@ -11,7 +11,6 @@ use crate::reactor::Reactor;
 use crate::reactor::parts::{Parts, react};
 use crate::refusal::Refusal;
 use est_kernel::state::{Outcome, Stuck};
-use est_rounds::rounds::Rounds;
 use std::marker::Model;
 
 /// An instant that was opened: its inputs are those that are pending. A contract sees the journal
@@ -71,8 +70,9 @@ impl Instant {
     {
         let Instant { reactor } = self;
         let Reactor { parts } = reactor;
+        let mut parts = parts;
         match react(
-            &mut Rounds::new(),
+            &mut parts.engine,
             &parts.loaded,
             &parts.state,
             parts.pending,

@@ -4,7 +4,10 @@ use Rattle.reactor_core.proofs.Steps.{discards}
 use Rattle.reactor_core.proofs.reactor.Reactor.discard.Goals as goal
 
 pub invariant_of-self : goal.invariant_of-self
-invariant_of-self c = rw c.in-Ok.ensures.1 (discards c.self.invariant c.args.stamp)
+invariant_of-self c = record {
+  running = rw c.in-Ok.ensures.1 (discards c.self.invariant.running c.args.stamp);
+  engine = c.self.invariant.engine;
+}
 
 pub returns-in-Ok-clause-loaded : goal.returns-in-Ok-clause-loaded
-returns-in-Ok-clause-loaded c = rw c.in-Ok.ensures.1 (ap is_some (discards c.self.invariant c.args.stamp).last)
+returns-in-Ok-clause-loaded c = rw c.in-Ok.ensures.1 (ap is_some (discards c.self.invariant.running c.args.stamp).last)

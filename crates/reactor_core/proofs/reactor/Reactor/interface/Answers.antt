@@ -4,6 +4,6 @@ use Rattle.reactor_core.proofs.reactor.Reactor.interface.Goals as goal
 pub returns : goal.returns
 returns c = (
   running c.self.inside.parts.loaded c.self.inside.parts.pending c.self.inside.parts.instants.items,
-  rw (← c.self.view_is) (runs_here c.self.invariant),
+  rw (← c.self.view_is) (runs_here c.self.invariant.running),
   c.interface.ensures,
 )

@@ -8,11 +8,11 @@ returns-in-Ok c =
     let before = c.self.inside.parts in
     rw (c.of.ensures, ← c.self.view_is)
     (open_passes before.journal before.loaded (running before.loaded before.pending before.instants.items)
-    (runs_here c.self.invariant) refl c.in-Ok.ensures)
+    (runs_here c.self.invariant.running) refl c.in-Ok.ensures)
 
 pub returns-in-Err : goal.returns-in-Err
 returns-in-Err c =
     let before = c.self.inside.parts in
     rw (← c.self.view_is)
     (open_refused before.journal before.loaded (running before.loaded before.pending before.instants.items)
-    (runs_here c.self.invariant) refl c.in-Err.refusal c.in-Err.ensures)
+    (runs_here c.self.invariant.running) refl c.in-Err.refusal c.in-Err.ensures)

@@ -10,10 +10,10 @@ returns-in-Ok c =
       refl,
       (
         state_term parts.loaded.kernel.root c.in-Ok.outcome.next,
-        outcome c.reactor.invariant c.in-Ok.outcome.outputs c.in-Ok.outcome.next c.in-Ok.ensures,
+        outcome c.reactor.invariant.running c.in-Ok.outcome.outputs c.in-Ok.outcome.next c.in-Ok.ensures.answer,
       ),
     )
 
 pub returns-in-Err : goal.returns-in-Err
 returns-in-Err c = rw (← c.self.view_is, ← c.reactor.view_is)
-    (no_outcome c.reactor.invariant c.in-Err.stuck c.in-Err.ensures, refl)
+    (no_outcome c.reactor.invariant.running c.in-Err.stuck c.in-Err.ensures.answer, refl)
