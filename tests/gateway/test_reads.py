@@ -672,7 +672,7 @@ class OverTheGateway(unittest.TestCase):
             root.grant("admin", "load", "3")
             root.assign("root", "admin")
             root.activate("admin")
-            for number in range(30):
+            for number in range(62):
                 root.addrole(f"r{number}")
             root.drop("root")
             root.inherit("root", "r1")
@@ -684,7 +684,7 @@ class OverTheGateway(unittest.TestCase):
                 answer = words.word("archive")
                 self.assertEqual((answer["fault"], "Full" in answer["why"]), ("Failed", True))
                 words.word("login", user="root", roles=["admin"])
-                self.assertEqual(len(words.word("policy")["roles"]), 32)
+                self.assertEqual(len(words.word("policy")["roles"]), 64)
                 log = words.word("log", last=1_000)["entries"]
                 self.assertEqual([entry for entry in log if "kept" in entry], [])
 

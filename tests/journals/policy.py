@@ -2,7 +2,7 @@
 
 import copy
 
-MOST = {"users": 64, "roles": 32, "permissions": 256, "sessions": 64, "sets": 16}
+MOST = {"users": 64, "roles": 64, "permissions": 256, "sessions": 64, "sets": 16}
 SESSIONS = 65_535
 MOST_ENTRIES = 262_080
 

@@ -1,5 +1,5 @@
 //! Full tables, and what is asked before their fullness.
-use crate::commands::{Line, accept, command, follow, story};
+use crate::commands::{Line, accept, ask, command, follow, live, story};
 use rbac_policy::policy::Policy;
 use rbac_policy::sizes::{ROLES, SESSIONS, SETS, USERS};
 use std::alloc::Global;
@@ -31,13 +31,105 @@ fn users_and_roles(rt: HostRuntime) {
         (1, "adduser ann", "Full users"),
         (1, "addrole a", "Full roles"),
         (1, "adduser u63", "UserExists u63"),
-        (1, "addrole r31", "RoleExists r31"),
+        (1, "addrole r63", "RoleExists r63"),
         (1, "deluser u7", ""),
         (1, "adduser ann", ""),
         (1, "delrole r7", ""),
         (1, "addrole a", ""),
     ];
     follow(&rt, rt.alloc(), &mut policy, &full);
+}
+
+/// Role root lies above r1, and each of r1 to r62 above the next: a chain over all 64 places. No
+/// edge can lead back up.
+fn chain_all(rt: &impl Abort, alloc: Global, policy: &mut Policy) {
+    fill(rt, alloc, policy, (1, ROLES), ("addrole r", ""));
+    for number in 2..ROLES {
+        let text = format!(in alloc; "inherit r{} r{number}", number - 1).expect(rt, "room");
+        accept(rt, policy, 1, &command(rt, alloc, text.as_str()));
+    }
+    let ends: [Line; 4] = [
+        (1, "inherit root r1", ""),
+        (1, "inherit r63 root", "Cycle"),
+        (1, "inherit r63 r1", "Cycle"),
+        (1, "inherit r63 r63", "Cycle"),
+    ];
+    follow(rt, alloc, policy, &ends);
+}
+
+/// What the last role may do is held by all roles above it, as long as the chain is whole.
+#[test]
+fn chain_over_all_roles(rt: HostRuntime) {
+    let mut policy = story(&rt, rt.alloc(), &LOGIN);
+    chain_all(&rt, rt.alloc(), &mut policy);
+    let last: [Line; 4] = [
+        (1, "grant r63 step 0", ""),
+        (0, "login root r63", ""),
+        (0, "login root r32", ""),
+        (3, "activate r63", ""),
+    ];
+    follow(&rt, rt.alloc(), &mut policy, &last);
+    let whole = [
+        (1, "step", "0", true),
+        (2, "step", "0", true),
+        (2, "administer", "policy", false),
+    ];
+    ask(&rt, &policy, &whole);
+    follow(&rt, rt.alloc(), &mut policy, &[(3, "drop r63", "")]);
+    ask(&rt, &policy, &[(3, "step", "0", true)]);
+
+    // without an edge in the middle, nobody is authorized for what lies below it
+    follow(
+        &rt,
+        rt.alloc(),
+        &mut policy,
+        &[(1, "disinherit r31 r32", "")],
+    );
+    assert!(rt; live(&policy, 3, &[1]));
+    ask(&rt, &policy, &[(1, "step", "0", false)]);
+    let again: [Line; 3] = [
+        (0, "login root r63", "NotAuthorized r63"),
+        (1, "inherit r31 r32", ""),
+        (0, "login root r63", ""),
+    ];
+    follow(&rt, rt.alloc(), &mut policy, &again);
+    ask(
+        &rt,
+        &policy,
+        &[(1, "step", "0", true), (4, "step", "0", true)],
+    );
+}
+
+/// A role that comes into the last place after another was deleted has nothing of it.
+#[test]
+fn last_place_is_used_again(rt: HostRuntime) {
+    let mut policy = story(&rt, rt.alloc(), &LOGIN);
+    chain_all(&rt, rt.alloc(), &mut policy);
+    let goes: [Line; 7] = [
+        (1, "grant r63 step 0", ""),
+        (0, "login root r63", ""),
+        (1, "addrole other", "Full roles"),
+        (1, "delrole r63", ""),
+        (1, "addrole other", ""),
+        (1, "addrole r63", "Full roles"),
+        (0, "login root other", "NotAuthorized other"),
+    ];
+    follow(&rt, rt.alloc(), &mut policy, &goes);
+    assert!(rt; live(&policy, 2, &[1]));
+    ask(&rt, &policy, &[(1, "step", "0", false)]);
+    let comes: [Line; 5] = [
+        (1, "inherit r62 other", ""),
+        (1, "grant other step 1", ""),
+        (1, "activate other", ""),
+        (1, "drop root", ""),
+        (1, "addrole r63", "Permission administer policy"),
+    ];
+    follow(&rt, rt.alloc(), &mut policy, &comes);
+    ask(
+        &rt,
+        &policy,
+        &[(1, "step", "0", false), (1, "step", "1", true)],
+    );
 }
 
 const TWO_DUTIES: [Line; 7] = [

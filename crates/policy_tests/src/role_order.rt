@@ -30,6 +30,24 @@ fn chain_of_three(rt: HostRuntime) {
     assert!(rt; rows.has_edge(2, 3) && !rows.has_edge(2, 4) && !rows.has_edge(3, 2));
 }
 
+// Each place stands above the next.
+#[test]
+fn chain_over_all_places(rt: HostRuntime) {
+    let mut rows = Rows::new();
+    for place in 1..ROLES {
+        rows.add_edge(place - 1, place);
+    }
+    let last = ROLES - 1;
+    assert_eq!(rt; rows.below(0).len(), 64);
+    assert_eq!(rt; rows.above(last).len(), 64);
+    assert_eq!(rt; rows.below(last), set(&[last]));
+    assert_eq!(rt; rows.below_some(set(&[60, 62])), set(&[60, 61, 62, last]));
+    rows.remove_edge(31, 32);
+    assert_eq!(rt; rows.below(0).len(), 32);
+    assert_eq!(rt; rows.above(last).len(), 32);
+    assert!(rt; rows.below(0).has(31) && !rows.below(0).meets(rows.above(last)));
+}
+
 // 0 stands above 3 by 1 and by 2, and above 4 by 2 alone.
 #[test]
 fn two_ways_down(rt: HostRuntime) {

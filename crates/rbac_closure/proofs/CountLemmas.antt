@@ -3,7 +3,7 @@
 use Rattle.std.proofs.Common.{◌≡◌, ℕ, zero, suc, ◌+◌, ◌-◌, ◌/◌, ◌%◌, ◌^◌, ◌<◌, ◌≤◌, length, cond, true, false, Bool}
 use Rattle.std.proofs.Common.{inl, inr, arith, sym, ◌∙◌, ◌∷◌, ap, ap₂, subst, refl}
 use Rattle.std.specs.Prelude.{◌==◌, count_ones}
-use Rattle.std.specs.Int.{bit_at, w32, trailing_zeros}
+use Rattle.std.specs.Int.{bit_at, w64, trailing_zeros}
 use Rattle.std.specs.Int.Count.{ones-ones}
 use Rattle.std.proofs.Math.Nat.{mod-one, mod-lt, mod-eq_of_lt}
 use Rattle.std.proofs.Math.Pow.{shr-shr}
@@ -63,12 +63,12 @@ ones_are_places set fits = ap count_ones (sym (mod-eq_of_lt fits)) ∙ ones_belo
 shifted_bit : (n start i : ℕ) → bit_at (n / 2 ^ start) i ≡ bit_at n (start + i)
 shifted_bit n start i = ap (λ x. x % 2) (shr-shr n start i)
 
-pub lowest_is_first : (n start : ℕ) → 0 < n / 2 ^ start → n / 2 ^ start < 2 ^ 32
-    → IsFirstFrom n start (start + trailing_zeros w32 (n / 2 ^ start))
+pub lowest_is_first : (n start : ℕ) → 0 < n / 2 ^ start → n / 2 ^ start < 2 ^ ROLES
+    → IsFirstFrom n start (start + trailing_zeros w64 (n / 2 ^ start))
 lowest_is_first n start some fits =
-    let lowest = bit_at-trailing_zeros w32 (n / 2 ^ start) some fits in
+    let lowest = bit_at-trailing_zeros w64 (n / 2 ^ start) some fits in
     record {
-      within = sym (shifted_bit n start (trailing_zeros w32 (n / 2 ^ start))) ∙ lowest.1;
+      within = sym (shifted_bit n start (trailing_zeros w64 (n / 2 ^ start))) ∙ lowest.1;
       after = omega arith;
       first = λ other from before has.
           let i = other - start in

@@ -1,11 +1,20 @@
 -- The places of sets that are made of others.
-use Rattle.std.proofs.Common.{◌≡◌, ℕ, zero, suc, ◌≤◌, ◌/◌, ◌%◌, ◌^◌, ◌⊎◌, ◌↔◌, inl, inr, arith, sym, ◌∙◌, subst, refl}
+use Rattle.std.proofs.Common.{◌≡◌, ℕ, zero, suc, ◌≤◌, ◌<◌, ◌/◌, ◌%◌, ◌^◌, ◌⊎◌, ◌↔◌, inl, inr, arith, sym, ◌∙◌, subst, refl}
 use Rattle.std.specs.Int.{bit_at}
-use Rattle.std.specs.Int.Bits.{bit_or}
+use Rattle.std.specs.Int.Bits.{bit_or, bit_xor}
+use Rattle.std.proofs.lemmas.Nat.{or_lt, xor_lt}
 use Rattle.std.proofs.lemmas.Bool.{cases_lt, cases_eq}
 use Rattle.std.proofs.lemmas.Nat.Bits.{bit_at_or, bit_at_and, bit_at_xor, bit_at-lt, bit_at-zero, bit_at_lowest}
 use Rattle.std.proofs.lemmas.Nat.Bits.{bit_at-suc, bit_at-pow_same, bit_at-pow_other, same_from_bits}
+use Rattle.rbac_closure.specs.declared.sets.TheConstants.{ROLES}
 use Rattle.rbac_closure.specs.Sets.{Has, Meets, IsWithin, either, common, with_place, without_place}
+
+-- what is made of two sets of the table fits the word too
+pub or_fits : (a b : ℕ) → a < 2 ^ ROLES → b < 2 ^ ROLES → bit_or a b < 2 ^ ROLES
+or_fits = or_lt ROLES
+
+pub xor_fits : (a b : ℕ) → a < 2 ^ ROLES → b < 2 ^ ROLES → bit_xor a b < 2 ^ ROLES
+xor_fits = xor_lt ROLES
 
 -- a place is in a set or not
 pub has_cases : (set place : ℕ) → Has set place ⊎ (bit_at set place ≡ 0)

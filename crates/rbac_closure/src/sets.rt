@@ -7,7 +7,7 @@ ghost use Rattle.rbac_closure.specs.Sets.{without_place, either, common, places_
 use std::marker::Model;
 
 /// A word with a bit for each place.
-type Word = u32;
+type Word = u64;
 
 /// How many places there are, and so how many roles there can be.
 pub const ROLES: usize = Word::BITS as usize;
@@ -56,6 +56,7 @@ impl RoleSet {
     }
 
     /// The set with the place.
+    #[tactic(auto, using(crate::proofs::SetLemmas::or_fits))]
     pub fn with(self, place: usize) -> RoleSet
         requires { place < ROLES }
         ensures { result ≡ with_place self place }
@@ -66,6 +67,7 @@ impl RoleSet {
     }
 
     /// The set without the place.
+    #[tactic(auto, using(crate::proofs::SetLemmas::or_fits, crate::proofs::SetLemmas::xor_fits))]
     pub fn without(self, place: usize) -> RoleSet
         requires { place < ROLES }
         ensures { result ≡ without_place self place }
@@ -76,6 +78,7 @@ impl RoleSet {
     }
 
     /// The places of either set.
+    #[tactic(auto, using(crate::proofs::SetLemmas::or_fits))]
     pub fn union(self, other: RoleSet) -> RoleSet
         ensures { result ≡ either self other }
     {

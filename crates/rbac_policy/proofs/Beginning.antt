@@ -170,7 +170,7 @@ fits_user = record {
 pub fits_role : Fits (adds_user ∷ []) adds_role
 fits_role = record {
   few = omega arith;
-  command = record { absent = no_role root; room = few 31 (IsRole (adds_user ∷ [])) no_role };
+  command = record { absent = no_role root; room = few 63 (IsRole (adds_user ∷ [])) no_role };
 }
 
 pub fits_assignment : Fits (adds_user ∷ adds_role ∷ []) assigns

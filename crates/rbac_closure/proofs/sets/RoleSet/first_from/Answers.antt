@@ -1,5 +1,5 @@
 use Rattle.std.proofs.Common.{◌≡◌, ◌<◌, ◌+◌, ◌/◌, ◌^◌, ℕ, arith, rules, sym, subst}
-use Rattle.std.specs.Int.{w32, trailing_zeros}
+use Rattle.std.specs.Int.{w64, trailing_zeros}
 use Rattle.std.proofs.Math.Nat.{div-le_self}
 use Rattle.rbac_closure.specs.declared.sets.TheConstants.{ROLES}
 use Rattle.rbac_closure.specs.Sets.{Has, IsFirstFrom}
@@ -19,9 +19,9 @@ returns-then-left-eq0-clause-first c = λ place from has.
 
 -- the place that is answered is the first
 first : (bits set start : ℕ) → bits ≡ set → bits < 2 ^ ROLES → (bits / 2 ^ start ≡ 0 → ⊥)
-    → IsFirstFrom set start (start + trailing_zeros w32 (bits / 2 ^ start))
+    → IsFirstFrom set start (start + trailing_zeros w64 (bits / 2 ^ start))
 first bits set start same fits some =
-    subst (λ n. IsFirstFrom n start (start + trailing_zeros w32 (bits / 2 ^ start))) same
+    subst (λ n. IsFirstFrom n start (start + trailing_zeros w64 (bits / 2 ^ start))) same
     (lowest_is_first bits start (omega (arith, some)) (omega (arith, fits, div-le_self bits (2 ^ start))))
 
 pub returns-clause-first : goal.returns-clause-first
@@ -33,4 +33,4 @@ returns-clause-within c =
     let fits : c.args.self < 2 ^ ROLES = subst (λ (n : ℕ). n < 2 ^ ROLES) c.self.view_is c.self.invariant in
     let at = first c.self.inside.bits c.args.self c.args.start c.self.view_is c.self.invariant
     (λ e. search (rules, c.if-left-eq0.false, e)) in
-    in_table c.args.self (c.args.start + trailing_zeros w32 (c.self.inside.bits / 2 ^ c.args.start)) fits at.within
+    in_table c.args.self (c.args.start + trailing_zeros w64 (c.self.inside.bits / 2 ^ c.args.start)) fits at.within
