@@ -125,6 +125,18 @@ def needs_program(test):
     )(test)
 
 
+def refusal_of(client, text):
+    """The refusal of a load of M into slot 0; None where it is loaded, and taken out again."""
+    import estserve
+
+    try:
+        client.load(0, "M", text)
+    except estserve.Refusal as refusal:
+        return refusal
+    client.unload(0)
+    return None
+
+
 def serve(*words):
     """A server of the real program, as the tests of the socket start it. Used with `with`."""
     sys.path.append(str(ROOT / "tests" / "socket"))

@@ -10,7 +10,7 @@ import tempfile
 import time
 import unittest
 
-from support import EXAMPLES, ROOT, needs_expressions, read_vcd, run_client
+from support import EXAMPLES, ROOT, needs_expressions, read_vcd, refusal_of, run_client
 
 import estserve
 from estserve_client.applying import warnings_of, wrong_permission
@@ -417,30 +417,21 @@ class OnTheProgram(unittest.TestCase):
                            ("observe", "0.B")]:  # fmt: skip
             self.client.grant("root", op, object)
 
-    def refusal_of(self, text):
-        """The refusal of a load of M; None where it is loaded, and taken out again."""
-        try:
-            self.client.load(0, "M", text)
-        except estserve.Refusal as refusal:
-            return refusal
-        self.client.unload(0)
-        return None
-
     def test_what_the_client_reads_is_loaded(self):
         for text in [*TESTS, *(form.format("[A and not B]") for _, form in TESTED)]:
             body = text if text.split()[0] in KEYWORDS - {"not"} else f"await {text}"
-            self.assertIsNone(self.refusal_of(module_of(body)), body)
+            self.assertIsNone(refusal_of(self.client, module_of(body)), body)
         for text in FAULTLESS:
-            self.assertIsNone(self.refusal_of(text), text)
+            self.assertIsNone(refusal_of(self.client, text), text)
 
     def test_what_it_does_not_read_is_no_syntax(self):
         for body in NO_TESTS:
-            self.assertEqual(self.refusal_of(module_of(body)).fault, "Syntax", body)
+            self.assertEqual(refusal_of(self.client, module_of(body)).fault, "Syntax", body)
 
     def test_places_of_faults(self):
         for text, fault, name, places in PLACES:
             with self.subTest(text):
-                refusal = self.refusal_of(text)
+                refusal = refusal_of(self.client, text)
                 self.assertEqual(refusal.fault, fault)
                 self.assertIn(name or None, [*refusal.fields.values(), None])
                 told = load_fault(refusal, join_texts([("m.strl", text)]), "M")
@@ -450,7 +441,7 @@ class OnTheProgram(unittest.TestCase):
     def test_stops_are_where_they_are_said_to_be(self):
         for body, at, _ in STOPS:
             text = module_of(body)
-            fields = self.refusal_of(text).fields
+            fields = refusal_of(self.client, text).fields
             wanted = text.index(at, text.index(body)) + 1
             self.assertEqual((fields.get("line"), fields.get("column")), (1, wanted), body)
 
@@ -484,7 +475,7 @@ class OnTheProgram(unittest.TestCase):
         for form, others, times in SIZES:
             most = (STATEMENTS - others) // times
             for words in (most, most + 1):
-                refusal = self.refusal_of(module_of(form.format("A" + " or A" * words)))
+                refusal = refusal_of(self.client, module_of(form.format("A" + " or A" * words)))
                 limit = refusal and (refusal.fault, refusal.fields["limit"])
                 wanted = None if words == most else ("TooLarge", "statements")
                 self.assertEqual(limit, wanted, (form, words))
@@ -495,7 +486,7 @@ class OnTheProgram(unittest.TestCase):
             for begin, end in (("not ", ""), ("(", ")")):
                 for number in (most, most + 1):
                     text = module_of(f"{before}{begin * number}A{end * number}{after}")
-                    refusal = self.refusal_of(text)
+                    refusal = refusal_of(self.client, text)
                     limit = refusal and (refusal.fault, refusal.fields["limit"])
                     wanted = None if number == most else ("TooLarge", "nesting")
                     self.assertEqual(limit, wanted, (before, begin, number))
@@ -503,7 +494,7 @@ class OnTheProgram(unittest.TestCase):
     def test_a_text_that_is_one_test(self):
         for test in (" or ".join(["A"] * 12_000), "not " * 15_000 + "A", "(" * 60_000):
             begun = time.monotonic()
-            refusal = self.refusal_of(module_of(f"await {test}"))
+            refusal = refusal_of(self.client, module_of(f"await {test}"))
             self.assertEqual(refusal.fault, "TooLarge")
             self.assertLess(time.monotonic() - begun, 5)  # a busy machine; bench measures it
 

@@ -6,7 +6,7 @@ import pathlib
 import tempfile
 import unittest
 
-from support import needs_program, run_client
+from support import needs_program, refusal_of, run_client
 
 import estserve
 from estserve_client.library_text import join_texts
@@ -184,17 +184,8 @@ class OnTheProgram(unittest.TestCase):
         outputs = Module("M", [("O", "output"), ("P", "output")], [], [])
         self.client.ask_all(grants_of(outputs))
 
-    def refusal_of(self, text):
-        """The refusal of a load of M; None where it is loaded, and taken out again."""
-        try:
-            self.client.load(0, "M", text)
-        except estserve.Refusal as refusal:
-            return refusal
-        self.client.unload(0)
-        return None
-
     def told_of(self, text):
-        refusal = self.refusal_of(text)
+        refusal = refusal_of(self.client, text)
         self.assertIsNotNone(refusal, text)
         return refusal.fault, load_fault(refusal, join_texts([("m.strl", text)]), "M")
 
@@ -217,7 +208,7 @@ class OnTheProgram(unittest.TestCase):
     def test_loops_that_take_time(self):
         for text in LOADED:
             with self.subTest(text):
-                self.assertIsNone(self.refusal_of(text))
+                self.assertIsNone(refusal_of(self.client, text))
                 self.assertEqual(estserve_places("InstantLoop", text), [])
 
     def test_what_is_left_out_is_named(self):
