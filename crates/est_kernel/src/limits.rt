@@ -16,7 +16,7 @@ pub const MOST_LOOPS: u16 = 16;
 /// How deep traps may be nested.
 pub const MOST_TRAPS: u16 = 16;
 /// How deep local signals may be nested.
-pub const MOST_LOCALS: u16 = 6;
+pub const MOST_LOCALS: u16 = 32;
 
 /// What a kernel has too many of.
 #[derive(Clone, Copy, PartialEq, Eq, Debug)]

@@ -130,8 +130,8 @@ const LIMITS: [(&str, &str); 10] = [
     ("exit 15, traps 16", "a kernel"),
     ("exit 16, traps 17", "TooLarge(Traps)"),
     ("exit 39, traps 40", "TooLarge(Traps)"),
-    ("pause, locals 6", "a kernel"),
-    ("pause, locals 7", "TooLarge(Locals)"),
+    ("pause, locals 32", "a kernel"),
+    ("pause, locals 33", "TooLarge(Locals)"),
     ("pause, locals 70", "TooLarge(Locals)"),
 ];
 
@@ -140,10 +140,10 @@ fn limits(rt: HostRuntime) {
     expect_made(&rt, rt.alloc(), &LIMITS);
 }
 
-/// Seven local signals after seventeen loops: the loops are named.
+/// 33 local signals after seventeen loops: the loops are told.
 #[test]
 fn first_limit(rt: HostRuntime) {
-    let row = ("pause, loops 17 then pause, locals 7", "TooLarge(Loops)");
+    let row = ("pause, loops 17 then pause, locals 33", "TooLarge(Loops)");
     expect_made(&rt, rt.alloc(), &[row]);
 }
 
