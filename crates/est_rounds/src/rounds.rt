@@ -163,8 +163,8 @@ fn step_of(kernel: &Kernel, state: &State, env: &Env, next: &mut PauseSet) -> Op
 /// The engine that judges all signals that may be emitted in rounds, each over the whole kernel.
 ///
 /// A round judges each statement at most once, with two exceptions. A `signal` judges its body
-/// twice, so a statement under six local signals is judged 64 times. The body of a loop that starts
-/// again is judged once more.
+/// twice, so a statement under n local signals is judged 2^n times: this engine is for kernels with
+/// few of them. The body of a loop that starts again is judged once more.
 #[derive(Clone, Copy)]
 pub struct Rounds {}
 

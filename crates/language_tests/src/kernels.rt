@@ -140,7 +140,7 @@ fn limits(rt: HostRuntime) {
     expect_made(&rt, rt.alloc(), &LIMITS);
 }
 
-/// 33 local signals after seventeen loops: the loops are told.
+/// 33 local signals after seventeen loops: the loops are named.
 #[test]
 fn first_limit(rt: HostRuntime) {
     let row = ("pause, loops 17 then pause, locals 33", "TooLarge(Loops)");
