@@ -19,8 +19,6 @@ Each command of docs/PROTOCOL.md is a method of `estserve.Client`; a refusal is 
 """
 from __future__ import annotations
 
-import sys
-
 import estserve_client
 from estserve_client import (
     CannotBeSent,
@@ -34,7 +32,7 @@ from estserve_client import (
     connect,
     start,
 )
-from estserve_client.commands import installed, main
+from estserve_client.commands import end, installed, main
 
 TYPE_CHECKING = False
 if TYPE_CHECKING:
@@ -68,4 +66,4 @@ def __getattr__(name: str) -> object:
 
 
 if __name__ == "__main__":
-    sys.exit(main())
+    end(main())
