@@ -6,7 +6,6 @@ import sys
 
 from .connection import Refusal, start, unproved_program
 from .drawing import Drawing, Progress
-from .inputs import read_inputs
 from .module_text import main_of
 from .pictures import Seen
 from .stage import Refused, Scenario, SharedSlot, Stage, fault_of_inputs, stopping
@@ -35,7 +34,7 @@ def read_scenario(arguments: argparse.Namespace) -> Scenario:
         )
     library = read_library(arguments.file)
     module = main_of(library.text, arguments.main)
-    return Scenario(library, module, read_inputs(read_text(arguments.inputs, "the list of inputs")))
+    return Scenario(library, module, read_text(arguments.inputs, "the list of inputs"))
 
 
 def chosen(module: Module, named: Optional[List[str]]) -> Signals:
@@ -154,10 +153,10 @@ def run_once(arguments: argparse.Namespace) -> None:
     CannotBeSent.
     """
     scenario = read_scenario(arguments)
-    fault = fault_of_inputs(scenario)
     try:
         with place_to_run(arguments) as place:
             place.load(scenario)
+            fault = fault_of_inputs(scenario)
             if fault:
                 raise Failed(fault)
             (hold_run if arguments.expect else draw_run)(arguments, place, scenario)

@@ -2,11 +2,13 @@
 from __future__ import annotations
 
 import contextlib
+import functools
 import signal
 import threading
 
 from .ahead import Ahead
 from .connection import Refusal, TooLong
+from .inputs import read_inputs
 from .texts import Failed
 
 TYPE_CHECKING = False
@@ -26,10 +28,19 @@ LOGIN = {"cmd": "login", "user": "root", "roles": ["root"]}
 
 
 class Scenario:
-    """A module, the text that it stands in, and the inputs of its instants."""
+    """A module, the text that it stands in, and the text of a list of inputs."""
 
-    def __init__(self, library: LibraryText, module: Module, inputs: Inputs) -> None:
-        self.library, self.module, self.inputs = library, module, inputs
+    def __init__(self, library: LibraryText, module: Module, listed: str) -> None:
+        self.library, self.module, self.listed = library, module, listed
+
+    @functools.cached_property
+    def inputs(self) -> Inputs:
+        """The inputs of its instants, which are read when they are first asked for."""
+        return read_inputs(self.listed)
+
+    def prepare(self) -> None:
+        """Has the inputs read."""
+        len(self.inputs)
 
     def entries(self) -> int:
         """How many entries of a journal it takes."""
@@ -115,9 +126,10 @@ class Stage:
             self.client.close()
 
     def has_room(self, scenario: Scenario) -> bool:
+        if self.client is None:
+            return False
         wanted = {(grant["op"], grant["object"]) for grant in grants_of(scenario.module)}
-        fits = len(self.granted | wanted) <= GRANTS and self.entries + scenario.entries() <= ENTRIES
-        return self.client is not None and fits
+        return len(self.granted | wanted) <= GRANTS and self.entries + scenario.entries() <= ENTRIES
 
     def load(self, scenario: Scenario) -> None:
         """Loads the module in place of the one that ran before. Raises Failed where it is
@@ -140,9 +152,9 @@ class Stage:
             "main": scenario.module.name,
             "text": scenario.library.text,
         }
-        self.entries += scenario.entries()
         self.is_loaded = False
         self.check([LOGIN] * begins + grants + unload + [load], scenario)
+        self.entries += scenario.entries()
         self.is_loaded = True
 
     def check(self, commands: List[Answer], scenario: Scenario) -> None:
@@ -152,10 +164,13 @@ class Stage:
         for before.
         """
         assert self.client is not None
+        self.client.when_waiting = scenario.prepare  # a long list, while the module is loaded
         try:
             answers = self.client.ask_all(commands)
         except TooLong as fault:
             raise Failed(f"{scenario.library.paths[0]}: the text is too long: {fault}") from fault
+        finally:
+            self.client.when_waiting = lambda: None
         refusals = [
             Refusal(told, asked) for asked, told in zip(commands, answers) if "code" in told
         ]

@@ -11,7 +11,6 @@ from typing import List, Tuple
 from .connection import start
 from .drawing import Progress
 from .expecting import first_difference, outcome_lines, read_expected, update
-from .inputs import read_inputs
 from .module_text import main_of
 from .pictures import Seen
 from .running import counted, play, program_of
@@ -40,7 +39,7 @@ def outcome(
     """What a list of inputs gives: what was seen, and its lines. Raises Failed."""
     library = read_library(texts_for(inputs, arguments))
     module = main_of(library.text, arguments.main)
-    scenario = Scenario(library, module, read_inputs(read_text(inputs, "the list of inputs")))
+    scenario = Scenario(library, module, read_text(inputs, "the list of inputs"))
     fault = fault_of_inputs(scenario)
     stage.load(scenario)
     if fault:

@@ -16,7 +16,6 @@ import estserve
 from estserve_client.applying import warnings_of, wrong_permission
 from estserve_client.expecting import rows_of
 from estserve_client.fault_places import places_of
-from estserve_client.inputs import read_inputs
 from estserve_client.instants import Instant
 from estserve_client.left_out import left_out
 from estserve_client.library_text import join_texts
@@ -345,7 +344,7 @@ class Words(unittest.TestCase):
         self.module = main_of(BUS)
 
     def scenario(self, inputs):
-        return Scenario(join_texts([("bus.strl", BUS)]), self.module, read_inputs(inputs))
+        return Scenario(join_texts([("bus.strl", BUS)]), self.module, inputs)
 
     def test_a_list_of_inputs_may_have_inouts(self):
         self.assertIsNone(fault_of_inputs(self.scenario("LINE\nFRAME WANT_A\n")))

@@ -12,7 +12,6 @@ import unittest
 from support import CLIENTS, EXAMPLES, needs_program, run_client, run_words, serve
 
 from estserve_client.drawing import Progress
-from estserve_client.inputs import read_inputs
 from estserve_client.library_text import join_texts
 from estserve_client.module_text import Module
 from estserve_client.running import play
@@ -223,7 +222,7 @@ class Interrupts(unittest.TestCase):
 
     def test_it_is_told_how_many_instants_there_were(self):
         module = Module("M", [], [], [])
-        scenario = Scenario(join_texts([("m.strl", "")]), module, read_inputs(";\n" * 3))
+        scenario = Scenario(join_texts([("m.strl", "")]), module, ";\n" * 3)
         for number, count in ((2, 1), (3, 2), (4, 3)):
             seen = []
 
