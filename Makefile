@@ -3,6 +3,7 @@ PROGRAM := crates/estserve/out/estserve
 ENGINE := crates/est_bench/out/est_bench
 TEXTS := crates/text_bench/out/text_bench
 LOADS := crates/load_bench/out/load_bench
+PAIRS := crates/engine_pairs/out/engine_pairs
 POLICIES := crates/policy_bench/out/policy_bench
 ECHO := crates/echo_bench/out/echo_bench
 PREFIX ?= /usr/local
@@ -90,6 +91,8 @@ bench: build
 	python3 bench/memory.py $(PROGRAM)
 	@python3 scripts/run.py est_bench all 1 > /dev/null
 	python3 bench/instants.py $(ENGINE)
+	@python3 scripts/run.py engine_pairs < crates/engine_pairs/stdin > /dev/null
+	python3 bench/engines.py $(PAIRS) 500000
 	@python3 scripts/run.py text_bench 1 < crates/text_bench/stdin > /dev/null
 	python3 bench/texts.py $(TEXTS)
 	@python3 scripts/run.py load_bench 1 < crates/load_bench/stdin > /dev/null
