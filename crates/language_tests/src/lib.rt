@@ -18,6 +18,8 @@ mod linking;
 #[cfg(test)]
 mod literature;
 #[cfg(test)]
+mod microsteps;
+#[cfg(test)]
 mod modules;
 #[cfg(test)]
 mod pending;

@@ -1,4 +1,4 @@
 mod derived;
-mod loads;
+pub mod loads;
 mod programs;
 mod reactions;

@@ -6,9 +6,11 @@ ghost use Rattle.est_rounds.specs.Contract.{AreInputs};
 use est_kernel::interface::Interface;
 use est_kernel::kernel::Kernel;
 use est_kernel::mask::{common, with};
-use est_kernel::state::{Inputs, State};
+use est_kernel::state::{Inputs, Outcome, State, Stuck};
 use est_kernel::statement::InterfaceSignal;
 use est_link::link::link;
+use est_micro::micro::Micro;
+use est_net::net::Net;
 use est_reduce::reduce::reduce;
 use est_rounds::engine::Engine;
 use est_rounds::rounds::Rounds;
@@ -56,6 +58,34 @@ pub fn step(kernel: &Kernel, state: &mut State, present: u64) -> Shown
             Ok(outcome.outputs)
         }
         Err(stuck) => Err(stuck.undecided),
+    }
+}
+
+/// Whether an engine's answer is what is shown, and its next state the one that is then left.
+fn is_same(answer: &Result<Outcome, Stuck>, shown: Shown, left: &State) -> bool {
+    match answer {
+        Ok(outcome) => shown == Ok(outcome.outputs) && *left == outcome.next,
+        Err(stuck) => shown == Err(stuck.undecided),
+    }
+}
+
+/// One instant on the plain engine and on the microstep engine. Fails where they differ.
+pub fn agreed_step(
+    alloc: Global,
+    kernel: &Kernel,
+    state: &mut State,
+    present: u64,
+) -> Result<Shown, Fail>
+    requires { IsState kernel.now.root state.old }
+    ensures { IsState kernel.now.root state.new }
+{
+    let mut engine = Micro::new(Net::build(alloc, kernel)?);
+    let answer = engine.react(kernel, &*state, &offered(kernel, present));
+    let shown = step(kernel, state, present);
+    if is_same(&answer, shown, &*state) {
+        Ok(shown)
+    } else {
+        Err(Fail::from("the engines differ"))
     }
 }
 

@@ -1,6 +1,6 @@
 //! Programs of the literature, with their instants as they were worked out by hand.
 
-use crate::literature::loads::{Shown, load, mask_of, step};
+use crate::literature::loads::{Shown, agreed_step, load, mask_of};
 use est_kernel::interface::Interface;
 use est_kernel::kernel::Kernel;
 use est_kernel::state::State;
@@ -401,12 +401,17 @@ fn expected(
 }
 
 /// The first instant that shows something else, from 0.
-fn first_difference(kernel: &Kernel, instants: &[Entry]) -> Result<Option<usize>, Fail> {
+fn first_difference(
+    alloc: Global,
+    kernel: &Kernel,
+    instants: &[Entry],
+) -> Result<Option<usize>, Fail> {
     let mut state = State::Fresh;
     for index in 0..instants.len() {
         let (inputs, shown) = instants[index];
         let present = mask_of(kernel.interface(), inputs)?;
-        if step(kernel, &mut state, present) != expected(kernel.interface(), shown)? {
+        let found = agreed_step(alloc, kernel, &mut state, present)?;
+        if found != expected(kernel.interface(), shown)? {
             return Ok(Some(index));
         }
     }
@@ -417,7 +422,7 @@ fn first_difference(kernel: &Kernel, instants: &[Entry]) -> Result<Option<usize>
 fn expect_instants(alloc: Global, programs: &[Program]) -> Result<(), Fail> {
     for program in programs {
         let kernel = load(alloc, program.text)?;
-        if let Some(index) = first_difference(&kernel, program.instants)? {
+        if let Some(index) = first_difference(alloc, &kernel, program.instants)? {
             return Err(Fail::from(format!(in alloc; "at {index}: {}", program.text)?));
         }
     }

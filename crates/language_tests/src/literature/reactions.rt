@@ -1,6 +1,6 @@
 //! Kernel programs, each instant by instant. The interface is `input I; output O, P, Q`.
 
-use crate::literature::loads::{Shown, load, mask_of, step};
+use crate::literature::loads::{Shown, agreed_step, load, mask_of, step};
 use est_kernel::closed::is_closed;
 use est_kernel::interface::{Declaration, Interface, Kind, MOST_SIGNALS};
 use est_kernel::kernel::Kernel;
@@ -92,12 +92,17 @@ fn shown_of(interface: &Interface, words: &str) -> Result<Shown, Fail> {
 }
 
 /// The first instant that shows something else, as it is written.
-fn first_difference<'a>(kernel: &Kernel, instants: &'a str) -> Result<Option<&'a str>, Fail> {
+fn first_difference<'a>(
+    alloc: Global,
+    kernel: &Kernel,
+    instants: &'a str,
+) -> Result<Option<&'a str>, Fail> {
     let mut state = State::Fresh;
     for instant in instants.split("; ") {
         let (inputs, words) = instant.split_once('>').ok_or("no instant")?;
         let present = mask_of(kernel.interface(), inputs)?;
-        if step(kernel, &mut state, present) != shown_of(kernel.interface(), words)? {
+        let shown = agreed_step(alloc, kernel, &mut state, present)?;
+        if shown != shown_of(kernel.interface(), words)? {
             return Ok(Some(instant));
         }
     }
@@ -109,7 +114,7 @@ fn expect_instants(alloc: Global, rows: &[(&str, &str)]) -> Result<(), Fail> {
     for (body, instants) in rows {
         let text = format!(in alloc; "module M: input I; output O, P, Q; {body} end module")?;
         let kernel = load(alloc, text.as_str())?;
-        if let Some(instant) = first_difference(&kernel, instants)? {
+        if let Some(instant) = first_difference(alloc, &kernel, instants)? {
             return Err(Fail::from(format!(in alloc; "not {instant}: {body}")?));
         }
     }
