@@ -7,8 +7,9 @@ PROGRAM is the built `crates/estserve/out/estserve`. The client runs the arbiter
 20,000 instants (or INSTANTS) with inputs that are drawn at random from a fixed seed, and writes its
 table. What it sends is recorded once. Then client and program take turns: the client runs, and the
 program alone answers the recorded commands from a file. Printed are the medians of both, their
-ratio, when the first row of the table came, and what is hoped of each. Python starts as it does for
-a user: it keeps its bytecode (in a folder of this run) and gathers what it writes.
+ratio, when the first row of the table came, and what is hoped of each; and how much of the client's
+time a start of Python takes that does nothing, which differs from machine to machine. Python starts
+as it does for a user: it keeps its bytecode (in a folder of this run) and gathers what it writes.
 """
 import sys
 
@@ -82,6 +83,13 @@ def time_program(program, commands):
     return time.perf_counter() - begun
 
 
+def time_python(environment):
+    """The seconds of a start of Python that does nothing."""
+    begun = time.perf_counter()
+    subprocess.run([sys.executable, "-c", "pass"], env=environment, check=True)
+    return time.perf_counter() - begun
+
+
 def main():
     program = pathlib.Path(sys.argv[1]).resolve()
     count = int(sys.argv[2]) if len(sys.argv) > 2 else 20_000
@@ -90,14 +98,16 @@ def main():
         inputs = folder / "inputs"
         inputs.write_text(draw_inputs(count))
         commands = record(program, inputs, folder)
-        clients, rows, programs = [], [], []
+        clients, rows, programs, starts = [], [], [], []
         for _ in range(TURNS):
             seconds, first = time_client(program, inputs, environment_in(folder))
             clients.append(seconds)
             rows.append(first)
             programs.append(time_program(program, commands))
+            starts.append(time_python(environment_in(folder)))
     ratio = statistics.median(clients) / statistics.median(programs)
     print(f"the client's run: {statistics.median(clients):.3f} s (median of {TURNS})")
+    print(f"a start of Python: {statistics.median(starts):.3f} s of it")
     print(f"the program alone: {statistics.median(programs):.3f} s")
     print(f"ratio: {ratio:.2f} (hoped for: at most {HOPED_RATIO})")
     print(f"first row: {max(rows):.3f} s at the latest (hoped for: at most {HOPED_SECONDS})")
