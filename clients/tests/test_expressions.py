@@ -495,7 +495,7 @@ class OnTheProgram(unittest.TestCase):
             begun = time.monotonic()
             refusal = refusal_of(self.client, module_of(f"await {test}"))
             self.assertEqual(refusal.fault, "TooLarge")
-            self.assertLess(time.monotonic() - begun, 5)  # a busy machine; bench measures it
+            self.assertLess(time.monotonic() - begun, 60)  # without proof, on a busy machine; bench measures it
 
     def test_the_inouts_of_a_run(self):
         with tempfile.TemporaryDirectory() as name:
