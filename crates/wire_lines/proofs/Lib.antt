@@ -1,5 +1,4 @@
-pub mod FloatLemmas
 pub mod MemberLemmas
 pub mod CommandLemmas
 pub mod ReplyTexts
-pub mod LookTokens
+pub mod ReplyTokens

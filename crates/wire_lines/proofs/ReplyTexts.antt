@@ -6,6 +6,7 @@ use Rattle.serde_json.proofs.OnLiterals.{serde_json_on_literals}
 use Rattle.access_core.specs.declared.reply.Change.{Change}
 use Rattle.access_core.specs.declared.reply.Change.TheVariants as change
 use Rattle.access_core.specs.declared.reply.Reply.TheVariants.{Load, Offer, Discard, Unload, Step, Changed, Check}
+use Rattle.access_core.specs.declared.reply.Reply.TheVariants.{Login, Audit}
 use Rattle.access_core.specs.Replies.{word_of}
 use Rattle.wire_lines.specs.Replies.{line_of}
 
@@ -39,6 +40,19 @@ pub step_text : (instant place version : ℕ) → (codes "{\"instant\":" ++ deci
     ≡ line_of (Step instant place version)
 unfolding serde_json_on_literals digits
 step_text instant place version = simp append_assoc
+
+pub login_text : (session version : ℕ)
+    → codes "{\"ok\":\"login\",\"session\":" ++ (decimal session ++ version_end version)
+    ≡ line_of (Login session version)
+unfolding serde_json_on_literals digits
+login_text session version = simp append_assoc
+
+pub audit_text : (entries instants version : ℕ)
+    → codes "{\"entries\":" ++ (decimal entries ++ (codes ",\"instants\":" ++ (decimal instants
+    ++ (codes ",\"ok\":\"audit\"" ++ version_end version))))
+    ≡ line_of (Audit entries instants version)
+unfolding serde_json_on_literals digits
+audit_text entries instants version = simp append_assoc
 
 changed_text : (c : Change) (version : ℕ) → codes "{\"ok\":\"" ++ (word_of c ++ (codes "\"" ++ version_end version))
     ≡ line_of (Changed c version)

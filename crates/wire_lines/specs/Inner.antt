@@ -1,4 +1,4 @@
 pub mod Members
 pub mod Commands
 pub mod Ordering
-pub mod LookTokens
+pub mod ReplyTokens

@@ -1,11 +1,13 @@
-//! The most common lines, written piece by piece without a tree of values.
+//! Lines of accepted commands that tell no name but a command's word, written as they stand.
 ghost use Rattle.std.specs.Prelude.{◌≡◌, ◌++◌, codes, decimal, IfOk, OnOk};
 ghost use Rattle.access_core.specs.declared.reply.Reply.TheVariants.{Load, Offer, Discard};
 ghost use Rattle.access_core.specs.declared.reply.Reply.TheVariants.{Unload, Step, Changed, Check};
+ghost use Rattle.access_core.specs.declared.reply.Reply.TheVariants.{Login, Audit};
 ghost use Rattle.wire_lines.specs.Replies.{line_of};
 
 use access_core::reply::Change;
 use itoa::Buffer;
+use rbac_policy::commands::SessionId;
 use std::alloc::{AllocError, Global};
 
 /// How many bytes a line finds room for at once: these lines are shorter.
@@ -37,7 +39,7 @@ fn add_version(line: &mut Vec<u8>, version: u64) -> Result<(), AllocError>
     Ok(())
 }
 
-/// Adds a text, a place after it and a version, and the end of the line.
+/// Adds a text, a place or a session after it and a version, and the end of the line.
 fn add_place(line: &mut Vec<u8>, text: &[u8], place: u64, version: u64) -> Result<(), AllocError>
     ensures { OnOk result (line.new.items ≡ line.old.items
         ++ (text.now
@@ -48,7 +50,7 @@ fn add_place(line: &mut Vec<u8>, text: &[u8], place: u64, version: u64) -> Resul
     Ok(())
 }
 
-/// A line that begins with this text and tells a place and a version.
+/// A line that begins with this text and tells a place, or a session, and a version.
 fn placed_line(alloc: Global, text: &[u8], place: u64, version: u64) -> Result<Vec<u8>, AllocError>
     ensures { IfOk result (λ line. line.items
         ≡ text.now ++ (decimal place ++ (codes ",\"version\":" ++
@@ -121,6 +123,35 @@ pub(crate) fn step_line(
         place,
         version,
     )
+}
+
+/// The line of a login.
+pub(crate) fn login_line(
+    alloc: Global,
+    session: &SessionId,
+    version: u64,
+) -> Result<Vec<u8>, AllocError>
+    ensures { IfOk result (λ line. line.items ≡ line_of (Login session.now version)) }
+{
+    let session = u64::from(session.number());
+    placed_line(alloc, b"{\"ok\":\"login\",\"session\":", session, version)
+}
+
+/// The line of an audit.
+pub(crate) fn audit_line(
+    alloc: Global,
+    entries: u64,
+    instants: u64,
+    version: u64,
+) -> Result<Vec<u8>, AllocError>
+    ensures { IfOk result (λ line. line.items ≡ line_of (Audit entries instants version)) }
+{
+    let mut line = Vec::with_capacity(alloc, USUAL_BYTES)?;
+    add_number(&mut line, b"{\"entries\":", entries)?;
+    add_number(&mut line, b",\"instants\":", instants)?;
+    line.extend_from_slice(b",\"ok\":\"audit\"")?;
+    add_version(&mut line, version)?;
+    Ok(line)
 }
 
 /// A line that tells the word of an accepted command, and a version.
