@@ -9,3 +9,4 @@ pub mod Standing
 pub mod Answers
 pub mod Instants
 pub mod Left
+pub mod Engines

@@ -4,13 +4,13 @@ ghost use Rattle.std.specs.Prelude.{MatchOption, IfOk, IfErr, IsTrue, true, fals
 ghost use Rattle.est_kernel.specs.Bits.{bits};
 ghost use Rattle.est_kernel.specs.Interfaces.{offerable};
 ghost use Rattle.est_meaning.specs.Knowledge.{IsIn};
-ghost use Rattle.est_micro.specs.Engine.{IsNetOf};
 ghost use Rattle.est_text.specs.Identifiers.{is_identifier};
 ghost use Rattle.reactor_core.specs.Meaning.{Running, Runs, ModuleOf, is_loaded, instants_of};
 ghost use Rattle.reactor_core.specs.Meaning.{entry};
 ghost use Rattle.reactor_core.specs.Loading.{IsLoadFault};
 ghost use Rattle.reactor_core.specs.Standing.{given_by};
 ghost use Rattle.reactor_core.specs.Instants.{OpenAnswer};
+ghost use Rattle.reactor_core.specs.Engines.{IsEngineOf};
 ghost use Rattle.reactor_core.specs.Left.{IsKernelOf, IsLeftOf};
 ghost use Rattle.reactor_core.specs.Answers.{LoadAnswer, OfferAnswer, DiscardAnswer, UnloadAnswer};
 ghost use Rattle.reactor_core.specs.Answers.{ShownAnswer, HasRoom, RefusesEntry, load_of};
@@ -18,19 +18,20 @@ ghost use Rattle.reactor_core.specs.Answers.{ShownAnswer, HasRoom, RefusesEntry,
 use crate::entry::{Action, Load, PastInstant, SlotEntry, Stamp};
 use crate::journal::Journal;
 use crate::loaded::Module;
+use crate::reactor::engine::ModuleEngine;
 use crate::reactor::instant::Instant;
-use crate::reactor::parts::{Parts, check_relations, engine_of, join};
+use crate::reactor::parts::{Parts, check_relations, join};
 use crate::reading::read_module;
 use crate::refusal::{ModuleRefusal, Refusal};
 use crate::text::Text;
 use est_kernel::interface::Interface;
 use est_kernel::kernel::Kernel;
 use est_kernel::state::State;
-use est_micro::micro::Micro;
 use est_text::identifier::Identifier;
 use std::alloc::Global;
 use std::marker::Model;
 
+mod engine;
 pub mod instant;
 mod parts;
 
@@ -79,11 +80,11 @@ fn instant_at(instants: &[PastInstant], n: u64) -> Option<PastInstant>
 
 /// The load of the module `main` of a text: its entry keeps copies of both, its module is read from
 /// the text, and the engine is that of the module's kernel.
-fn read_load(alloc: Global, main: &str, text: &str) -> Result<(Load, Module, Micro), Refusal>
+fn read_load(alloc: Global, main: &str, text: &str) -> Result<(Load, Module, ModuleEngine), Refusal>
     requires { IsTrue (is_identifier main.now) }
     ensures entry { IfOk result (λ read. read.0 ≡ load_of main.now text.now) }
     ensures given { IfOk result (λ read. ModuleOf read.0 (given_by read.1)) }
-    ensures engine { IfOk result (λ read. IsNetOf read.2.net read.1.kernel) }
+    ensures engine { IfOk result (λ read. IsEngineOf read.2 read.1.kernel) }
     ensures fault { IfErr result (IsLoadFault main.now text.now) }
 {
     let Some(main) = Identifier::from_text(main) else {
@@ -91,7 +92,7 @@ fn read_load(alloc: Global, main: &str, text: &str) -> Result<(Load, Module, Mic
     };
     let text = Text::copied(alloc, text)?;
     let loaded = read_module(alloc, main.as_str(), text.as_str())?;
-    let engine = engine_of(alloc, &loaded.kernel)?;
+    let engine = ModuleEngine::for_kernel(alloc, &loaded.kernel)?;
     Ok((Load { main, text }, loaded, engine))
 }
 
@@ -181,10 +182,10 @@ impl Reactor {
         stamp: Stamp,
         load: Load,
         loaded: Module,
-        engine: Micro,
+        engine: ModuleEngine,
     ) -> Result<Reactor, (Refusal, Journal)>
         requires given { ModuleOf load (given_by loaded) }
-        requires engine { IsNetOf engine.net loaded.kernel }
+        requires engine { IsEngineOf engine loaded.kernel }
         ensures { MatchResult result
             (λ r. HasRoom journal × (r ≡ journal ++ entry stamp (Action.Load load) ∷ []))
             (λ refused. RefusesEntry journal refused.0 × (refused.1 ≡ journal)) }

@@ -1,9 +1,8 @@
 //! What a reactor is made of, and what an offer and an instant make of it.
-ghost use Rattle.std.specs.Prelude.{◌≡◌, ◌++◌, ◌∷◌, [], IfOk, MatchResult};
+ghost use Rattle.std.specs.Prelude.{◌≡◌, ◌++◌, ◌∷◌, [], MatchResult};
 ghost use Rattle.est_kernel.specs.Bits.{bits};
 ghost use Rattle.est_kernel.specs.Term.{Term};
 ghost use Rattle.est_meaning.specs.States.{IsState};
-ghost use Rattle.est_micro.specs.Engine.{IsNetOf};
 ghost use Rattle.est_relations.specs.Keeping.{AreLawful};
 ghost use Rattle.est_rounds.specs.Contract.{AreInputs, HasNoReaction};
 ghost use Rattle.reactor_core.specs.Meaning.{entry};
@@ -15,15 +14,12 @@ ghost use Rattle.reactor_core.specs.Answers.{HasRoom, RefusesEntry};
 use crate::entry::{Action, PastInstant, SlotEntry, Stamp};
 use crate::journal::Journal;
 use crate::loaded::Module;
+use crate::reactor::engine::ModuleEngine;
 use crate::refusal::Refusal;
-use est_kernel::kernel::Kernel;
 use est_kernel::state::{Inputs, Outcome, State, Stuck};
-use est_micro::micro::Micro;
-use est_net::net::Net;
 use est_relations::pending::Pending;
 use est_rounds::engine::Engine;
 use est_text::identifier::Identifier;
-use std::alloc::{AllocError, Global};
 
 /// What a reactor is made of: a journal, the module of its last load with its engine, and how far
 /// that has come.
@@ -31,7 +27,7 @@ use std::alloc::{AllocError, Global};
 pub struct Parts {
     pub journal: Journal,
     pub loaded: Module,
-    pub engine: Micro,
+    pub engine: ModuleEngine,
     pub state: State,
     /// The inputs that are offered and not yet taken, a bit for each in the order of declaration.
     pub pending: u64,
@@ -61,13 +57,6 @@ pub fn check_relations(loaded: &Module, pending: u64) -> Result<(), Refusal>
     let pending = Pending::resume(loaded.kernel.interface(), &loaded.relations, pending);
     pending.ready()?;
     Ok(())
-}
-
-/// The engine of a kernel, or memory was refused: each later reaction of it takes none.
-pub fn engine_of(alloc: Global, kernel: &Kernel) -> Result<Micro, AllocError>
-    ensures { IfOk result (λ engine. IsNetOf engine.net kernel.now) }
-{
-    Ok(Micro::new(Net::build(alloc, kernel)?))
 }
 
 /// The reaction of a module in this state to the pending inputs, by this engine.
