@@ -4,7 +4,7 @@ use Rattle.std.specs.Prelude.{◌≡◌, ℕ, ◌+◌, ◌<◌, ◌≤◌, List,
 use Rattle.est_modules.specs.Derived.{Derived, missing, nothing, pause, halt, emit, sustain, exit, await, present, suspend, abort, weak_abort, repeat, repeat_each, every, trap, signal, run, seq, par}
 use Rattle.est_modules.specs.Modules.{Program, program_named}
 use Rattle.est_modules.specs.Tests.{test_words}
-use Rattle.est_checks.specs.declared.statement_count.TheConstants.{MOST_STATEMENTS}
+use Rattle.est_kernel.specs.declared.limits.TheConstants.{MOST_STATEMENTS}
 
 -- the statements of a body, where each module m has (counts m) of them: each `;` between units and each `||` is
 -- one, and so is each `not`, `and` and `or` of a test; a branch that is left out has none, and a run has those of its

@@ -6,7 +6,7 @@ use Rattle.est_checks.specs.Emissions.{AreEmissions}
 use Rattle.est_checks.specs.LinkFaults.{fault_before_order, fault_behind_order}
 use Rattle.est_modules.specs.Modules.{Program, program_named}
 use Rattle.est_modules.specs.ModuleOrders.{run_rows}
-use Rattle.est_checks.specs.declared.statement_count.TheConstants.{MOST_STATEMENTS}
+use Rattle.est_kernel.specs.declared.limits.TheConstants.{MOST_STATEMENTS}
 use Rattle.est_checks.specs.declared.fault.Limit.{Limit}
 use Rattle.est_checks.specs.declared.fault.Limit.TheVariants.{Signals, Relations, Statements}
 use Rattle.est_checks.specs.declared.fault.LinkFault.{LinkFault}

@@ -14,6 +14,7 @@ ghost use Rattle.est_modules.specs.Tests.{test_words};
 ghost use Rattle.est_checks.specs.Inner.Numbers.{number_of, numbers_of, IsFilled};
 
 use crate::word_count::test_words;
+use est_kernel::limits::MOST_STATEMENTS;
 use est_modules::head::Head;
 use est_modules::module_order::place_named;
 use est_modules::place_order::Order;
@@ -21,10 +22,8 @@ use est_syntax::tree::{Branches, Sequence, Statement, Test, Unit};
 use est_text::identifier::Identifier;
 use std::alloc::{AllocError, Global};
 
-/// The most statements that a linked module may have before reduction.
-pub const MOST_STATEMENTS: u16 = 2048;
-
-/// One more: where a number would be larger, it is this one.
+/// One more than `MOST_STATEMENTS`, which bounds a linked module before reduction as it bounds a
+/// kernel. Where a number would be larger, it is this one.
 pub const TOO_MANY: u16 = MOST_STATEMENTS + 1;
 
 /// The modules, and the numbers of statements of those that were counted, each at its module's place.

@@ -11,7 +11,7 @@ use Rattle.est_checks.specs.Duplicates.{redeclared, redeclared_in, redeclared_at
 use Rattle.est_modules.specs.Visible.{stands_in}
 use Rattle.est_checks.specs.Emissions.{AreEmissions, first_refused, refused_at}
 use Rattle.est_checks.specs.FirstFaults.{Else, ByLimits, ByNames, ByRuns, IsFirstFault, recursive_run, limit_passed, limit_passed_by}
-use Rattle.est_checks.specs.declared.statement_count.TheConstants.{MOST_STATEMENTS}
+use Rattle.est_kernel.specs.declared.limits.TheConstants.{MOST_STATEMENTS}
 use Rattle.est_link.specs.Inner.Checked.{IsChecked, IsSoundMain}
 use Rattle.est_checks.specs.LinkFaults.{fault_before_order, fault_behind_order, lawless_number}
 use Rattle.est_modules.specs.Modules.{Program, program_named, first_in_bodies}
