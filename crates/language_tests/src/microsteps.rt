@@ -3,7 +3,7 @@
 ghost use Rattle.est_meaning.specs.States.{IsState};
 ghost use Rattle.est_micro.specs.Engine.{IsNetOf};
 
-use crate::literature::loads::{agreed_step, load};
+use crate::literature::loads::load;
 use est_kernel::kernel::Kernel;
 use est_kernel::limits::MOST_LOCALS;
 use est_kernel::state::{Inputs, State};
@@ -99,15 +99,17 @@ fn nested(alloc: Global) -> Result<String, AllocError> {
     )
 }
 
+/// The plain engine would take twice as long for each of them, so it is not asked.
 #[test]
 fn nested_locals(rt: HostRuntime) -> Result<(), Fail> {
     let text = nested(rt.alloc())?;
     let kernel = load(rt.alloc(), text.as_str())?;
+    let mut engine = Micro::new(Net::build(rt.alloc(), &kernel)?);
     let mut state = State::Fresh;
-    let shown = agreed_step(rt.alloc(), &kernel, &mut state, 0)?;
-    if shown == Ok(1) {
+    let steps = decided(&mut engine, &kernel, &mut state);
+    if steps == engine.net().cells() {
         Ok(())
     } else {
-        Err(Fail::from("O is absent"))
+        Err(Fail::from("a cell is open"))
     }
 }
