@@ -12,7 +12,8 @@ use est_rounds::rounds::Rounds;
 use std::alloc::{AllocError, Global};
 
 /// How deep local signals are nested in what the plain engine runs. For each further one it takes
-/// twice as long, and from four on longer than the microstep engine.
+/// twice as long: under six it was seen to take four times as long as the microstep engine, so about
+/// as long under four.
 const PLAIN_LOCALS: u16 = 3;
 
 /// The engine of a module. Both engines keep the one promise of engines, so which of them a module
