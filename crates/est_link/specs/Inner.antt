@@ -2,4 +2,5 @@ pub mod Binds
 pub mod Checked
 pub mod Joins
 pub mod Needs
+pub mod SignalTables
 pub mod Tables

@@ -15,3 +15,4 @@ pub mod link;
 pub mod linked_module;
 mod main_module;
 mod needed;
+mod signal_table;

@@ -10,8 +10,8 @@ ghost use Rattle.est_checks.specs.LawlessRelations.{first_lawless};
 ghost use Rattle.est_modules.specs.Modules.{program_of};
 ghost use Rattle.est_checks.specs.Duplicates.{redeclared};
 
+use crate::signal_table::SignalTable;
 use est_kernel::interface::{Declaration, Interface, Kind as KernelKind};
-use est_kernel::statement::InterfaceSignal;
 use est_modules::head::{Declared, Head, Kind};
 use est_modules::relations::relations_of;
 use est_reduce::body::Body;
@@ -22,7 +22,7 @@ use est_text::identifier::Identifier;
 use std::alloc::{AllocError, Global};
 
 /// Input, output or both.
-fn kernel_kind(kind: Kind) -> KernelKind
+pub fn kernel_kind(kind: Kind) -> KernelKind
     ensures { result ≡ kernel_kind kind }
 {
     match kind {
@@ -48,32 +48,22 @@ pub fn kernel_interface(alloc: Global, declared: &[Declared]) -> Result<Interfac
     Ok(interface)
 }
 
-/// The signal of a name, which is the first where the name isn't there.
-fn member(interface: &Interface, name: &Identifier) -> InterfaceSignal
-    ensures { result.index ≡ place_of interface.now name.now }
-{
-    match interface.find(name) {
-        Some(signal) => signal,
-        None => InterfaceSignal { index: 0 },
-    }
-}
-
 /// The members of an exclusion.
 fn members(
     alloc: Global,
-    interface: &Interface,
+    signals: &SignalTable<'_>,
     first: &Identifier,
     second: &Identifier,
     later: &[Identifier],
 ) -> Result<Members, AllocError>
-    ensures { IfOk result (λ m. m ≡ map (place_of interface.now) (first.now ∷ second.now ∷
+    ensures { IfOk result (λ m. m ≡ map (place_of signals.now) (first.now ∷ second.now ∷
         later.now)) }
 {
     let mut members = Members::new(alloc);
-    members.push(member(interface, first))?;
-    members.push(member(interface, second))?;
+    members.push(signals.find(first))?;
+    members.push(signals.find(second))?;
     for name in later {
-        members.push(member(interface, name))?;
+        members.push(signals.find(name))?;
     }
     Ok(members)
 }
@@ -81,17 +71,17 @@ fn members(
 /// A relation, its members by their places in the interface.
 fn kernel_relation(
     alloc: Global,
-    interface: &Interface,
+    signals: &SignalTable<'_>,
     relation: &tree::Relation,
 ) -> Result<Relation, AllocError>
-    ensures { IfOk result (λ r. IsRelation interface.now (relation_view relation.now) r) }
+    ensures { IfOk result (λ r. IsRelation signals.now (relation_view relation.now) r) }
 {
     match relation {
         tree::Relation::Excludes(first, second, later) => {
-            Ok(Relation::Exclusion(members(alloc, interface, first, second, later)?))
+            Ok(Relation::Exclusion(members(alloc, signals, first, second, later)?))
         }
         tree::Relation::Implies(first, second) => {
-            Ok(Relation::Implication(member(interface, first), member(interface, second)))
+            Ok(Relation::Implication(signals.find(first), signals.find(second)))
         }
     }
 }
@@ -99,16 +89,16 @@ fn kernel_relation(
 /// The relations that are written.
 fn kernel_relations(
     alloc: Global,
-    interface: &Interface,
+    signals: &SignalTable<'_>,
     relations: &[&tree::Relation],
 ) -> Result<Relations, AllocError>
     requires { length relations.now ≤ MOST_RELATIONS }
-    ensures { IfOk result (λ rs. AreRelations interface.now (map (λ r. relation_view r.now)
+    ensures { IfOk result (λ rs. AreRelations signals.now (map (λ r. relation_view r.now)
         relations.now) rs) }
 {
     let mut made = Relations::new(alloc);
     for relation in relations {
-        made.push(kernel_relation(alloc, interface, relation)?)?;
+        made.push(kernel_relation(alloc, signals, relation)?)?;
     }
     Ok(made)
 }
@@ -130,8 +120,9 @@ pub fn main_module(alloc: Global, home: &Head<'_>, body: Body) -> Result<Flat, A
     ensures body { IfOk result (λ f. body_of f.body ≡ body_of body) }
 {
     let interface = kernel_interface(alloc, &home.interface)?;
+    let signals = SignalTable::of_declared(alloc, &home.interface)?;
     let listed = relations_of(alloc, home.declarations)?;
-    let relations = kernel_relations(alloc, &interface, &listed)?;
+    let relations = kernel_relations(alloc, &signals, &listed)?;
     Ok(Flat {
         interface,
         relations,

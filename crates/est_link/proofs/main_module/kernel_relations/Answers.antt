@@ -9,7 +9,7 @@ use Rattle.est_link.proofs.main_module.kernel_relations.Goals as goal
 
 pub loop-relation-preserved : goal.loop-relation-preserved
 loop-relation-preserved c =
-    let ds = c.args.interface.now in
+    let ds = c.args.signals.now in
     let rs = c.args.relations.now in
     let k = c.loop-relation.relation-index in
     let made = c.loop-relation.made in

@@ -1,0 +1,69 @@
+//! The signals of the main module by their names, in the order of declaration.
+ghost use Rattle.std.specs.Prelude.{◌≡◌, ◌≤◌, [], None, IfOk, length, map};
+ghost use Rattle.est_kernel.specs.declared.interface.TheConstants.{MOST_SIGNALS};
+ghost use Rattle.est_link.specs.MainModule.{declaration_of, place_of};
+ghost use Rattle.est_checks.specs.Duplicates.{redeclared};
+
+use crate::main_module::kernel_kind;
+use est_kernel::interface::Declaration;
+use est_kernel::statement::InterfaceSignal;
+use est_modules::head::Declared;
+use est_text::identifier::Identifier;
+use indexmap::IndexMap;
+use std::alloc::{AllocError, Global};
+use std::marker::Model;
+
+/// The signals of a module, each at the text of its name. There are at most `MOST_SIGNALS`, so names
+/// that are chosen to fall together cost no more than as many comparisons. A contract sees the list of
+/// their declarations.
+#[derive(Drop)]
+pub struct SignalTable<'a> {
+    signals: IndexMap<&'a [u8], Declaration>,
+}
+
+impl<'a> Model for SignalTable<'a> {
+    ghost use Rattle.std.specs.Prelude.{List};
+    ghost use Rattle.est_kernel.specs.declared.interface.Declaration.{Declaration};
+    ghost use Rattle.indexmap.specs.IndexMap.{values};
+    ghost use Rattle.est_link.specs.Inner.SignalTables.{IsTableOfSignals};
+
+    ghost Value = { List Declaration };
+
+    ghost view = { λ t. values t.signals };
+
+    ghost invariant = { λ t. IsTableOfSignals t.signals.entries };
+}
+
+impl<'a> SignalTable<'a> {
+    /// The signals that a module declares, of which no two are of one name.
+    pub fn of_declared(alloc: Global, declared: &'a [Declared]) -> Result<Self, AllocError>
+        requires room { length declared.now ≤ MOST_SIGNALS }
+        requires distinct { redeclared [] (map (λ d. d.name) declared.now) ≡ None }
+        ensures { IfOk result (λ t. t ≡ map declaration_of declared.now) }
+    {
+        let mut signals = IndexMap::new(alloc);
+        for signal in declared {
+            let kind = kernel_kind(signal.kind);
+            let declaration = Declaration {
+                name: signal.name,
+                kind,
+            };
+            let name: &'a [u8] = signal.name.as_bytes();
+            match signals.insert(name, declaration) {
+                Ok(_none) => {}
+                Err(_refused) => return Err(AllocError),
+            }
+        }
+        Ok(SignalTable { signals })
+    }
+
+    /// The signal of a name, which is the first where the name isn't there.
+    pub fn find(&self, name: &Identifier) -> InterfaceSignal
+        ensures { result.index ≡ place_of self.now name.now }
+    {
+        match self.signals.get_index_of(name.as_bytes()) {
+            Some(place) => InterfaceSignal { index: place as u8 },
+            None => InterfaceSignal { index: 0 },
+        }
+    }
+}
