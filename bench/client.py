@@ -6,10 +6,13 @@ usage: client.py PROGRAM [INSTANTS]
 PROGRAM is the built `crates/estserve/out/estserve`. The client runs the arbiter of six cells for
 20,000 instants (or INSTANTS) with inputs that are drawn at random from a fixed seed, and writes its
 table. What it sends is recorded once. Then client and program take turns: the client runs, and the
-program alone answers the recorded commands from a file. Printed are the medians of both, their
-ratio, when the first row of the table came, and what is hoped of each; and how much of the client's
-time a start of Python takes that does nothing, which differs from machine to machine. Python starts
-as it does for a user: it keeps its bytecode (in a folder of this run) and gathers what it writes.
+program alone answers the recorded commands from a file. Printed are the medians and the least of
+both, their ratios, when the first row of the table came, and what is hoped of each; the processor
+time of both; how much of the client's time a start of Python takes that does nothing, which differs
+from machine to machine; and how many processes wanted a processor meanwhile. Python starts as it
+does for a user: it keeps its bytecode (in a folder of this run) and gathers what it writes.
+
+On a machine with other work, put this before it: `chrt -r 50 python3 bench/client.py PROGRAM`.
 """
 import sys
 
@@ -18,6 +21,7 @@ HERE = sys.path.pop(0)  # a file of this folder has the name of a module that is
 import os
 import pathlib
 import random
+import resource
 import shlex
 import statistics
 import subprocess
@@ -62,9 +66,15 @@ def record(program, inputs, folder):
     return sent
 
 
+def processor_seconds():
+    """The processor time of all programs that were started and have ended."""
+    used = resource.getrusage(resource.RUSAGE_CHILDREN)
+    return used.ru_utime + used.ru_stime
+
+
 def time_client(program, inputs, environment):
-    """The seconds of a run, and those until its first row is there."""
-    begun = time.perf_counter()
+    """The seconds of a run, those of the processors, and those until its first row is there."""
+    begun, used = time.perf_counter(), processor_seconds()
     words = words_of(program, inputs)
     with subprocess.Popen(words, stdout=subprocess.PIPE, env=environment) as client:
         rows = iter(client.stdout.readline, b"")
@@ -72,15 +82,15 @@ def time_client(program, inputs, environment):
         client.stdout.read()
     if client.returncode:
         sys.exit("client.py: the client refused the run")
-    return time.perf_counter() - begun, first - begun
+    return time.perf_counter() - begun, processor_seconds() - used, first - begun
 
 
 def time_program(program, commands):
-    """The seconds of the program alone on the commands of a file."""
-    begun = time.perf_counter()
+    """The seconds of the program alone on the commands of a file, and those of the processors."""
+    begun, used = time.perf_counter(), processor_seconds()
     with commands.open("rb") as lines:
         subprocess.run([program, "script"], stdin=lines, stdout=subprocess.DEVNULL, check=True)
-    return time.perf_counter() - begun
+    return time.perf_counter() - begun, processor_seconds() - used
 
 
 def time_python(environment):
@@ -88,6 +98,11 @@ def time_python(environment):
     begun = time.perf_counter()
     subprocess.run([sys.executable, "-c", "pass"], env=environment, check=True)
     return time.perf_counter() - begun
+
+
+def told(seconds):
+    """The median and the least of some times, in words."""
+    return f"{statistics.median(seconds):.3f} s (median of {TURNS}; least {min(seconds):.3f})"
 
 
 def main():
@@ -98,19 +113,22 @@ def main():
         inputs = folder / "inputs"
         inputs.write_text(draw_inputs(count))
         commands = record(program, inputs, folder)
-        clients, rows, programs, starts = [], [], [], []
+        clients, programs, starts = [], [], []
         for _ in range(TURNS):
-            seconds, first = time_client(program, inputs, environment_in(folder))
-            clients.append(seconds)
-            rows.append(first)
+            clients.append(time_client(program, inputs, environment_in(folder)))
             programs.append(time_program(program, commands))
             starts.append(time_python(environment_in(folder)))
-    ratio = statistics.median(clients) / statistics.median(programs)
-    print(f"the client's run: {statistics.median(clients):.3f} s (median of {TURNS})")
-    print(f"a start of Python: {statistics.median(starts):.3f} s of it")
-    print(f"the program alone: {statistics.median(programs):.3f} s")
-    print(f"ratio: {ratio:.2f} (hoped for: at most {HOPED_RATIO})")
+    runs, run_used, rows = zip(*clients)
+    alone, alone_used = zip(*programs)
+    ratio, least = statistics.median(runs) / statistics.median(alone), min(runs) / min(alone)
+    print(f"the client's run: {told(runs)}")
+    print(f"a start of Python: {told(starts)} of it")
+    print(f"the program alone: {told(alone)}")
+    print(f"processor time of the run, the program's with it: {told(run_used)}")
+    print(f"processor time of the program alone: {told(alone_used)}")
+    print(f"ratio: {ratio:.2f} (hoped for: at most {HOPED_RATIO}); of the least: {least:.2f}")
     print(f"first row: {max(rows):.3f} s at the latest (hoped for: at most {HOPED_SECONDS})")
+    print(f"processes that wanted a processor: {os.getloadavg()[0]:.0f}, on {os.cpu_count()}")
 
 
 main()
