@@ -10,7 +10,8 @@ program alone answers the recorded commands from a file. Printed are the medians
 both, their ratios, when the first row of the table came, and what is hoped of each; the processor
 time of both; how much of the client's time a start of Python takes that does nothing, which differs
 from machine to machine; and how many processes wanted a processor meanwhile. Python starts as it
-does for a user: it keeps its bytecode (in a folder of this run) and gathers what it writes.
+does for who calls the installed command: without its site, and with the client's bytecode (in a
+folder of this run); and it gathers what it writes.
 
 On a machine with other work, put this before it: `chrt -r 50 python3 bench/client.py PROGRAM`.
 """
@@ -29,7 +30,8 @@ import tempfile
 import time
 
 ROOT = pathlib.Path(HERE).parent
-CLIENT = [sys.executable, ROOT / "clients" / "estserve.py"]
+PYTHON = [sys.executable, "-S"]  # as the installed command starts it
+CLIENT = [*PYTHON, ROOT / "clients" / "estserve.py"]
 MODULE = ROOT / "examples" / "arbiter" / "arbiter.strl"
 TURNS = 15
 HOPED_RATIO = 1.3  # of the client's time to the program's, at most
@@ -96,7 +98,7 @@ def time_program(program, commands):
 def time_python(environment):
     """The seconds of a start of Python that does nothing."""
     begun = time.perf_counter()
-    subprocess.run([sys.executable, "-c", "pass"], env=environment, check=True)
+    subprocess.run([*PYTHON, "-c", "pass"], env=environment, check=True)
     return time.perf_counter() - begun
 
 

@@ -186,9 +186,10 @@ class Installed(InAFolder):
         program = self.script("program", "#!/bin/sh\n")
         ran = self.install(program, DESTDIR=f"{self.folder}/stage")
         self.assertEqual((ran.returncode, ran.stderr), (0, ""))
-        text = (
-            self.folder / "stage" / f"{self.folder}/p/bin/estserve-client".lstrip("/")
-        ).read_text()
+        stage = self.folder / "stage" / f"{self.folder}/p".lstrip("/")
+        text = (stage / "bin" / "estserve-client").read_text()
+        self.assertIn(f'exec python3 -S "{self.folder}/p/lib/estserve/start.py"', text)
+        text = (stage / "lib" / "estserve" / "start.py").read_text()
         self.assertIn(f'"{self.folder}/p/lib/estserve"', text)
 
     def test_without_a_program(self):
