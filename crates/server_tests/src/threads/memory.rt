@@ -15,10 +15,7 @@ use std::sync::Wait;
 use std::test::Fail;
 use std::thread::Threads;
 
-/// How many workers there are.
-const WORKERS: usize = 3;
-
-/// Whether workers at the seats of a new board, to whom no client comes, all come back.
+/// Whether three workers at the seats of a new board, to whom no client comes, all come back.
 fn are_back<B: BoardName + Send + Sync, R: Threads + Wait + Abort + Sync>(
     rt: &R,
     alloc: Global,
@@ -30,11 +27,11 @@ fn are_back<B: BoardName + Send + Sync, R: Threads + Wait + Abort + Sync>(
         board,
         seats,
         table,
-    } = open::<B, R>(rt, alloc, fresh, WORKERS);
+    } = open::<B, R>(rt, alloc, fresh, 3);
     let source = Clients { clients: &[] };
     let back = run_workers(rt, alloc, &table, &board, seats, &source, &OpenGate);
     board.close().journal(rt);
-    matches!(back, Ok(seats) if seats.len() == WORKERS)
+    matches!(back, Ok(seats) if seats.len() == 3)
 }
 
 /// What is refused is the board, or the workers, whose seats are then dropped; those of a new board

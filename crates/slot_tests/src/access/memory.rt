@@ -2,8 +2,6 @@
 //! afterwards. With ample memory nothing is refused. Where one allocation is refused, a test ends
 //! with the words for the call that took none; the faults script has each allocation refused in
 //! turn.
-ghost use Rattle.est_micro.specs.Engine.{IsNetOf};
-
 use crate::access::reactors::{Held, STAMP, Told, show, step, unload};
 use crate::words::identifier;
 use est_kernel::kernel::Kernel;
@@ -13,7 +11,7 @@ use est_net::net::Net;
 use reactor_core::journal::Journal;
 use reactor_core::reactor::Reactor;
 use reactor_core::refusal::Refusal;
-use std::alloc::Global;
+use std::alloc::{AllocError, Global};
 use std::process::Abort;
 use std::test::Fail;
 
@@ -147,33 +145,32 @@ fn nested_locals_without_memory(rt: HostRuntime) -> Result<(), Fail> {
     take_steps(&rt, rt.alloc(), NESTED)
 }
 
-/// Whether a table has cells, and the first instant without inputs decides all of them.
-fn is_decided(net: Net, kernel: &Kernel) -> bool
-    requires net { IsNetOf net kernel.now }
-{
-    let mut engine = Micro::new(net);
+/// Whether the first instant without inputs decides all cells of the table of a kernel, or memory
+/// was refused for the table. The engine on it takes none.
+fn is_decided(alloc: Global, kernel: &Kernel) -> Result<bool, AllocError> {
+    let mut engine = Micro::new(Net::build(alloc, kernel)?);
     let is_settled = engine
         .run(kernel, &State::Fresh, &Inputs { signals: 0 })
         .is_ok();
-    is_settled && engine.steps() > 0 && engine.steps() == engine.net().cells()
+    let steps = engine.steps();
+    Ok(is_settled && steps > 0 && steps == engine.net().cells())
 }
 
-/// A refused table leaves nothing, and the next one is built, with the same cells.
+/// A refused table leaves nothing, and the next one is built.
 fn build(rt: &impl Abort, alloc: Global, kernel: &Kernel) -> Result<(), Fail> {
-    match Net::build(alloc, kernel) {
-        Ok(net) => {
-            assert!(rt; is_decided(net, kernel));
+    match is_decided(alloc, kernel) {
+        Ok(is_decided) => {
+            assert!(rt; is_decided);
             Ok(())
         }
         Err(_refused) => {
-            let net = Net::build(alloc, kernel).ok().expect(rt, "room");
-            assert!(rt; is_decided(net, kernel));
+            assert!(rt; matches!(is_decided(alloc, kernel), Ok(true)));
             Err(Fail::from("refused a table"))
         }
     }
 }
 
-/// What is refused is the load, or the table. The engine on a table takes no memory.
+/// What is refused is the load, or the table.
 #[test]
 fn tables_without_memory(rt: HostRuntime) -> Result<(), Fail> {
     let reactor = load(&rt, rt.alloc(), NESTED)?;
