@@ -10,6 +10,7 @@ mod Rounds
 mod Exchanging
 mod OpenTables
 mod Limits
+mod FullTables
 mod Settling
 mod AllDecided
 mod Outcomes
