@@ -39,7 +39,7 @@ HOPED_SECONDS = 1  # until the first row, at most
 
 
 def draw_inputs(count):
-    """The lines of so many instants: each cell asks in a third of them."""
+    """The lines of this many instants: each cell asks in a third of them."""
     drawn = random.Random(1)
     cells = [f"R{number}" for number in range(1, 7)]
     chosen = ([cell for cell in cells if drawn.random() < 1 / 3] for _ in range(count))

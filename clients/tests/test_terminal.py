@@ -18,7 +18,7 @@ import unittest
 
 from support import CLIENTS, DIALOGUES, EXAMPLES, dialogue_variables, needs_program, read_vcd
 
-SECONDS = 60  # whatever a terminal is to show comes in so many
+SECONDS = 60  # whatever a terminal is to show comes in this time
 LOGIN = '{"ok":"login","session":1,"version":5}'
 # a program that takes its time with its second answer: up to when there is a file `go`
 SLOW = f"""#!/bin/sh
@@ -42,7 +42,7 @@ def wait_for(path):
 
 
 class Terminal:
-    """The client in a terminal that is so many columns wide. Used with `with`."""
+    """The client in a terminal of a number of columns. Used with `with`."""
 
     def __init__(self, words, variables, columns=200):
         self.words, self.columns = words, columns
@@ -71,7 +71,7 @@ class Terminal:
         return os.read(self.screen, 65_536).decode().replace("\r\n", "\n").replace("\a", "")
 
     def sees(self, text):
-        """Waits until this text is shown behind what was seen so far."""
+        """Waits until this text is shown after what was seen so far."""
         end = time.monotonic() + SECONDS
         while text not in self.shown:
             ready = select.select([self.screen], [], [], max(0, end - time.monotonic()))[0]
