@@ -30,6 +30,17 @@ echo '{{"instant":1,"ok":"step","place":2,"version":5}}'
 read line; echo '{{"allowed":true,"ok":"check"}}'
 cat > /dev/null
 """
+# the program that ESTSERVE names, which is handed its input piece by piece
+SLOWED = f"""#!{sys.executable}
+import os, subprocess, sys, time
+child = subprocess.Popen([os.environ["ESTSERVE"], "script"], stdin=subprocess.PIPE)
+while piece := os.read(0, 20_000):
+    child.stdin.write(piece)
+    child.stdin.flush()
+    time.sleep(0.3)
+child.stdin.close()
+sys.exit(child.wait())
+"""
 
 
 def wait_for(path):
@@ -223,7 +234,7 @@ class InATerminal(unittest.TestCase):
         inputs, vcd = self.folder / "inputs", self.folder / "out.vcd"
         inputs.write_text("R3\nR1 R3\n" * 10_000)
         words = ["run", EXAMPLES / "arbiter" / "arbiter.strl", "--inputs", inputs, "--vcd", vcd]
-        with Terminal(words, {}) as terminal:
+        with Terminal([*words, "--program", self.program(SLOWED)], {}) as terminal:
             terminal.sees(" of 20,000 instants")
             terminal.sees(" of 20,000 instants")
             terminal.type("\x03")
