@@ -24,7 +24,7 @@ CALLS = {
         },
         "events::runs::a_version_behind_or_ahead": {"room": 1, "went on": 20},
         "events::runs::a_discard_and_an_unload_take_what_was_offered": {"room": 1, "went on": 20},
-        "audit::memory::audits_without_memory": {"AllocError": 5, "refused a check": 1, "refused a report": 1},
+        "audit::memory::audits_without_memory": {"AllocError": 1, "AllocFailed": 1, "refused a check": 1, "refused a report": 1},
     },
     "policy_tests": {"board::receipts::receipts_without_memory": {"a board": 5, "went on": 1}},
     "server_tests": {"threads::memory::workers_without_memory": {"a board": 5, "refused the workers": 2}},
