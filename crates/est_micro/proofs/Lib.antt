@@ -15,3 +15,4 @@ mod Settling
 mod AllDecided
 mod Outcomes
 mod Collecting
+mod IdleSheets

@@ -75,7 +75,7 @@ stay_true i inputs s x e f old new r h was n l o p =
 
 pub round_made : (k : Kernel) (x : State) (inputs : ℕ → Bool) (e f : Known) (old new : List Status) (r : Found)
     (before now : ℕ)
-    → Ready k x inputs old e → IsRound k.interface inputs k.root x e f old new r → before ≡ decided old
+    → Ready k x inputs old e → IsRound k.interface inputs k.root x e f old new r → before ≤ decided old
     → now ≡ decided new
     → Settling k x inputs before now new r f
 round_made k x inputs e f old new r before now ready h before_is now_is =

@@ -4,7 +4,7 @@ ghost use Rattle.std.specs.Prelude.{◌≡◌, ◌≢◌, ◌<◌, ◌≤◌, �
 ghost use Rattle.est_kernel.specs.CodeViews.{code_of, codes_of};
 ghost use Rattle.est_kernel.specs.Masks.{HasSignalBit};
 ghost use Rattle.est_kernel.specs.View.{name_of};
-ghost use Rattle.est_kernel.specs.Codes.{either_code, max_codes, codes_out_of_trap};
+ghost use Rattle.est_kernel.specs.Codes.{either_code, max_codes, codes_out_of_trap, no_codes};
 ghost use Rattle.est_kernel.specs.Term.{inner};
 ghost use Rattle.est_meaning.specs.Signals.{no_signals, union, without};
 ghost use Rattle.est_meaning.specs.Status.{verdict};
@@ -179,6 +179,24 @@ pub fn leaf(run: Status, completion: Completion) -> Judgement
             signals: signal_set::no_signal(),
             codes: possible_of(run, completion),
         },
+    }
+}
+
+/// What is found of a statement that takes no part, with its cells before this place.
+pub fn nothing(past: usize) -> Found
+    ensures judged { IsJudged no_codes no_codes no_signals no_signals result.judged }
+    ensures past { result.past ≡ past }
+{
+    let none = Acts {
+        signals: signal_set::no_signal(),
+        codes: CodeSet::empty(),
+    };
+    Found {
+        judged: Judgement {
+            must: none,
+            can: none,
+        },
+        past,
     }
 }
 

@@ -99,7 +99,7 @@ pub fn settle(
     table.clear();
     let doubt = in_doubt(kernel);
     let mut env = exchange(table, kernel, inputs, &doubt);
-    let mut before = table.decided();
+    let mut before = 0;
     let mut found = round(table, kernel, outputs, state, inputs, &mut env);
     let mut now = table.decided();
     while goes_on(now, before, cells) {

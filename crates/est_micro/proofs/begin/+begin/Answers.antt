@@ -6,6 +6,7 @@ use Rattle.est_rounds.specs.Views.{env_of}
 use Rattle.est_micro.proofs.BegunNodes.{present_begun, seq_begun, par_begun, suspend_begun, trap_begun, again_begun}
 use Rattle.est_micro.proofs.BegunNodes.{loop_begun, local_begun, within_one, within_two, within_next, within_local}
 use Rattle.est_micro.proofs.BegunNodes.{within_told}
+use Rattle.est_micro.proofs.IdleSheets.{idle_begun}
 use Rattle.est_micro.proofs.begin.+begin.Goals as goal
 
 pub begin_present-returns : goal.begin_present-returns
@@ -159,3 +160,8 @@ pub begin_local-leave-requires-clause-within : goal.begin_local-leave-requires-c
 begin_local-leave-requires-clause-within t c =
     within_told (c.args.at.cell + c.args.at.traps) _ c.args.table.now.cells.items _ _ _ _ _ _ _ _ c.requires.within
     c.learn-go.ensures.learns.size c.begin-body.ensures c.learn.ensures.learns.size
+
+pub begin-returns-in-Some : goal.begin-returns-in-Some
+begin-returns-in-Some t c =
+    idle_begun c.args.s.now c.args.at c.args.gate c.args.env.now c.args.table.now.cells.items _ _ _
+    (rw c.in-Some.is at c.past_idle.ensures) c.make_false.ensures c.nothing.ensures.judged c.nothing.ensures.past

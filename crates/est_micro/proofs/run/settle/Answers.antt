@@ -22,17 +22,20 @@ loop-before-init c =
     (start_ready k c.args.state.now (bits c.args.inputs) _ _ n _ _ k.closed c.requires.size
     c.in_doubt-doubt.ensures.sure
     c.in_doubt-doubt.ensures.possible h (length-replicate n Unknown))
-    c.round-found.ensures c.decided-before.ensures c.decided-now.ensures
+    c.round-found.ensures (omega arith) c.decided-now.ensures
 
 pub loop-before-preserved : goal.loop-before-preserved
 loop-before-preserved c =
     round_made c.args.kernel.now c.args.state.now (bits c.args.inputs) _ _ _ _ _ _ _ c.loop-before.invariant.ready
-    c.round-found-in-loop-before.ensures c.loop-before.invariant.counted c.decided-now-in-loop-before.ensures
+    c.round-found-in-loop-before.ensures
+    (let counted = c.loop-before.invariant.counted in omega arith) c.decided-now-in-loop-before.ensures
 
 pub loop-before-smaller : goal.loop-before-smaller
 loop-before-smaller c =
-    let m = round_made c.args.kernel.now c.args.state.now (bits c.args.inputs) _ _ _ _ _ _ _ c.loop-before.invariant.ready
-    c.round-found-in-loop-before.ensures c.loop-before.invariant.counted c.decided-now-in-loop-before.ensures in
+    let m = round_made c.args.kernel.now c.args.state.now (bits c.args.inputs) _ _ c.loop-before.table.cells.items _ _
+    c.loop-before.now _ c.loop-before.invariant.ready
+    c.round-found-in-loop-before.ensures
+    (let counted = c.loop-before.invariant.counted in omega arith) c.decided-now-in-loop-before.ensures in
     let a = m.ready.size in
     let b = c.loop-before.invariant.ready.size in
     let d = c.loop-before.invariant.rising in
