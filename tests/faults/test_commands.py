@@ -114,7 +114,7 @@ class Sweep:
             raise AssertionError(f"{line} answered {answer}, and not {wanted}")
 
     def refused_once(self, peer, line, number):
-        """The answer to a line of which a growth is refused, and whether it took so many."""
+        """The answer to a line of which a growth is refused, and whether it took as many growths as that."""
         self.growths.refuse(number)
         answer = peer.ask(line)
         was_refused = self.growths.refused > 0
@@ -139,7 +139,7 @@ class Sweep:
                 break
             if answer == MEMORY:
                 answered += 1
-                self.expect(f"behind {line} without memory", serving.state(), before)
+                self.expect(f"after {line} without memory", serving.state(), before)
                 continue
             self.expect(line, answer, wanted if answer else b"")
             passed, text = passed + bool(answer), text + (not answer)
