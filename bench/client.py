@@ -1,7 +1,7 @@
 #!/usr/bin/env python3
 """How long the client takes for a long run, beside the program alone on the same commands.
 
-usage: client.py PROGRAM [INSTANTS]
+usage: client.py [--site] PROGRAM [INSTANTS]
 
 PROGRAM is the built `crates/estserve/out/estserve`. The client runs the arbiter of six cells for
 20,000 instants (or INSTANTS) with inputs that are drawn at random from a fixed seed, and writes its
@@ -11,7 +11,7 @@ both, their ratios, when the first row of the table came, and what is hoped of e
 time of both; how much of the client's time a start of Python takes that does nothing, which differs
 from machine to machine; and how many processes wanted a processor meanwhile. Python starts as it
 does for who calls the installed command: without its site, and with the client's bytecode (in a
-folder of this run); and it gathers what it writes.
+folder of this run); and it gathers what it writes. With `--site` it starts as `python3` does alone.
 
 On a machine with other work, put this before it: `chrt -r 50 python3 bench/client.py PROGRAM`.
 """
@@ -30,7 +30,7 @@ import tempfile
 import time
 
 ROOT = pathlib.Path(HERE).parent
-PYTHON = [sys.executable, "-S"]  # as the installed command starts it
+PYTHON = [sys.executable] if "--site" in sys.argv else [sys.executable, "-S"]
 CLIENT = [*PYTHON, ROOT / "clients" / "estserve.py"]
 MODULE = ROOT / "examples" / "arbiter" / "arbiter.strl"
 TURNS = 15
@@ -108,8 +108,8 @@ def told(seconds):
 
 
 def main():
-    program = pathlib.Path(sys.argv[1]).resolve()
-    count = int(sys.argv[2]) if len(sys.argv) > 2 else 20_000
+    named, *counts = [word for word in sys.argv[1:] if word != "--site"]
+    program, count = pathlib.Path(named).resolve(), int(counts[0]) if counts else 20_000
     with tempfile.TemporaryDirectory() as name:
         folder = pathlib.Path(name)
         inputs = folder / "inputs"
