@@ -18,7 +18,7 @@ def ordered(*commands, first):
     return [(command(**keys), accepted(keys["cmd"], version=first + at)) for at, keys in enumerate(commands)]
 
 
-def login(user, roles, **keys):
+def login(user, roles, /, **keys):
     """A login and its answer: the keys of the accepted one, or those of a refusal with its code."""
     line = command("login", roles=roles, user=user)
     return line, refused(**keys) if "code" in keys else accepted("login", **keys)
