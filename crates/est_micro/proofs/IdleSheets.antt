@@ -216,9 +216,9 @@ parts_rest main (Seq' y p z q) e h f c t d a =
     (told_false (f k) h (d k (omega arith) (omega arith)) a)) in
     let later = ap (λ (w : Sheet main p). ends w.cells) one ∙ ends_idle in
     two one
-    (sweep_rests main q e _ f m t (λ i l u. d i (omega arith) (omega arith))
+    (sweep_rests main q _ _ f m t (λ i l u. d i (omega arith) (omega arith))
     (told_false (f m) _ (d m (omega arith) (omega arith)) later)
-    (parts_rest main q e _ f m t (λ i l u. d i (omega arith) (omega arith))
+    (parts_rest main q _ _ f m t (λ i l u. d i (omega arith) (omega arith))
     (told_false (f m) _ (d m (omega arith) (omega arith)) later)))
 parts_rest main (Loop' y p) e h f c t d a =
     let o = size_least main p t in
@@ -247,9 +247,9 @@ parts_rest main (Par' y p z q) e h f c t d a =
     (told_false (f k) h (d k (omega arith) (omega arith)) a)
     (parts_rest main p e _ f k t (λ i l u. d i (omega arith) (omega arith))
     (told_false (f k) h (d k (omega arith) (omega arith)) a)))
-    (sweep_rests main q e h f m t (λ i l u. d i (omega arith) (omega arith))
+    (sweep_rests main q _ h f m t (λ i l u. d i (omega arith) (omega arith))
     (told_false (f m) h (d m (omega arith) (omega arith)) a)
-    (parts_rest main q e _ f m t (λ i l u. d i (omega arith) (omega arith))
+    (parts_rest main q _ _ f m t (λ i l u. d i (omega arith) (omega arith))
     (told_false (f m) h (d m (omega arith) (omega arith)) a)))
 parts_rest main (Trap' y p) e h f c t d a =
     let o = size_least main p (t + 1) in

@@ -16,3 +16,4 @@ mod AllDecided
 mod Outcomes
 mod Collecting
 mod IdleSheets
+mod Hearing

@@ -143,13 +143,14 @@ fn begin_seq(
         traps: at.traps,
     };
     let first = begin(table, place, p, go, env);
+    let inside = cells::told(env, first.judged.must.signals);
     let later = cells::ends(&first.judged);
     let place = Place {
         main: at.main,
         cell: first.past,
         traps: at.traps,
     };
-    let second = begin(table, place, q, later, env);
+    let second = begin(table, place, q, later, &inside);
     let own = cells::followed(&first.judged, &second.judged);
     cells::leave(table, at, &own, second.past)
 }
@@ -233,12 +234,13 @@ fn begin_par(
         traps: at.traps,
     };
     let first = begin(table, place, p, go, env);
+    let inside = cells::told(env, first.judged.must.signals);
     let place = Place {
         main: at.main,
         cell: first.past,
         traps: at.traps,
     };
-    let second = begin(table, place, q, go, env);
+    let second = begin(table, place, q, go, &inside);
     let own = cells::beside(&first.judged, &second.judged);
     cells::leave(table, at, &own, second.past)
 }

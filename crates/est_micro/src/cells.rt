@@ -1,6 +1,7 @@
 //! The cells of one statement: they are entered, told what is judged of it, and read.
 
-ghost use Rattle.std.specs.Prelude.{◌≡◌, ◌≢◌, ◌<◌, ◌≤◌, ◌+◌, ◌||◌, ℕ, false, length};
+ghost use Rattle.std.specs.Prelude.{◌≡◌, ◌≢◌, ◌<◌, ◌≤◌, ◌+◌, ◌||◌, ◌&&◌, ℕ, false, length};
+ghost use Rattle.est_kernel.specs.Bits.{bits};
 ghost use Rattle.est_kernel.specs.CodeViews.{code_of, codes_of};
 ghost use Rattle.est_kernel.specs.Masks.{HasSignalBit};
 ghost use Rattle.est_kernel.specs.View.{name_of};
@@ -12,16 +13,18 @@ ghost use Rattle.est_cells.specs.Gates.{sure_code, may_code, then_codes};
 ghost use Rattle.est_cells.specs.Tables.{if_run, is_sure, is_possible};
 ghost use Rattle.est_net.specs.Cells.{cell_at};
 ghost use Rattle.est_net.specs.Layout.{sure_codes, possible_codes};
-ghost use Rattle.est_rounds.specs.Views.{set_of};
+ghost use Rattle.est_rounds.specs.Views.{env_of, set_of};
+ghost use Rattle.est_micro.specs.Sweeps.{told};
 ghost use Rattle.est_micro.specs.Views.{AreTold, IsJudged, IsLeft, IsPaired};
 
 use est_kernel::code_set::CodeSet;
 use est_kernel::completion::Completion;
+use est_kernel::mask;
 use est_kernel::statement::{LocalSignal, Signal, TrapIndex};
 use est_meaning::status::Status;
 use est_net::table::Table;
 use est_rounds::acts::{Acts, Judgement};
-use est_rounds::signal_set::{self, SignalSet};
+use est_rounds::signal_set::{self, Env, SignalSet};
 
 /// Where the cells of a statement stand.
 #[derive(Clone, Copy)]
@@ -407,6 +410,31 @@ pub fn ends(judged: &Judgement) -> Status
         judged.must.codes.has(Completion::End),
         judged.can.codes.has(Completion::End),
     )
+}
+
+/// What is known of the signals where those of a set are surely emitted: one that was in doubt is
+/// present.
+pub fn told(env: &Env, signals: SignalSet) -> Env
+    ensures { env_of result ≡ told (env_of env.now) (set_of signals) }
+{
+    Env {
+        present: SignalSet {
+            interface: with_possible(
+                env.present.interface,
+                signals.interface,
+                env.possible.interface,
+            ),
+            local: with_possible(env.present.local, signals.local, env.possible.local),
+        },
+        possible: env.possible,
+    }
+}
+
+/// The numbers of a mask, and those of another that are possible.
+fn with_possible(present: u64, more: u64, possible: u64) -> u64
+    ensures { (n : ℕ) → bits result n ≡ (bits present n || (bits more n && bits possible n)) }
+{
+    mask::either(present, mask::common(more, possible))
 }
 
 /// Tells a statement's code cells what is judged of it, and reads them.
