@@ -75,17 +75,6 @@ fn verdict_on(judged: &Judgement, code: usize) -> Status
     )
 }
 
-/// Tells `count` code cells what is judged of their codes.
-fn tell(table: &mut Table, cell: usize, count: usize, judged: &Judgement)
-    requires within { cell + count ≤ length table.old.cells.items }
-    requires few { count ≤ 64 }
-    ensures { AreTold cell count judged.now table.old.cells.items table.new.cells.items }
-{
-    for code in 0..count {
-        table.learn(cell + code, verdict_on(judged, code));
-    }
-}
-
 /// The codes with this one, if it is to be with them.
 fn with_code(codes: CodeSet, code: usize, is_in: bool) -> CodeSet
     requires { code < 64 }
@@ -119,30 +108,47 @@ fn may_be_true(status: Status) -> bool
     }
 }
 
-/// The codes whose cells are true.
-fn read_sure(table: &Table, cell: usize, count: usize) -> CodeSet
-    requires within { cell + count ≤ length table.now.cells.items }
-    requires few { count ≤ 64 }
-    ensures { codes_of result ≡ sure_codes (cell_at table.now.cells.items) cell count }
-{
-    let mut codes = CodeSet::empty();
-    for code in 0..count {
-        codes = with_code(codes, code, is_true(table.status(cell + code)));
-    }
-    codes
+/// The codes whose cells are true, and those whose cells aren't false.
+#[derive(Clone, Copy)]
+struct CodesRead {
+    sure: CodeSet,
+    possible: CodeSet,
 }
 
-/// The codes whose cells aren't false.
-fn read_possible(table: &Table, cell: usize, count: usize) -> CodeSet
-    requires within { cell + count ≤ length table.now.cells.items }
-    requires few { count ≤ 64 }
-    ensures { codes_of result ≡ possible_codes (cell_at table.now.cells.items) cell count }
+/// What was read, and one more code as its cell says.
+fn with_cell(read: CodesRead, code: usize, status: Status) -> CodesRead
+    requires { code < 64 }
+    ensures sure { codes_of result.sure code ≡ (codes_of read.sure code || is_sure status) }
+    ensures other_sure { (k : ℕ) → k ≢ code → codes_of result.sure k ≡ codes_of read.sure k }
+    ensures possible { codes_of result.possible code
+        ≡ (codes_of read.possible code || is_possible status) }
+    ensures other_possible { (k : ℕ) → k ≢ code
+        → codes_of result.possible k ≡ codes_of read.possible k }
 {
-    let mut codes = CodeSet::empty();
-    for code in 0..count {
-        codes = with_code(codes, code, may_be_true(table.status(cell + code)));
+    CodesRead {
+        sure: with_code(read.sure, code, is_true(status)),
+        possible: with_code(read.possible, code, may_be_true(status)),
     }
-    codes
+}
+
+/// Tells `count` code cells what is judged of their codes, and reads them.
+fn tell(table: &mut Table, cell: usize, count: usize, judged: &Judgement) -> CodesRead
+    requires within { cell + count ≤ length table.old.cells.items }
+    requires few { count ≤ 64 }
+    ensures told { AreTold cell count judged.now table.old.cells.items table.new.cells.items }
+    ensures sure { codes_of result.sure ≡ sure_codes (cell_at table.new.cells.items) cell count }
+    ensures possible { codes_of result.possible
+        ≡ possible_codes (cell_at table.new.cells.items) cell count }
+{
+    let mut read = CodesRead {
+        sure: CodeSet::empty(),
+        possible: CodeSet::empty(),
+    };
+    for code in 0..count {
+        let status = table.learn(cell + code, verdict_on(judged, code));
+        read = with_cell(read, code, status);
+    }
+    read
 }
 
 /// This code alone, where the statement is run.
@@ -444,18 +450,16 @@ pub fn leave(table: &mut Table, at: Place, own: &Judgement, past: usize) -> Foun
     ensures { IsLeft at.cell at.traps own.now past table.old.cells.items table.new.cells.items
         result }
 {
-    let cell = at.cell + 1;
-    let count = at.traps + 2;
-    tell(table, cell, count, own);
+    let read = tell(table, at.cell + 1, at.traps + 2, own);
     Found {
         judged: Judgement {
             must: Acts {
                 signals: own.must.signals,
-                codes: read_sure(table, cell, count),
+                codes: read.sure,
             },
             can: Acts {
                 signals: own.can.signals,
-                codes: read_possible(table, cell, count),
+                codes: read.possible,
             },
         },
         past,
