@@ -14,7 +14,7 @@ use crate::missing_modules::first_missing;
 use crate::place_check::first_in_bodies;
 use crate::unknown_names::first_unknown;
 use est_modules::head::{Head, head_named};
-use est_modules::open_names::OpenNames;
+use est_modules::name_table::NameTable;
 use est_text::identifier::Identifier;
 use std::alloc::{AllocError, Global};
 
@@ -67,8 +67,9 @@ pub fn fault_behind_order<'a>(
     ensures { IfOk result (λ fault. fault ≡ fault_behind_order (map program_of heads.now) main.now
         (emitted_of table.now)) }
 {
-    let kept = OpenNames::new(alloc);
-    if let Some(name) = first_in_bodies(&kept, &BadRename { heads: &*heads }, &*heads)? {
+    let names = NameTable::new(alloc);
+    let check = BadRename { heads: &*heads };
+    if let Some(name) = first_in_bodies(alloc, &names, &[], &check, &*heads)? {
         return Ok(Some(LinkFault::BadRename(name)));
     }
     if let Some(name) = first_unknown(alloc, &*heads)? {
