@@ -1,10 +1,10 @@
 -- What is noted of what a module emits is all of it.
 use mathlib.Core.Path.{fun_ext}
-use Rattle.std.proofs.Common.{◌≡◌, ◌<◌, ◌⊎◌, inl, inr, ◌||◌, ◌&&◌, not, ℕ, zero, suc, List, [], ◌∷◌, map, length, slice_set, slice_index_or, nat_lt, Option, Some, None, Bool, true, false, cond, refl, ap, sym, ◌∙◌, subst, arith}
+use Rattle.std.proofs.Common.{◌≡◌, ◌<◌, ◌⊎◌, inl, inr, ◌||◌, ◌&&◌, not, ℕ, zero, suc, ◌+◌, ◌++◌, take, replicate, List, [], ◌∷◌, map, length, slice_set, slice_index_or, nat_lt, Option, Some, None, Bool, true, false, cond, refl, ap, sym, ◌∙◌, subst, arith}
 use Rattle.std.proofs.lemmas.Bool.{false≢true}
-use Rattle.std.proofs.lemmas.Bool.{lt-ltb}
-use Rattle.std.proofs.lemmas.List.{length-set, get_or-set_same, get_or-set_other}
-use Rattle.std.proofs.lemmas.Option.{none-some}
+use Rattle.std.proofs.lemmas.Bool.{cases_eq, lt-ltb}
+use Rattle.std.proofs.lemmas.List.{length-set, get_or-set_same, get_or-set_other, get_or-take, length-replicate}
+use Rattle.std.proofs.lemmas.Option.{none-some, slice_get_within}
 use Rattle.std.specs.List.{list_any, find, fold, slice_get}
 use Rattle.std.specs.Str.{bytes_eq}
 use Rattle.est_syntax.specs.Tree.{RenamingTree}
@@ -307,3 +307,126 @@ noted r o = record { row = r; others = o }
 -- what is noted is the same where its row is and its other names
 pub same_noted : (k l : Noted) → k.row ≡ l.row → ((s : List ℕ) → k.others s ≡ l.others s) → k ≡ l
 same_noted k l a b = ap (λ r. noted r k.others) a ∙ ap (noted l.row) (fun_ext b)
+
+-- ---- names that a run emits by itself, one after another
+
+open_added : (old l taken : Bool) → ((old || ((not l && true) && taken)) || (not l && true)) ≡ (old || ((not l && true) && (taken || true)))
+open_added true l taken = refl
+open_added false true taken = refl
+open_added false false true = refl
+open_added false false false = refl
+
+open_passed : (old l taken : Bool) → (old || ((not l && false) && taken)) ≡ (old || ((not l && false) && (taken || true)))
+open_passed old true taken = refl
+open_passed old false taken = refl
+
+-- a name that is not renamed is added
+pub added_open : (bs : List Binder) (rs : List RenamingTree) (n s : List ℕ) (old taken e : Bool) → bytes_eq n s ≡ e → is_renamed rs n ≡ false → ((old || (goes bs rs s && taken)) || (not (is_local bs s) && e)) ≡ (old || (goes bs rs s && (taken || e)))
+added_open bs rs n s old taken true same free =
+    let here : is_renamed rs s ≡ false = ap (is_renamed rs) (sym (same_bytes n s same)) ∙ free in
+    ap (λ b. (old || ((not (is_local bs s) && not b) && taken)) || (not (is_local bs s) && true)) here
+    ∙ open_added old (is_local bs s) taken
+    ∙ ap (λ b. old || ((not (is_local bs s) && not b) && (taken || true))) (sym here)
+added_open bs rs n s old taken false other free =
+    ap (λ b. (old || (goes bs rs s && taken)) || b) (and_false (not (is_local bs s)))
+    ∙ sym (nothing_more (old || (goes bs rs s && taken)))
+    ∙ ap (λ b. old || (goes bs rs s && b)) (nothing_more taken)
+
+-- one that is renamed is passed over
+pub passed_open : (bs : List Binder) (rs : List RenamingTree) (n s : List ℕ) (old taken e : Bool) → bytes_eq n s ≡ e → is_renamed rs n ≡ true → (old || (goes bs rs s && taken)) ≡ (old || (goes bs rs s && (taken || e)))
+passed_open bs rs n s old taken true same is =
+    let here : is_renamed rs s ≡ true = ap (is_renamed rs) (sym (same_bytes n s same)) ∙ is in
+    ap (λ b. old || ((not (is_local bs s) && not b) && taken)) here
+    ∙ open_passed old (is_local bs s) taken
+    ∙ ap (λ b. old || ((not (is_local bs s) && not b) && (taken || true))) (sym here)
+passed_open bs rs n s old taken false other is = ap (λ b. old || (goes bs rs s && b)) (nothing_more taken)
+
+-- ---- before the first occurrence
+
+none_set : (n i : ℕ) → slice_index_or (replicate n false) i false ≡ false
+none_set zero i = refl
+none_set (suc n) zero = refl
+none_set (suc n) (suc i) = none_set n i
+
+none_in_row : (n : ℕ) (o : Option ℕ) → in_row (replicate n false) o ≡ false
+none_in_row n None = refl
+none_in_row n (Some i) = none_set n i
+
+pub noted_nothing : (t : NameTable) (row : List Bool) (others : List (List ℕ)) (s : List ℕ) (n : ℕ) → row ≡ replicate n false → others ≡ [] → is_noted t (noted row (stands_in others)) s ≡ false
+noted_nothing t row others s n e none =
+    ap (λ r. in_row r (number_in t s) || stands_in others s) e
+    ∙ ap (λ b. b || stands_in others s) (none_in_row n (number_in t s))
+    ∙ ap (λ xs. stands_in xs s) none
+
+pub room_at_first : (t : NameTable) (row : List Bool) → IsTable t → row ≡ replicate (length t.names.items) false → HasRoom t row
+room_at_first t row is e s i at =
+    omega (arith, slice_get_within t.names.items i s (is.named s i at), length-replicate (length t.names.items) false, ap length e)
+
+-- ---- names of numbers, one after another
+
+-- the name is this one, if there is one
+abbrev pub is_named : Option (List ℕ) → List ℕ → Bool
+is_named None s = false
+is_named (Some n) s = bytes_eq n s
+
+not_named : (t : NameTable) (s : List ℕ) (i : ℕ) (o : Option (List ℕ)) → IsTable t → slice_get t.names.items i ≡ o → (number_in t s ≡ Some i → ⊥) → is_named o s ≡ false
+not_named t s i None is at other = refl
+not_named t s i (Some n) is at other = elim (cases_bool (bytes_eq n s)) [
+  | inl so ↦ absurd (other (ap (number_in t) (sym (same_bytes n s so)) ∙ is.numbered n i at))
+  | inr not_so ↦ not_so
+]
+
+front_same : (row : List Bool) (i j : ℕ) → (j ≡ i → ⊥) → slice_index_or (take (suc i) row) j false ≡ slice_index_or (take i row) j false
+front_same [] zero j other = refl
+front_same [] (suc i) j other = refl
+front_same (x ∷ xs) zero zero other = absurd (other refl)
+front_same (x ∷ xs) zero (suc j) other = refl
+front_same (x ∷ xs) (suc i) zero other = refl
+front_same (x ∷ xs) (suc i) (suc j) other = front_same xs i j (λ e. other (ap suc e))
+
+front_past : (row : List Bool) (i : ℕ) → slice_index_or (take i row) i false ≡ false
+front_past [] zero = refl
+front_past [] (suc i) = refl
+front_past (x ∷ xs) zero = refl
+front_past (x ∷ xs) (suc i) = front_past xs i
+
+next_at : (t : NameTable) (row : List Bool) (i : ℕ) (s : List ℕ) (o : Option (List ℕ)) (m : Option ℕ) → number_in t s ≡ m → IsTable t → slice_get t.names.items i ≡ o → in_row (take (suc i) row) m ≡ (in_row (take i row) m || (slice_index_or row i false && is_named o s))
+next_at t row i s o None e is at =
+    sym (ap (λ b. slice_index_or row i false && b) (not_named t s i o is at (λ h. absurd (none-some i (sym e ∙ h)))) ∙ and_false (slice_index_or row i false))
+next_at t row i s o (Some j) e is at = elim (cases_eq j i) [
+  | inl same ↦
+      let named : is_named o s ≡ true = ap (λ p. is_named p s) (sym at ∙ is.named s i (e ∙ ap Some same)) ∙ equal_bytes s in
+      ap (λ k. slice_index_or (take (suc i) row) k false) same
+      ∙ get_or-take (suc i) row i false (omega arith)
+      ∙ sym (ap (λ k. slice_index_or (take i row) k false || (slice_index_or row i false && is_named o s)) same
+        ∙ ap (λ b. b || (slice_index_or row i false && is_named o s)) (front_past row i)
+        ∙ ap (λ b. slice_index_or row i false && b) named
+        ∙ and_true (slice_index_or row i false))
+  | inr other ↦
+      front_same row i j other
+      ∙ nothing_more (slice_index_or (take i row) j false)
+      ∙ ap (λ b. slice_index_or (take i row) j false || b) (sym (ap (λ b. slice_index_or row i false && b) (not_named t s i o is at (λ h. other (some_same j i (sym e ∙ h)))) ∙ and_false (slice_index_or row i false)))
+]
+
+swapped : (a b c : Bool) → ((a || b) || c) ≡ ((a || c) || b)
+swapped true b c = refl
+swapped false true true = refl
+swapped false true false = refl
+swapped false false true = refl
+swapped false false false = refl
+
+-- one number more
+pub next_number : (t : NameTable) (row : List Bool) (i : ℕ) (s : List ℕ) (o : Option (List ℕ)) (b before old : Bool) → IsTable t → slice_get t.names.items i ≡ o → slice_index_or row i false ≡ b → before ≡ (in_row (take i row) (number_in t s) || old)
+    → (before || (b && is_named o s)) ≡ (in_row (take (i + 1) row) (number_in t s) || old)
+next_number t row i s o b before old is at e h =
+    let next : suc i ≡ i + 1 = omega arith in
+    ap (λ x. x || (b && is_named o s)) h
+    ∙ swapped (in_row (take i row) (number_in t s)) old (b && is_named o s)
+    ∙ ap (λ c. (in_row (take i row) (number_in t s) || (c && is_named o s)) || old) (sym e)
+    ∙ ap (λ x. x || old) (sym (next_at t row i s o (number_in t s) refl is at))
+    ∙ ap (λ (k : ℕ). in_row (take k row) (number_in t s) || old) next
+
+-- a name is put behind others
+pub stands_more : (xs : List (List ℕ)) (n s : List ℕ) → stands_in (xs ++ n ∷ []) s ≡ (stands_in xs s || bytes_eq n s)
+stands_more [] n s = sym (nothing_more (bytes_eq n s))
+stands_more (x ∷ xs) n s = ap (λ b. bytes_eq x s || b) (stands_more xs n s) ∙ sym (or_assoc (bytes_eq x s) (stands_in xs s) (bytes_eq n s))

@@ -87,7 +87,8 @@ fn add_barred(
         (emitted_of table.now) (has inputs.now)) kept.new.items) }
 {
     let names = barred_run(alloc, inputs, heads, table, name)?;
-    keep(kept, alloc, numbers, name, &names)
+    keep(kept, alloc, numbers, name, &names)?;
+    Ok(())
 }
 
 /// The modules that a module runs, each with its interface names that it emits and that are inputs of the module that

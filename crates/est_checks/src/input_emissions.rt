@@ -4,6 +4,7 @@ ghost use Rattle.std.specs.List.{find, list_any};
 ghost use Rattle.est_syntax.specs.Views.{renaming_view};
 ghost use Rattle.est_modules.specs.Scopes.{binders_of};
 ghost use Rattle.est_modules.specs.Modules.{is_input, program_of, program_named, first_in_bodies};
+ghost use Rattle.est_modules.specs.NameTables.{IsTable};
 ghost use Rattle.est_modules.specs.OpenNames.{AreKept, IsOpen};
 ghost use Rattle.est_checks.specs.Barred.{barred_by};
 ghost use Rattle.est_modules.specs.Occurrences.{first_of, occurrences};
@@ -13,7 +14,7 @@ use crate::barred_names::barred_of;
 use crate::emission::{Emission, is_emitted};
 use crate::place_check::{Check, first_in_body};
 use est_modules::head::{Declared, Head, head_named};
-use est_modules::name_table::{NameTable, numbered};
+use est_modules::name_table::NameTable;
 use est_modules::open_names::OpenNames;
 use est_modules::relations::is_input;
 use est_modules::renamings::callers_name;
@@ -207,6 +208,7 @@ fn refused_in<'a>(
     home: &'a Head<'a>,
     table: &'a [Emission],
 ) -> Result<Option<Identifier>, AllocError>
+    requires { IsTable names.now }
     ensures { IfOk result (λ name. name ≡ first_of (refused_at (map program_of heads.now)
         (emitted_of table.now) (program_of home.now)) (occurrences [] (program_of home.now).body)) }
 {
@@ -226,15 +228,16 @@ fn refused_in<'a>(
 /// `AllocError` where memory is refused for names.
 pub fn first_refused<'a>(
     alloc: Global,
+    names: &NameTable<'_>,
     heads: &'a [Head<'a>],
     table: &'a [Emission],
 ) -> Result<Option<Identifier>, AllocError>
+    requires { IsTable names.now }
     ensures { IfOk result (λ name. name ≡ first_in_bodies (refused_at (map program_of heads.now)
         (emitted_of table.now)) (map program_of heads.now)) }
 {
-    let names = numbered(alloc, &*heads)?;
     for home in heads {
-        if let Some(name) = refused_in(alloc, &names, &*heads, &*home, &*table)? {
+        if let Some(name) = refused_in(alloc, names, &*heads, &*home, &*table)? {
             return Ok(Some(name));
         }
     }

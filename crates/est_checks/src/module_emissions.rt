@@ -27,7 +27,7 @@ ghost use Rattle.est_modules.specs.ModuleOrders.{IsOrderOf};
 use crate::emission::{Emission, is_emitted};
 use crate::run_emissions::{emitted_run, sent_of};
 use est_modules::head::{Head, head_named, is_declared};
-use est_modules::name_table::{NameTable, numbered};
+use est_modules::name_table::NameTable;
 use est_modules::open_names::{Kept, OpenNames};
 use est_modules::renamings::{callers_name, is_renamed};
 use est_modules::scope::{Act, Scope};
@@ -162,7 +162,8 @@ fn note_names(
         }
         None => {
             let names = emitted_run(sent.alloc, sent.heads, sent.table, &run.name)?;
-            add_open(&mut seen.others, scope, renamings, &names)
+            add_open(&mut seen.others, scope, renamings, &names)?;
+            Ok(())
         }
     }
 }
@@ -182,7 +183,8 @@ fn note_found(
         (binders_of scope.now) (map renaming_view renamings.now) (Some (program_of run.now))) }
 {
     note_names(seen, sent, kept, scope, renamings, run)?;
-    add_renamed(&mut seen.others, sent.table, scope, renamings, run)
+    add_renamed(&mut seen.others, sent.table, scope, renamings, run)?;
+    Ok(())
 }
 
 /// Notes what a run emits, if its module is there.
@@ -292,7 +294,7 @@ fn add_numbered(
 /// # Errors
 ///
 /// `AllocError` where memory is refused for the list.
-fn emissions_of<'a>(
+pub fn emissions_of<'a>(
     alloc: Global,
     names: &NameTable<'_>,
     heads: &'a [Head<'a>],
@@ -368,18 +370,19 @@ fn add_module<'a>(
 /// `AllocError` where memory is refused for the table.
 pub fn emissions_along<'a>(
     alloc: Global,
+    names: &NameTable<'_>,
     heads: &'a [Head<'a>],
     order: &[usize],
 ) -> Result<Vec<Emission>, AllocError>
+    requires table { IsTable names.now }
     requires order { IsOrderOf (map program_of heads.now) order.now }
     requires distinct { first_duplicate (map program_of heads.now) ≡ None }
     ensures { IfOk result (λ table. AreEmissions (map program_of heads.now)
         (emitted_of table.items)) }
 {
     let mut table = Vec::new(alloc);
-    let names = numbered(alloc, &*heads)?;
     for place in order {
-        add_module(alloc, &names, &*heads, &mut table, *place)?;
+        add_module(alloc, names, &*heads, &mut table, *place)?;
     }
     Ok(table)
 }

@@ -100,7 +100,8 @@ fn add_sent(
         (emitted_of table.now)) kept.new.items) }
 {
     let sent = emitted_run(alloc, heads, table, name)?;
-    keep(kept, alloc, names, name, &sent)
+    keep(kept, alloc, names, name, &sent)?;
+    Ok(())
 }
 
 /// The modules that a module runs, each with its interface names that it emits.

@@ -5,6 +5,7 @@ ghost use Rattle.est_syntax.specs.Views.{renaming_view};
 ghost use Rattle.est_modules.specs.Scopes.{binders_of};
 ghost use Rattle.est_modules.specs.Modules.{program_of, program_named, first_in_bodies, is_declared};
 ghost use Rattle.est_modules.specs.Occurrences.{first_of, occurrences};
+ghost use Rattle.est_modules.specs.NameTables.{IsTable};
 ghost use Rattle.est_modules.specs.OpenNames.{AreKept, IsOpen};
 ghost use Rattle.est_modules.specs.Renamings.{is_renamed};
 ghost use Rattle.est_checks.specs.Unseen.{unseen_by};
@@ -14,7 +15,7 @@ ghost use Rattle.est_checks.specs.UnknownNames.{is_unbound, unknown_in_run, unkn
 use crate::place_check::{Check, first_in_body};
 use crate::unseen_names::unseen_of;
 use est_modules::head::{Declared, Head, head_named};
-use est_modules::name_table::{NameTable, numbered};
+use est_modules::name_table::NameTable;
 use est_modules::open_names::OpenNames;
 use est_modules::renamings::is_renamed;
 use est_modules::scope::{Act, Scope};
@@ -174,6 +175,7 @@ fn unknown_in<'a>(
     heads: &'a [Head<'a>],
     home: &'a Head<'a>,
 ) -> Result<Option<Identifier>, AllocError>
+    requires { IsTable table.now }
     ensures { IfOk result (λ name. name ≡ first_of (unknown_at (map program_of heads.now)
         (program_of home.now)) (occurrences [] (program_of home.now).body)) }
 {
@@ -188,14 +190,15 @@ fn unknown_in<'a>(
 /// `AllocError` where memory is refused for names.
 pub fn first_unknown<'a>(
     alloc: Global,
+    table: &NameTable<'_>,
     heads: &'a [Head<'a>],
 ) -> Result<Option<Identifier>, AllocError>
+    requires { IsTable table.now }
     ensures { IfOk result (λ name. name ≡ first_in_bodies (unknown_at (map program_of heads.now))
         (map program_of heads.now)) }
 {
-    let table = numbered(alloc, &*heads)?;
     for home in heads {
-        if let Some(name) = unknown_in(alloc, &table, &*heads, &*home)? {
+        if let Some(name) = unknown_in(alloc, table, &*heads, &*home)? {
             return Ok(Some(name));
         }
     }

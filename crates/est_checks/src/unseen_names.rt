@@ -75,7 +75,8 @@ fn add_unseen(
         (has names.now)) kept.new.items) }
 {
     let left = unseen_run(alloc, names, heads, name)?;
-    keep(kept, alloc, table, name, &left)
+    keep(kept, alloc, table, name, &left)?;
+    Ok(())
 }
 
 /// The modules that a module runs, each with its interface names that are not visible outermost there: neither in the
