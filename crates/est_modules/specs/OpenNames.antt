@@ -1,5 +1,5 @@
 -- Names of modules that are run, as far as no `signal` around a place declares them (this project's own form).
-use Rattle.std.specs.Prelude.{◌≡◌, ℕ, Bool, true, false, List, Option, Some, None, map, filter, not, ◌&&◌}
+use Rattle.std.specs.Prelude.{◌≡◌, ℕ, Bool, true, false, List, Option, Some, None, map, filter, not}
 use Rattle.std.specs.List.{AllByRecursion, slice_get}
 use Rattle.est_syntax.specs.Tree.{RenamingTree}
 use Rattle.est_modules.specs.NameTables.{number_in, IsTable}

@@ -111,6 +111,16 @@ fn hide_names(hidden: &mut [bool], table: &NameTable<'_>, names: &[Identifier])
     }
 }
 
+/// Hides the names that a `signal` declares.
+fn hide_declared(hidden: &mut [bool], table: &NameTable<'_>, names: &Names)
+    requires { IsTable table.now }
+    ensures { (bs : List Binder) → Tells table.now (is_local bs) hidden.old → Tells table.now
+        (is_local (signals (names_view names.now) ∷ bs)) hidden.new }
+{
+    hide(hidden, table, &names.first);
+    hide_names(hidden, table, &names.later);
+}
+
 impl<'a, 'b> OpenNames<'a, 'b> {
     /// Outermost in a module no name is hidden.
     ///
@@ -147,8 +157,7 @@ impl<'a, 'b> OpenNames<'a, 'b> {
             (is_local (signals (names_view names.now) ∷ bs)) inner.hidden.items) }
     {
         let mut hidden = Vec::from_slice(self.alloc, &self.hidden)?;
-        hide(&mut hidden, self.table, &names.first);
-        hide_names(&mut hidden, self.table, &names.later);
+        hide_declared(&mut hidden, self.table, names);
         Ok(OpenNames {
             alloc: self.alloc,
             table: self.table,

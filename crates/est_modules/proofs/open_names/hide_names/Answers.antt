@@ -1,4 +1,4 @@
-use Rattle.std.proofs.Common.{ℕ, List, ◌||◌, take, Some, ap, sym, ◌∙◌, subst}
+use Rattle.std.proofs.Common.{ℕ, List, ◌||◌, take, Some, ap, ◌∙◌, subst}
 use Rattle.std.proofs.lemmas.List.{take_all}
 use Rattle.est_modules.specs.OpenNames.{Tells}
 use Rattle.est_modules.specs.Visible.{stands_in}
@@ -9,7 +9,7 @@ pub loop-name-preserved : goal.loop-name-preserved
 loop-name-preserved c = λ f tells s i at.
     let k = c.loop-name.name-index in
     c.hide.ensures (λ u. f u || stands_in (take k c.args.names.now) u) (c.loop-name.invariant f tells) s i at
-    ∙ ap Some (stands_next f c.args.names.now k s c.name-item.result.now c.name-item.is c.loop-name-test.true)
+    ∙ ap Some (stands_next f c.args.names.now k s c.name-item.result c.name-item.is c.loop-name-test.true)
 
 pub returns : goal.returns
 returns c = λ f tells.

@@ -1,4 +1,4 @@
-use Rattle.std.proofs.Common.{◌∙◌, ap, sym, map}
+use Rattle.std.proofs.Common.{◌∙◌, ap, map}
 use Rattle.std.specs.List.{find}
 use Rattle.est_syntax.specs.Views.{renaming_view}
 use Rattle.est_modules.specs.OpenNames.{is_left}
