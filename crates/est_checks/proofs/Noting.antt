@@ -301,45 +301,13 @@ noted_along ps em t ks k (o ∷ os) s is are room =
 
 -- ---- the steps of the code
 
-abbrev noted : List Bool → (List ℕ → Bool) → Noted
+-- a value of these parts
+abbrev pub noted : List Bool → (List ℕ → Bool) → Noted
 noted r o = record { row = r; others = o }
 
 -- what is noted is the same where its row is and its other names
 pub same_noted : (k l : Noted) → k.row ≡ l.row → ((s : List ℕ) → k.others s ≡ l.others s) → k ≡ l
 same_noted k l a b = ap (λ r. noted r k.others) a ∙ ap (noted l.row) (fun_ext b)
-
--- ---- names that a run emits by itself, one after another
-
-open_added : (old l taken : Bool) → ((old || ((not l && true) && taken)) || (not l && true)) ≡ (old || ((not l && true) && (taken || true)))
-open_added true l taken = refl
-open_added false true taken = refl
-open_added false false true = refl
-open_added false false false = refl
-
-open_passed : (old l taken : Bool) → (old || ((not l && false) && taken)) ≡ (old || ((not l && false) && (taken || true)))
-open_passed old true taken = refl
-open_passed old false taken = refl
-
--- a name that is not renamed is added
-pub added_open : (bs : List Binder) (rs : List RenamingTree) (n s : List ℕ) (old taken e : Bool) → bytes_eq n s ≡ e → is_renamed rs n ≡ false → ((old || (goes bs rs s && taken)) || (not (is_local bs s) && e)) ≡ (old || (goes bs rs s && (taken || e)))
-added_open bs rs n s old taken true same free =
-    let here : is_renamed rs s ≡ false = ap (is_renamed rs) (sym (same_bytes n s same)) ∙ free in
-    ap (λ b. (old || ((not (is_local bs s) && not b) && taken)) || (not (is_local bs s) && true)) here
-    ∙ open_added old (is_local bs s) taken
-    ∙ ap (λ b. old || ((not (is_local bs s) && not b) && (taken || true))) (sym here)
-added_open bs rs n s old taken false other free =
-    ap (λ b. (old || (goes bs rs s && taken)) || b) (and_false (not (is_local bs s)))
-    ∙ sym (nothing_more (old || (goes bs rs s && taken)))
-    ∙ ap (λ b. old || (goes bs rs s && b)) (nothing_more taken)
-
--- one that is renamed is passed over
-pub passed_open : (bs : List Binder) (rs : List RenamingTree) (n s : List ℕ) (old taken e : Bool) → bytes_eq n s ≡ e → is_renamed rs n ≡ true → (old || (goes bs rs s && taken)) ≡ (old || (goes bs rs s && (taken || e)))
-passed_open bs rs n s old taken true same is =
-    let here : is_renamed rs s ≡ true = ap (is_renamed rs) (sym (same_bytes n s same)) ∙ is in
-    ap (λ b. old || ((not (is_local bs s) && not b) && taken)) here
-    ∙ open_passed old (is_local bs s) taken
-    ∙ ap (λ b. old || ((not (is_local bs s) && not b) && (taken || true))) (sym here)
-passed_open bs rs n s old taken false other is = ap (λ b. old || (goes bs rs s && b)) (nothing_more taken)
 
 -- ---- before the first occurrence
 

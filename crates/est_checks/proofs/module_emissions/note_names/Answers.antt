@@ -31,8 +31,8 @@ returns-in-Some c =
     ∙ ap (λ (ks : List Kept). noted_names o.table.now bs rs names k (kept_named ks m)) c.requires.0.1
     ∙ ap (λ (t : NameTable). noted_names t bs rs names k (kept_named sent.kept.now m)) c.requires.0.0
 
-pub returns-in-None : goal.returns-in-None
-returns-in-None c =
+pub returns-in_ok-add_open-in-None : goal.returns-in_ok-add_open-in-None
+returns-in_ok-add_open-in-None c =
     let sent = c.args.sent.now in
     let o = c.args.kept.now in
     let bs = binders_of c.args.scope.now in
@@ -45,7 +45,7 @@ returns-in-None c =
     same_noted _ (noted_names sent.names.now bs rs names k (kept_named o.modules.now m))
     (ap (λ q. (noted_names sent.names.now bs rs names k q).row) (sym at))
     (λ s.
-    c.in_ok-add_open.ensures s
-    ∙ ap (λ xs. k.others s || (goes bs rs s && stands_in xs s)) (c.deref.ensures.value ∙ c.in_ok-names.ensures)
+    c.in_ok-add_open-in-None.ensures s
+    ∙ ap (λ xs. k.others s || (goes bs rs s && stands_in xs s)) (c.deref-in-None.ensures.value ∙ c.in_ok-names-in-None.ensures)
     ∙ ap (λ q. (noted_names sent.names.now bs rs names k q).others s) (sym at))
     ∙ ap (λ (ks : List Kept). noted_names sent.names.now bs rs names k (kept_named ks m)) c.requires.0.1
