@@ -367,9 +367,9 @@ next_at t row i s o (Some j) e is at = elim (cases_eq j i) [
       ap (λ k. slice_index_or (take (suc i) row) k false) same
       ∙ get_or-take (suc i) row i false (omega arith)
       ∙ sym (ap (λ k. slice_index_or (take i row) k false || (slice_index_or row i false && is_named o s)) same
-        ∙ ap (λ b. b || (slice_index_or row i false && is_named o s)) (front_past row i)
-        ∙ ap (λ b. slice_index_or row i false && b) named
-        ∙ and_true (slice_index_or row i false))
+      ∙ ap (λ b. b || (slice_index_or row i false && is_named o s)) (front_past row i)
+      ∙ ap (λ b. slice_index_or row i false && b) named
+      ∙ and_true (slice_index_or row i false))
   | inr other ↦
       front_same row i j other
       ∙ nothing_more (slice_index_or (take i row) j false)

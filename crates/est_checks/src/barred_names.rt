@@ -115,7 +115,9 @@ pub fn barred_of<'a>(
     for place in &places {
         if let Some(run) = heads.get(*place) {
             if met.insert(&run.name)? {
-                add_barred(alloc, &inputs, &*heads, table, numbers, &mut kept, &run.name)?;
+                add_barred(
+                    alloc, &inputs, &*heads, table, numbers, &mut kept, &run.name,
+                )?;
             }
         }
     }

@@ -58,7 +58,13 @@ pub fn first_missing<'a>(
     match head_named(heads, main) {
         Some(_) => {
             let table = NameTable::new(alloc);
-            first_in_bodies(alloc, &table, &[], &UnknownModule { heads: &*heads }, &*heads)
+            first_in_bodies(
+                alloc,
+                &table,
+                &[],
+                &UnknownModule { heads: &*heads },
+                &*heads,
+            )
         }
         None => Ok(Some(*main)),
     }

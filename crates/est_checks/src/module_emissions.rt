@@ -209,11 +209,7 @@ fn note_run(
 }
 
 /// Notes what a statement emits.
-fn note_emission(
-    seen: &mut Notes,
-    scope: &Scope<'_>,
-    signal: &Identifier,
-) -> Result<(), AllocError>
+fn note_emission(seen: &mut Notes, scope: &Scope<'_>, signal: &Identifier) -> Result<(), AllocError>
     ensures { (ps : List Program) (em : List ℕ → List ℕ → Bool) (t : NameTable) (ks : List Kept)
         → OnOk result (noted_of seen.new ≡ noted_after ps em t ks (noted_of seen.old) (record {
           act = emits signal.now;

@@ -90,7 +90,6 @@ stands_next f ns k s n at room =
     or_assoc (f s) (stands_in (take k ns) s) (bytes_eq n s)
     ∙ ap (λ b. f s || b) (ap (λ m. stands_in (take k ns) s || bytes_eq m s) at ∙ sym (list_any_more (λ m. bytes_eq m s) ns k n room))
 
-
 -- a row of one answer
 pub tells_one : (t : NameTable) (b : Bool) (row : List Bool) → IsTable t → row ≡ replicate (length t.names.items) b → Tells t (λ s. b) row
 tells_one t b row is e s i h =

@@ -72,7 +72,10 @@ pub fn keep(
 {
     if let Some(numbers) = numbers_of(alloc, table, names)? {
         let module_name = *module_name;
-        modules.push(Kept { module_name, numbers })?;
+        modules.push(Kept {
+            module_name,
+            numbers,
+        })?;
     }
     Ok(())
 }
@@ -171,7 +174,11 @@ impl<'a, 'b> OpenNames<'a, 'b> {
         ensures { option_map (λ n. n.now) result ≡ open_name self.now number }
     {
         match self.hidden.get(number) {
-            Some(hidden) => if *hidden { None } else { self.table.name(number) },
+            Some(hidden) => if *hidden {
+                None
+            } else {
+                self.table.name(number)
+            },
             None => None,
         }
     }
@@ -199,7 +206,9 @@ impl<'a, 'b> OpenNames<'a, 'b> {
         ensures { option_map (λ i. i.now) result ≡ find (is_left (map renaming_view
             renamings.now) self.now) numbers.now }
     {
-        numbers.iter().find(|number| self.is_left(renamings, **number))
+        numbers
+            .iter()
+            .find(|number| self.is_left(renamings, **number))
     }
 
     /// The first of the names that are kept of a module which is neither hidden nor renamed.

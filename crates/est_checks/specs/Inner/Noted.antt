@@ -1,12 +1,12 @@
 -- What has been noted of what a module emits (this project's own form).
-use Rattle.std.specs.Prelude.{◌≡◌, ℕ, List, Bool, true, false, not, ◌&&◌, ◌||◌, Option, Some, None, if◌then◌else◌, fold, slice_set, slice_index_or, nat_lt, length}
-use Rattle.std.specs.List.{list_any, find, AllByRecursion}
+use Rattle.std.specs.Prelude.{ℕ, List, Bool, true, false, not, ◌&&◌, ◌||◌, Option, Some, None, if◌then◌else◌, fold, slice_set, slice_index_or, nat_lt, length}
+use Rattle.std.specs.List.{list_any, find}
 use Rattle.std.specs.Str.{bytes_eq}
 use Rattle.est_syntax.specs.Tree.{RenamingTree}
 use Rattle.est_modules.specs.Modules.{Program, program_named, is_declared}
 use Rattle.est_modules.specs.NameTables.{number_in}
 use Rattle.est_modules.specs.Occurrences.{Binder, Act, emits, tests, exits, binds, runs, Occurrence}
-use Rattle.est_modules.specs.OpenNames.{AreNumbers, is_left}
+use Rattle.est_modules.specs.OpenNames.{is_left}
 use Rattle.est_modules.specs.Renamings.{is_renamed, renamed}
 use Rattle.est_modules.specs.Visible.{is_local, stands_in}
 use Rattle.est_modules.specs.declared.name_table.NameTable.{NameTable}

@@ -348,7 +348,9 @@ fn expect_emissions(
 ) -> Result<(), Fail> {
     let found = emissions_of(alloc, &*heads, &*table, home)?;
     if found.len() != names.len()
-        || !names.iter().all(|name| found.iter().any(|one| one.as_str() == *name))
+        || !names
+            .iter()
+            .all(|name| found.iter().any(|one| one.as_str() == *name))
     {
         return Err(Fail::from(format!(in alloc; "{found:?} in place of {names:?}")?));
     }

@@ -1,4 +1,4 @@
-use Rattle.std.proofs.Common.{◌≡◌, ℕ, List, Bool, Option, Some, refl, ap, sym, ◌∙◌, map, ◌||◌, ◌&&◌}
+use Rattle.std.proofs.Common.{List, Some, refl, ap, sym, ◌∙◌, map, ◌||◌, ◌&&◌}
 use Rattle.est_syntax.specs.Views.{renaming_view}
 use Rattle.est_modules.proofs.Opening.{kept_found}
 use Rattle.est_modules.specs.Modules.{program_of}
@@ -8,7 +8,7 @@ use Rattle.est_modules.specs.declared.name_table.NameTable.{NameTable}
 use Rattle.est_modules.specs.declared.open_names.Kept.{Kept}
 use Rattle.est_checks.specs.Emissions.{emitted_of}
 use Rattle.est_checks.specs.Inner.Emitted.{sent_by}
-use Rattle.est_checks.specs.Inner.Noted.{Noted, noted_of, noted_names, kept_named, row_by_numbers, row_by_names, goes}
+use Rattle.est_checks.specs.Inner.Noted.{noted_of, noted_names, kept_named, row_by_numbers, goes}
 use Rattle.est_checks.proofs.Noting.{same_noted, numbers_names}
 use Rattle.est_checks.proofs.module_emissions.note_names.Goals as goal
 
