@@ -89,6 +89,7 @@ bench: build
 	python3 bench/commands.py $(PROGRAM)
 	python3 bench/load_commands.py $(PROGRAM)
 	python3 bench/memory.py $(PROGRAM)
+	python3 bench/expressions.py $(PROGRAM)
 	@python3 scripts/run.py est_bench all 1 > /dev/null
 	python3 bench/instants.py $(ENGINE)
 	@python3 scripts/run.py engine_pairs < crates/engine_pairs/stdin > /dev/null

@@ -1,15 +1,19 @@
 #!/usr/bin/env python3
 """How long the client takes for a long run, beside the program alone on the same commands.
 
-usage: client.py PROGRAM [INSTANTS]
+usage: client.py [--site] PROGRAM [INSTANTS]
 
 PROGRAM is the built `crates/estserve/out/estserve`. The client runs the arbiter of six cells for
 20,000 instants (or INSTANTS) with inputs that are drawn at random from a fixed seed, and writes its
 table. What it sends is recorded once. Then client and program take turns: the client runs, and the
-program alone answers the recorded commands from a file. Printed are the medians of both, their
-ratio, when the first row of the table came, and what is hoped of each; and how much of the client's
-time a start of Python takes that does nothing, which differs from machine to machine. Python starts
-as it does for a user: it keeps its bytecode (in a folder of this run) and gathers what it writes.
+program alone answers the recorded commands from a file. Printed are the medians and the least of
+both, their ratios, when the first row of the table came, and what is hoped of each; the processor
+time of both; how much of the client's time a start of Python takes that does nothing, which differs
+from machine to machine; and how many processes wanted a processor meanwhile. Python starts as it
+does for who calls the installed command: without its site, and with the client's bytecode (in a
+folder of this run); and it gathers what it writes. With `--site` it starts as `python3` does alone.
+
+On a machine with other work, put this before it: `chrt -r 50 python3 bench/client.py PROGRAM`.
 """
 import sys
 
@@ -18,6 +22,7 @@ HERE = sys.path.pop(0)  # a file of this folder has the name of a module that is
 import os
 import pathlib
 import random
+import resource
 import shlex
 import statistics
 import subprocess
@@ -25,7 +30,8 @@ import tempfile
 import time
 
 ROOT = pathlib.Path(HERE).parent
-CLIENT = [sys.executable, ROOT / "clients" / "estserve.py"]
+PYTHON = [sys.executable] if "--site" in sys.argv else [sys.executable, "-S"]
+CLIENT = [*PYTHON, ROOT / "clients" / "estserve.py"]
 MODULE = ROOT / "examples" / "arbiter" / "arbiter.strl"
 TURNS = 15
 HOPED_RATIO = 1.3  # of the client's time to the program's, at most
@@ -33,7 +39,7 @@ HOPED_SECONDS = 1  # until the first row, at most
 
 
 def draw_inputs(count):
-    """The lines of so many instants: each cell asks in a third of them."""
+    """The lines of this many instants: each cell asks in a third of them."""
     drawn = random.Random(1)
     cells = [f"R{number}" for number in range(1, 7)]
     chosen = ([cell for cell in cells if drawn.random() < 1 / 3] for _ in range(count))
@@ -62,9 +68,15 @@ def record(program, inputs, folder):
     return sent
 
 
+def processor_seconds():
+    """The processor time of all programs that were started and have ended."""
+    used = resource.getrusage(resource.RUSAGE_CHILDREN)
+    return used.ru_utime + used.ru_stime
+
+
 def time_client(program, inputs, environment):
-    """The seconds of a run, and those until its first row is there."""
-    begun = time.perf_counter()
+    """The seconds of a run, those of the processors, and those until its first row is there."""
+    begun, used = time.perf_counter(), processor_seconds()
     words = words_of(program, inputs)
     with subprocess.Popen(words, stdout=subprocess.PIPE, env=environment) as client:
         rows = iter(client.stdout.readline, b"")
@@ -72,45 +84,53 @@ def time_client(program, inputs, environment):
         client.stdout.read()
     if client.returncode:
         sys.exit("client.py: the client refused the run")
-    return time.perf_counter() - begun, first - begun
+    return time.perf_counter() - begun, processor_seconds() - used, first - begun
 
 
 def time_program(program, commands):
-    """The seconds of the program alone on the commands of a file."""
-    begun = time.perf_counter()
+    """The seconds of the program alone on the commands of a file, and those of the processors."""
+    begun, used = time.perf_counter(), processor_seconds()
     with commands.open("rb") as lines:
         subprocess.run([program, "script"], stdin=lines, stdout=subprocess.DEVNULL, check=True)
-    return time.perf_counter() - begun
+    return time.perf_counter() - begun, processor_seconds() - used
 
 
 def time_python(environment):
     """The seconds of a start of Python that does nothing."""
     begun = time.perf_counter()
-    subprocess.run([sys.executable, "-c", "pass"], env=environment, check=True)
+    subprocess.run([*PYTHON, "-c", "pass"], env=environment, check=True)
     return time.perf_counter() - begun
 
 
+def told(seconds):
+    """The median and the least of some times, in words."""
+    return f"{statistics.median(seconds):.3f} s (median of {TURNS}; least {min(seconds):.3f})"
+
+
 def main():
-    program = pathlib.Path(sys.argv[1]).resolve()
-    count = int(sys.argv[2]) if len(sys.argv) > 2 else 20_000
+    named, *counts = [word for word in sys.argv[1:] if word != "--site"]
+    program, count = pathlib.Path(named).resolve(), int(counts[0]) if counts else 20_000
     with tempfile.TemporaryDirectory() as name:
         folder = pathlib.Path(name)
         inputs = folder / "inputs"
         inputs.write_text(draw_inputs(count))
         commands = record(program, inputs, folder)
-        clients, rows, programs, starts = [], [], [], []
+        clients, programs, starts = [], [], []
         for _ in range(TURNS):
-            seconds, first = time_client(program, inputs, environment_in(folder))
-            clients.append(seconds)
-            rows.append(first)
+            clients.append(time_client(program, inputs, environment_in(folder)))
             programs.append(time_program(program, commands))
             starts.append(time_python(environment_in(folder)))
-    ratio = statistics.median(clients) / statistics.median(programs)
-    print(f"the client's run: {statistics.median(clients):.3f} s (median of {TURNS})")
-    print(f"a start of Python: {statistics.median(starts):.3f} s of it")
-    print(f"the program alone: {statistics.median(programs):.3f} s")
-    print(f"ratio: {ratio:.2f} (hoped for: at most {HOPED_RATIO})")
+    runs, run_used, rows = zip(*clients)
+    alone, alone_used = zip(*programs)
+    ratio, least = statistics.median(runs) / statistics.median(alone), min(runs) / min(alone)
+    print(f"the client's run: {told(runs)}")
+    print(f"a start of Python: {told(starts)} of it")
+    print(f"the program alone: {told(alone)}")
+    print(f"processor time of the run, the program's with it: {told(run_used)}")
+    print(f"processor time of the program alone: {told(alone_used)}")
+    print(f"ratio: {ratio:.2f} (hoped for: at most {HOPED_RATIO}); of the least: {least:.2f}")
     print(f"first row: {max(rows):.3f} s at the latest (hoped for: at most {HOPED_SECONDS})")
+    print(f"processes that wanted a processor: {os.getloadavg()[0]:.0f}, on {os.cpu_count()}")
 
 
 main()

@@ -39,7 +39,7 @@ def beginning():
 
 
 def policy_lines(count):
-    """So many policy commands in turn: a user is added, and deleted again."""
+    """This many policy commands in turn: a user is added, and deleted again."""
     pair = [line_of("adduser", user="ann"), line_of("deluser", user="ann")]
     return pair * (count // 2)
 

@@ -4,7 +4,7 @@
 usage: commands.py PROGRAM [LINES]
 
 Makes a script of LINES lines (100,000 if left out): a small module is loaded into several slots, and then offers,
-steps and looks go round them. No line is refused: the run stops if one is. The same lines are then asked through a
+steps and looks go around them. No line is refused: the run stops if one is. The same lines are then asked through a
 pipe, 100 at once and one at a time, each time waiting for the answers to those before the next are sent. At last
 there are three scripts of one kind of command each: steps, checks and changes of the policy.
 """
@@ -91,7 +91,7 @@ def run_python(text):
 
 
 def run_ahead(program, text, ahead):
-    """The seconds that the lines take where so many are sent at once, and their answers awaited before the next."""
+    """The seconds that the lines take where this many are sent at once, and their answers awaited before the next."""
     lines = text.encode().splitlines(keepends=True)
     with subprocess.Popen([program, "script"], stdin=subprocess.PIPE, stdout=subprocess.PIPE) as asked:
         start = time.perf_counter()

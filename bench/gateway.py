@@ -44,7 +44,7 @@ def set_up(talker):
 
 
 def step(path, slot, steps, ahead, begin):
-    """One client: steps of its slot, so many ahead of their answers."""
+    """One client: steps of its slot, a number of them ahead of their answers."""
     with teams.Talker(path) as talker:
         talker.ask(teams.login_line())
         begin.wait()
@@ -55,7 +55,7 @@ def step(path, slot, steps, ahead, begin):
 
 
 def timed(path, process, clients, ahead, steps=STEPS):
-    """Seconds by the clock, and of a process, for a step of so many clients."""
+    """Seconds by the clock, and of a process, for a step of this many clients."""
     begin = multiprocessing.Barrier(clients + 1)
     running = [
         multiprocessing.Process(target=step, args=(path, slot, steps, ahead, begin))

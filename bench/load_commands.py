@@ -27,7 +27,7 @@ def example(name, module):
 MODULES = (
     ("ABRO", example("abro", "ABRO"), 10_000),
     ("the arbiter of six cells", example("arbiter", "ARBITER"), 2_000),
-    ("1,999 statements, one behind another", "module M: output O; " + "emit O; pause; " * 499 + "emit O; halt end module", 500),
+    ("1,999 statements, one after another", "module M: output O; " + "emit O; pause; " * 499 + "emit O; halt end module", 500),
 )
 
 

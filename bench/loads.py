@@ -125,7 +125,7 @@ def emitting_renamed(names):
 
 
 def emitting_below_signals(names):
-    """The same, with a `signal` of one name round each run."""
+    """The same, with a `signal` of one name around each run."""
     part = f"signal {names[len(names) // 2]} in run N end;"
     return filled(f"module M:output {','.join(names)};", part, f"halt end module {emitter(names)}")
 
@@ -155,7 +155,7 @@ def emitting_shuffled(names):
 
 
 def emitting_nested(names, depth):
-    """A module that runs another, which emits all its outputs, behind each of many `signal`s in one another, which declare them all."""
+    """A module that runs another, which emits all its outputs, in each of many `signal`s in one another, which together declare them all."""
     parts = [names[n::depth] for n in range(depth)]
     head = "".join(f"signal {','.join(part)} in " for part in parts)
     return f"module M:output {','.join(names)};{head}{'run N end;' * depth}halt end module {emitter(names)}"
@@ -227,11 +227,11 @@ def texts():
         ("1,000 names of a `signal`, and runs inside it of a module that emits them", emitting_inside(half[:1000], half[:1000], ""), "TooLarge(Statements)"),
         ("1,000 outputs that a module emits, run by another with a renaming each time", emitting_renamed(half[:1000]), "TooLarge(Signals)"),
         ("1,000 outputs that a module emits, run inside a `signal` that hides an input", emitting_input(half[:1000]), "TooLarge(Signals)"),
-        ("1,000 outputs that a module emits, run with a `signal` of one name round each run", emitting_below_signals(half[:1000]), "TooLarge(Signals)"),
+        ("1,000 outputs that a module emits, run with a `signal` of one name around each run", emitting_below_signals(half[:1000]), "TooLarge(Signals)"),
         ("1,000 outputs that a module emits, run inside a `signal` of half of them", emitting_half(half[:1000]), "TooLarge(Signals)"),
         ("1,000 outputs that a module emits, run inside a `signal` of half of them in another order", emitting_shuffled(half[:1000]), "TooLarge(Signals)"),
-        ("2,900 outputs that a module emits, run behind each of 120 `signal`s in one another", emitting_nested(half[:2900], 120), "TooLarge(Signals)"),
-        ("1,300 `signal`s of one name, and one of 5,000 names round a run", signals_before_a_run(half[:5000]), "TooLarge(Statements)"),
+        ("2,900 outputs that a module emits, run in each of 120 `signal`s in one another", emitting_nested(half[:2900], 120), "TooLarge(Signals)"),
+        ("1,300 `signal`s of one name, and one of 5,000 names around a run", signals_before_a_run(half[:5000]), "TooLarge(Statements)"),
         *((f"a text made at random, of seed {seed}", random_text(seed), answer) for seed, answer in KEPT),
     )
 
@@ -284,7 +284,7 @@ def random_wrapped(chance, act, names, wrapping):
 
 
 def random_body(chance, names, modules, room):
-    """Acts in a nest of `signal`s and brackets that declares some of the names, some of them behind an inner part."""
+    """Acts in a nest of `signal`s and brackets that declares some of the names, some of them after an inner part."""
     depth = chance.choice((0, 0, 1, 1, 2, 10, 60, 120))
     local = some_of(chance, names, chance.choice((0.1, 0.5, 1))) if depth else []
     opening = []

@@ -52,7 +52,7 @@ def line_of(cmd, **keys):
 
 
 def lines_on(slot, count):
-    """So many lines in turn: a step of the slot, a look at its last instant, a check."""
+    """This many lines in turn: a step of the slot, a look at its last instant, a check."""
     lines = []
     for instant in range(1, count // 3 + 1):
         lines.append(line_of("step", slot=slot))
@@ -62,7 +62,7 @@ def lines_on(slot, count):
 
 
 def checks(count):
-    """So many checks."""
+    """This many checks."""
     return [line_of("check", op="step", object="0")] * count
 
 
@@ -81,7 +81,7 @@ class Connection:
         self.socket.close()
 
     def take(self, count):
-        """Reads so many answers, of which none is a refusal."""
+        """Reads this many answers, of which none is a refusal."""
         last = b""
         while count > 0:
             some = self.socket.recv(65_536)
@@ -91,7 +91,7 @@ class Connection:
             count -= some.count(b"\n")
 
     def ask(self, lines, ahead):
-        """The seconds that the lines take where so many are sent at once, and their answers awaited before the next."""
+        """The seconds that the lines take where this many are sent at once, and their answers awaited before the next."""
         parts = [(b"".join(lines[at:at + ahead]), len(lines[at:at + ahead])) for at in range(0, len(lines), ahead)]
         begun = time.perf_counter()
         for part, count in parts:
@@ -144,7 +144,7 @@ def processor_time(process):
 
 
 def timed(process, count, work):
-    """Does a work of so many lines. Answers what it answers, and the server's microseconds of processor time a line."""
+    """Does a work of this many lines. Answers what it answers, and the server's microseconds of processor time a line."""
     before = processor_time(process)
     answer = work()
     return answer, (processor_time(process) - before) / count

@@ -43,7 +43,7 @@ SHAPES = (
 
 
 def library():
-    """A module of so many statements of six shapes, and a `halt`; and how many units it has."""
+    """A module of this many statements of six shapes, and a `halt`; and how many units it has."""
     choice = random.Random(1)
     names = [f"Out_signal_{number}" for number in range(40)]
     parts = ["module Bench:\n  input Go, Stop;\n  output ", ", ".join(names), ";\n"]
@@ -101,7 +101,7 @@ def python_seconds(text, repetitions):
 
 
 def seconds_a_text(run, seconds):
-    """The time of one text, from runs of so many repetitions."""
+    """The time of one text, from runs of this many repetitions each."""
     repetitions = 2
     while run(repetitions) < seconds:
         repetitions *= 2

@@ -74,7 +74,7 @@ def load_again_and_again(path, begun, ended, times):
 
 
 def greatest_wait(client, seconds=0.0):
-    """The greatest time of 1,000 grants and revocations in turn, or of more in so many seconds, in milliseconds."""
+    """The greatest time of 1,000 grants and revocations in turn, or of more in a number of seconds, in milliseconds."""
     keys = {"object": "1.I", "op": "offer", "role": "root"}
     lines = [bench.line_of(command, **keys) for command in ("grant", "revoke")]
     longest, number, end = 0.0, 0, time.perf_counter() + seconds

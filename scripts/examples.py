@@ -2,7 +2,7 @@
 """Runs each example on the program, built without proof, and compares its answers.
 
 The examples are the scripts of examples/scripts, and the dialogue of each controller's folder beside them; each has its answers in a file
-with `.stdout` behind the name. The dialogues of the client's tests, clients/tests/dialogues, are run with them. The program is built once.
+with `.stdout` after the name. The dialogues of the client's tests, clients/tests/dialogues, are run with them. The program is built once.
 """
 import pathlib
 import shutil

@@ -4,7 +4,7 @@
 usage: reading_list.py
 
 It begins at the contracts of ROOTS, and follows each name of a contract, a definition or a type to the file where that name is
-defined: by the `use` lines of definitions, and by the `use` and `ghost use` lines of the code. A file stands behind those whose
+defined: by the `use` lines of definitions, and by the `use` and `ghost use` lines of the code. A file stands after those whose
 names it uses; of a file of code only the types and constants that are listed beside it matter, with what contracts see of them.
 Names that end in `-prop` are left out: they say of a fact only that it has one proof.
 """
@@ -173,7 +173,7 @@ def closure():
 
 
 def in_order(names, below):
-    """The files, each behind those that it uses; crates as crates.txt has them."""
+    """The files, each after those that it uses; crates as crates.txt has them."""
     order, open_files = [], set()
 
     def visit(file):

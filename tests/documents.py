@@ -2,10 +2,10 @@
 """Checks that the documents keep up with the repository.
 
 The lists of docs/generated are those that scripts/reading_list.py and scripts/wrong_bodies.py write, and each wrong
-body says why it is wrong; README.md has at most 100 lines; each crate stands in docs/ARCHITECTURE.md; each function of
-the walk there stands in its file; each script of examples/scripts has its answers and its row in examples/README.md, and
-the opening one is the stored run; each test that docs/EXAMPLES.md names is written; each link to a file leads to one,
-and each quoted block stands in its file.
+body says why it is wrong; README.md has at most 100 lines; each crate stands in docs/ARCHITECTURE.md, and crates.txt
+has its storeys and its order; each function of the walk there stands in its file; each script of examples/scripts has
+its answers and its row in examples/README.md, and the opening one is the stored run; each test that docs/EXAMPLES.md
+names is written; each link to a file leads to one, and each quoted block stands in its file.
 Ends with status 1 after naming what differs.
 """
 
@@ -61,6 +61,16 @@ def missing_crates(document):
     """A line for each crate that the document does not name."""
     text = (ROOT / document).read_text()
     return [f"{document} does not name {crate}" for crate in wrong_bodies.crates() if f"`{crate}`" not in text]
+
+
+def shuffled_crates():
+    """A line if crates.txt has not the storeys and crates of the table in docs/ARCHITECTURE.md, in its order."""
+    table = (ROOT / "docs/ARCHITECTURE.md").read_text().partition("| Crate |")[2].partition("\n\n")[0]
+    told = ["".join(names) for names in re.findall(r"^\| (?:\*\*(.+?)\*\*|`(\w+)`) \|", table, re.MULTILINE)]
+    lines = filter(None, (ROOT / "crates.txt").read_text().splitlines())
+    listed = [line[2:] if line.startswith("# ") else re.split("[ :]", line)[0] for line in lines]
+    fault = "crates.txt has not the storeys and crates of the table in docs/ARCHITECTURE.md, in its order"
+    return [] if told == listed else [fault]
 
 
 def faulty_examples():
@@ -121,7 +131,7 @@ def broken_links(document):
 
 def main():
     faults = differing_tables() + missing_sentences() + missing_functions() + faulty_examples()
-    faults += long_readme() + missing_crates("docs/ARCHITECTURE.md") + missing_tests()
+    faults += long_readme() + missing_crates("docs/ARCHITECTURE.md") + shuffled_crates() + missing_tests()
     for document in [*ROOT.glob("*.md"), *ROOT.glob("docs/**/*.md"), *ROOT.glob("examples/*.md")]:
         faults += broken_links(document) + stale_quotes(document)
     print("\n".join(faults) if faults else "documents: in step with the repository")

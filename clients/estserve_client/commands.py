@@ -17,12 +17,35 @@ if TYPE_CHECKING:
 
 # subcommands of packages beside this one, which may be there
 NEIGHBOURS = (("team", "estserve_team"),)
-Parser = argparse.ArgumentParser
 STREAMS = (
     ("stdin", "r", "surrogateescape"),
     ("stdout", "w", "backslashreplace"),
     ("stderr", "w", ""),
 )
+
+
+def terminal_columns() -> int:
+    """The columns of the terminal that standard output is, or of the variable COLUMNS; else 80."""
+    try:
+        return int(os.environ.get("COLUMNS", 0)) or os.get_terminal_size(1).columns or 80
+    except (ValueError, OSError):
+        return 80
+
+
+class Layout(argparse.HelpFormatter):
+    """Lays help out as the library does. Each option that is added makes a layout; the library's
+    own imports shutil for the columns, which takes a run longer than all options.
+    """
+
+    def __init__(self, prog: str, **more: Any) -> None:
+        super().__init__(prog, width=terminal_columns() - 2, **more)
+
+
+class Parser(argparse.ArgumentParser):
+    """A parser, and those of its subcommands, whose help is laid out so."""
+
+    def __init__(self, **words: Any) -> None:
+        super().__init__(formatter_class=Layout, **words)
 
 
 # What each command does is imported when it is asked for.

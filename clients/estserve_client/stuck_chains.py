@@ -47,7 +47,7 @@ def signal_of(token: Token, names: Names) -> Signal:
 
 
 def called(token: Token, names: Names) -> str:
-    """A name, and behind it that of its signal where it is another one."""
+    """A name, and after it that of its signal where it is another one."""
     signal = signal_of(token, names)
     return token.text + (f" ({signal[0]})" if signal[0] != token.text else "")
 

@@ -16,7 +16,7 @@ from .refusals import not_understood
 
 MOST_SENDS = 900_000
 PIECE = 4_096
-MOST_FAULTS = 3  # so many ends in turn without an answer are a fault of the program
+MOST_FAULTS = 3  # this many ends in turn without an answer are a fault of the program
 
 Done = Callable[[bytes], None]
 

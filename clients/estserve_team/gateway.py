@@ -43,10 +43,10 @@ STARTING, SERVING, BEGINNING, ARCHIVING, STOPPING = (
     "stopping",
 )
 WATCH_SECONDS = 1.0
-UNUSED_SECONDS = 5.0  # a shared login for which nobody has waited is logged out after so many
-AGAIN_SECONDS = 0.05  # a logout for which there was no memory is asked again after so many
+UNUSED_SECONDS = 5.0  # after this time a shared login for which nobody has waited is logged out
+AGAIN_SECONDS = 0.05  # after this time a logout for which there was no memory is asked again
 MOST_STARTS = 5  # of servers that are lost while they are begun, or before they answer one login
-STOP_SECONDS = 60  # logouts are answered in so many, or the gateway ends without
+STOP_SECONDS = 60  # so long the gateway waits for the answers to its logouts
 
 
 def is_past(held: "asyncio.Future[SharedSession]") -> bool:

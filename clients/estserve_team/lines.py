@@ -17,7 +17,7 @@ MOST = 18_446_744_073_709_551_615
 MOST_DEPTH = 127
 LONGEST_NUMBER = 300  # digits; longer ones are left to the program
 LARGEST_FLOAT = 1e300  # larger ones too
-CACHED_BYTES = 128  # lines up to so many bytes are kept with what they ask for
+CACHED_BYTES = 128  # lines of at most this many bytes are kept with what they ask for
 CACHED_LINES = 4_096
 
 NAME = re.compile(r"[A-Za-z0-9_-]{1,24}")

@@ -28,7 +28,7 @@ from estserve_client.running import Failed
 
 PATH_BYTES = 107  # the longest path of a Unix socket
 LIST_NAME = "children"
-END_SECONDS = 10  # a process that was killed is gone in so many
+END_SECONDS = 10  # in this time a process that was killed is gone
 SET_PARENT_DEATH_SIGNAL = 1
 C_LIBRARY = ctypes.CDLL(None, use_errno=True)
 

@@ -14,7 +14,7 @@ from .server import Lost
 
 AHEAD_LINES = 300  # are sent before their answers are read
 AHEAD_BYTES = 40_000
-WAIT_SECONDS = 120  # an answer comes in so many, or the server is given up
+WAIT_SECONDS = 120  # without an answer in this time the server is given up
 RECEIVED = 1 << 18
 
 

@@ -8,7 +8,7 @@ from typing import Optional
 from .places import Children, Failed, check_socket_path, end_child, start_child
 
 WORKERS = 16
-START_SECONDS = 30  # the program listens in so many, or it is given up
+START_SECONDS = 30  # the program is given up if it doesn't listen in this time
 POLL_SECONDS = 0.002
 
 

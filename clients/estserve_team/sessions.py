@@ -18,7 +18,7 @@ if TYPE_CHECKING:
 SEATS = 16
 MOST_SENDS = 900_000  # of one connection: its server ends after 1,000,000 reads
 PIECE = 4_096  # a longer send may take as many reads as it has such pieces
-WAIT_SECONDS = 120  # an answer comes in so many, or the server is given up
+WAIT_SECONDS = 120  # without an answer in this time the server is given up
 MOST_UNDER_WAY = 64  # of one shared session
 LONGEST_ID = 64
 LOGOUT = request_of({"cmd": "logout"})

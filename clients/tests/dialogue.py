@@ -3,7 +3,7 @@
 one.
 
 The variable DIALOGUE names the stored lines, one command each; the answers stand in the file of
-that name with `.stdout` behind it. A command that is not the stored one, or one that never comes,
+that name with `.stdout` after it. A command that is not the stored one, or one that never comes,
 is told in the file that the variable FAULTS names. Where BESIDE names a real program, it is run
 beside, on the same commands, and an answer of its that isn't the stored one is told too. Where
 RECORD names one, the commands are sent to it, and stored with its answers.

@@ -24,7 +24,7 @@ INPUTS = [("A",), ("A", "B"), (), ("B",), ("A",)] * 8
 
 class Program:
     """Stands for a program whose module has the inputs A and B, and an output O that is present
-    with both of them. Its answers come in pieces of at most so many bytes.
+    with both of them. Its answers come in pieces of at most this many bytes.
     """
 
     def __init__(self, piece=PIPE, separators=(",", ":")):

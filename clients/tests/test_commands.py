@@ -129,7 +129,7 @@ class Dialogues(unittest.TestCase):
 
 
 class OverASocket(unittest.TestCase):
-    """A client over a Unix socket: behind it stands a stored dialogue, as a server."""
+    """A client over a Unix socket, at which a stored dialogue answers as a server."""
 
     def serve(self, path, dialogue, faults):
         server = socket.socket(socket.AF_UNIX, socket.SOCK_STREAM)

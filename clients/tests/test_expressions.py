@@ -157,7 +157,7 @@ SIZES = [
     ("every {} do pause end", 24, 3),
     ("every immediate {} do pause end", 24, 3),
 ]
-STATEMENTS, UNITS = 2_048, 128  # a kernel has at most so many, and so many may be open at once
+STATEMENTS, UNITS = 2_048, 128  # the most that a kernel has, and the most that may be open at once
 # What stands before a test, what closes the statement, and how many units are open there.
 OPEN = [
     ("await ", "", 0),

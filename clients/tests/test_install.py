@@ -182,13 +182,24 @@ class Installed(InAFolder):
             self.assertTrue((prefix / "share" / name).exists(), name)
         self.assertFalse(list(prefix.glob("**/__pycache__/*")) and not sys.dont_write_bytecode)
 
+    def test_the_client_starts_without_the_site_and_the_gateway_with_it(self):
+        ran = self.install(self.script("program", "#!/bin/sh\n"))
+        self.assertEqual((ran.returncode, ran.stderr), (0, ""))
+        start = self.folder / "p" / "lib" / "estserve" / "start.py"
+        start.write_text("import sys\nprint('site' in sys.modules, *sys.argv[1:])\n")
+        for words, has_site in ((["run", "a b"], False), ([], False), (["team", "who"], True)):
+            command = [self.folder / "p" / "bin" / "estserve-client", *words]
+            told = subprocess.run(command, capture_output=True, text=True).stdout
+            self.assertEqual(told.split(), [str(has_site), *" ".join(words).split()])
+
     def test_a_staged_place(self):
         program = self.script("program", "#!/bin/sh\n")
         ran = self.install(program, DESTDIR=f"{self.folder}/stage")
         self.assertEqual((ran.returncode, ran.stderr), (0, ""))
-        text = (
-            self.folder / "stage" / f"{self.folder}/p/bin/estserve-client".lstrip("/")
-        ).read_text()
+        stage = self.folder / "stage" / f"{self.folder}/p".lstrip("/")
+        text = (stage / "bin" / "estserve-client").read_text()
+        self.assertIn(f'exec python3 $site "{self.folder}/p/lib/estserve/start.py" "$@"', text)
+        text = (stage / "lib" / "estserve" / "start.py").read_text()
         self.assertIn(f'"{self.folder}/p/lib/estserve"', text)
 
     def test_without_a_program(self):

@@ -53,15 +53,15 @@ class Imports(unittest.TestCase):
     """A command imports what it needs, and the help imports no command."""
 
     def imported(self, *words):
-        """The modules of the client and the gateway that a command has imported."""
+        """The modules that a command has imported, in a Python that imports none for its site."""
         ran = subprocess.run(
-            [sys.executable, "-B", "-c", IMPORTED, *words],
+            [sys.executable, "-S", "-B", "-c", IMPORTED, *words],
             capture_output=True,
             text=True,
             cwd=CLIENTS,
             timeout=60,
         )
-        return {name for name in ran.stderr.split() if name.startswith("estserve_")}
+        return set(ran.stderr.split())
 
     def test_the_help_imports_no_command(self):
         names = self.imported("--help")
@@ -74,6 +74,7 @@ class Imports(unittest.TestCase):
         self.assertIn("estserve_client.running", names)
         others = ("shell", "applying", "session", "scopes", "syntax_tree", "sentences", "expecting")
         self.assertFalse(names & {"estserve_team", *(f"estserve_client.{name}" for name in others)})
+        self.assertFalse(names & {"dataclasses", "pathlib", "shutil", "typing"})
 
 
 if __name__ == "__main__":

@@ -18,7 +18,7 @@ EVERY = {"Memory", "NotARequest"}  # refusals of every command
 
 
 def rows_of(heading):
-    """The cells of each row of the first table behind a line."""
+    """The cells of each row of the first table after a line."""
     table = TEXT[TEXT.index(heading) :].partition("\n|---")[2].partition("\n\n")[0]
     return [[cell.strip() for cell in row.strip("|").split("|")] for row in table.split("\n")[1:]]
 

@@ -18,7 +18,7 @@ import unittest
 
 from support import CLIENTS, DIALOGUES, EXAMPLES, dialogue_variables, needs_program, read_vcd
 
-SECONDS = 60  # whatever a terminal is to show comes in so many
+SECONDS = 60  # whatever a terminal is to show comes in this time
 LOGIN = '{"ok":"login","session":1,"version":5}'
 # a program that takes its time with its second answer: up to when there is a file `go`
 SLOW = f"""#!/bin/sh
@@ -29,6 +29,17 @@ while [ ! -e go ]; do sleep 0.05; done
 echo '{{"instant":1,"ok":"step","place":2,"version":5}}'
 read line; echo '{{"allowed":true,"ok":"check"}}'
 cat > /dev/null
+"""
+# the program that ESTSERVE names, which is handed its input piece by piece
+SLOWED = f"""#!{sys.executable}
+import os, subprocess, sys, time
+child = subprocess.Popen([os.environ["ESTSERVE"], "script"], stdin=subprocess.PIPE)
+while piece := os.read(0, 20_000):
+    child.stdin.write(piece)
+    child.stdin.flush()
+    time.sleep(0.3)
+child.stdin.close()
+sys.exit(child.wait())
 """
 
 
@@ -42,7 +53,7 @@ def wait_for(path):
 
 
 class Terminal:
-    """The client in a terminal that is so many columns wide. Used with `with`."""
+    """The client in a terminal of a number of columns. Used with `with`."""
 
     def __init__(self, words, variables, columns=200):
         self.words, self.columns = words, columns
@@ -71,7 +82,7 @@ class Terminal:
         return os.read(self.screen, 65_536).decode().replace("\r\n", "\n").replace("\a", "")
 
     def sees(self, text):
-        """Waits until this text is shown behind what was seen so far."""
+        """Waits until this text is shown after what was seen so far."""
         end = time.monotonic() + SECONDS
         while text not in self.shown:
             ready = select.select([self.screen], [], [], max(0, end - time.monotonic()))[0]
@@ -223,7 +234,7 @@ class InATerminal(unittest.TestCase):
         inputs, vcd = self.folder / "inputs", self.folder / "out.vcd"
         inputs.write_text("R3\nR1 R3\n" * 10_000)
         words = ["run", EXAMPLES / "arbiter" / "arbiter.strl", "--inputs", inputs, "--vcd", vcd]
-        with Terminal(words, {}) as terminal:
+        with Terminal([*words, "--program", self.program(SLOWED)], {}) as terminal:
             terminal.sees(" of 20,000 instants")
             terminal.sees(" of 20,000 instants")
             terminal.type("\x03")

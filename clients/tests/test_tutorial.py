@@ -4,7 +4,7 @@ A block between fences that are marked `console` is run: a line that begins with
 the lines under it are what it prints, and where it reads standard input, lines that begin with `> `
 are typed. A comment `<!-- dialogue: PATH -->` before a block names the stored dialogue that stands
 for the program, which `make examples` holds against the real one; so `--unproved` is left out. What
-is written into /tmp goes into a folder of the test's own. The blocks behind `<!-- server -->` speak
+is written into /tmp goes into a folder of the test's own. The blocks after `<!-- server -->` speak
 to a server; tests/socket runs them.
 """
 import os

@@ -59,6 +59,30 @@ def revocation():
     ]
 
 
+def nested():
+    """A module whose local signals nest four deep, so that its load builds a table of cells."""
+    passing = " || ".join(f"present {left} then emit {right} end" for left, right in zip("ASTUV", "STUVB"))
+    text = f"module M: input A; output B; loop signal S, T, U, V in [{passing}]; pause end end end module"
+    shared = [("load", "0"), ("step", "0"), ("audit", "policy")]
+    signals = [("offer", "0.A"), ("observe", "0.A"), ("observe", "0.B")]
+    present = [["A", True], ["B", True]]
+    absent = [["A", False], ["B", False]]
+    return [
+        turn("root", "login", {"session": 1, "version": 5}, roles=["root"], user="root"),
+        *changes(6, *grants("root", *shared, *signals)),
+        turn("root", "load", {"place": 1, "version": 11}, main="M", slot=0, text=text),
+        turn("root", "offer", {"place": 2, "version": 11}, signal="A", slot=0),
+        turn("root", "step", {"instant": 1, "place": 3, "version": 11}, slot=0),
+        turn("root", "look", {"instant": 1, "signals": present, "version": 11}, instant=1, slot=0),
+        turn("root", "step", {"instant": 2, "place": 4, "version": 11}, slot=0),
+        turn("root", "look", {"instant": 2, "signals": absent, "version": 11}, instant=2, slot=0),
+        turn("root", "unload", {"place": 5, "version": 11}, slot=0),
+        turn("root", "load", {"place": 6, "version": 11}, main="M", slot=0, text=text),
+        turn("root", "step", {"instant": 1, "place": 7, "version": 11}, slot=0),
+        turn("root", "logout", {"version": 12}),
+    ]
+
+
 def growing():
     """Each command that adds an entry, so often that it meets a list which has to grow."""
     text = "module M: input A; halt end module"
@@ -92,5 +116,6 @@ STORIES = {
     "revocation": revocation,
     "relations between inputs": lambda: script("relations_between_inputs"),
     "a slot is emptied": lambda: script("a_slot_is_emptied"),
+    "nested local signals": nested,
     "growing lists": growing,
 }

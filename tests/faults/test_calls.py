@@ -14,6 +14,8 @@ from refusing import Growths, tests_of
 CALLS = {
     "slot_tests": {
         "access::memory::want_of_memory": {"refused a load": 20, "refused a commit": 2},
+        "access::memory::nested_locals_without_memory": {"refused a load": 30, "refused a commit": 2},
+        "access::memory::tables_without_memory": {"refused a load": 30, "refused a table": 5},
         "access::memory::entries_without_memory": {
             "refused a load": 20,
             "refused an offer": 1,
@@ -22,8 +24,10 @@ CALLS = {
         },
         "events::runs::a_version_behind_or_ahead": {"room": 1, "went on": 20},
         "events::runs::a_discard_and_an_unload_take_what_was_offered": {"room": 1, "went on": 20},
+        "audit::memory::audits_without_memory": {"AllocError": 1, "AllocFailed": 1, "refused a check": 1, "refused a report": 1},
     },
     "policy_tests": {"board::receipts::receipts_without_memory": {"a board": 5, "went on": 1}},
+    "server_tests": {"threads::memory::workers_without_memory": {"a board": 5, "refused the workers": 2}},
 }
 TEST_SECONDS = 60
 
@@ -35,7 +39,7 @@ class EachGrowth(unittest.TestCase):
         told = ran.stdout + ran.stderr
         if ran.returncode == 0:
             return "went on"
-        found = [end for end in ends if re.search(rf'^\s*(error: ")?{end}(?!\w)', told, re.M)]
+        found = [end for end in ends if re.search(rf'^\s*(error: "?)?{end}(?!\w)', told, re.M)]
         self.assertEqual(len(found), 1, told)
         return found[0]
 

@@ -20,6 +20,8 @@ PROBES = [
 ]
 # commands that take memory themselves, beside their request and the text of their answer, in one of the stories
 TAKE_MEMORY = {"load", "offer", "discard", "step", "look", "unload", "login", "grant", "activate", "logout"}
+# commands whose requests take memory: they have a text, or a list of roles
+HAVE_LISTS = {"load", "login", "dsd"}
 # how many growths were refused before a request was read, by a call, and for the text of an answer; and how many did no harm
 Count = collections.namedtuple("Count", "request call text passed")
 
@@ -112,7 +114,7 @@ class Sweep:
             raise AssertionError(f"{line} answered {answer}, and not {wanted}")
 
     def refused_once(self, peer, line, number):
-        """The answer to a line of which a growth is refused, and whether it took so many."""
+        """The answer to a line of which a growth is refused, and whether it took as many growths as that."""
         self.growths.refuse(number)
         answer = peer.ask(line)
         was_refused = self.growths.refused > 0
@@ -137,7 +139,7 @@ class Sweep:
                 break
             if answer == MEMORY:
                 answered += 1
-                self.expect(f"behind {line} without memory", serving.state(), before)
+                self.expect(f"after {line} without memory", serving.state(), before)
                 continue
             self.expect(line, answer, wanted if answer else b"")
             passed, text = passed + bool(answer), text + (not answer)
@@ -174,12 +176,16 @@ class EachGrowth(unittest.TestCase):
                 with self.subTest(name):
                     for cmd, count in Sweep(growths, requests, story(), texts).run():
                         counts[cmd].append(count)
+        self.assertLessEqual(TAKE_MEMORY | {"audit", "check"}, counts.keys())
         for cmd in filter(counts.get, KEYS):
             request, call, text, passed = (sum(column) for column in zip(*counts[cmd]))
             growths = f"growths of the request {request}, of the call {call}, of the answer's text {text}"
             print(f"faults: {cmd}: {len(counts[cmd])} lines, refused {growths}" + (f", passed over {passed}" if passed else ""))
+            self.assertGreater(text, 0, f"no growth of the answer to {cmd} was refused")
             if cmd in TAKE_MEMORY:
                 self.assertGreater(call, 0, f"no growth of {cmd} was refused")
+            if cmd in HAVE_LISTS:
+                self.assertGreater(request, 0, f"no growth of a request {cmd} was refused")
 
 
 if __name__ == "__main__":

@@ -100,7 +100,7 @@ class Servers(unittest.TestCase):
             self.assertGreater(ends[end], 0, end)
 
     def ended(self, lines, first, count=1):
-        """The end of a server to which these lines were said, with so many growths refused behind them."""
+        """The end of a server to which these lines were said, with this many growths refused after them."""
         self.growths.refuse(0)
         with self.serving(1) as server, Peer(server.path) as peer:
             for line in lines:

@@ -9,7 +9,7 @@ HAS_BROWSER = bool(CHROMIUM and DRIVER and importlib.util.find_spec("selenium"))
 NO_BROWSER = (
     "Chromium, its driver or selenium is not there: scripts/install_debian.sh installs them"
 )
-SECONDS = 60  # whatever a test waits for comes in so many, or not at all
+SECONDS = 60  # whatever a test waits for comes in this time, or not at all
 WORDS = (
     "--headless=new", "--disable-gpu", "--disable-dev-shm-usage", "--hide-scrollbars",
     "--disable-background-networking", "--disable-component-update", "--no-first-run",

@@ -172,7 +172,7 @@ class ServerLost(InProcess):
         teams.hold(gateway._server.process)
 
     async def lose_server_of(self, gateway, count):
-        """Kills the server, which stands still, once so many logins wait for its answer, and waits
+        """Kills the server, which stands still, once this many logins wait for its answer, and waits
         until that is noticed."""
         server = gateway._server.process
         while self.logins_of(gateway) < count:

@@ -50,10 +50,10 @@ class Bounds:
 
 
 def explained(known, chains, start, first, last, accepts):
-    """The states of a journal from its start on, each behind one entry more, up to its last place. What stands at places that are
-    not known is drawn from the chains, each in its order; `accepts` gives the state behind an entry, or None. With the states
+    """The states of a journal from its start on, each after one entry more, up to its last place. What stands at places that are
+    not known is drawn from the chains, each in its order; `accepts` gives the state after an entry, or None. With the states
     come the entries, and what is left of the chains. Raises Unexplained."""
-    latest = [NEVER] * (last + 2)  # an entry begins before each one behind it has ended
+    latest = [NEVER] * (last + 2)  # an entry begins before each one after it has ended
     for place in range(last, first - 1, -1):
         ended = known[place].ended if place in known else NEVER
         latest[place] = min(latest[place + 1], ended)
@@ -99,7 +99,7 @@ def taken(chains, name):
 
 
 def decided(policy, asked, place):
-    """The policy behind a command, or None where it is refused or answered otherwise."""
+    """The policy after a command, or None where it is refused or answered otherwise."""
     try:
         after = policy.decide(asked.session, asked.command, asked.keys)
     except Refused:
@@ -125,7 +125,7 @@ class State(Slot):
         self.entries, self.instants, self.pending, self.text, self.load = range(0), range(0), frozenset(), None, 0
 
     def after(self, command, keys):
-        """The slot behind an entry."""
+        """The slot after an entry."""
         after = State(self.number)
         after.__dict__.update(self.__dict__)
         after.entries = range(len(self.entries) + 1)

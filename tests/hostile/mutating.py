@@ -118,5 +118,5 @@ def doubled(line, numbers):
 
 
 def padded(line, length):
-    """A line with blanks behind it, to this length."""
+    """A line with blanks after it, to this length."""
     return line.ljust(length)

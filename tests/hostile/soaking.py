@@ -10,8 +10,8 @@ from peers import Peer
 from wire import LONGEST, written
 
 SLOTS = 6  # that all clients share
-PATIENCE = 10  # what is planned for a second may take so many
-ANSWER_SECONDS = 600  # an answer comes in so many, also on a crowded machine
+PATIENCE = 10  # what is planned for a second may take this many
+ANSWER_SECONDS = 600  # an answer comes in this time, also on a crowded machine
 UNKNOWN = "N" * 48  # a signal that no module has
 LINES = 2_800  # offers of it: their answers are more than the system keeps for a connection
 INTERFACE = "module M: input A, B; output O, P; "
@@ -144,7 +144,7 @@ class Client:
         return time.monotonic() < self.ends_at
 
     def connect(self, commands):
-        """A connection with so many commands, if there is time for them, and its end."""
+        """A connection with this many commands, if there is time for them, and its end."""
         self.connections += 1
         with Peer(self.path) as peer:
             for _ in range(self.numbers.choice([0, 0, 1])):
@@ -224,7 +224,7 @@ class Client:
 
 
 def run_client(path, number, seed, connections, seconds, commands):
-    """The calls of a client that makes so many connections, with so many commands in all, over these seconds; over more of them
+    """The calls of a client that makes these numbers of connections and, in all, of commands, over these seconds; over more of them
     on a crowded machine, up to a bound."""
     socket.setdefaulttimeout(ANSWER_SECONDS)
     client = Client(path, number, seed, seconds / commands, time.monotonic() + PATIENCE * seconds)

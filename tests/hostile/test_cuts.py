@@ -17,7 +17,7 @@ NUMBERS = re.compile(rb'"(session|version|place)":(\d+)')
 TEXT = "module M: output O, P; emit O; pause; emit P end module"
 KEYWORDS = re.compile("module|output|emit|pause|end")
 READS = 1_000_000  # of a connection
-# a line of single bytes has so many, where all is tried; and where little time is taken
+# how many bytes a line of single bytes has, where all is tried; and where little time is taken
 SHORT, LONG = 1, 60_000
 
 
@@ -30,7 +30,7 @@ def renumbered(answers, histories):
 
 
 def undoing(done):
-    """The lines that take back what the first so many lines of the opening script did, in a session of their own."""
+    """The lines that take back what this many first lines of the opening script did, in a session of their own."""
     grants = [line for line in LINES[:done] if b'"grant"' in line]
     unload = [command("unload", slot=0)] if any(b'"load","main"' in line for line in LINES[:done]) else []
     undo = [*unload, *(line.replace(b'"grant"', b'"revoke"') for line in grants)]
@@ -49,7 +49,7 @@ class CutInputs(unittest.TestCase):
         self.assertEqual(replay.histories.faults, [])
 
     def serve(self, histories, connections, work):
-        """Does its work with a server for so many connections. Then the report is what the replay gives: nothing was done besides,
+        """Does its work with a server for this many connections. Then the report is what the replay gives: nothing was done besides,
         and no session is left."""
         with Server("--workers", "1", "--connections", str(connections)) as server:
             work(server)
@@ -84,7 +84,7 @@ class CutInputs(unittest.TestCase):
 
     def say_and_go(self, server, histories, lines):
         """Sends these lines, where no answer can be written. Those that were whole are done, since their answers are written
-        behind them; one without its LF is looked at only where no answer had to be written before."""
+        after them; one without its LF is looked at only where no answer had to be written before."""
         done = sum(line == stored for line, stored in zip(lines, LINES))
         if lines and done == 0:
             done = int(lines[0].rstrip(b"\n") == LOGIN.rstrip(b"\n"))
@@ -121,7 +121,7 @@ def end_of(text, cut):
 
 class CutTexts(unittest.TestCase):
     def answers_to(self, pairs):
-        """Sends lines, behind a login that may load, and compares their answers with those that are wanted."""
+        """Sends lines, after a login that may load, and compares their answers with those that are wanted."""
         first = [LOGIN, command("grant", object="0", op="load", role="root")]
         with Server("--workers", "1", "--connections", "1") as server, Peer(server.path) as peer:
             for line in first:
@@ -161,7 +161,7 @@ class BadBytes(unittest.TestCase):
             self.assertEqual(server.end(), (0, report(6), b""))
 
     def send_single(self, peer, data):
-        """Sends each byte so that a read takes it alone: a descriptor comes with it, behind which no read goes on."""
+        """Sends each byte so that a read takes it alone: a descriptor comes with it, past which no read goes on."""
         nothing = os.open(os.devnull, os.O_RDONLY)
         try:
             with contextlib.suppress(BrokenPipeError, ConnectionResetError):

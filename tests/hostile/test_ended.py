@@ -9,7 +9,7 @@ from policy import MOST_ENTRIES as MOST_POLICY_ENTRIES, SESSIONS
 
 WHOLE = bool(os.environ.get("HOSTILE_WHOLE"))
 WORKERS = 16  # at most
-AUDIT_SECONDS = 1_800  # a full journal is audited in so many, also by the program built without proof
+AUDIT_SECONDS = 1_800  # a full journal is audited in this time, also by the program built without proof
 HELD = 14  # further sessions live while the policy journal is filled: an even number, so that an activation is last
 
 
@@ -18,7 +18,7 @@ def ordered(*commands, first):
     return [(command(**keys), accepted(keys["cmd"], version=first + at)) for at, keys in enumerate(commands)]
 
 
-def login(user, roles, **keys):
+def login(user, roles, /, **keys):
     """A login and its answer: the keys of the accepted one, or those of a refusal with its code."""
     line = command("login", roles=roles, user=user)
     return line, refused(**keys) if "code" in keys else accepted("login", **keys)
@@ -52,7 +52,7 @@ class EndedSessions(unittest.TestCase):
     """Ann is logged in, and root's command on another connection ends her session between two of hers."""
 
     def end_session(self, first, ending, again):
-        """Lets root end ann's session, with what all are answered before and behind it."""
+        """Lets root end ann's session, with what all are answered before and after it."""
         logged_in = 6 + len(first)
         ended = logged_in + len(ending)
         with Server("--workers", "2", "--connections", "1") as server, Peer(server.path) as root, Peer(server.path) as ann:
@@ -112,7 +112,7 @@ class FullJournals(unittest.TestCase):
             for peer in (root, late, *held):
                 self.assertEqual(peer.rest(), b"")
             self.assertEqual(server.end(AUDIT_SECONDS), (0, report(full_now + 1 + HELD), b""))
-        print(f"full: the policy journal, by {count} activations and drops, and {1 + HELD} logouts behind its end")
+        print(f"full: the policy journal, by {count} activations and drops, and {1 + HELD} logouts after its end")
 
     @unittest.skipUnless(WHOLE, "HOSTILE_WHOLE isn't set: it takes minutes on the program built without proof")
     def test_session_numbers_are_used_up(self):

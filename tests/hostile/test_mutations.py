@@ -15,7 +15,7 @@ SEED = 30
 LEAST = 20_000  # lines with a mistake
 PASSES = 4
 TOGETHER = 4  # dialogues are a server's
-PADDED = 4  # one of so many dialogues has a line of the greatest length
+PADDED = 4  # one of this many dialogues has a line of the greatest length
 AHEAD = 50  # lines are sent before their answers are read
 
 
@@ -44,7 +44,7 @@ def lines_with_mistakes(lines, numbers):
 
 
 def connections(dialogues, numbers):
-    """The lines of each connection: of these dialogues, one after another. A connection ends behind a line that is too long."""
+    """The lines of each connection: of these dialogues, one after another. A connection ends after a line that is too long."""
     for lines, _ in dialogues:
         own = []
         for line, is_mistaken in lines_with_mistakes(lines.read_bytes().split(b"\n")[:-1], numbers):

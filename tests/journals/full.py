@@ -19,7 +19,7 @@ def opening():
 
 
 def filling():
-    """A load, and behind it as many instants as there is room for: each is offered I, and discards nothing behind its step."""
+    """A load, and after it as many instants as there is room for: each is offered I, and discards nothing after its step."""
     yield {"cmd": "load", "main": "M", "slot": 0, "text": TEXT}, {"ok": "load", "place": 1, "version": VERSION}
     for instant in range(1, INSTANTS + 1):
         yield {"cmd": "offer", "signal": "I", "slot": 0}, {"ok": "offer", "place": 3 * instant - 1, "version": VERSION}
@@ -50,7 +50,7 @@ REPORT = f"policy: {VERSION + 1} entries\nslot 0: {MOST_ENTRIES} entries, 1 load
 
 
 def waiting():
-    """A load, and behind it an offer and a discard in turn. The last place is an offer's, which waits for a step for ever."""
+    """A load, and after it an offer and a discard in turn. The last place is an offer's, which waits for a step for ever."""
     yield {"cmd": "load", "main": "M", "slot": 0, "text": TEXT}, {"ok": "load", "place": 1, "version": VERSION}
     for place in range(2, MOST_ENTRIES + 1):
         line = {"cmd": "discard", "slot": 0} if place % 2 else {"cmd": "offer", "signal": "I", "slot": 0}

@@ -7,7 +7,7 @@ from wire import IDENTIFIER
 
 MOST_ENTRIES = 65_536
 LIMITS = {"nesting", "signals", "relations", "statements", "loops", "traps", "locals"}
-# refusals that only the language decides, each behind those that are judged here: faults of a text, and a step without a reaction
+# refusals that only the language decides, each after those that are judged here: faults of a text, and a step without a reaction
 OF_TEXTS = set(range(70, 81))
 OF_STEPS = {50}
 
@@ -124,7 +124,7 @@ class Slot:
             raise Refused(41, relation=found[0], missing=found[1])
 
     def judge_room(self, command):
-        """Raises the refusal of a full journal, which comes behind all others."""
+        """Raises the refusal of a full journal, which comes after all others."""
         if command not in ("look", "audit") and len(self.entries) >= MOST_ENTRIES:
             raise Refused(67)
 

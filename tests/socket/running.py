@@ -21,8 +21,8 @@ from estserve_client.connection import Disconnected, connect  # noqa: E402
 # What runs in the background may have been started with interrupts ignored, and programs inherit that.
 signal.signal(signal.SIGINT, signal.default_int_handler)
 
-BUILD_SECONDS = 1_800  # the program is built in so many, or not at all
-WAIT_SECONDS = 60  # whatever a test waits for comes in so many, or not at all
+BUILD_SECONDS = 1_800  # the program is built in this time, or not at all
+WAIT_SECONDS = 60  # whatever a test waits for comes in this time, or not at all
 ACCEPTS = 0x10000  # the flag of a socket that listens, in the system's list of sockets
 socket.setdefaulttimeout(WAIT_SECONDS)
 

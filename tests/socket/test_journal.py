@@ -8,7 +8,7 @@ from running import ROOT, program
 sys.path.insert(0, str(ROOT / "tests" / "journals"))
 import full  # noqa: E402
 
-FILL_SECONDS = 1_200  # the journal is filled in so many, or not at all
+FILL_SECONDS = 1_200  # the journal is filled in this time, or not at all
 
 
 class Journals(unittest.TestCase):

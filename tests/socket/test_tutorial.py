@@ -1,6 +1,6 @@
 """Each command of docs/TUTORIAL.md that speaks to a server prints what stands there.
 
-The blocks behind `<!-- server -->` are run in turn, over one server, in place of the one that the tutorial has started. A line
+The blocks after `<!-- server -->` are run in turn, over one server, in place of the one that the tutorial has started. A line
 that begins with `$ ` is a command, lines that begin with `> ` are typed, and the others are what it prints. A folder of the test's
 own stands for /tmp.
 """

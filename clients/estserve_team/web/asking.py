@@ -15,7 +15,7 @@ from .seats import Seat
 
 NOT_HERE = 1021  # the code of the refusal of what would change a login that others share
 SHARED = ("login", "logout", "activate", "drop")
-LOG_ENTRIES = 200  # so many entries of the log are told at once
+LOG_ENTRIES = 200  # at most this many entries of the log are told at once
 IDENTIFIERS = range(1, 65)  # letters that a request's id may have
 
 # The keys of a request in the order in which they are told.

@@ -13,7 +13,7 @@ from ..refusals import Refused
 from ..words import Context
 
 SILENT_SECONDS = 30  # a page that follows no events and asks for nothing is gone after so long
-SEATS = 512  # so many pages there may be at once
+SEATS = 512  # at most this many pages at once
 
 
 class Changes:

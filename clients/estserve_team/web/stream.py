@@ -16,7 +16,7 @@ from .seats import Seat
 SLOTS = 16
 PAUSE = 0.04  # seconds between two tellings
 TURN = 2  # seconds after which it is seen whether the page has gone
-BEATS = 5  # so many such turns after which a stream without news tells that it is there
+BEATS = 5  # after this many such turns a stream without news tells that it is there
 QUIET = ("login", "logout")  # policy commands after which nobody else may do more or less
 NO_SESSION = 4
 

@@ -15,7 +15,7 @@ from typing import Callable, Dict, NamedTuple, Optional, Tuple
 LINK_SECONDS = 300  # a link may be used for so long
 VISIT_SECONDS = 12 * 3600  # a visit ends when it was not used for so long
 KEPT_AFTER = 600  # seconds after which it is written anew that a visit was used
-LINKS, VISITS = 256, 1024  # so many there may be at once: the oldest one goes
+LINKS, VISITS = 256, 1024  # at most, at once: then the oldest one goes
 
 
 def digest_of(secret: str) -> str:

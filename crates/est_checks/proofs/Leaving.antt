@@ -17,7 +17,7 @@ distributed : (a b c : Bool) → ((a && b) || (a && c)) ≡ (a && (b || c))
 distributed true b c = refl
 distributed false b c = refl
 
-one_left : (p : List ℕ → Bool) (n s : List ℕ) (r : Bool) (e : Bool) → bytes_eq n s ≡ e → ((p n && e) || (p s && r)) ≡ (p s && (e || r))
+pub one_left : (p : List ℕ → Bool) (n s : List ℕ) (r : Bool) (e : Bool) → bytes_eq n s ≡ e → ((p n && e) || (p s && r)) ≡ (p s && (e || r))
 one_left p n s r true same = ap (λ m. (p m && true) || (p s && r)) (same_bytes n s same) ∙ distributed (p s) true r
 one_left p n s r false other = ap (λ b. b || (p s && r)) (and_false (p n))
 

@@ -1,23 +1,30 @@
--- What is noted of what a module emits is all of it, though a run adds only what was left of its module.
+-- What is noted of what a module emits is all of it.
 use mathlib.Core.Path.{fun_ext}
-use Rattle.std.proofs.Common.{◌≡◌, Bor, Vec, Global, option_map, ◌⊎◌, inl, inr, ◌||◌, ◌&&◌, not, ℕ, zero, suc, List, [], ◌∷◌, filter, Option, Some, None, Bool, true, false, cond, refl, ap, sym, ◌∙◌, subst}
+use Rattle.std.proofs.Common.{◌≡◌, ◌<◌, ◌⊎◌, inl, inr, ◌||◌, ◌&&◌, not, ℕ, zero, suc, ◌+◌, ◌++◌, take, replicate, List, [], ◌∷◌, map, length, slice_set, slice_index_or, nat_lt, Option, Some, None, Bool, true, false, cond, refl, ap, sym, ◌∙◌, subst, arith}
 use Rattle.std.proofs.lemmas.Bool.{false≢true}
-use Rattle.std.specs.List.{list_any, list_all, find, fold, slice_get}
+use Rattle.std.proofs.lemmas.Bool.{cases_eq, lt-ltb}
+use Rattle.std.proofs.lemmas.List.{length-set, get_or-set_same, get_or-set_other, get_or-take, length-replicate}
+use Rattle.std.proofs.lemmas.Option.{none-some, slice_get_within}
+use Rattle.std.specs.List.{list_any, find, fold, slice_get}
 use Rattle.std.specs.Str.{bytes_eq}
 use Rattle.est_syntax.specs.Tree.{RenamingTree}
 use Rattle.est_modules.specs.Modules.{Program, program_named, is_declared}
 use Rattle.est_modules.specs.Occurrences.{Binder, Act, emits, tests, exits, binds, runs, Occurrence}
+use Rattle.est_modules.specs.NameTables.{number_in, IsTable}
+use Rattle.est_modules.specs.OpenNames.{AreNumbers, AreKept, Tells}
 use Rattle.est_modules.specs.Renamings.{is_renamed, renamed, callers_name}
+use Rattle.est_modules.specs.declared.name_table.NameTable.{NameTable}
+use Rattle.est_modules.specs.declared.open_names.Kept.{Kept}
+use Rattle.est_modules.specs.declared.open_names.OpenNames.{OpenNames}
+use Rattle.est_modules.proofs.Opening.{kept_found, left_is}
 use Rattle.est_modules.specs.Visible.{is_local, stands_in}
 use Rattle.est_modules.specs.declared.head.Declared.{Declared}
 use Rattle.est_checks.specs.Emissions.{emits_in_run, emits_by, emits_here}
-use Rattle.std.specs.BTreeMap.{BTreeMap, is_at}
-use Rattle.std.specs.Map.{lookup}
-use Rattle.std.specs.Cmp.Lexicographic.{slice_cmp}
-use Rattle.std.specs.Ordering.{nat_cmp}
-use Rattle.est_checks.specs.Inner.Noted.{Noted, entry_of, left_or, none_goes, stays, sends_renamed, noted_run, noted_act, noted_behind}
+use Rattle.est_checks.specs.Inner.Emitted.{sent_by}
+use Rattle.est_checks.specs.Inner.Noted.{Noted, in_row, is_noted, row_with, row_by_numbers, row_at, row_by_names, goes, sends_renamed, kept_named}
+use Rattle.est_checks.specs.Inner.Noted.{noted_names, noted_renamed, noted_run, noted_act, noted_after}
 use Rattle.est_checks.proofs.Deciding.{both, either}
-use Rattle.est_checks.proofs.Leaving.{stands_left, sent_is}
+use Rattle.est_checks.proofs.Leaving.{one_left, sent_is}
 use Rattle.est_modules.proofs.Testing.{or_parts, or_left, or_right, or_other, and_both, not_true, same_bytes, equal_bytes, some_same, found_passes, any_at}
 
 -- ---- tests
@@ -103,115 +110,19 @@ sent_whole em q rs s h = elim (either (not (is_renamed rs s) && emits_in_run em 
       (and_both (em q.name d.name) (bytes_eq (renamed rs d.name) s) (subst (λ n. em q.name n ≡ true) same sends.1) (subst (λ n. bytes_eq (renamed rs n) s ≡ true) same parts.1))
 ]
 
--- ---- what is left
+-- ---- rows of numbers
 
--- what is left of each module is emitted by it, and what it emits is noted or left
-pub record AreLeft (ps : List Program) (em : List ℕ → List ℕ → Bool) (k : Noted) : Type 0 where
-  pub sent : (m : List ℕ) (q : Program) → program_named ps m ≡ Some q → (s : List ℕ) → stands_in (left_or ps em m (k.left m)) s ≡ true → emits_in_run em s [] (Some q) ≡ true
-  pub rest : (m : List ℕ) (q : Program) → program_named ps m ≡ Some q → (s : List ℕ) → emits_in_run em s [] (Some q) ≡ true → (k.names s || stands_in (left_or ps em m (k.left m)) s) ≡ true
+-- each name that has a number has a place in the row
+abbrev pub HasRoom : NameTable → List Bool → Type 0
+HasRoom t row = (s : List ℕ) (i : ℕ) → number_in t s ≡ Some i → i < length row
 
-same_left : (left sent : Bool) → (left ≡ true → sent ≡ true) → (sent ≡ true → left ≡ true) → left ≡ sent
-same_left = same_tests
+and_true : (b : Bool) → (b && true) ≡ b
+and_true true = refl
+and_true false = refl
 
-parted : (r l e x : Bool) → ((not (r || l) && e) || (not l && x)) ≡ (not l && ((not r && e) || x))
-parted true true e x = refl
-parted true false e x = refl
-parted false true e x = refl
-parted false false e x = refl
-
--- what a run adds to the names that are noted
-adds_run : (n r l a e x : Bool) → (a ≡ true → e ≡ true) → (e ≡ true → (n || a) ≡ true) → ((n || (not (r || l) && a)) || (not l && x)) ≡ (n || (not l && ((not r && e) || x)))
-adds_run true r l a e x f g = refl
-adds_run false r l a e x f g = ap (λ b. (not (r || l) && b) || (not l && x)) (same_left a e f g) ∙ parted r l e x
-
-run_names : (em : List ℕ → List ℕ → Bool) (k : Noted) (bs : List Binder) (rs : List RenamingTree) (ns : List (List ℕ)) (q : Program) (s : List ℕ) → (stands_in ns s ≡ true → emits_in_run em s [] (Some q) ≡ true) → (emits_in_run em s [] (Some q) ≡ true → (k.names s || stands_in ns s) ≡ true) → (noted_run em k bs rs ns (Some q)).names s ≡ (k.names s || (not (is_local bs s) && emits_in_run em s rs (Some q)))
-run_names em k bs rs ns q s sent rest =
-    ap (λ b. (k.names s || b) || (not (is_local bs s) && sends_renamed em q rs s)) (stands_left (λ n. not (stays bs rs n)) ns s)
-    ∙ adds_run (k.names s) (is_renamed rs s) (is_local bs s) (stands_in ns s) (emits_in_run em s [] (Some q)) (sends_renamed em q rs s) sent rest
-    ∙ ap (λ b. k.names s || (not (is_local bs s) && b)) (sym (same_tests (emits_in_run em s rs (Some q)) _ (sent_apart em q rs s) (sent_whole em q rs s)))
-
-silent : (a l : Bool) → a ≡ (a || (not l && false))
-silent true l = refl
-silent false true = refl
-silent false false = refl
-
-names_run : (ps : List Program) (em : List ℕ → List ℕ → Bool) (k : Noted) (bs : List Binder) (rs : List RenamingTree) (m s : List ℕ) (found : Option Program) → program_named ps m ≡ found → AreLeft ps em k → (noted_run em k bs rs (left_or ps em m (k.left m)) found).names s ≡ (k.names s || (not (is_local bs s) && emits_in_run em s rs found))
-names_run ps em k bs rs m s None is w = silent (k.names s) (is_local bs s)
-names_run ps em k bs rs m s (Some q) is w = run_names em k bs rs (left_or ps em m (k.left m)) q s (w.sent m q is s) (w.rest m q is s)
-
-names_act : (ps : List Program) (em : List ℕ → List ℕ → Bool) (k : Noted) (bs : List Binder) (act : Act) (s : List ℕ) → AreLeft ps em k → (noted_act ps em k bs act).names s ≡ (k.names s || (not (is_local bs s) && emits_by ps em s act))
-names_act ps em k bs (emits n) s w = refl
-names_act ps em k bs (tests n) s w = silent (k.names s) (is_local bs s)
-names_act ps em k bs (exits t) s w = silent (k.names s) (is_local bs s)
-names_act ps em k bs (binds ns) s w = silent (k.names s) (is_local bs s)
-names_act ps em k bs (runs m rs) s w = names_run ps em k bs rs m s (program_named ps m) refl w
-
--- ---- what is left behind a run
-
-grown : (n a x y : Bool) → (n || a) ≡ true → (((n || x) || y) || a) ≡ true
-grown true a x y h = refl
-grown false a x y h = or_right (x || y) a h
-
-left_more : (n t a x : Bool) → (n || a) ≡ true → (((n || (not t && a)) || x) || (t && a)) ≡ true
-left_more true t a x h = refl
-left_more false true a x h = or_right x a h
-left_more false false true x h = refl
-left_more false false false x h = absurd (false≢true h)
-
--- what is left of a module behind a run of q, where b says whether it is that module
-left_choice : (ps : List Program) (em : List ℕ → List ℕ → Bool) (k new : Noted) (bs : List Binder) (rs : List RenamingTree) (ns : List (List ℕ)) (q : Program) (m : List ℕ) (p : Program) (b : Bool) → bytes_eq q.name m ≡ b → (b ≡ true → p ≡ q) → program_named ps m ≡ Some p
-    → ((s : List ℕ) → new.names s ≡ ((k.names s || stands_in (filter (λ n. not (stays bs rs n)) ns) s) || (not (is_local bs s) && sends_renamed em q rs s)))
-    → ((s : List ℕ) → stands_in ns s ≡ true → emits_in_run em s [] (Some q) ≡ true) → ((s : List ℕ) → emits_in_run em s [] (Some q) ≡ true → (k.names s || stands_in ns s) ≡ true) → AreLeft ps em k → (s : List ℕ)
-    → (stands_in (left_or ps em m (cond b (Some (filter (stays bs rs) ns)) (k.left m))) s ≡ true → emits_in_run em s [] (Some p) ≡ true) × (emits_in_run em s [] (Some p) ≡ true → (new.names s || stands_in (left_or ps em m (cond b (Some (filter (stays bs rs) ns)) (k.left m))) s) ≡ true)
-left_choice ps em k new bs rs ns q m p true e is_q found names sent rest w s = (
-  λ h.
-      let stood = both (stays bs rs s) (stands_in ns s) (sym (stands_left (stays bs rs) ns s) ∙ h) in
-      subst (λ (r : Program). emits_in_run em s [] (Some r) ≡ true) (sym (is_q refl)) (sent s stood.1),
-  λ h.
-      let before = rest s (subst (λ (r : Program). emits_in_run em s [] (Some r) ≡ true) (is_q refl) h) in
-      ap (λ b. b || stands_in (filter (stays bs rs) ns) s) (names s)
-      ∙ ap (λ b. ((k.names s || b) || (not (is_local bs s) && sends_renamed em q rs s)) || stands_in (filter (stays bs rs) ns) s) (stands_left (λ n. not (stays bs rs n)) ns s)
-      ∙ ap (λ b. ((k.names s || (not (stays bs rs s) && stands_in ns s)) || (not (is_local bs s) && sends_renamed em q rs s)) || b) (stands_left (stays bs rs) ns s)
-      ∙ left_more (k.names s) (stays bs rs s) (stands_in ns s) (not (is_local bs s) && sends_renamed em q rs s) before,
-)
-left_choice ps em k new bs rs ns q m p false e is_q found names sent rest w s = (
-  λ h. w.sent m p found s h,
-  λ h.
-      ap (λ b. b || stands_in (left_or ps em m (k.left m)) s) (names s)
-      ∙ grown (k.names s) (stands_in (left_or ps em m (k.left m)) s) (stands_in (filter (λ n. not (stays bs rs n)) ns) s) (not (is_local bs s) && sends_renamed em q rs s) (w.rest m p found s h),
-)
-
-left_run : (ps : List Program) (em : List ℕ → List ℕ → Bool) (k : Noted) (bs : List Binder) (rs : List RenamingTree) (m : List ℕ) (found : Option Program) → program_named ps m ≡ found → AreLeft ps em k → AreLeft ps em (noted_run em k bs rs (left_or ps em m (k.left m)) found)
-left_run ps em k bs rs m None is w = w
-left_run ps em k bs rs m (Some q) is w =
-    let ns = left_or ps em m (k.left m) in
-    let new = noted_run em k bs rs ns (Some q) in
-    let named : q.name ≡ m = same_bytes q.name m (found_passes (λ (p : Program). bytes_eq p.name m) ps q is) in
-    let one : (n : List ℕ) (p : Program) → program_named ps n ≡ Some p → bytes_eq q.name n ≡ true → p ≡ q = λ n p found same.
-    some_same p q (sym found ∙ ap (program_named ps) (sym (same_bytes q.name n same) ∙ named) ∙ is) in
-    let each = λ (n : List ℕ) (p : Program) (found : program_named ps n ≡ Some p) (s : List ℕ).
-    left_choice ps em k new bs rs ns q n p (bytes_eq q.name n) refl (one n p found) found (λ s. refl) (w.sent m q is) (w.rest m q is) w s in
-    record {
-      sent = λ n p found s. (each n p found s).0;
-      rest = λ n p found s. (each n p found s).1;
-    }
-
-grown_names : (n a x : Bool) → (n || a) ≡ true → ((n || x) || a) ≡ true
-grown_names true a x h = refl
-grown_names false a x h = or_right x a h
-
-left_emits : (ps : List Program) (em : List ℕ → List ℕ → Bool) (k : Noted) (more : List ℕ → Bool) → AreLeft ps em k → AreLeft ps em (record { names = λ s. k.names s || more s; left = k.left })
-left_emits ps em k more w = record {
-  sent = w.sent;
-  rest = λ m q found s h. grown_names (k.names s) (stands_in (left_or ps em m (k.left m)) s) (more s) (w.rest m q found s h);
-}
-
-left_act : (ps : List Program) (em : List ℕ → List ℕ → Bool) (k : Noted) (bs : List Binder) (act : Act) → AreLeft ps em k → AreLeft ps em (noted_act ps em k bs act)
-left_act ps em k bs (emits n) w = left_emits ps em k (λ s. not (is_local bs s) && bytes_eq n s) w
-left_act ps em k bs (tests n) w = w
-left_act ps em k bs (exits t) w = w
-left_act ps em k bs (binds ns) w = w
-left_act ps em k bs (runs m rs) w = left_run ps em k bs rs m (program_named ps m) refl w
+and_false : (b : Bool) → (b && false) ≡ false
+and_false true = refl
+and_false false = refl
 
 pub nothing_more : (b : Bool) → b ≡ (b || false)
 nothing_more true = refl
@@ -221,71 +132,269 @@ or_assoc : (a b c : Bool) → ((a || b) || c) ≡ (a || (b || c))
 or_assoc true b c = refl
 or_assoc false b c = refl
 
--- behind a list those before it are noted, and those that an occurrence of the list emits
-noted_along : (ps : List Program) (em : List ℕ → List ℕ → Bool) (k : Noted) (os : List Occurrence) (s : List ℕ) → AreLeft ps em k → (fold (noted_behind ps em) k os).names s ≡ (k.names s || list_any (emits_here ps em s) os)
-noted_along ps em k [] s w = nothing_more (k.names s)
-noted_along ps em k (o ∷ os) s w =
-    noted_along ps em (noted_behind ps em k o) os s (left_act ps em k o.round o.act w)
-    ∙ ap (λ b. b || list_any (emits_here ps em s) os) (names_act ps em k o.round o.act s w)
-    ∙ or_assoc (k.names s) (emits_here ps em s o) (list_any (emits_here ps em s) os)
+all_in : (b : Bool) → true ≡ (b || true)
+all_in true = refl
+all_in false = refl
 
-nothing_noted : (ps : List Program) (em : List ℕ → List ℕ → Bool) (k : Noted) → ((m : List ℕ) → k.left m ≡ None) → AreLeft ps em k
-nothing_noted ps em k none = record {
-  sent = λ m q found s h. sym (sent_is ps em m q s found) ∙ sym (ap (λ o. stands_in (left_or ps em m o) s) (none m)) ∙ h;
-  rest = λ m q found s h. or_right (k.names s) (stands_in (left_or ps em m (k.left m)) s) (ap (λ o. stands_in (left_or ps em m o) s) (none m) ∙ sent_is ps em m q s found ∙ h);
-}
+set_length : (row : List Bool) (i : ℕ) (b : Bool) → length (cond b (slice_set row i true) row) ≡ length row
+set_length row i true = length-set row i true
+set_length row i false = refl
 
--- the same where nothing was noted before
-pub noted_from_nothing : (ps : List Program) (em : List ℕ → List ℕ → Bool) (k : Noted) (os : List Occurrence) (s : List ℕ) → k.names s ≡ false → ((m : List ℕ) → k.left m ≡ None) → (fold (noted_behind ps em) k os).names s ≡ list_any (emits_here ps em s) os
-noted_from_nothing ps em k os s none no_module =
-    noted_along ps em k os s (nothing_noted ps em k no_module)
-    ∙ ap (λ b. b || list_any (emits_here ps em s) os) none
+with_length : (row : List Bool) (i : ℕ) (g : Bool) → length (row_with row i g) ≡ length row
+with_length row i g = set_length row i ((nat_lt i (length row) && not (slice_index_or row i false)) && g)
+
+other_number : (t : NameTable) (row : List Bool) (n u : List ℕ) (i : ℕ) (o : Option ℕ) → number_in t u ≡ o → bytes_eq n u ≡ false → IsTable t → number_in t n ≡ Some i → in_row (slice_set row i true) o ≡ in_row row o
+other_number t row n u i None e other is at = refl
+other_number t row n u i (Some j) e other is at =
+    get_or-set_other row i j true false (λ same. absurd (false≢true (sym other ∙ subst (λ v. bytes_eq n v ≡ true) (some_same n u (sym (is.named n i at) ∙ ap (slice_get t.names.items) (sym same) ∙ is.named u j e)) (equal_bytes n))))
+
+-- a row in which the number was set, where it was there
+set_number : (t : NameTable) (row : List Bool) (n u : List ℕ) (i : ℕ) (b : Bool) → bytes_eq n u ≡ b → IsTable t → i < length row → number_in t n ≡ Some i → in_row (slice_set row i true) (number_in t u) ≡ (in_row row (number_in t u) || b)
+set_number t row n u i true same is room at =
+    let here : number_in t u ≡ Some i = ap (number_in t) (sym (same_bytes n u same)) ∙ at in
+    ap (in_row (slice_set row i true)) here ∙ get_or-set_same row i true false room ∙ all_in (in_row row (number_in t u))
+set_number t row n u i false other is room at =
+    other_number t row n u i (number_in t u) refl other is at ∙ nothing_more (in_row row (number_in t u))
+
+-- a row in which the number stood already
+stood_number : (t : NameTable) (row : List Bool) (n u : List ℕ) (i : ℕ) (b : Bool) → bytes_eq n u ≡ b → number_in t n ≡ Some i → slice_index_or row i false ≡ true → in_row row (number_in t u) ≡ (in_row row (number_in t u) || b)
+stood_number t row n u i true same at stood =
+    let is : in_row row (number_in t u) ≡ true = ap (λ m. in_row row (number_in t m)) (sym (same_bytes n u same)) ∙ ap (in_row row) at ∙ stood in
+    is ∙ all_in (in_row row (number_in t u))
+stood_number t row n u i false other at stood = nothing_more (in_row row (number_in t u))
+
+one_number : (t : NameTable) (row : List Bool) (n u : List ℕ) (i : ℕ) (x g : Bool) → slice_index_or row i false ≡ x → IsTable t → i < length row → number_in t n ≡ Some i → in_row (cond ((true && not x) && g) (slice_set row i true) row) (number_in t u) ≡ (in_row row (number_in t u) || (g && bytes_eq n u))
+one_number t row n u i true true stood is room at = stood_number t row n u i (bytes_eq n u) refl at stood
+one_number t row n u i true false stood is room at = nothing_more (in_row row (number_in t u))
+one_number t row n u i false true new is room at = set_number t row n u i (bytes_eq n u) refl is room at
+one_number t row n u i false false new is room at = nothing_more (in_row row (number_in t u))
+
+-- the row after one name
+row_step : (t : NameTable) (row : List Bool) (n u : List ℕ) (i : ℕ) (g : Bool) → IsTable t → i < length row → number_in t n ≡ Some i → in_row (row_with row i g) (number_in t u) ≡ (in_row row (number_in t u) || (g && bytes_eq n u))
+row_step t row n u i g is room at =
+    ap (λ b. in_row (cond ((b && not (slice_index_or row i false)) && g) (slice_set row i true) row) (number_in t u)) (lt-ltb i (length row) room)
+    ∙ one_number t row n u i (slice_index_or row i false) g refl is room at
+
+-- ---- the names of a run
+
+abbrev rest_of : {X : Type 0} → List X → List X
+rest_of [] = []
+rest_of (x ∷ xs) = xs
+
+cons≢nil : {X : Type 0} (x : X) (xs : List X) → x ∷ xs ≡ [] → ⊥
+cons≢nil x xs e = none-some x (ap (λ ys. slice_get ys 0) (sym e))
+
+number_of : (t : NameTable) (n : List ℕ) (ns : List (List ℕ)) (i : ℕ) (js : List ℕ) → AreNumbers t (n ∷ ns) (i ∷ js) → number_in t n ≡ Some i
+number_of t n ns i js e = sym (some_same (Some i) (number_in t n) (ap (λ ys. slice_get ys 0) e))
+
+-- the row by numbers is that by names
+pub numbers_names : (o : OpenNames) (bs : List Binder) (rs : List RenamingTree) (row : List Bool) (names : List (List ℕ)) (numbers : List ℕ) → IsTable o.table.now → Tells o.table.now (is_local bs) o.hidden.items → AreNumbers o.table.now names numbers → row_by_numbers rs o row numbers ≡ row_by_names o.table.now bs rs row names
+numbers_names o bs rs row [] [] is tells e = refl
+numbers_names o bs rs row [] (i ∷ js) is tells e = absurd (cons≢nil (Some i) (map Some js) e)
+numbers_names o bs rs row (n ∷ ns) [] is tells e = absurd (cons≢nil (number_in o.table.now n) (map (number_in o.table.now) ns) (sym e))
+numbers_names o bs rs row (n ∷ ns) (i ∷ js) is tells e =
+    let t = o.table.now in
+    let at : number_in t n ≡ Some i = number_of t n ns i js e in
+    let g = goes bs rs n in
+    ap (λ b. row_by_numbers rs o (row_with row i b) js) (left_is o rs bs n i is tells at)
+    ∙ numbers_names o bs rs (row_with row i g) ns js is tells (ap rest_of e)
+    ∙ ap (λ x. row_by_names t bs rs (row_at row x g) ns) (sym at)
+
+room_kept : (t : NameTable) (row new : List Bool) → length new ≡ length row → HasRoom t row → HasRoom t new
+room_kept t row new e room s i at = omega (arith, room s i at, e)
+
+at_length : (row : List Bool) (o : Option ℕ) (g : Bool) → length (row_at row o g) ≡ length row
+at_length row None g = refl
+at_length row (Some i) g = with_length row i g
+
+names_length : (t : NameTable) (bs : List Binder) (rs : List RenamingTree) (row : List Bool) (names : List (List ℕ)) → length (row_by_names t bs rs row names) ≡ length row
+names_length t bs rs row [] = refl
+names_length t bs rs row (n ∷ ns) =
+    names_length t bs rs (row_at row (number_in t n) (goes bs rs n)) ns ∙ at_length row (number_in t n) (goes bs rs n)
+
+-- the row after the names of a run
+row_names : (t : NameTable) (bs : List Binder) (rs : List RenamingTree) (row : List Bool) (names : List (List ℕ)) (numbers : List ℕ) (u : List ℕ) → IsTable t → HasRoom t row → AreNumbers t names numbers → in_row (row_by_names t bs rs row names) (number_in t u) ≡ (in_row row (number_in t u) || (goes bs rs u && stands_in names u))
+row_names t bs rs row [] numbers u is room e = nothing_more (in_row row (number_in t u)) ∙ ap (λ b. in_row row (number_in t u) || b) (sym (and_false (goes bs rs u)))
+row_names t bs rs row (n ∷ ns) [] u is room e = absurd (cons≢nil (number_in t n) (map (number_in t) ns) (sym e))
+row_names t bs rs row (n ∷ ns) (i ∷ js) u is room e =
+    let at : number_in t n ≡ Some i = number_of t n ns i js e in
+    let g = goes bs rs n in
+    ap (λ x. in_row (row_by_names t bs rs (row_at row x g) ns) (number_in t u)) at
+    ∙ row_names t bs rs (row_with row i g) ns js u is (room_kept t row (row_with row i g) (with_length row i g) room) (ap rest_of e)
+    ∙ ap (λ b. b || (goes bs rs u && stands_in ns u)) (row_step t row n u i g is (room n i at) at)
+    ∙ or_assoc (in_row row (number_in t u)) (g && bytes_eq n u) (goes bs rs u && stands_in ns u)
+    ∙ ap (λ b. in_row row (number_in t u) || b) (one_left (goes bs rs) n u (stands_in ns u) (bytes_eq n u) refl)
+
+-- ---- what is noted after an act
+
+all_or : (b : Bool) → (b || true) ≡ true
+all_or true = refl
+all_or false = refl
+
+by_row : (r o l n e x : Bool) → ((r || ((not l && not n) && e)) || (o || (not l && x))) ≡ ((r || o) || (not l && ((not n && e) || x)))
+by_row true o l n e x = refl
+by_row false true l n e x = all_or ((not l && not n) && e)
+by_row false false true n e x = refl
+by_row false false false true e x = refl
+by_row false false false false e x = refl
+
+by_names : (r o l n e x : Bool) → (r || ((o || ((not l && not n) && e)) || (not l && x))) ≡ ((r || o) || (not l && ((not n && e) || x)))
+by_names true o l n e x = refl
+by_names false true l n e x = refl
+by_names false false true n e x = refl
+by_names false false false true e x = refl
+by_names false false false false e x = refl
+
+silent : (a l : Bool) → a ≡ (a || (not l && false))
+silent true l = refl
+silent false true = refl
+silent false false = refl
+
+names_found : (em : List ℕ → List ℕ → Bool) (t : NameTable) (k : Noted) (bs : List Binder) (rs : List RenamingTree) (q : Program) (names : List (List ℕ)) (o : Option Kept) (s : List ℕ) → IsTable t → HasRoom t k.row → ((kept : Kept) → o ≡ Some kept → AreNumbers t names kept.numbers.items)
+    → is_noted t (noted_renamed em bs rs q (noted_names t bs rs names k o)) s ≡ (is_noted t k s || (not (is_local bs s) && ((not (is_renamed rs s) && stands_in names s) || sends_renamed em q rs s)))
+names_found em t k bs rs q names (Some kept) s is room are =
+    ap (λ b. b || (k.others s || (not (is_local bs s) && sends_renamed em q rs s))) (row_names t bs rs k.row names kept.numbers.items s is room (are kept refl))
+    ∙ by_row (in_row k.row (number_in t s)) (k.others s) (is_local bs s) (is_renamed rs s) (stands_in names s) (sends_renamed em q rs s)
+names_found em t k bs rs q names None s is room are =
+    by_names (in_row k.row (number_in t s)) (k.others s) (is_local bs s) (is_renamed rs s) (stands_in names s) (sends_renamed em q rs s)
+
+names_run : (ps : List Program) (em : List ℕ → List ℕ → Bool) (t : NameTable) (ks : List Kept) (k : Noted) (bs : List Binder) (rs : List RenamingTree) (m s : List ℕ) (found : Option Program) → program_named ps m ≡ found → IsTable t → AreKept t (sent_by ps em) ks → HasRoom t k.row
+    → is_noted t (noted_run ps em t ks k bs rs found) s ≡ (is_noted t k s || (not (is_local bs s) && emits_in_run em s rs found))
+names_run ps em t ks k bs rs m s None e is are room = silent (is_noted t k s) (is_local bs s)
+names_run ps em t ks k bs rs m s (Some q) e is are room =
+    let named : q.name ≡ m = same_bytes q.name m (found_passes (λ (p : Program). bytes_eq p.name m) ps q e) in
+    let found : program_named ps q.name ≡ Some q = ap (program_named ps) named ∙ e in
+    names_found em t k bs rs q (sent_by ps em q.name) (kept_named ks q.name) s is room (λ kept at. kept_found t (sent_by ps em) q.name ks kept are at)
+    ∙ ap (λ b. is_noted t k s || (not (is_local bs s) && ((not (is_renamed rs s) && b) || sends_renamed em q rs s))) (sent_is ps em q.name q s found)
+    ∙ ap (λ b. is_noted t k s || (not (is_local bs s) && b)) (sym (same_tests (emits_in_run em s rs (Some q)) _ (sent_apart em q rs s) (sent_whole em q rs s)))
+
+names_act : (ps : List Program) (em : List ℕ → List ℕ → Bool) (t : NameTable) (ks : List Kept) (k : Noted) (bs : List Binder) (act : Act) (s : List ℕ) → IsTable t → AreKept t (sent_by ps em) ks → HasRoom t k.row → is_noted t (noted_act ps em t ks k bs act) s ≡ (is_noted t k s || (not (is_local bs s) && emits_by ps em s act))
+names_act ps em t ks k bs (emits n) s is are room = sym (or_assoc (in_row k.row (number_in t s)) (k.others s) (not (is_local bs s) && bytes_eq n s))
+names_act ps em t ks k bs (tests n) s is are room = silent (is_noted t k s) (is_local bs s)
+names_act ps em t ks k bs (exits n) s is are room = silent (is_noted t k s) (is_local bs s)
+names_act ps em t ks k bs (binds ns) s is are room = silent (is_noted t k s) (is_local bs s)
+names_act ps em t ks k bs (runs m rs) s is are room = names_run ps em t ks k bs rs m s (program_named ps m) refl is are room
+
+found_length : (t : NameTable) (bs : List Binder) (rs : List RenamingTree) (names : List (List ℕ)) (k : Noted) (o : Option Kept) → length (noted_names t bs rs names k o).row ≡ length k.row
+found_length t bs rs names k None = refl
+found_length t bs rs names k (Some kept) = names_length t bs rs k.row names
+
+run_length : (ps : List Program) (em : List ℕ → List ℕ → Bool) (t : NameTable) (ks : List Kept) (k : Noted) (bs : List Binder) (rs : List RenamingTree) (found : Option Program) → length (noted_run ps em t ks k bs rs found).row ≡ length k.row
+run_length ps em t ks k bs rs None = refl
+run_length ps em t ks k bs rs (Some q) = found_length t bs rs (sent_by ps em q.name) k (kept_named ks q.name)
+
+act_length : (ps : List Program) (em : List ℕ → List ℕ → Bool) (t : NameTable) (ks : List Kept) (k : Noted) (bs : List Binder) (act : Act) → length (noted_act ps em t ks k bs act).row ≡ length k.row
+act_length ps em t ks k bs (emits n) = refl
+act_length ps em t ks k bs (tests n) = refl
+act_length ps em t ks k bs (exits n) = refl
+act_length ps em t ks k bs (binds ns) = refl
+act_length ps em t ks k bs (runs m rs) = run_length ps em t ks k bs rs (program_named ps m)
+
+-- after a list those before it are noted, and those that an occurrence of the list emits
+pub noted_along : (ps : List Program) (em : List ℕ → List ℕ → Bool) (t : NameTable) (ks : List Kept) (k : Noted) (os : List Occurrence) (s : List ℕ) → IsTable t → AreKept t (sent_by ps em) ks → HasRoom t k.row → is_noted t (fold (noted_after ps em t ks) k os) s ≡ (is_noted t k s || list_any (emits_here ps em s) os)
+noted_along ps em t ks k [] s is are room = nothing_more (is_noted t k s)
+noted_along ps em t ks k (o ∷ os) s is are room =
+    let next = noted_after ps em t ks k o in
+    noted_along ps em t ks next os s is are (room_kept t k.row next.row (act_length ps em t ks k o.round o.act) room)
+    ∙ ap (λ b. b || list_any (emits_here ps em s) os) (names_act ps em t ks k o.round o.act s is are room)
+    ∙ or_assoc (is_noted t k s) (emits_here ps em s o) (list_any (emits_here ps em s) os)
 
 -- ---- the steps of the code
 
-abbrev noted : (List ℕ → Bool) → (List ℕ → Option (List (List ℕ))) → Noted
-noted n l = record { names = n; left = l }
+-- a value of these parts
+abbrev pub noted : List Bool → (List ℕ → Bool) → Noted
+noted r o = record { row = r; others = o }
 
--- what is noted is the same where its names are and what is left
-pub same_noted : (k l : Noted) → ((s : List ℕ) → k.names s ≡ l.names s) → ((m : List ℕ) → k.left m ≡ l.left m) → k ≡ l
-same_noted k l a b = ap (λ (f : List ℕ → Bool). noted f k.left) (fun_ext a) ∙ ap (λ (f : List ℕ → Option (List (List ℕ))). noted l.names f) (fun_ext b)
+-- what is noted is the same where its row is and its other names
+pub same_noted : (k l : Noted) → k.row ≡ l.row → ((s : List ℕ) → k.others s ≡ l.others s) → k ≡ l
+same_noted k l a b = ap (λ r. noted r k.others) a ∙ ap (noted l.row) (fun_ext b)
 
--- a table of no entries has none for any module
-pub nothing_left : (left : BTreeMap (Bor (List ℕ)) (Vec (List ℕ) Global)) → left.entries ≡ [] → (m : List ℕ) → entry_of left m ≡ None
-nothing_left left e m = ap (λ es. option_map (λ (v : Vec (List ℕ) Global). v.items) (lookup (is_at (λ (k : Bor (List ℕ)). slice_cmp nat_cmp m k.now)) es)) e
+-- ---- before the first occurrence
 
-pub mapped_choice : {X Y : Type 0} (f : X → Y) (b : Bool) (x : X) (o : Option X) → option_map f (cond b (Some x) o) ≡ cond b (Some (f x)) (option_map f o)
-mapped_choice f true x o = refl
-mapped_choice f false x o = refl
+none_set : (n i : ℕ) → slice_index_or (replicate n false) i false ≡ false
+none_set zero i = refl
+none_set (suc n) zero = refl
+none_set (suc n) (suc i) = none_set n i
 
--- ---- a run that emits none of the names that are left
+none_in_row : (n : ℕ) (o : Option ℕ) → in_row (replicate n false) o ≡ false
+none_in_row n None = refl
+none_in_row n (Some i) = none_set n i
 
-all_kept : {X : Type 0} (p : X → Bool) (xs : List X) → list_all p xs ≡ true → filter p xs ≡ xs
-all_kept p [] h = refl
-all_kept p (x ∷ xs) h =
-    let parts = both (p x) (list_all p xs) h in
-    ap (λ b. cond b (x ∷ filter p xs) (filter p xs)) parts.0 ∙ ap (λ ys. x ∷ ys) (all_kept p xs parts.1)
+pub noted_nothing : (t : NameTable) (row : List Bool) (others : List (List ℕ)) (s : List ℕ) (n : ℕ) → row ≡ replicate n false → others ≡ [] → is_noted t (noted row (stands_in others)) s ≡ false
+noted_nothing t row others s n e none =
+    ap (λ r. in_row r (number_in t s) || stands_in others s) e
+    ∙ ap (λ b. b || stands_in others s) (none_in_row n (number_in t s))
+    ∙ ap (λ xs. stands_in xs s) none
 
-none_kept : {X : Type 0} (p : X → Bool) (xs : List X) → list_all p xs ≡ true → filter (λ x. not (p x)) xs ≡ []
-none_kept p [] h = refl
-none_kept p (x ∷ xs) h =
-    let parts = both (p x) (list_all p xs) h in
-    ap (λ b. cond (not b) (x ∷ filter (λ x. not (p x)) xs) (filter (λ x. not (p x)) xs)) parts.0 ∙ none_kept p xs parts.1
+pub room_at_first : (t : NameTable) (row : List Bool) → IsTable t → row ≡ replicate (length t.names.items) false → HasRoom t row
+room_at_first t row is e s i at =
+    omega (arith, slice_get_within t.names.items i s (is.named s i at), length-replicate (length t.names.items) false, ap length e)
 
-pub none_added : (ps : List Program) (em : List ℕ → List ℕ → Bool) (bs : List Binder) (rs : List RenamingTree) (m : List ℕ) (o : Option (List (List ℕ))) → none_goes bs rs o ≡ true → filter (λ n. not (stays bs rs n)) (left_or ps em m o) ≡ []
-none_added ps em bs rs m None h = absurd (false≢true h)
-none_added ps em bs rs m (Some ns) h = none_kept (stays bs rs) ns h
+-- ---- names of numbers, one after another
 
-all_left : (ps : List Program) (em : List ℕ → List ℕ → Bool) (bs : List Binder) (rs : List RenamingTree) (m : List ℕ) (o : Option (List (List ℕ))) → none_goes bs rs o ≡ true → o ≡ Some (filter (stays bs rs) (left_or ps em m o))
-all_left ps em bs rs m None h = absurd (false≢true h)
-all_left ps em bs rs m (Some ns) h = ap Some (sym (all_kept (stays bs rs) ns h))
+-- the name is this one, if there is one
+abbrev pub is_named : Option (List ℕ) → List ℕ → Bool
+is_named None s = false
+is_named (Some n) s = bytes_eq n s
 
-same_entry : (k : List ℕ → Option (List (List ℕ))) (b : Bool) (q m n : List ℕ) (w : Option (List (List ℕ))) → bytes_eq q n ≡ b → q ≡ m → k m ≡ w → k n ≡ cond b w (k n)
-same_entry k true q m n w e named is = ap k (sym (same_bytes q n e) ∙ named) ∙ is
-same_entry k false q m n w e named is = refl
+not_named : (t : NameTable) (s : List ℕ) (i : ℕ) (o : Option (List ℕ)) → IsTable t → slice_get t.names.items i ≡ o → (number_in t s ≡ Some i → ⊥) → is_named o s ≡ false
+not_named t s i None is at other = refl
+not_named t s i (Some n) is at other = elim (cases_bool (bytes_eq n s)) [
+  | inl so ↦ absurd (other (ap (number_in t) (sym (same_bytes n s so)) ∙ is.numbered n i at))
+  | inr not_so ↦ not_so
+]
 
--- what is left is the same behind it
-pub left_same : (ps : List Program) (em : List ℕ → List ℕ → Bool) (k : Noted) (bs : List Binder) (rs : List RenamingTree) (m : List ℕ) (q : Program) → program_named ps m ≡ Some q → none_goes bs rs (k.left m) ≡ true → (n : List ℕ) → k.left n ≡ cond (bytes_eq q.name n) (Some (filter (stays bs rs) (left_or ps em m (k.left m)))) (k.left n)
-left_same ps em k bs rs m q found h n =
-    same_entry k.left (bytes_eq q.name n) q.name m n (Some (filter (stays bs rs) (left_or ps em m (k.left m)))) refl
-    (same_bytes q.name m (found_passes (λ (p : Program). bytes_eq p.name m) ps q found)) (all_left ps em bs rs m (k.left m) h)
+front_same : (row : List Bool) (i j : ℕ) → (j ≡ i → ⊥) → slice_index_or (take (suc i) row) j false ≡ slice_index_or (take i row) j false
+front_same [] zero j other = refl
+front_same [] (suc i) j other = refl
+front_same (x ∷ xs) zero zero other = absurd (other refl)
+front_same (x ∷ xs) zero (suc j) other = refl
+front_same (x ∷ xs) (suc i) zero other = refl
+front_same (x ∷ xs) (suc i) (suc j) other = front_same xs i j (λ e. other (ap suc e))
+
+front_past : (row : List Bool) (i : ℕ) → slice_index_or (take i row) i false ≡ false
+front_past [] zero = refl
+front_past [] (suc i) = refl
+front_past (x ∷ xs) zero = refl
+front_past (x ∷ xs) (suc i) = front_past xs i
+
+next_at : (t : NameTable) (row : List Bool) (i : ℕ) (s : List ℕ) (o : Option (List ℕ)) (m : Option ℕ) → number_in t s ≡ m → IsTable t → slice_get t.names.items i ≡ o → in_row (take (suc i) row) m ≡ (in_row (take i row) m || (slice_index_or row i false && is_named o s))
+next_at t row i s o None e is at =
+    sym (ap (λ b. slice_index_or row i false && b) (not_named t s i o is at (λ h. absurd (none-some i (sym e ∙ h)))) ∙ and_false (slice_index_or row i false))
+next_at t row i s o (Some j) e is at = elim (cases_eq j i) [
+  | inl same ↦
+      let named : is_named o s ≡ true = ap (λ p. is_named p s) (sym at ∙ is.named s i (e ∙ ap Some same)) ∙ equal_bytes s in
+      ap (λ k. slice_index_or (take (suc i) row) k false) same
+      ∙ get_or-take (suc i) row i false (omega arith)
+      ∙ sym (ap (λ k. slice_index_or (take i row) k false || (slice_index_or row i false && is_named o s)) same
+      ∙ ap (λ b. b || (slice_index_or row i false && is_named o s)) (front_past row i)
+      ∙ ap (λ b. slice_index_or row i false && b) named
+      ∙ and_true (slice_index_or row i false))
+  | inr other ↦
+      front_same row i j other
+      ∙ nothing_more (slice_index_or (take i row) j false)
+      ∙ ap (λ b. slice_index_or (take i row) j false || b) (sym (ap (λ b. slice_index_or row i false && b) (not_named t s i o is at (λ h. other (some_same j i (sym e ∙ h)))) ∙ and_false (slice_index_or row i false)))
+]
+
+swapped : (a b c : Bool) → ((a || b) || c) ≡ ((a || c) || b)
+swapped true b c = refl
+swapped false true true = refl
+swapped false true false = refl
+swapped false false true = refl
+swapped false false false = refl
+
+-- one number more
+pub next_number : (t : NameTable) (row : List Bool) (i : ℕ) (s : List ℕ) (o : Option (List ℕ)) (b before old : Bool) → IsTable t → slice_get t.names.items i ≡ o → slice_index_or row i false ≡ b → before ≡ (in_row (take i row) (number_in t s) || old)
+    → (before || (b && is_named o s)) ≡ (in_row (take (i + 1) row) (number_in t s) || old)
+next_number t row i s o b before old is at e h =
+    let next : suc i ≡ i + 1 = omega arith in
+    ap (λ x. x || (b && is_named o s)) h
+    ∙ swapped (in_row (take i row) (number_in t s)) old (b && is_named o s)
+    ∙ ap (λ c. (in_row (take i row) (number_in t s) || (c && is_named o s)) || old) (sym e)
+    ∙ ap (λ x. x || old) (sym (next_at t row i s o (number_in t s) refl is at))
+    ∙ ap (λ (k : ℕ). in_row (take k row) (number_in t s) || old) next
+
+-- a name is put behind others
+pub stands_more : (xs : List (List ℕ)) (n s : List ℕ) → stands_in (xs ++ n ∷ []) s ≡ (stands_in xs s || bytes_eq n s)
+stands_more [] n s = sym (nothing_more (bytes_eq n s))
+stands_more (x ∷ xs) n s = ap (λ b. bytes_eq x s || b) (stands_more xs n s) ∙ sym (or_assoc (bytes_eq x s) (stands_in xs s) (bytes_eq n s))

@@ -1,5 +1,5 @@
 pub mod Emitted
-pub mod Hidden
+pub mod Keeping
 pub mod Noted
 pub mod Numbers
 pub mod Recursion

@@ -69,18 +69,18 @@ pub struct BadRename<'a> {
 }
 
 impl Check for BadRename<'_> {
-    ghost use Rattle.std.specs.Prelude.{[], map};
+    ghost use Rattle.std.specs.Prelude.{⊤, map};
     ghost use Rattle.est_modules.specs.Modules.{program_of};
     ghost use Rattle.est_checks.specs.BadRenamings.{bad_renaming_at};
 
-    ghost base = { λ c m. [] };
+    ghost fits = { λ c t ks. ⊤ };
 
     ghost fault = { λ c. bad_renaming_at (map program_of c.heads.now) };
 
     fn fault(
         &self,
         _home: &Head<'_>,
-        _kept: &OpenNames,
+        _kept: &OpenNames<'_, '_>,
         act: &Act<'_>,
         _scope: &Scope<'_>,
     ) -> Result<Option<Identifier>, AllocError> {

@@ -4,14 +4,15 @@ ghost use Rattle.est_checks.specs.Barred.{barred_by};
 ghost use Rattle.est_checks.specs.Emissions.{emitted_of};
 ghost use Rattle.est_modules.specs.Modules.{is_input, program_of};
 ghost use Rattle.est_modules.specs.NameSets.{has};
-ghost use Rattle.est_modules.specs.OpenNames.{AreOpen, opens_of};
+ghost use Rattle.est_modules.specs.OpenNames.{AreKept};
 ghost use Rattle.est_modules.specs.Visible.{is_tick};
 
 use crate::emission::{Emission, is_emitted};
 use est_modules::head::{Declared, Head, head_named};
 use est_modules::module_order::places_run;
 use est_modules::name_set::NameSet;
-use est_modules::open_names::{Kept, OpenNames};
+use est_modules::name_table::NameTable;
+use est_modules::open_names::{Kept, keep};
 use est_modules::relations::is_input_kind;
 use est_modules::visibility::is_tick;
 use est_text::identifier::Identifier;
@@ -76,19 +77,17 @@ fn add_barred(
     inputs: &NameSet<'_>,
     heads: &[Head<'_>],
     table: &[Emission],
-    kept: &mut OpenNames,
+    numbers: &NameTable<'_>,
+    kept: &mut Vec<Kept>,
     name: &Identifier,
 ) -> Result<(), AllocError>
-    requires { AreOpen (barred_by (map program_of heads.now) (emitted_of table.now)
-        (has inputs.now)) [] (opens_of kept.old) }
-    ensures { OnOk result (AreOpen (barred_by (map program_of heads.now) (emitted_of table.now)
-        (has inputs.now)) [] (opens_of kept.new)) }
+    requires { AreKept numbers.now (barred_by (map program_of heads.now) (emitted_of table.now)
+        (has inputs.now)) kept.old.items }
+    ensures { OnOk result (AreKept numbers.now (barred_by (map program_of heads.now)
+        (emitted_of table.now) (has inputs.now)) kept.new.items) }
 {
     let names = barred_run(alloc, inputs, heads, table, name)?;
-    kept.push(Kept {
-        module_name: *name,
-        names,
-    })?;
+    keep(kept, alloc, numbers, name, &names)?;
     Ok(())
 }
 
@@ -101,21 +100,24 @@ fn add_barred(
 /// `AllocError` where memory is refused for names.
 pub fn barred_of<'a>(
     alloc: Global,
+    numbers: &NameTable<'_>,
     heads: &'a [Head<'a>],
     home: &Head<'_>,
     table: &[Emission],
-) -> Result<OpenNames, AllocError>
-    ensures { IfOk result (λ kept. AreOpen (barred_by (map program_of heads.now) (emitted_of
-        table.now) (is_input (program_of home.now).interface)) [] (opens_of kept)) }
+) -> Result<Vec<Kept>, AllocError>
+    ensures { IfOk result (λ kept. AreKept numbers.now (barred_by (map program_of heads.now)
+        (emitted_of table.now) (is_input (program_of home.now).interface)) kept.items) }
 {
     let inputs = inputs_of(alloc, &home.interface)?;
     let places = places_run(alloc, &*heads, home)?;
     let mut met = NameSet::new(alloc);
-    let mut kept = OpenNames::new(alloc);
+    let mut kept = Vec::new(alloc);
     for place in &places {
         if let Some(run) = heads.get(*place) {
             if met.insert(&run.name)? {
-                add_barred(alloc, &inputs, &*heads, table, &mut kept, &run.name)?;
+                add_barred(
+                    alloc, &inputs, &*heads, table, numbers, &mut kept, &run.name,
+                )?;
             }
         }
     }

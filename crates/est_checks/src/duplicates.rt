@@ -9,6 +9,7 @@ ghost use Rattle.est_checks.specs.Duplicates.{redeclared, redeclared_in, duplica
 use crate::place_check::{Check, first_in_body};
 use est_modules::head::{Declared, Head};
 use est_modules::name_set::NameSet;
+use est_modules::name_table::NameTable;
 use est_modules::open_names::OpenNames;
 use est_modules::scope::{Act, Scope};
 use est_modules::visibility::is_tick;
@@ -67,17 +68,17 @@ struct DuplicateLocal {
 }
 
 impl Check for DuplicateLocal {
-    ghost use Rattle.std.specs.Prelude.{[]};
+    ghost use Rattle.std.specs.Prelude.{⊤};
     ghost use Rattle.est_checks.specs.Duplicates.{redeclared_at};
 
-    ghost base = { λ c m. [] };
+    ghost fits = { λ c t ks. ⊤ };
 
     ghost fault = { λ c. redeclared_at };
 
     fn fault(
         &self,
         _home: &Head<'_>,
-        _kept: &OpenNames,
+        _kept: &OpenNames<'_, '_>,
         act: &Act<'_>,
         _scope: &Scope<'_>,
     ) -> Result<Option<Identifier>, AllocError> {
@@ -95,7 +96,8 @@ fn redeclared_in<'a>(alloc: Global, home: &'a Head<'a>) -> Result<Option<Identif
     if let Some(name) = redeclared_signal(alloc, &home.interface)? {
         return Ok(Some(name));
     }
-    first_in_body(&DuplicateLocal { alloc }, &OpenNames::new(alloc), &*home)
+    let table = NameTable::new(alloc);
+    first_in_body(&DuplicateLocal { alloc }, alloc, &table, &[], &*home)
 }
 
 fn is_named(heads: &[Head<'_>], name: &Identifier) -> bool

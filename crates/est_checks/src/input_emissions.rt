@@ -4,7 +4,8 @@ ghost use Rattle.std.specs.List.{find, list_any};
 ghost use Rattle.est_syntax.specs.Views.{renaming_view};
 ghost use Rattle.est_modules.specs.Scopes.{binders_of};
 ghost use Rattle.est_modules.specs.Modules.{is_input, program_of, program_named, first_in_bodies};
-ghost use Rattle.est_modules.specs.OpenNames.{AreOpen, opens_of};
+ghost use Rattle.est_modules.specs.NameTables.{IsTable};
+ghost use Rattle.est_modules.specs.OpenNames.{AreKept, IsOpen};
 ghost use Rattle.est_checks.specs.Barred.{barred_by};
 ghost use Rattle.est_modules.specs.Occurrences.{first_of, occurrences};
 ghost use Rattle.est_checks.specs.Emissions.{is_refused, is_refused_in_run, refused_in_run, refused_at, emitted_of};
@@ -12,8 +13,8 @@ ghost use Rattle.est_checks.specs.Emissions.{is_refused, is_refused_in_run, refu
 use crate::barred_names::barred_of;
 use crate::emission::{Emission, is_emitted};
 use crate::place_check::{Check, first_in_body};
-use crate::unknown_names::first_unrenamed;
 use est_modules::head::{Declared, Head, head_named};
+use est_modules::name_table::NameTable;
 use est_modules::open_names::OpenNames;
 use est_modules::relations::is_input;
 use est_modules::renamings::callers_name;
@@ -110,7 +111,7 @@ fn binds_input(
 /// it does not rename.
 fn refused_of(
     check: &EmitInput<'_>,
-    kept: &OpenNames,
+    kept: &OpenNames<'_, '_>,
     scope: &Scope<'_>,
     renamings: &[Renaming],
     name: &Identifier,
@@ -118,9 +119,9 @@ fn refused_of(
 ) -> Option<Identifier>
     requires named { program_named (map program_of check.now.heads.now) name.now
         ≡ Some (program_of run.now) }
-    requires open { AreOpen (barred_by (map program_of check.now.heads.now) (emitted_of
-        check.now.table.now) (is_input (program_of check.now.home.now).interface))
-        (binders_of scope.now) (opens_of kept.now) }
+    requires open { IsOpen (λ t. AreKept t (barred_by (map program_of check.now.heads.now) (emitted_of
+        check.now.table.now) (is_input (program_of check.now.home.now).interface)))
+        (binders_of scope.now) kept.now }
     ensures { result ≡ refused_in_run (emitted_of check.now.table.now)
         (program_of check.now.home.now) (binders_of scope.now) (map renaming_view renamings.now)
         name.now (Some (program_of run.now)) }
@@ -129,21 +130,21 @@ fn refused_of(
         return refused_name(check, scope, renamings, name, run);
     }
     match kept.named(name) {
-        Some(left) => first_unrenamed(renamings, &left.names),
+        Some(left) => kept.first_left(left, renamings),
         None => refused_name(check, scope, renamings, name, run),
     }
 }
 
 fn refused_in_run(
     check: &EmitInput<'_>,
-    kept: &OpenNames,
+    kept: &OpenNames<'_, '_>,
     scope: &Scope<'_>,
     renamings: &[Renaming],
     name: &Identifier,
 ) -> Option<Identifier>
-    requires { AreOpen (barred_by (map program_of check.now.heads.now) (emitted_of
-        check.now.table.now) (is_input (program_of check.now.home.now).interface))
-        (binders_of scope.now) (opens_of kept.now) }
+    requires { IsOpen (λ t. AreKept t (barred_by (map program_of check.now.heads.now) (emitted_of
+        check.now.table.now) (is_input (program_of check.now.home.now).interface)))
+        (binders_of scope.now) kept.now }
     ensures { result ≡ refused_in_run (emitted_of check.now.table.now)
         (program_of check.now.home.now) (binders_of scope.now) (map renaming_view renamings.now)
         name.now (program_named (map program_of check.now.heads.now) name.now) }
@@ -167,12 +168,13 @@ pub struct EmitInput<'a> {
 
 impl Check for EmitInput<'_> {
     ghost use Rattle.std.specs.Prelude.{map};
+    ghost use Rattle.est_modules.specs.OpenNames.{AreKept};
     ghost use Rattle.est_modules.specs.Modules.{is_input, program_of};
     ghost use Rattle.est_checks.specs.Barred.{barred_by};
     ghost use Rattle.est_checks.specs.Emissions.{refused_at, emitted_of};
 
-    ghost base = { λ c. barred_by (map program_of c.heads.now) (emitted_of c.table.now)
-        (is_input (program_of c.home.now).interface) };
+    ghost fits = { λ c t. AreKept t (barred_by (map program_of c.heads.now) (emitted_of c.table.now)
+        (is_input (program_of c.home.now).interface)) };
 
     ghost fault = { λ c p. refused_at (map program_of c.heads.now)
         (emitted_of c.table.now) (program_of c.home.now) };
@@ -180,7 +182,7 @@ impl Check for EmitInput<'_> {
     fn fault(
         &self,
         _home: &Head<'_>,
-        kept: &OpenNames,
+        kept: &OpenNames<'_, '_>,
         act: &Act<'_>,
         scope: &Scope<'_>,
     ) -> Result<Option<Identifier>, AllocError> {
@@ -201,20 +203,22 @@ impl Check for EmitInput<'_> {
 /// The first input, or `tick`, that a module emits.
 fn refused_in<'a>(
     alloc: Global,
+    names: &NameTable<'_>,
     heads: &'a [Head<'a>],
     home: &'a Head<'a>,
     table: &'a [Emission],
 ) -> Result<Option<Identifier>, AllocError>
+    requires { IsTable names.now }
     ensures { IfOk result (λ name. name ≡ first_of (refused_at (map program_of heads.now)
         (emitted_of table.now) (program_of home.now)) (occurrences [] (program_of home.now).body)) }
 {
-    let kept = barred_of(alloc, &*heads, &*home, &*table)?;
+    let kept = barred_of(alloc, names, &*heads, &*home, &*table)?;
     let check = EmitInput {
         heads: &*heads,
         home: &*home,
         table: &*table,
     };
-    first_in_body(&check, &kept, &*home)
+    first_in_body(&check, alloc, names, &kept, &*home)
 }
 
 /// The first input, or `tick`, that a module of a library emits. The table says what each module emits.
@@ -224,14 +228,16 @@ fn refused_in<'a>(
 /// `AllocError` where memory is refused for names.
 pub fn first_refused<'a>(
     alloc: Global,
+    names: &NameTable<'_>,
     heads: &'a [Head<'a>],
     table: &'a [Emission],
 ) -> Result<Option<Identifier>, AllocError>
+    requires { IsTable names.now }
     ensures { IfOk result (λ name. name ≡ first_in_bodies (refused_at (map program_of heads.now)
         (emitted_of table.now)) (map program_of heads.now)) }
 {
     for home in heads {
-        if let Some(name) = refused_in(alloc, &*heads, &*home, &*table)? {
+        if let Some(name) = refused_in(alloc, names, &*heads, &*home, &*table)? {
             return Ok(Some(name));
         }
     }

@@ -10,7 +10,6 @@ mod barred_names;
 pub mod duplicates;
 pub mod emission;
 pub mod fault;
-mod hidden_names;
 pub mod input_emissions;
 pub mod lawless_relations;
 pub mod laws;

@@ -13,6 +13,7 @@ use crate::module_emissions::emissions_along;
 use crate::round_order::{fault_before_order, fault_behind_order};
 use est_modules::head::Head;
 use est_modules::module_order::{name_at, order_heads};
+use est_modules::name_table::numbered;
 use est_modules::order_fault::OrderFault;
 use est_modules::place_order::Order;
 use est_text::identifier::Identifier;
@@ -42,8 +43,9 @@ fn check_names<'a>(
     requires distinct { first_duplicate (map program_of heads.now) ≡ None }
     ensures { Finds (ByNames (map program_of heads.now) main.now) result }
 {
-    let table = emissions_along(alloc, &*heads, order.places())?;
-    match fault_behind_order(alloc, &*heads, main, &table)? {
+    let names = numbered(alloc, &*heads)?;
+    let table = emissions_along(alloc, &names, &*heads, order.places())?;
+    match fault_behind_order(alloc, &names, &*heads, main, &table)? {
         Some(fault) => Err(fault),
         None => check_limits(alloc, heads, order, main),
     }

@@ -5,6 +5,7 @@ ghost use Rattle.est_checks.specs.MissingModules.{first_missing};
 
 use crate::place_check::{Check, first_in_bodies};
 use est_modules::head::{Head, head_named};
+use est_modules::name_table::NameTable;
 use est_modules::open_names::OpenNames;
 use est_modules::scope::{Act, Scope};
 use est_text::identifier::Identifier;
@@ -17,18 +18,18 @@ struct UnknownModule<'a> {
 }
 
 impl Check for UnknownModule<'_> {
-    ghost use Rattle.std.specs.Prelude.{[], map};
+    ghost use Rattle.std.specs.Prelude.{⊤, map};
     ghost use Rattle.est_modules.specs.Modules.{program_of};
     ghost use Rattle.est_checks.specs.MissingModules.{missing_at};
 
-    ghost base = { λ c m. [] };
+    ghost fits = { λ c t ks. ⊤ };
 
     ghost fault = { λ c. missing_at (map program_of c.heads.now) };
 
     fn fault(
         &self,
         _home: &Head<'_>,
-        _kept: &OpenNames,
+        _kept: &OpenNames<'_, '_>,
         act: &Act<'_>,
         _scope: &Scope<'_>,
     ) -> Result<Option<Identifier>, AllocError> {
@@ -56,8 +57,14 @@ pub fn first_missing<'a>(
 {
     match head_named(heads, main) {
         Some(_) => {
-            let kept = OpenNames::new(alloc);
-            first_in_bodies(&kept, &UnknownModule { heads: &*heads }, &*heads)
+            let table = NameTable::new(alloc);
+            first_in_bodies(
+                alloc,
+                &table,
+                &[],
+                &UnknownModule { heads: &*heads },
+                &*heads,
+            )
         }
         None => Ok(Some(*main)),
     }

@@ -2,29 +2,32 @@
 ghost use Rattle.std.specs.Prelude.{◌≡◌, [], map, IfOk};
 ghost use Rattle.est_modules.specs.Modules.{program_of, first_in_bodies};
 ghost use Rattle.est_modules.specs.Occurrences.{first_of, occurrences};
-ghost use Rattle.est_modules.specs.OpenNames.{AreOpen, opens_of};
+ghost use Rattle.est_modules.specs.NameTables.{IsTable};
 
 use est_modules::head::Head;
-use est_modules::open_names::OpenNames;
+use est_modules::name_table::NameTable;
+use est_modules::open_names::{Kept, OpenNames};
 use est_modules::scope::{Act, Scope};
 use est_modules::visit::Visitor;
 use est_modules::walk::walk_body;
 use est_text::identifier::Identifier;
-use std::alloc::AllocError;
+use std::alloc::{AllocError, Global};
 
 /// A check of the places in the bodies of modules.
 pub trait Check {
     ghost use Rattle.std.specs.Prelude.{ℕ, List, Option, IfOk};
     ghost use Rattle.est_modules.specs.Modules.{Program, program_of};
     ghost use Rattle.est_modules.specs.Occurrences.{Occurrence};
-    ghost use Rattle.est_modules.specs.OpenNames.{AreOpen, opens_of};
+    ghost use Rattle.est_modules.specs.OpenNames.{IsOpen};
+    ghost use Rattle.est_modules.specs.declared.name_table.NameTable.{NameTable};
+    ghost use Rattle.est_modules.specs.declared.open_names.Kept.{Kept};
     ghost use Rattle.est_modules.specs.Scopes.{act_of, binders_of};
 
     /// The name of the fault at an occurrence in a module, if it is one.
     ghost fault: { Self → Program → Occurrence → Option (List ℕ) };
 
-    /// The names of a module that is run which the walk keeps, as far as no `signal` round a place declares them.
-    ghost base: { Self → List ℕ → List (List ℕ) };
+    /// What is known of the names that the walk keeps.
+    ghost fits: { Self → NameTable → List Kept → Type 0 };
 
     /// The name of the fault at a place in the module `home`, if it is one.
     ///
@@ -34,11 +37,11 @@ pub trait Check {
     fn fault(
         &self,
         home: &Head<'_>,
-        kept: &OpenNames,
+        kept: &OpenNames<'_, '_>,
         act: &Act<'_>,
         scope: &Scope<'_>,
     ) -> Result<Option<Identifier>, AllocError>
-        requires { AreOpen (base self.now) (binders_of scope.now) (opens_of kept.now) }
+        requires { IsOpen (fits self.now) (binders_of scope.now) kept.now }
         ensures { IfOk result (λ name. name ≡ fault self.now (program_of home.now) (record
             { act = act_of act.now; round = binders_of scope.now })) };
 }
@@ -61,14 +64,14 @@ impl<C: Check> Visitor for First<'_, C> {
 
     ghost state = { λ seen. seen };
 
-    ghost base = { λ v. C.base v.check.now };
+    ghost fits = { λ v. C.fits v.check.now };
 
     ghost after = { λ v found o. option_or found (C.fault v.check.now (program_of v.home.now) o) };
 
     fn visit(
         &self,
         seen: &mut Option<Identifier>,
-        kept: &OpenNames,
+        kept: &OpenNames<'_, '_>,
         act: &Act<'_>,
         scope: &Scope<'_>,
     ) -> Result<(), AllocError> {
@@ -86,10 +89,13 @@ impl<C: Check> Visitor for First<'_, C> {
 /// `AllocError` where memory is refused for what is looked up.
 pub fn first_in_body<'a, C: Check>(
     check: &'a C,
-    kept: &OpenNames,
+    alloc: Global,
+    table: &NameTable<'_>,
+    kept: &[Kept],
     home: &'a Head<'a>,
 ) -> Result<Option<Identifier>, AllocError>
-    requires { AreOpen (C.base check.now) [] (opens_of kept.now) }
+    requires fits { C.fits check.now table.now kept.now }
+    requires table { IsTable table.now }
     ensures { IfOk result (λ name. name ≡ first_of (C.fault check.now (program_of home.now))
         (occurrences [] (program_of home.now).body)) }
 {
@@ -98,7 +104,7 @@ pub fn first_in_body<'a, C: Check>(
         check: &*check,
         home: &*home,
     };
-    walk_body(&first, &mut found, kept, home.body)?;
+    walk_body(&first, &mut found, alloc, table, kept, home.body)?;
     Ok(found)
 }
 
@@ -108,16 +114,19 @@ pub fn first_in_body<'a, C: Check>(
 ///
 /// `AllocError` where memory is refused for what is looked up.
 pub fn first_in_bodies<'a, C: Check>(
-    kept: &OpenNames,
+    alloc: Global,
+    table: &NameTable<'_>,
+    kept: &[Kept],
     check: &'a C,
     heads: &'a [Head<'a>],
 ) -> Result<Option<Identifier>, AllocError>
-    requires { AreOpen (C.base check.now) [] (opens_of kept.now) }
+    requires fits { C.fits check.now table.now kept.now }
+    requires table { IsTable table.now }
     ensures { IfOk result (λ name. name ≡ first_in_bodies (C.fault check.now) (map program_of
         heads.now)) }
 {
     for home in heads {
-        if let Some(name) = first_in_body(&*check, kept, &*home)? {
+        if let Some(name) = first_in_body(&*check, alloc, table, kept, &*home)? {
             return Ok(Some(name));
         }
     }

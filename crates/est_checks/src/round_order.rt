@@ -1,6 +1,7 @@
 //! The checks of a library in their order.
 ghost use Rattle.std.specs.Prelude.{◌≡◌, map, option_map, IfOk};
 ghost use Rattle.est_modules.specs.Modules.{program_of};
+ghost use Rattle.est_modules.specs.NameTables.{IsTable};
 ghost use Rattle.est_checks.specs.Emissions.{emitted_of};
 ghost use Rattle.est_checks.specs.LinkFaults.{lawless_number, fault_before_order, fault_behind_order};
 
@@ -14,7 +15,7 @@ use crate::missing_modules::first_missing;
 use crate::place_check::first_in_bodies;
 use crate::unknown_names::first_unknown;
 use est_modules::head::{Head, head_named};
-use est_modules::open_names::OpenNames;
+use est_modules::name_table::NameTable;
 use est_text::identifier::Identifier;
 use std::alloc::{AllocError, Global};
 
@@ -60,21 +61,24 @@ fn lawless_number(alloc: Global, main: Option<&Head<'_>>) -> Result<Option<usize
 /// `AllocError` where memory is refused for the list of the relations.
 pub fn fault_behind_order<'a>(
     alloc: Global,
+    names: &NameTable<'_>,
     heads: &'a [Head<'a>],
     main: &Identifier,
     table: &'a [Emission],
 ) -> Result<Option<LinkFault>, AllocError>
+    requires { IsTable names.now }
     ensures { IfOk result (λ fault. fault ≡ fault_behind_order (map program_of heads.now) main.now
         (emitted_of table.now)) }
 {
-    let kept = OpenNames::new(alloc);
-    if let Some(name) = first_in_bodies(&kept, &BadRename { heads: &*heads }, &*heads)? {
+    let none = NameTable::new(alloc);
+    let check = BadRename { heads: &*heads };
+    if let Some(name) = first_in_bodies(alloc, &none, &[], &check, &*heads)? {
         return Ok(Some(LinkFault::BadRename(name)));
     }
-    if let Some(name) = first_unknown(alloc, &*heads)? {
+    if let Some(name) = first_unknown(alloc, names, &*heads)? {
         return Ok(Some(LinkFault::UnknownName(name)));
     }
-    if let Some(name) = first_refused(alloc, &*heads, &*table)? {
+    if let Some(name) = first_refused(alloc, names, &*heads, &*table)? {
         return Ok(Some(LinkFault::EmitInput(name)));
     }
     match lawless_number(alloc, head_named(heads, main))? {

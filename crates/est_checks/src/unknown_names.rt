@@ -5,7 +5,8 @@ ghost use Rattle.est_syntax.specs.Views.{renaming_view};
 ghost use Rattle.est_modules.specs.Scopes.{binders_of};
 ghost use Rattle.est_modules.specs.Modules.{program_of, program_named, first_in_bodies, is_declared};
 ghost use Rattle.est_modules.specs.Occurrences.{first_of, occurrences};
-ghost use Rattle.est_modules.specs.OpenNames.{AreOpen, opens_of};
+ghost use Rattle.est_modules.specs.NameTables.{IsTable};
+ghost use Rattle.est_modules.specs.OpenNames.{AreKept, IsOpen};
 ghost use Rattle.est_modules.specs.Renamings.{is_renamed};
 ghost use Rattle.est_checks.specs.Unseen.{unseen_by};
 ghost use Rattle.est_modules.specs.Visible.{is_visible};
@@ -14,6 +15,7 @@ ghost use Rattle.est_checks.specs.UnknownNames.{is_unbound, unknown_in_run, unkn
 use crate::place_check::{Check, first_in_body};
 use crate::unseen_names::unseen_of;
 use est_modules::head::{Declared, Head, head_named};
+use est_modules::name_table::NameTable;
 use est_modules::open_names::OpenNames;
 use est_modules::renamings::is_renamed;
 use est_modules::scope::{Act, Scope};
@@ -64,29 +66,12 @@ fn unbound_name(
     }
 }
 
-fn find_unrenamed<'a>(renamings: &[Renaming], names: &'a [Identifier]) -> Option<&'a Identifier>
-    ensures { option_map (λ n. n.now) result ≡ find
-        (λ n. not (is_renamed (map renaming_view renamings.now) n)) names.now }
-{
-    names.iter().find(|name| !is_renamed(renamings, name))
-}
-
-/// The first name of a list that is not renamed.
-pub(crate) fn first_unrenamed(renamings: &[Renaming], names: &[Identifier]) -> Option<Identifier>
-    ensures { result ≡ find (λ n. not (is_renamed (map renaming_view renamings.now) n)) names.now }
-{
-    match find_unrenamed(renamings, names) {
-        Some(name) => Some(*name),
-        None => None,
-    }
-}
-
 /// The first interface name of a module that is run which is neither renamed nor visible. Only names that neither the
 /// module that runs it nor a `signal` round the run declares are looked at, if they were kept.
 fn unbound_in(
     heads: &[Head<'_>],
     home: &Head<'_>,
-    kept: &OpenNames,
+    kept: &OpenNames<'_, '_>,
     scope: &Scope<'_>,
     renamings: &[Renaming],
     name: &Identifier,
@@ -94,14 +79,15 @@ fn unbound_in(
 ) -> Option<Identifier>
     requires named { program_named (map program_of heads.now) name.now
         ≡ Some (program_of run.now) }
-    requires outside { AreOpen (unseen_by (map program_of heads.now) (is_declared
-        (program_of home.now).interface)) (binders_of scope.now) (opens_of kept.now) }
+    requires outside { IsOpen (λ t. AreKept t (unseen_by (map program_of heads.now) (is_declared
+        (program_of home.now).interface))) (binders_of
+        scope.now) kept.now }
     ensures { result ≡ option_map (λ d. d.name)
         (find (λ d. is_unbound (program_of home.now) (binders_of scope.now)
         (map renaming_view renamings.now) d.name) (program_of run.now).interface) }
 {
     match kept.named(name) {
-        Some(left) => first_unrenamed(renamings, &left.names),
+        Some(left) => kept.first_left(left, renamings),
         None => unbound_name(home, scope, renamings, &run.interface),
     }
 }
@@ -109,13 +95,14 @@ fn unbound_in(
 fn unknown_in_run(
     heads: &[Head<'_>],
     home: &Head<'_>,
-    kept: &OpenNames,
+    kept: &OpenNames<'_, '_>,
     scope: &Scope<'_>,
     renamings: &[Renaming],
     name: &Identifier,
 ) -> Option<Identifier>
-    requires { AreOpen (unseen_by (map program_of heads.now) (is_declared
-        (program_of home.now).interface)) (binders_of scope.now) (opens_of kept.now) }
+    requires { IsOpen (λ t. AreKept t (unseen_by (map program_of heads.now) (is_declared
+        (program_of home.now).interface))) (binders_of
+        scope.now) kept.now }
     ensures { result ≡ unknown_in_run (program_of home.now) (binders_of scope.now)
         (map renaming_view renamings.now) (program_named (map program_of heads.now)
         name.now) }
@@ -142,12 +129,13 @@ pub struct UnknownName<'a> {
 
 impl Check for UnknownName<'_> {
     ghost use Rattle.std.specs.Prelude.{map};
+    ghost use Rattle.est_modules.specs.OpenNames.{AreKept};
     ghost use Rattle.est_modules.specs.Modules.{program_of, is_declared};
     ghost use Rattle.est_checks.specs.Unseen.{unseen_by};
     ghost use Rattle.est_checks.specs.UnknownNames.{unknown_at};
 
-    ghost base = { λ c. unseen_by (map program_of c.heads.now)
-        (is_declared (program_of c.home.now).interface) };
+    ghost fits = { λ c t. AreKept t (unseen_by (map program_of c.heads.now)
+        (is_declared (program_of c.home.now).interface)) };
 
     ghost fault = { λ c p. unknown_at (map program_of c.heads.now)
         (program_of c.home.now) };
@@ -155,7 +143,7 @@ impl Check for UnknownName<'_> {
     fn fault(
         &self,
         _home: &Head<'_>,
-        kept: &OpenNames,
+        kept: &OpenNames<'_, '_>,
         act: &Act<'_>,
         scope: &Scope<'_>,
     ) -> Result<Option<Identifier>, AllocError> {
@@ -183,14 +171,16 @@ impl Check for UnknownName<'_> {
 /// The first name of a module that isn't visible where it is used.
 fn unknown_in<'a>(
     alloc: Global,
+    table: &NameTable<'_>,
     heads: &'a [Head<'a>],
     home: &'a Head<'a>,
 ) -> Result<Option<Identifier>, AllocError>
+    requires { IsTable table.now }
     ensures { IfOk result (λ name. name ≡ first_of (unknown_at (map program_of heads.now)
         (program_of home.now)) (occurrences [] (program_of home.now).body)) }
 {
-    let kept = unseen_of(alloc, &*heads, &*home)?;
-    first_in_body(&UnknownName { heads, home }, &kept, &*home)
+    let kept = unseen_of(alloc, table, &*heads, &*home)?;
+    first_in_body(&UnknownName { heads, home }, alloc, table, &kept, &*home)
 }
 
 /// The first name of a library that isn't visible where it is used.
@@ -200,13 +190,15 @@ fn unknown_in<'a>(
 /// `AllocError` where memory is refused for names.
 pub fn first_unknown<'a>(
     alloc: Global,
+    table: &NameTable<'_>,
     heads: &'a [Head<'a>],
 ) -> Result<Option<Identifier>, AllocError>
+    requires { IsTable table.now }
     ensures { IfOk result (λ name. name ≡ first_in_bodies (unknown_at (map program_of heads.now))
         (map program_of heads.now)) }
 {
     for home in heads {
-        if let Some(name) = unknown_in(alloc, &*heads, &*home)? {
+        if let Some(name) = unknown_in(alloc, table, &*heads, &*home)? {
             return Ok(Some(name));
         }
     }

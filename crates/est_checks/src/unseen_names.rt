@@ -2,14 +2,15 @@
 ghost use Rattle.std.specs.Prelude.{◌≡◌, ℕ, List, [], ◌||◌, filter, not, map, IfOk, OnOk};
 ghost use Rattle.est_modules.specs.Modules.{program_of, is_declared};
 ghost use Rattle.est_modules.specs.NameSets.{has};
-ghost use Rattle.est_modules.specs.OpenNames.{AreOpen, opens_of};
+ghost use Rattle.est_modules.specs.OpenNames.{AreKept};
 ghost use Rattle.est_checks.specs.Unseen.{unseen_by};
 ghost use Rattle.est_modules.specs.Visible.{is_tick};
 
 use est_modules::head::{Declared, Head, head_named};
 use est_modules::module_order::places_run;
 use est_modules::name_set::NameSet;
-use est_modules::open_names::{Kept, OpenNames};
+use est_modules::name_table::NameTable;
+use est_modules::open_names::{Kept, keep};
 use est_modules::visibility::is_tick;
 use est_text::identifier::Identifier;
 use std::alloc::{AllocError, Global};
@@ -62,21 +63,19 @@ fn unseen_run(
 /// Keeps those of the module of a name.
 fn add_unseen(
     alloc: Global,
+    table: &NameTable<'_>,
     names: &NameSet<'_>,
     heads: &[Head<'_>],
-    kept: &mut OpenNames,
+    kept: &mut Vec<Kept>,
     name: &Identifier,
 ) -> Result<(), AllocError>
-    requires { AreOpen (unseen_by (map program_of heads.now) (has names.now)) []
-        (opens_of kept.old) }
-    ensures { OnOk result (AreOpen (unseen_by (map program_of heads.now) (has names.now)) []
-        (opens_of kept.new)) }
+    requires { AreKept table.now (unseen_by (map program_of heads.now) (has names.now))
+        kept.old.items }
+    ensures { OnOk result (AreKept table.now (unseen_by (map program_of heads.now)
+        (has names.now)) kept.new.items) }
 {
     let left = unseen_run(alloc, names, heads, name)?;
-    kept.push(Kept {
-        module_name: *name,
-        names: left,
-    })?;
+    keep(kept, alloc, table, name, &left)?;
     Ok(())
 }
 
@@ -89,20 +88,21 @@ fn add_unseen(
 /// `AllocError` where memory is refused for names.
 pub fn unseen_of<'a>(
     alloc: Global,
+    table: &NameTable<'_>,
     heads: &'a [Head<'a>],
     home: &Head<'_>,
-) -> Result<OpenNames, AllocError>
-    ensures { IfOk result (λ kept. AreOpen (unseen_by (map program_of heads.now) (is_declared
-        (program_of home.now).interface)) [] (opens_of kept)) }
+) -> Result<Vec<Kept>, AllocError>
+    ensures { IfOk result (λ kept. AreKept table.now (unseen_by (map program_of heads.now)
+        (is_declared (program_of home.now).interface)) kept.items) }
 {
     let names = names_of(alloc, &home.interface)?;
     let places = places_run(alloc, &*heads, home)?;
     let mut met = NameSet::new(alloc);
-    let mut kept = OpenNames::new(alloc);
+    let mut kept = Vec::new(alloc);
     for place in &places {
         if let Some(run) = heads.get(*place) {
             if met.insert(&run.name)? {
-                add_unseen(alloc, &names, &*heads, &mut kept, &run.name)?;
+                add_unseen(alloc, table, &names, &*heads, &mut kept, &run.name)?;
             }
         }
     }

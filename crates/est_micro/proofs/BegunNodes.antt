@@ -22,7 +22,7 @@ use Rattle.est_net.specs.Layout.{parts_in, sheet_in}
 use Rattle.est_rounds.specs.Views.{env_of, set_of}
 use Rattle.est_rounds.specs.declared.acts.Judgement.{Judgement}
 use Rattle.est_rounds.specs.declared.signal_set.Env.{Env as Known}
-use Rattle.est_micro.specs.Sweeps.{swept_parts, swept}
+use Rattle.est_micro.specs.Sweeps.{swept_parts, swept, told}
 use Rattle.est_micro.specs.Views.{Changes, IsJudged, IsLeft, IsPaired, IsSwept, IsBegun}
 use Rattle.est_micro.specs.declared.cells.Found.{Found}
 use Rattle.est_micro.specs.declared.cells.Place.{Place}
@@ -107,53 +107,69 @@ present_begun at t a p b q gate asked g1 g2 o go e old m0 m1 m2 new r1 r2 r own 
     (paired either_code _ _ _ _ _ _ _ _ r1.judged r2.judged own w.first_found w.second_found pair) is_left
     (let x = w.past in omega arith)
 
-pub seq_begun : (at : Place) (a : _) (p : Statement) (b : _) (q : Statement) (gate later go : Status) (e : Known)
+-- what is known where a part surely emits
+pub inside_is : (main : Bool) (p : Statement) (E : Env) (f : Known) (S T : Sheet main p) (j : Judgement)
+    → JudgedOf main p S j → S ≡ T → env_of f ≡ told E (set_of j.must.signals)
+    → env_of f ≡ told E (emits is_sure main p T)
+inside_is main p E f S T j h s e = e ∙ ap (λ (z : Signals). told E z) (h.emits ∙ ap (emits is_sure main p) s)
+
+pub seq_begun : (at : Place) (a : _) (p : Statement) (b : _) (q : Statement) (gate later go : Status) (e f : Known)
     (old m0 m1 m2 new : List Status) (r1 r2 r : Found) (own : Judgement)
     → Learns at.cell gate old m0 → go ≡ cell_at m0 at.cell
     → later ≡ verdict (codes_of r1.judged.must.codes 0) (codes_of r1.judged.can.codes 0)
-    → IsBegun p (part_at at (at.cell + at.traps + 3)) go e m0 m1 r1 → IsBegun q (part_at at r1.past) later e m1 m2 r2
+    → env_of f ≡ told (env_of e) (set_of r1.judged.must.signals)
+    → IsBegun p (part_at at (at.cell + at.traps + 3)) go e m0 m1 r1 → IsBegun q (part_at at r1.past) later f m1 m2 r2
     → IsPaired then_codes r1.judged r2.judged own → IsLeft at.cell at.traps own r2.past m2 new r
     → IsBegun (Seq' a p b q) at gate e old new r
 unfolding IsBegun
-seq_begun at a p b q gate later go e old m0 m1 m2 new r1 r2 r own learns go_is later_is first second pair is_left =
+seq_begun at a p b q gate later go e f old m0 m1 m2 new r1 r2 r own learns go_is later_is f_is first second pair
+    is_left =
     let main = at.main in
     let d = at.cell + at.traps + 3 in
     let E = env_of e in
     let s0 = cell_at old in
-    let w = two_swept main main p q d at.traps (swept main p E go) (swept main q E later) old m0 m1 m2 r1 r2
+    let w = two_swept main main p q d at.traps (swept main p E go) (swept main q (env_of f) later) old m0 m1 m2 r1 r2
     (λ i l u. learns.later i (omega arith)) first second in
     let one = w.first ∙ ap (λ (z : Status). swept main p E z (sheet_in s0 main p d at.traps)) go_is in
+    let X = sheet_in s0 main p d at.traps in
+    let Y = sheet_in s0 main q (d + sheet_size main p at.traps) at.traps in
+    let F = told E (emits is_sure main p (swept main p E (cell_at m0 at.cell) X)) in
+    let inside : env_of f ≡ F = inside_is main p E f _ _ r1.judged w.first_found one f_is in
     let k : later ≡ ends (swept main p E (cell_at m0 at.cell) (sheet_in s0 main p d at.traps)).cells
     = ends_found main p (sheet_in (cell_at m2) main p d at.traps) later r1.judged w.first_found later_is
     ∙ ap (λ (T : Sheet main p). ends T.cells) one in
     node_is_swept main (Seq' a p b q) at.cell at.traps (swept_parts main (Seq' a p b q) E)
     (λ U. (gates main (Seq' a p b q) gate E U).cells) gate old m0 m2 new own r2.past r learns
     (two one
-    (w.second ∙ ap (λ (z : Status). swept main q E z (sheet_in s0 main q (d + sheet_size main p at.traps) at.traps))
-    k))
+    (w.second ∙ (ap (λ (z : Env). swept main q z later Y) inside ∙ ap (λ (z : Status). swept main q F z Y) k)))
     (widen _ _ _ _ m0 m2 (omega arith) (omega arith) w.changes)
     (paired then_codes _ _ _ _ _ _ _ _ r1.judged r2.judged own w.first_found w.second_found pair) is_left
     (let x = w.past in omega arith)
 
-pub par_begun : (at : Place) (a : _) (p : Statement) (b : _) (q : Statement) (gate go : Status) (e : Known)
+pub par_begun : (at : Place) (a : _) (p : Statement) (b : _) (q : Statement) (gate go : Status) (e f : Known)
     (old m0 m1 m2 new : List Status) (r1 r2 r : Found) (own : Judgement)
     → Learns at.cell gate old m0 → go ≡ cell_at m0 at.cell
-    → IsBegun p (part_at at (at.cell + at.traps + 3)) go e m0 m1 r1 → IsBegun q (part_at at r1.past) go e m1 m2 r2
+    → env_of f ≡ told (env_of e) (set_of r1.judged.must.signals)
+    → IsBegun p (part_at at (at.cell + at.traps + 3)) go e m0 m1 r1 → IsBegun q (part_at at r1.past) go f m1 m2 r2
     → IsPaired max_codes r1.judged r2.judged own → IsLeft at.cell at.traps own r2.past m2 new r
     → IsBegun (Par' a p b q) at gate e old new r
 unfolding IsBegun
-par_begun at a p b q gate go e old m0 m1 m2 new r1 r2 r own learns go_is first second pair is_left =
+par_begun at a p b q gate go e f old m0 m1 m2 new r1 r2 r own learns go_is f_is first second pair is_left =
     let main = at.main in
     let d = at.cell + at.traps + 3 in
     let E = env_of e in
     let s0 = cell_at old in
-    let w = two_swept main main p q d at.traps (swept main p E go) (swept main q E go) old m0 m1 m2 r1 r2
+    let w = two_swept main main p q d at.traps (swept main p E go) (swept main q (env_of f) go) old m0 m1 m2 r1 r2
     (λ i l u. learns.later i (omega arith)) first second in
+    let X = sheet_in s0 main p d at.traps in
+    let Y = sheet_in s0 main q (d + sheet_size main p at.traps) at.traps in
+    let one = w.first ∙ ap (λ (z : Status). swept main p E z X) go_is in
+    let F = told E (emits is_sure main p (swept main p E (cell_at m0 at.cell) X)) in
+    let inside : env_of f ≡ F = inside_is main p E f _ _ r1.judged w.first_found one f_is in
     node_is_swept main (Par' a p b q) at.cell at.traps (swept_parts main (Par' a p b q) E)
     (λ U. (gates main (Par' a p b q) gate E U).cells) gate old m0 m2 new own r2.past r learns
-    (two (w.first ∙ ap (λ (z : Status). swept main p E z (sheet_in s0 main p d at.traps)) go_is)
-    (w.second ∙ ap (λ (z : Status). swept main q E z (sheet_in s0 main q (d + sheet_size main p at.traps) at.traps))
-    go_is))
+    (two one
+    (w.second ∙ (ap (λ (z : Env). swept main q z go Y) inside ∙ ap (λ (z : Status). swept main q F z Y) go_is)))
     (widen _ _ _ _ m0 m2 (omega arith) (omega arith) w.changes)
     (paired max_codes _ _ _ _ _ _ _ _ r1.judged r2.judged own w.first_found w.second_found pair) is_left
     (let x = w.past in omega arith)

@@ -32,7 +32,7 @@ size_least main (Par' a p b q) t = omega arith
 size_least main (Trap' a p) t = omega arith
 size_least main (Binder' s a p) t = omega arith
 
-and_same : (b x y : Bool) → (b ≡ true → x ≡ y) → (b && x) ≡ (b && y)
+pub and_same : (b x y : Bool) → (b ≡ true → x ≡ y) → (b && x) ≡ (b && y)
 and_same true x y h = h refl
 and_same false x y h = refl
 

@@ -10,7 +10,10 @@ mod Rounds
 mod Exchanging
 mod OpenTables
 mod Limits
+mod FullTables
 mod Settling
 mod AllDecided
 mod Outcomes
 mod Collecting
+mod IdleSheets
+mod Hearing

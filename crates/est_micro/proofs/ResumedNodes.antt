@@ -18,20 +18,20 @@ use Rattle.est_meaning.specs.declared.status.Status.{Status}
 use Rattle.est_meaning.specs.declared.status.Status.TheVariants.{Absent}
 use Rattle.est_cells.proofs.ValuesAreMeant.{two}
 use Rattle.est_cells.specs.Gates.{ends, emitted_status, live_gates, then_codes, sure_code, may_code}
-use Rattle.est_cells.specs.Tables.{Sheet, sheet_size}
+use Rattle.est_cells.specs.Tables.{Sheet, emits, is_sure, sheet_size}
 use Rattle.est_net.specs.Cells.{cell_at, learned, Learns}
 use Rattle.est_net.specs.Layout.{sheet_in}
 use Rattle.est_rounds.specs.Views.{env_of, set_of}
 use Rattle.est_rounds.specs.declared.acts.Judgement.{Judgement}
 use Rattle.est_rounds.specs.declared.signal_set.Env.{Env as Known}
-use Rattle.est_micro.specs.Sweeps.{swept, live_swept_parts, live_swept}
+use Rattle.est_micro.specs.Sweeps.{swept, live_swept_parts, live_swept, told}
 use Rattle.est_micro.specs.Views.{IsJudged, IsLeft, IsPaired, IsSwept, IsBegun, IsResumed, IsChosen}
 use Rattle.est_micro.specs.declared.cells.Found.{Found}
 use Rattle.est_micro.specs.declared.cells.Place.{Place}
 use Rattle.est_micro.proofs.Frames.{scoped}
 use Rattle.est_micro.proofs.Nodes.{one_swept, two_swept, node_is_swept, ends_found}
 use Rattle.est_micro.proofs.BegunNodes.{widen, nothing_changes, paired, part_at, IsTrapped, IsHidden, local_swept}
-use Rattle.est_micro.proofs.BegunNodes.{hidden_found}
+use Rattle.est_micro.proofs.BegunNodes.{hidden_found, inside_is}
 
 flip : {A : Type 0} (b : Bool) (x y : A) → cond (not b) x y ≡ cond b y x
 flip true x y = refl
@@ -87,16 +87,17 @@ present_resumed at t a p b q pauses run asked g1 g2 o go on e old m0 m1 m2 new r
     (let x = w.past in omega arith)
 
 pub seq_resumed : (at : Place) (a : _) (p : Statement) (b : _) (q : Statement) (pauses : PauseSet)
-    (run later go : Status) (on : Bool) (e : Known) (old m0 m1 m2 new : List Status) (r1 r2 r : Found) (own : Judgement)
+    (run later go : Status) (on : Bool) (e f : Known) (old m0 m1 m2 new : List Status) (r1 r2 r : Found) (own : Judgement)
     → on ≡ is_live p (pauses_of pauses) → Learns at.cell Absent old m0 → go ≡ cell_at m0 at.cell
     → later ≡ verdict (codes_of r1.judged.must.codes 0) (codes_of r1.judged.can.codes 0)
+    → env_of f ≡ told (env_of e) (set_of r1.judged.must.signals)
     → IsChosen p (part_at at (at.cell + at.traps + 3)) pauses on go run e m0 m1 r1
-    → IsChosen q (part_at at r1.past) pauses (not on) later run e m1 m2 r2
+    → IsChosen q (part_at at r1.past) pauses (not on) later run f m1 m2 r2
     → IsPaired then_codes r1.judged r2.judged own → IsLeft at.cell at.traps own r2.past m2 new r
     → IsResumed (Seq' a p b q) at pauses run e old new r
 unfolding IsResumed
-seq_resumed at a p b q pauses run later go on e old m0 m1 m2 new r1 r2 r own on_is learns go_is later_is first second
-    pair is_left =
+seq_resumed at a p b q pauses run later go on e f old m0 m1 m2 new r1 r2 r own on_is learns go_is later_is f_is first
+    second pair is_left =
     let c = at.cell in
     let n = at.traps in
     let d = c + n + 3 in
@@ -105,18 +106,23 @@ seq_resumed at a p b q pauses run later go on e old m0 m1 m2 new r1 r2 r own on_
     let X = sheet_in (cell_at old) true p d n in
     let Y = sheet_in (cell_at old) true q (d + sheet_size true p n) n in
     let w = two_swept true true p q d n (λ T. cond on (live_swept p bits run E T) (swept true p E go T))
-    (λ T. cond (not on) (live_swept q bits run E T) (swept true q E later T)) old m0 m1 m2 r1 r2
+    (λ T. cond (not on) (live_swept q bits run (env_of f) T) (swept true q (env_of f) later T)) old m0 m1 m2 r1 r2
     (λ i l u. learns.later i (omega arith)) first second in
     let one = w.first ∙ (ap (λ (z : Bool). cond z (live_swept p bits run E X) (swept true p E go X)) on_is
     ∙ ap (λ (z : Status). cond (is_live p bits) (live_swept p bits run E X) (swept true p E z X)) go_is) in
+    let F = told E (emits is_sure true p
+    (cond (is_live p bits) (live_swept p bits run E X) (swept true p E (cell_at m0 c) X))) in
+    let inside : env_of f ≡ F = inside_is true p E f _ _ r1.judged w.first_found one f_is in
     let k : later ≡ ends (cond (is_live p bits) (live_swept p bits run E X) (swept true p E (cell_at m0 c) X)).cells
     = ends_found true p (sheet_in (cell_at m2) true p d n) later r1.judged w.first_found later_is
     ∙ ap (λ (T : Sheet true p). ends T.cells) one in
     node_is_swept true (Seq' a p b q) c n (live_swept_parts (Seq' a p b q) bits run E)
     (λ U. (live_gates (Seq' a p b q) bits run E U).cells) Absent old m0 m2 new own r2.past r learns
-    (two one (w.second ∙ (flip on (live_swept q bits run E Y) (swept true q E later Y)
-    ∙ (ap (λ (z : Bool). cond z (swept true q E later Y) (live_swept q bits run E Y)) on_is
-    ∙ ap (λ (z : Status). cond (is_live p bits) (swept true q E z Y) (live_swept q bits run E Y)) k))))
+    (two one (w.second
+    ∙ (ap (λ (z : Env). cond (not on) (live_swept q bits run z Y) (swept true q z later Y)) inside
+    ∙ (flip on (live_swept q bits run F Y) (swept true q F later Y)
+    ∙ (ap (λ (z : Bool). cond z (swept true q F later Y) (live_swept q bits run F Y)) on_is
+    ∙ ap (λ (z : Status). cond (is_live p bits) (swept true q F z Y) (live_swept q bits run F Y)) k)))))
     (widen _ _ _ _ m0 m2 (omega arith) (omega arith) w.changes)
     (paired then_codes _ _ _ _ _ _ _ _ r1.judged r2.judged own w.first_found w.second_found pair) is_left
     (let x = w.past in omega arith)
@@ -139,18 +145,19 @@ side_found on live run a b s u x j e h l = record {
 }
 
 pub par_resumed : (at : Place) (a : _) (p : Statement) (b : _) (q : Statement) (pauses : PauseSet)
-    (run go : Status) (on1 on2 : Bool) (e : Known) (old m0 m1 m2 new : List Status) (r1 r2 r : Found)
+    (run go : Status) (on1 on2 : Bool) (e f : Known) (old m0 m1 m2 new : List Status) (r1 r2 r : Found)
     (x y own : Judgement)
     → on1 ≡ is_live p (pauses_of pauses) → on2 ≡ is_live q (pauses_of pauses) → Learns at.cell Absent old m0
     → go ≡ cell_at m0 at.cell
     → IsChosen p (part_at at (at.cell + at.traps + 3)) pauses on1 go run e m0 m1 r1
-    → IsChosen q (part_at at r1.past) pauses on2 go run e m1 m2 r2
+    → env_of f ≡ told (env_of e) (set_of r1.judged.must.signals)
+    → IsChosen q (part_at at r1.past) pauses on2 go run f m1 m2 r2
     → IsSide on1 run r1.judged x → IsSide on2 run r2.judged y
     → IsPaired max_codes x y own → IsLeft at.cell at.traps own r2.past m2 new r
     → IsResumed (Par' a p b q) at pauses run e old new r
 unfolding IsResumed
-par_resumed at a p b q pauses run go on1 on2 e old m0 m1 m2 new r1 r2 r x y own on1_is on2_is learns go_is first second
-    left right pair is_left =
+par_resumed at a p b q pauses run go on1 on2 e f old m0 m1 m2 new r1 r2 r x y own on1_is on2_is learns go_is first f_is
+    second left right pair is_left =
     let c = at.cell in
     let n = at.traps in
     let d = c + n + 3 in
@@ -159,14 +166,19 @@ par_resumed at a p b q pauses run go on1 on2 e old m0 m1 m2 new r1 r2 r x y own 
     let X = sheet_in (cell_at old) true p d n in
     let Y = sheet_in (cell_at old) true q (d + sheet_size true p n) n in
     let w = two_swept true true p q d n (λ T. cond on1 (live_swept p bits run E T) (swept true p E go T))
-    (λ T. cond on2 (live_swept q bits run E T) (swept true q E go T)) old m0 m1 m2 r1 r2
+    (λ T. cond on2 (live_swept q bits run (env_of f) T) (swept true q (env_of f) go T)) old m0 m1 m2 r1 r2
     (λ i l u. learns.later i (omega arith)) first second in
+    let one = w.first ∙ (ap (λ (z : Bool). cond z (live_swept p bits run E X) (swept true p E go X)) on1_is
+    ∙ ap (λ (z : Status). cond (is_live p bits) (live_swept p bits run E X) (swept true p E z X)) go_is) in
+    let F = told E (emits is_sure true p
+    (cond (is_live p bits) (live_swept p bits run E X) (swept true p E (cell_at m0 c) X))) in
+    let inside : env_of f ≡ F = inside_is true p E f _ _ r1.judged w.first_found one f_is in
     node_is_swept true (Par' a p b q) c n (live_swept_parts (Par' a p b q) bits run E)
     (λ U. (live_gates (Par' a p b q) bits run E U).cells) Absent old m0 m2 new own r2.past r learns
-    (two (w.first ∙ (ap (λ (z : Bool). cond z (live_swept p bits run E X) (swept true p E go X)) on1_is
-    ∙ ap (λ (z : Status). cond (is_live p bits) (live_swept p bits run E X) (swept true p E z X)) go_is))
-    (w.second ∙ (ap (λ (z : Bool). cond z (live_swept q bits run E Y) (swept true q E go Y)) on2_is
-    ∙ ap (λ (z : Status). cond (is_live q bits) (live_swept q bits run E Y) (swept true q E z Y)) go_is)))
+    (two one
+    (w.second ∙ (ap (λ (z : Env). cond on2 (live_swept q bits run z Y) (swept true q z go Y)) inside
+    ∙ (ap (λ (z : Bool). cond z (live_swept q bits run F Y) (swept true q F go Y)) on2_is
+    ∙ ap (λ (z : Status). cond (is_live q bits) (live_swept q bits run F Y) (swept true q F z Y)) go_is))))
     (widen _ _ _ _ m0 m2 (omega arith) (omega arith) w.changes)
     (paired max_codes _ _ _ _ _ _ _ _ x y own
     (side_found on1 (is_live p bits) run _ _ _ _ r1.judged x on1_is w.first_found left)
@@ -217,15 +229,16 @@ suspend_resumed at t a p pauses run asked o inside stays e old m0 m1 new r1 r he
     })
     is_left (let x = w.past in omega arith)
 
-pub loop_resumed : (at : Place) (a : _) (p : Statement) (pauses : PauseSet) (run later : Status) (e : Known)
+pub loop_resumed : (at : Place) (a : _) (p : Statement) (pauses : PauseSet) (run later : Status) (e f : Known)
     (old m0 m1 m2 new : List Status) (r1 r2 r : Found) (own : Judgement) → Learns at.cell Absent old m0
     → later ≡ verdict (codes_of r1.judged.must.codes 0) (codes_of r1.judged.can.codes 0)
     → IsResumed p (part_at at (at.cell + at.traps + 3)) pauses run e m0 m1 r1
-    → IsBegun p (record { main = false; cell = r1.past; traps = at.traps }) later e m1 m2 r2
+    → env_of f ≡ told (env_of e) (set_of r1.judged.must.signals)
+    → IsBegun p (record { main = false; cell = r1.past; traps = at.traps }) later f m1 m2 r2
     → IsPaired then_codes r1.judged r2.judged own → IsLeft at.cell at.traps own r2.past m2 new r
     → IsResumed (Loop' a p) at pauses run e old new r
 unfolding IsBegun IsResumed
-loop_resumed at a p pauses run later e old m0 m1 m2 new r1 r2 r own learns later_is body restart pair is_left =
+loop_resumed at a p pauses run later e f old m0 m1 m2 new r1 r2 r own learns later_is body f_is restart pair is_left =
     let c = at.cell in
     let n = at.traps in
     let d = c + n + 3 in
@@ -233,14 +246,17 @@ loop_resumed at a p pauses run later e old m0 m1 m2 new r1 r2 r own learns later
     let bits = pauses_of pauses in
     let X = sheet_in (cell_at old) true p d n in
     let Y = sheet_in (cell_at old) false p (d + sheet_size true p n) n in
-    let w = two_swept true false p p d n (live_swept p bits run E) (swept false p E later) old m0 m1 m2 r1 r2
+    let w = two_swept true false p p d n (live_swept p bits run E) (swept false p (env_of f) later) old m0 m1 m2 r1 r2
     (λ i l u. learns.later i (omega arith)) body restart in
+    let F = told E (emits is_sure true p (live_swept p bits run E X)) in
+    let inside : env_of f ≡ F = inside_is true p E f _ _ r1.judged w.first_found w.first f_is in
     let k : later ≡ ends (live_swept p bits run E X).cells
     = ends_found true p (sheet_in (cell_at m2) true p d n) later r1.judged w.first_found later_is
     ∙ ap (λ (T : Sheet true p). ends T.cells) w.first in
     node_is_swept true (Loop' a p) c n (live_swept_parts (Loop' a p) bits run E)
     (λ U. (live_gates (Loop' a p) bits run E U).cells) Absent old m0 m2 new own r2.past r learns
-    (two w.first (w.second ∙ ap (λ (z : Status). swept false p E z Y) k))
+    (two w.first (w.second
+    ∙ (ap (λ (z : Env). swept false p z later Y) inside ∙ ap (λ (z : Status). swept false p F z Y) k)))
     (widen _ _ _ _ m0 m2 (omega arith) (omega arith) w.changes)
     (paired then_codes _ _ _ _ _ _ _ _ r1.judged r2.judged own w.first_found w.second_found pair) is_left
     (let x = w.past in omega arith)

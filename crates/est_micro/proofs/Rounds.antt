@@ -1,5 +1,5 @@
 -- What a round decides, the meaning decides so; where it changes nothing, nothing more can be decided.
-use Rattle.std.specs.Prelude.{◌≡◌, ◌<◌, ◌+◌, ◌⊎◌, ℕ, zero, suc, Bool, true, false, not, ◌&&◌, cond, List, length}
+use Rattle.std.specs.Prelude.{◌≡◌, ◌≢◌, ◌<◌, ◌+◌, ◌⊎◌, ℕ, zero, suc, Bool, true, false, not, ◌&&◌, cond, List, length}
 use Rattle.std.proofs.Common.{refl, ap, sym, ◌∙◌, arith, inl, inr, subst}
 use Rattle.est_kernel.specs.Bits.{bits}
 use Rattle.est_kernel.specs.Interfaces.{emittable}
@@ -11,13 +11,14 @@ use Rattle.est_kernel.specs.declared.state.State.TheVariants.{Fresh, Done, Pause
 use Rattle.est_kernel.specs.declared.statement.Statement.{Statement}
 use Rattle.est_meaning.specs.Knowledge.{IsBelow, KnowsLess}
 use Rattle.est_meaning.specs.Laws.{IsWithinPlaces}
+use Rattle.est_meaning.specs.MustCan.{must, can, sure}
 use Rattle.est_meaning.specs.Rounds.{JudgedSignals, judged_signals, first_env, round, env_after, last_env, how_many}
 use Rattle.est_meaning.specs.Signals.{Signals}
 use Rattle.est_meaning.specs.States.{state_term}
 use Rattle.est_meaning.specs.Status.{Env, verdict}
 use Rattle.est_meaning.specs.declared.status.Status.{Status}
-use Rattle.est_meaning.specs.declared.status.Status.TheVariants.{Present, Absent}
-use Rattle.est_cells.proofs.WholeTable.{table_sound}
+use Rattle.est_meaning.specs.declared.status.Status.TheVariants.{Present, Absent, Unknown}
+use Rattle.est_cells.proofs.WholeTable.{at_rest, judged_round, sheet_sure, table_sound}
 use Rattle.est_cells.specs.Tables.{Sheet, Below, emits, is_sure, is_possible}
 use Rattle.est_cells.specs.Whole.{Table, TableBelow, known, sheet_gates, sheet_meaning, table_gates, table_meaning}
 use Rattle.est_net.specs.Cells.{cell_at, learned}
@@ -25,6 +26,7 @@ use Rattle.est_net.specs.Layout.{output_count, rank, sheet_in}
 use Rattle.est_rounds.specs.Views.{env_of, set_of}
 use Rattle.est_rounds.specs.declared.signal_set.Env.{Env as Known}
 use Rattle.est_rounds.specs.declared.signal_set.SignalSet.{SignalSet}
+use Rattle.est_micro.specs.Laws.{Heard, Seen}
 use Rattle.est_micro.specs.Runs.{sheet_swept, output_cells, output_gate, IsRound, table_of}
 use Rattle.est_micro.specs.declared.cells.Found.{Found}
 use Rattle.est_micro.proofs.Frames.{sheet_same}
@@ -33,16 +35,19 @@ use Rattle.est_micro.proofs.SweepsComeToRest.{swept_quiet, live_swept_quiet}
 use Rattle.est_micro.proofs.Told.{learned_below, nothing_learnt}
 
 sheet_swept_sound : (s : Statement) (x : State) (e l : Env) (T : Sheet true s) → KnowsLess l e
+    → Heard (emits is_sure true s (sheet_meaning s x e)) e l
     → Below true s T (sheet_meaning s x e) → Below true s (sheet_swept s x l T) (sheet_meaning s x e)
-sheet_swept_sound s Fresh e l T k c = swept_sound true s Present Present e l T (inr refl) k c
-sheet_swept_sound s Done e l T k c = swept_sound true s Absent Absent e l T (inr refl) k c
-sheet_swept_sound s (Paused p) e l T k c = live_swept_sound s (pauses_of p) Present Present e l T (inr refl) k c
+sheet_swept_sound s Fresh e l T k u c = swept_sound true s Present Present e l T (inr refl) k u c
+sheet_swept_sound s Done e l T k u c = swept_sound true s Absent Absent e l T (inr refl) k u c
+sheet_swept_sound s (Paused p) e l T k u c = live_swept_sound s (pauses_of p) Present Present e l T (inr refl) k u c
 
 sheet_swept_quiet : (s : Statement) (x : State) (e l : Env) (T : Sheet true s) → KnowsLess l e
+    → Seen (emits is_sure true s T) l
     → Below true s T (sheet_meaning s x e) → sheet_swept s x l T ≡ T → Below true s (sheet_gates s x l T) T
-sheet_swept_quiet s Fresh e l T k c q = swept_quiet true s Present Present e l T (inr refl) k c q
-sheet_swept_quiet s Done e l T k c q = swept_quiet true s Absent Absent e l T (inr refl) k c q
-sheet_swept_quiet s (Paused p) e l T k c q = live_swept_quiet s (pauses_of p) Present Present e l T (inr refl) k c q
+sheet_swept_quiet s Fresh e l T k z c q = swept_quiet true s Present Present e l T (inr refl) k z c q
+sheet_swept_quiet s Done e l T k z c q = swept_quiet true s Absent Absent e l T (inr refl) k z c q
+sheet_swept_quiet s (Paused p) e l T k z c q =
+    live_swept_quiet s (pauses_of p) Present Present e l T (inr refl) k z c q
 
 -- what the cells of the signals say is below the last round, if each is
 other_first : (j : JudgedSignals) (inputs : ℕ → Bool) (n : ℕ) → j.has n ≡ false
@@ -91,6 +96,53 @@ table_known j inputs s x T c =
     let t = state_term s x in
     known_below j inputs T.outputs (last_env j inputs t) c.outputs (offered (how_many j.has j.places) j inputs t)
     (unbound (how_many j.has j.places) j inputs t)
+
+-- what is surely emitted is present in the last round, where the cells leave it open
+last_heard : (j : JudgedSignals) → IsWithinPlaces j → (inputs : ℕ → Bool) (outputs : ℕ → Status) (s : Statement)
+    (x : State)
+    → let e = last_env j inputs (state_term s x) in
+    Heard (emits is_sure true s (sheet_meaning s x e)) e (known j inputs outputs)
+unfolding known
+last_heard j w inputs outputs s x (outer n) h o = go (j.has n) refl o
+  where
+    e : Env
+    e = last_env j inputs (state_term s x)
+
+    decided : (b : Bool) → verdict b false ≡ Unknown → ⊥
+    decided true z = cc
+    decided false z = cc
+
+    go : (b : Bool) → j.has n ≡ b → cond b (outputs n) (verdict (inputs n) false) ≡ Unknown → e (outer n) ≡ Present
+    go true i z =
+        let t = state_term s x in
+        let m : (must t e).signals (outer n) ≡ true
+        = sym (ap (λ (f : Signals). f (outer n)) (sheet_sure s x e)) ∙ h in
+        sym (ap (λ (f : Env). f (outer n)) (at_rest j w inputs t))
+        ∙ (judged_round j t e n i
+        ∙ ap (λ (b : Bool). verdict b ((can t sure e).signals (outer n))) m)
+    go false i z = absurd (decided (inputs n) z)
+last_heard j w inputs outputs s x (inner n) h o = let z : Absent ≡ Unknown = o in cc
+
+-- what is surely emitted is in no doubt, where no cell of a signal learns more
+outputs_seen : (j : JudgedSignals) (inputs : ℕ → Bool) (outputs : ℕ → Status) (surely possible : Signals)
+    → ((n : ℕ) → j.has n ≡ true → learned (outputs n) (verdict (surely (outer n)) (possible (outer n))) ≡ outputs n)
+    → Seen surely (known j inputs outputs)
+unfolding known
+outputs_seen j inputs outputs surely possible f (outer n) h = go (j.has n) refl
+  where
+    decided : (b : Bool) → verdict b false ≢ Unknown
+    decided true z = cc
+    decided false z = cc
+
+    open_not : (v w : Status) → w ≡ Present → learned v w ≡ v → v ≢ Unknown
+    open_not Present w p q = λ z. cc
+    open_not Absent w p q = λ z. cc
+    open_not Unknown w p q = let c : Present ≡ Unknown = sym p ∙ q in cc
+
+    go : (b : Bool) → j.has n ≡ b → cond b (outputs n) (verdict (inputs n) false) ≢ Unknown
+    go true i = open_not (outputs n) _ (ap (λ (b : Bool). verdict b (possible (outer n))) h) (f n i)
+    go false i = decided (inputs n)
+outputs_seen j inputs outputs surely possible f (inner n) h = λ z. cc
 
 -- where a signal is judged, it may be emitted, was not offered, and is one of the interface
 pub not_input : (i : List Declaration) (inputs : ℕ → Bool) (n : ℕ) → (emittable i n && not (inputs n)) ≡ true
@@ -190,7 +242,9 @@ round_sound i inputs s x e f old new r w k h c =
     let swept : Below true s S (sheet_meaning s x last) =
     subst (λ (z : Sheet true s). Below true s z (sheet_meaning s x last))
     (sym h.sweep.sheet)
-    (sheet_swept_sound s x last (env_of e) (sheet_in (cell_at old) true s (output_count i) 0) less c.sheet) in
+    (sheet_swept_sound s x last (env_of e) (sheet_in (cell_at old) true s (output_count i) 0) less
+    (subst (λ (z : Env). Heard (emits is_sure true s (sheet_meaning s x last)) last z) (sym k)
+    (last_heard j w inputs (output_cells i old) s x)) c.sheet) in
     let T : Table s = record { outputs = output_cells i old; sheet = S } in
     let t : TableBelow j s T (table_meaning j inputs s x) = record { outputs = c.outputs; sheet = swept } in
     let g = table_sound j w inputs s x T t in
@@ -220,15 +274,16 @@ round_quiet i inputs s x e f old new r w k h c mid_is new_is =
     let rest : sheet_swept s x (known j inputs (output_cells i old)) O ≡ O
     = ap (λ (z : Env). sheet_swept s x z O) (sym k) ∙ (sym h.sweep.sheet ∙ same) in
     let g = table_sound j w inputs s x (table_of i s old) c in
+    let told : (n : ℕ) → j.has n ≡ true → learned (output_cells i old n)
+    (verdict (emits is_sure true s O (outer n)) (emits is_possible true s O (outer n))) ≡ output_cells i old n
+    = λ n l. ap (λ (z : Sheet true s). learned (output_cells i old n)
+    (verdict (emits is_sure true s z (outer n)) (emits is_possible true s z (outer n)))) (sym same)
+    ∙ (sym (told_cell i inputs s x e f old new r h n (w n l) l)
+    ∙ ap (λ (z : List Status). output_cells i z n) new_is) in
     record {
       outputs = λ n l.
-          let told : learned (output_cells i old n)
-          (verdict (emits is_sure true s O (outer n)) (emits is_possible true s O (outer n)))
-          ≡ output_cells i old n
-          = ap (λ (z : Sheet true s). learned (output_cells i old n)
-          (verdict (emits is_sure true s z (outer n)) (emits is_possible true s z (outer n)))) (sym same)
-          ∙ (sym (told_cell i inputs s x e f old new r h n (w n l) l)
-          ∙ ap (λ (z : List Status). output_cells i z n) new_is) in
-          nothing_learnt (output_cells i old n) _ (last (outer n)) (c.outputs n l) (g.outputs n l) told;
-      sheet = sheet_swept_quiet s x last (known j inputs (output_cells i old)) O less c.sheet rest;
+          nothing_learnt (output_cells i old n) _ (last (outer n)) (c.outputs n l) (g.outputs n l) (told n l);
+      sheet = sheet_swept_quiet s x last (known j inputs (output_cells i old)) O less
+          (outputs_seen j inputs (output_cells i old) (emits is_sure true s O) (emits is_possible true s O) told)
+          c.sheet rest;
     }

@@ -1,7 +1,6 @@
 -- Rounds until nothing changes.
-use Rattle.std.specs.Prelude.{◌≡◌, ◌≤◌, ◌+◌, ℕ, Bool, true, false, List, [], ◌∷◌, length, replicate}
-use Rattle.std.proofs.Common.{refl, ap, sym, ◌∙◌, arith, inl, subst}
-use Rattle.std.proofs.lemmas.List.Sums.{sum_by-cons}
+use Rattle.std.specs.Prelude.{◌≡◌, ◌≤◌, ◌⊎◌, ℕ, Bool, true, false, List, length, replicate}
+use Rattle.std.proofs.Common.{refl, ap, sym, ◌∙◌, arith, inl, inr, subst}
 use Rattle.est_kernel.specs.Bits.{bits}
 use Rattle.est_kernel.specs.Interfaces.{emittable}
 use Rattle.est_kernel.specs.View.{term_of}
@@ -22,7 +21,7 @@ use Rattle.est_cells.proofs.OpenTable.{opened_begun, opened_resumed}
 use Rattle.est_cells.specs.Opening.{open_sheet}
 use Rattle.est_cells.specs.Tables.{Sheet, Below}
 use Rattle.est_cells.specs.Whole.{TableBelow, known, sheet_meaning, table_gates, table_meaning}
-use Rattle.est_net.specs.Cells.{cell_at, decided, learned, steps_of}
+use Rattle.est_net.specs.Cells.{cell_at, decided, learned}
 use Rattle.est_net.specs.Layout.{cell_count, output_count, rank, sheet_in}
 use Rattle.est_rounds.specs.Views.{env_of}
 use Rattle.est_rounds.specs.declared.signal_set.Env.{Env as Known}
@@ -31,6 +30,7 @@ use Rattle.est_micro.specs.declared.cells.Found.{Found}
 use Rattle.est_micro.specs.declared.run.Settled.{Settled}
 use Rattle.est_micro.proofs.Exchanging.{emittable_within}
 use Rattle.est_micro.proofs.Frames.{sheet_same}
+use Rattle.est_micro.proofs.FullTables.{full_closed}
 use Rattle.est_micro.proofs.Nodes.{JudgedOf}
 use Rattle.est_micro.proofs.OpenTables.{all_open, sheet_open, open_there}
 use Rattle.est_micro.proofs.Rounds.{before_round, round_sheet, round_sound, round_quiet, rank_within, may_be, not_input}
@@ -38,19 +38,6 @@ use Rattle.est_micro.proofs.Rounds.{gate_is}
 
 pub within_places : (i : List Declaration) (inputs : ℕ → Bool) → IsWithinPlaces (judged_signals i inputs)
 within_places i inputs n h = emittable_within i n (may_be i inputs n h)
-
-step_small : (v : Status) → steps_of v ≤ 1
-step_small Present = omega arith
-step_small Absent = omega arith
-step_small Unknown = omega arith
-
-pub decided_within : (cells : List Status) → decided cells ≤ length cells
-decided_within [] = omega arith
-decided_within (x ∷ xs) =
-    let k = decided_within xs in
-    let o = step_small x in
-    let e : decided (x ∷ xs) ≡ steps_of x + decided xs = sum_by-cons steps_of x xs in
-    omega arith
 
 -- what holds before a round
 pub record Ready (k : Kernel) (x : State) (inputs : ℕ → Bool) (cells : List Status) (env : Known) : Type 0 where
@@ -88,7 +75,7 @@ stay_true i inputs s x e f old new r h was n l o p =
 
 pub round_made : (k : Kernel) (x : State) (inputs : ℕ → Bool) (e f : Known) (old new : List Status) (r : Found)
     (before now : ℕ)
-    → Ready k x inputs old e → IsRound k.interface inputs k.root x e f old new r → before ≡ decided old
+    → Ready k x inputs old e → IsRound k.interface inputs k.root x e f old new r → before ≤ decided old
     → now ≡ decided new
     → Settling k x inputs before now new r f
 round_made k x inputs e f old new r before now ready h before_is now_is =
@@ -119,11 +106,16 @@ round_made k x inputs e f old new r before now ready h before_is now_is =
     }
 
 pub settled : (k : Kernel) (x : State) (inputs : ℕ → Bool) (before now : ℕ) (cells : List Status) (r : Settled)
-    → Settling k x inputs before now cells r.found r.env → now ≡ before → IsSettled k x inputs cells r
+    → Settling k x inputs before now cells r.found r.env → (now ≡ before) ⊎ (now ≡ length cells)
+    → IsSettled k x inputs cells r
 settled k x inputs before now cells r h e = record {
   size = h.ready.size;
   sound = h.ready.sound;
-  closed = h.rest e;
+  closed = elim e [
+    | inl quiet ↦ h.rest quiet
+    | inr all ↦ full_closed k x inputs cells (within_places k.interface inputs) h.ready.size
+        (sym h.counted ∙ all) h.ready.sound
+  ];
   found = h.says;
   knows = h.ready.knows;
   offered = h.ready.offered;

@@ -4,7 +4,7 @@ use Rattle.std.specs.Prelude.{List, length}
 use Rattle.std.proofs.Common.{refl, ap, sym, ◌∙◌, arith, inl, inr, subst}
 use Rattle.std.proofs.lemmas.Bool.{ltb-true, lt-ltb, eq-eqb, eqb-true}
 use mathlib.Core.Path.{fun_ext}
-use Rattle.est_kernel.specs.Codes.{Codes, code, either_code}
+use Rattle.est_kernel.specs.Codes.{Codes, code, either_code, no_codes}
 use Rattle.est_kernel.specs.CodeViews.{codes_of}
 use Rattle.est_meaning.specs.Status.{verdict}
 use Rattle.est_meaning.specs.declared.status.Status.{Status}
@@ -15,6 +15,7 @@ use Rattle.est_net.specs.Layout.{sure_codes, possible_codes}
 use Rattle.est_rounds.specs.declared.acts.Judgement.{Judgement}
 use Rattle.est_micro.specs.Sweeps.{sure_told, may_told}
 use Rattle.est_micro.specs.Views.{AreTold}
+use Rattle.est_micro.proofs.Frames.{and_same}
 
 -- the first n code cells from place c on are told
 pub record ToldSoFar (c n : ℕ) (j : Judgement) (old new : List Status) : Type 0 where
@@ -166,3 +167,40 @@ pub read_possible_done : (codes : Codes) (f : ℕ → Status) (c n : ℕ) → Re
     → codes ≡ possible_codes f c n
 unfolding possible_codes
 read_possible_done codes f c n h = fun_ext h
+
+-- the first n code cells from place c on are told, and read
+pub record ToldAndRead (c n : ℕ) (j : Judgement) (old new : List Status) (sure possible : Codes) : Type 0 where
+  pub told : ToldSoFar c n j old new
+  pub sure_read : ReadSoFar sure (λ k. is_sure (cell_at new (c + k))) n
+  pub possible_read : ReadSoFar possible (λ k. is_possible (cell_at new (c + k))) n
+
+none_there : (codes : Codes) → codes ≡ no_codes → (k : ℕ) → codes k ≡ false
+unfolding no_codes
+none_there codes e k = ap (λ (g : Codes). g k) e
+
+pub nothing_read : (c : ℕ) (j : Judgement) (old : List Status) (sure possible : Codes) → sure ≡ no_codes
+    → possible ≡ no_codes → ToldAndRead c 0 j old old sure possible
+nothing_read c j old sure possible e f = record {
+  told = told_none c j old;
+  sure_read = read_none sure (λ k. is_sure (cell_at old (c + k))) (none_there sure e);
+  possible_read = read_none possible (λ k. is_possible (cell_at old (c + k))) (none_there possible f);
+}
+
+read_same : (codes : Codes) (f g : ℕ → Bool) (n : ℕ) → ReadSoFar codes f n → ((k : ℕ) → k < n → f k ≡ g k)
+    → ReadSoFar codes g n
+read_same codes f g n h s k = h k ∙ and_same (ltb k n) (f k) (g k) (λ b. s k (ltb-true k n b))
+
+pub one_read : (c n : ℕ) (j : Judgement) (old mid new : List Status) (now status : Status) (a b x y : Codes)
+    → ToldAndRead c n j old mid a b → Learns (c + n) now mid new
+    → now ≡ verdict (codes_of j.must.codes n) (codes_of j.can.codes n) → status ≡ cell_at new (c + n)
+    → x n ≡ (a n || is_sure status) → ((k : ℕ) → k ≢ n → x k ≡ a k)
+    → y n ≡ (b n || is_possible status) → ((k : ℕ) → k ≢ n → y k ≡ b k)
+    → ToldAndRead c (n + 1) j old new x y
+one_read c n j old mid new now status a b x y h l v s p q r t = record {
+  told = told_more c n j old mid new now h.told l v;
+  sure_read = read_more a x (λ k. is_sure (cell_at new (c + k))) n (is_sure status)
+      (read_same a _ _ n h.sure_read (λ k m. ap is_sure (sym (l.others (c + k) (omega arith))))) p q (ap is_sure s);
+  possible_read = read_more b y (λ k. is_possible (cell_at new (c + k))) n (is_possible status)
+      (read_same b _ _ n h.possible_read (λ k m. ap is_possible (sym (l.others (c + k) (omega arith))))) r t
+      (ap is_possible s);
+}

@@ -1,5 +1,5 @@
--- One sweep over a sheet, in program order: each cell that is open is told what its gate says then (this project's own
--- form).
+-- One sweep over a sheet, in program order: each cell that is open is told what its gate says then, and a second part is
+-- told what the first surely emits (this project's own form).
 use Rattle.std.specs.Prelude.{ℕ, Bool, true, false, cond}
 use Rattle.est_kernel.specs.Codes.{Codes}
 use Rattle.est_kernel.specs.View.{query_of}
@@ -7,11 +7,12 @@ use Rattle.est_kernel.specs.declared.statement.Statement.{Statement}
 use Rattle.est_kernel.specs.declared.statement.Statement.TheVariants.{Nothing, Pause, Emit, Present', Suspend', Seq'}
 use Rattle.est_kernel.specs.declared.statement.Statement.TheVariants.{Loop', Par', Trap', Exit, Local' as Binder'}
 use Rattle.est_meaning.specs.States.{is_live}
+use Rattle.est_meaning.specs.Signals.{Signals}
 use Rattle.est_meaning.specs.Status.{Env, opposite, and_status, status_of, with_local, verdict}
 use Rattle.est_meaning.specs.declared.status.Status.{Status}
-use Rattle.est_meaning.specs.declared.status.Status.TheVariants.{Absent}
+use Rattle.est_meaning.specs.declared.status.Status.TheVariants.{Present, Absent}
 use Rattle.est_cells.specs.Gates.{ends, emitted_status, gates, live_gates}
-use Rattle.est_cells.specs.Tables.{Cells, Node, Parts, Sheet, map_again, is_sure, is_possible}
+use Rattle.est_cells.specs.Tables.{Cells, Node, Parts, Sheet, emits, map_again, is_sure, is_possible}
 use Rattle.est_net.specs.Cells.{learned}
 
 -- of code cells, m those that are true and n those that aren't false, that are told a, what is surely given, and b,
@@ -36,6 +37,10 @@ left U y = record {
   };
   parts = U.parts;
 }
+
+-- what is known of the signals where those of a set are surely emitted: one that was in doubt is present
+unfoldable pub told : Env → Signals → Env
+told e x n = cond (x n) (learned (e n) Present) (e n)
 
 -- the sheet of a statement that is begun, if at all, by the gate g, after a sweep; f sweeps the parts, by what is in
 -- the go cell
@@ -62,15 +67,16 @@ swept_parts main (Present' t a p b q) e h x =
 swept_parts main (Suspend' t a p) e h x = sweep_by main p (swept_parts main p e) e h x
 swept_parts main (Seq' a p b q) e h x =
     let y = sweep_by main p (swept_parts main p e) e h x.first in
-    record { first = y; second = sweep_by main q (swept_parts main q e) e (ends y.cells) x.second }
+    let f = told e (emits is_sure main p y) in
+    record { first = y; second = sweep_by main q (swept_parts main q f) f (ends y.cells) x.second }
 swept_parts main (Loop' a p) e h x = record {
   first = sweep_by main p (swept_parts main p e) e h x.first;
   second = map_again main (sweep_by false p (swept_parts false p e) e Absent) x.second;
 }
-swept_parts main (Par' a p b q) e h x = record {
-  first = sweep_by main p (swept_parts main p e) e h x.first;
-  second = sweep_by main q (swept_parts main q e) e h x.second;
-}
+swept_parts main (Par' a p b q) e h x =
+    let y = sweep_by main p (swept_parts main p e) e h x.first in
+    let f = told e (emits is_sure main p y) in
+    record { first = y; second = sweep_by main q (swept_parts main q f) f h x.second }
 swept_parts main (Trap' a p) e h x = sweep_by main p (swept_parts main p e) e h x
 swept_parts main (Binder' s a p) e h x =
     let f = with_local e s.index x.status in
@@ -110,20 +116,25 @@ live_swept_parts (Suspend' t a p) bits r e h x =
 live_swept_parts (Seq' a p b q) bits r e h x =
     let y = cond (is_live p bits) (live_sweep_by p (live_swept_parts p bits r e) bits r e x.first)
     (sweep_by true p (swept_parts true p e) e h x.first) in
+    let f = told e (emits is_sure true p y) in
     record {
       first = y;
-      second = cond (is_live p bits) (sweep_by true q (swept_parts true q e) e (ends y.cells) x.second)
-          (live_sweep_by q (live_swept_parts q bits r e) bits r e x.second);
+      second = cond (is_live p bits) (sweep_by true q (swept_parts true q f) f (ends y.cells) x.second)
+          (live_sweep_by q (live_swept_parts q bits r f) bits r f x.second);
     }
 live_swept_parts (Loop' a p) bits r e h x =
     let y = live_sweep_by p (live_swept_parts p bits r e) bits r e x.first in
-    record { first = y; second = sweep_by false p (swept_parts false p e) e (ends y.cells) x.second }
-live_swept_parts (Par' a p b q) bits r e h x = record {
-  first = cond (is_live p bits) (live_sweep_by p (live_swept_parts p bits r e) bits r e x.first)
-      (sweep_by true p (swept_parts true p e) e h x.first);
-  second = cond (is_live q bits) (live_sweep_by q (live_swept_parts q bits r e) bits r e x.second)
-      (sweep_by true q (swept_parts true q e) e h x.second);
-}
+    let f = told e (emits is_sure true p y) in
+    record { first = y; second = sweep_by false p (swept_parts false p f) f (ends y.cells) x.second }
+live_swept_parts (Par' a p b q) bits r e h x =
+    let y = cond (is_live p bits) (live_sweep_by p (live_swept_parts p bits r e) bits r e x.first)
+    (sweep_by true p (swept_parts true p e) e h x.first) in
+    let f = told e (emits is_sure true p y) in
+    record {
+      first = y;
+      second = cond (is_live q bits) (live_sweep_by q (live_swept_parts q bits r f) bits r f x.second)
+          (sweep_by true q (swept_parts true q f) f h x.second);
+    }
 live_swept_parts (Trap' a p) bits r e h x = live_sweep_by p (live_swept_parts p bits r e) bits r e x
 live_swept_parts (Binder' s a p) bits r e h x =
     let f = with_local e s.index x.status in

@@ -10,7 +10,7 @@ use Rattle.est_meaning.specs.declared.status.Status.{Status}
 use Rattle.est_meaning.specs.declared.status.Status.TheVariants.{Absent}
 use Rattle.est_cells.specs.Gates.{gates, live_gates}
 use Rattle.est_cells.specs.Tables.{Cells, Parts, Sheet, sheet_size, emits, is_sure, is_possible}
-use Rattle.est_net.specs.Cells.{cell_at, decided, learned}
+use Rattle.est_net.specs.Cells.{NoneTrue, cell_at, decided, learned}
 use Rattle.est_net.specs.Layout.{sure_codes, possible_codes, sheet_in}
 use Rattle.est_rounds.specs.Views.{set_of, env_of}
 use Rattle.est_rounds.specs.declared.acts.Judgement.{Judgement}
@@ -96,3 +96,10 @@ abbrev pub IsChosen : Statement → Place → PauseSet → Bool → Status → S
 IsChosen p at pauses is_on gate run e old new r =
     IsSwept true p at.cell at.traps
     (λ T. cond is_on (live_swept p (pauses_of pauses) run (env_of e) T) (swept true p (env_of e) gate T)) old new r
+
+-- a statement is not begun, by its go cell and the gate, none of its cells is true, and this is the first place after
+-- them
+pub record IsIdle (s : Statement) (at : Place) (gate : Status) (cells : List Status) (past : ℕ) : Type 0 where
+  pub off : learned (cell_at cells at.cell) gate ≡ Absent
+  pub none : NoneTrue at.cell past cells
+  pub past_is : past ≡ at.cell + sheet_size at.main s at.traps

@@ -19,6 +19,7 @@ ghost use Rattle.est_rounds.specs.Views.{env_of};
 ghost use Rattle.est_micro.specs.Views.{IsBegun};
 
 use crate::cells::{self, Found, Place};
+use crate::idle::past_idle;
 use est_kernel::completion::Completion;
 use est_kernel::statement::{LocalSignal, Signal, Statement};
 use est_meaning::status::Status;
@@ -142,13 +143,14 @@ fn begin_seq(
         traps: at.traps,
     };
     let first = begin(table, place, p, go, env);
+    let inside = cells::told(env, first.judged.must.signals);
     let later = cells::ends(&first.judged);
     let place = Place {
         main: at.main,
         cell: first.past,
         traps: at.traps,
     };
-    let second = begin(table, place, q, later, env);
+    let second = begin(table, place, q, later, &inside);
     let own = cells::followed(&first.judged, &second.judged);
     cells::leave(table, at, &own, second.past)
 }
@@ -232,12 +234,13 @@ fn begin_par(
         traps: at.traps,
     };
     let first = begin(table, place, p, go, env);
+    let inside = cells::told(env, first.judged.must.signals);
     let place = Place {
         main: at.main,
         cell: first.past,
         traps: at.traps,
     };
-    let second = begin(table, place, q, go, env);
+    let second = begin(table, place, q, go, &inside);
     let own = cells::beside(&first.judged, &second.judged);
     cells::leave(table, at, &own, second.past)
 }
@@ -297,9 +300,9 @@ fn begin_local(
     cells::leave(table, at, &own, body.past)
 }
 
-/// Sweeps the cells of a statement that is begun, if at all, by the gate.
+/// Sweeps the cells of a statement that is begun, if at all, by the gate, one after another.
 #[cycle(begin)]
-pub fn begin(table: &mut Table, at: Place, s: &Statement, gate: Status, env: &Env) -> Found
+fn begin_each(table: &mut Table, at: Place, s: &Statement, gate: Status, env: &Env) -> Found
     requires fits { FitsMasks s.now }
     requires within { at.cell + sheet_size at.main s.now at.traps ≤ length table.old.cells.items }
     requires traps { at.traps + trap_depth (term_of s.now) ≤ 62 }
@@ -326,5 +329,23 @@ pub fn begin(table: &mut Table, at: Place, s: &Statement, gate: Status, env: &En
         Statement::Par(p, q) => begin_par(table, at, p, q, gate, env),
         Statement::Trap(p) => begin_trap(table, at, p, gate, env),
         Statement::Local(s, p) => begin_local(table, at, *s, p, gate, env),
+    }
+}
+
+/// Sweeps the cells of a statement that is begun, if at all, by the gate. Where it is not, and none
+/// of them is true, all of them are false at once.
+#[cycle(begin)]
+pub fn begin(table: &mut Table, at: Place, s: &Statement, gate: Status, env: &Env) -> Found
+    requires fits { FitsMasks s.now }
+    requires within { at.cell + sheet_size at.main s.now at.traps ≤ length table.old.cells.items }
+    requires traps { at.traps + trap_depth (term_of s.now) ≤ 62 }
+    ensures { IsBegun s.now at gate env.now table.old.cells.items table.new.cells.items result }
+{
+    match past_idle(table, at, s, gate) {
+        Some(past) => {
+            table.make_false(at.cell, past);
+            cells::nothing(past)
+        }
+        None => begin_each(table, at, s, gate, env),
     }
 }

@@ -1,10 +1,11 @@
 //! The cells of one statement: they are entered, told what is judged of it, and read.
 
-ghost use Rattle.std.specs.Prelude.{◌≡◌, ◌≢◌, ◌<◌, ◌≤◌, ◌+◌, ◌||◌, ℕ, false, length};
+ghost use Rattle.std.specs.Prelude.{◌≡◌, ◌≢◌, ◌<◌, ◌≤◌, ◌+◌, ◌||◌, ◌&&◌, ℕ, false, length};
+ghost use Rattle.est_kernel.specs.Bits.{bits};
 ghost use Rattle.est_kernel.specs.CodeViews.{code_of, codes_of};
 ghost use Rattle.est_kernel.specs.Masks.{HasSignalBit};
 ghost use Rattle.est_kernel.specs.View.{name_of};
-ghost use Rattle.est_kernel.specs.Codes.{either_code, max_codes, codes_out_of_trap};
+ghost use Rattle.est_kernel.specs.Codes.{either_code, max_codes, codes_out_of_trap, no_codes};
 ghost use Rattle.est_kernel.specs.Term.{inner};
 ghost use Rattle.est_meaning.specs.Signals.{no_signals, union, without};
 ghost use Rattle.est_meaning.specs.Status.{verdict};
@@ -12,16 +13,18 @@ ghost use Rattle.est_cells.specs.Gates.{sure_code, may_code, then_codes};
 ghost use Rattle.est_cells.specs.Tables.{if_run, is_sure, is_possible};
 ghost use Rattle.est_net.specs.Cells.{cell_at};
 ghost use Rattle.est_net.specs.Layout.{sure_codes, possible_codes};
-ghost use Rattle.est_rounds.specs.Views.{set_of};
+ghost use Rattle.est_rounds.specs.Views.{env_of, set_of};
+ghost use Rattle.est_micro.specs.Sweeps.{told};
 ghost use Rattle.est_micro.specs.Views.{AreTold, IsJudged, IsLeft, IsPaired};
 
 use est_kernel::code_set::CodeSet;
 use est_kernel::completion::Completion;
+use est_kernel::mask;
 use est_kernel::statement::{LocalSignal, Signal, TrapIndex};
 use est_meaning::status::Status;
 use est_net::table::Table;
 use est_rounds::acts::{Acts, Judgement};
-use est_rounds::signal_set::{self, SignalSet};
+use est_rounds::signal_set::{self, Env, SignalSet};
 
 /// Where the cells of a statement stand.
 #[derive(Clone, Copy)]
@@ -72,17 +75,6 @@ fn verdict_on(judged: &Judgement, code: usize) -> Status
     )
 }
 
-/// Tells `count` code cells what is judged of their codes.
-fn tell(table: &mut Table, cell: usize, count: usize, judged: &Judgement)
-    requires within { cell + count ≤ length table.old.cells.items }
-    requires few { count ≤ 64 }
-    ensures { AreTold cell count judged.now table.old.cells.items table.new.cells.items }
-{
-    for code in 0..count {
-        table.learn(cell + code, verdict_on(judged, code));
-    }
-}
-
 /// The codes with this one, if it is to be with them.
 fn with_code(codes: CodeSet, code: usize, is_in: bool) -> CodeSet
     requires { code < 64 }
@@ -116,30 +108,47 @@ fn may_be_true(status: Status) -> bool
     }
 }
 
-/// The codes whose cells are true.
-fn read_sure(table: &Table, cell: usize, count: usize) -> CodeSet
-    requires within { cell + count ≤ length table.now.cells.items }
-    requires few { count ≤ 64 }
-    ensures { codes_of result ≡ sure_codes (cell_at table.now.cells.items) cell count }
-{
-    let mut codes = CodeSet::empty();
-    for code in 0..count {
-        codes = with_code(codes, code, is_true(table.status(cell + code)));
-    }
-    codes
+/// The codes whose cells are true, and those whose cells aren't false.
+#[derive(Clone, Copy)]
+struct CodesRead {
+    sure: CodeSet,
+    possible: CodeSet,
 }
 
-/// The codes whose cells aren't false.
-fn read_possible(table: &Table, cell: usize, count: usize) -> CodeSet
-    requires within { cell + count ≤ length table.now.cells.items }
-    requires few { count ≤ 64 }
-    ensures { codes_of result ≡ possible_codes (cell_at table.now.cells.items) cell count }
+/// What was read, and one more code as its cell says.
+fn with_cell(read: CodesRead, code: usize, status: Status) -> CodesRead
+    requires { code < 64 }
+    ensures sure { codes_of result.sure code ≡ (codes_of read.sure code || is_sure status) }
+    ensures other_sure { (k : ℕ) → k ≢ code → codes_of result.sure k ≡ codes_of read.sure k }
+    ensures possible { codes_of result.possible code
+        ≡ (codes_of read.possible code || is_possible status) }
+    ensures other_possible { (k : ℕ) → k ≢ code
+        → codes_of result.possible k ≡ codes_of read.possible k }
 {
-    let mut codes = CodeSet::empty();
-    for code in 0..count {
-        codes = with_code(codes, code, may_be_true(table.status(cell + code)));
+    CodesRead {
+        sure: with_code(read.sure, code, is_true(status)),
+        possible: with_code(read.possible, code, may_be_true(status)),
     }
-    codes
+}
+
+/// Tells `count` code cells what is judged of their codes, and reads them.
+fn tell(table: &mut Table, cell: usize, count: usize, judged: &Judgement) -> CodesRead
+    requires within { cell + count ≤ length table.old.cells.items }
+    requires few { count ≤ 64 }
+    ensures told { AreTold cell count judged.now table.old.cells.items table.new.cells.items }
+    ensures sure { codes_of result.sure ≡ sure_codes (cell_at table.new.cells.items) cell count }
+    ensures possible { codes_of result.possible
+        ≡ possible_codes (cell_at table.new.cells.items) cell count }
+{
+    let mut read = CodesRead {
+        sure: CodeSet::empty(),
+        possible: CodeSet::empty(),
+    };
+    for code in 0..count {
+        let status = table.learn(cell + code, verdict_on(judged, code));
+        read = with_cell(read, code, status);
+    }
+    read
 }
 
 /// This code alone, where the statement is run.
@@ -179,6 +188,24 @@ pub fn leaf(run: Status, completion: Completion) -> Judgement
             signals: signal_set::no_signal(),
             codes: possible_of(run, completion),
         },
+    }
+}
+
+/// What is found of a statement that takes no part, with its cells before this place.
+pub fn nothing(past: usize) -> Found
+    ensures judged { IsJudged no_codes no_codes no_signals no_signals result.judged }
+    ensures past { result.past ≡ past }
+{
+    let none = Acts {
+        signals: signal_set::no_signal(),
+        codes: CodeSet::empty(),
+    };
+    Found {
+        judged: Judgement {
+            must: none,
+            can: none,
+        },
+        past,
     }
 }
 
@@ -391,6 +418,31 @@ pub fn ends(judged: &Judgement) -> Status
     )
 }
 
+/// What is known of the signals where those of a set are surely emitted: one that was in doubt is
+/// present.
+pub fn told(env: &Env, signals: SignalSet) -> Env
+    ensures { env_of result ≡ told (env_of env.now) (set_of signals) }
+{
+    Env {
+        present: SignalSet {
+            interface: with_possible(
+                env.present.interface,
+                signals.interface,
+                env.possible.interface,
+            ),
+            local: with_possible(env.present.local, signals.local, env.possible.local),
+        },
+        possible: env.possible,
+    }
+}
+
+/// The numbers of a mask, and those of another that are possible.
+fn with_possible(present: u64, more: u64, possible: u64) -> u64
+    ensures { (n : ℕ) → bits result n ≡ (bits present n || (bits more n && bits possible n)) }
+{
+    mask::either(present, mask::common(more, possible))
+}
+
 /// Tells a statement's code cells what is judged of it, and reads them.
 pub fn leave(table: &mut Table, at: Place, own: &Judgement, past: usize) -> Found
     requires within { at.cell + at.traps + 3 ≤ length table.old.cells.items }
@@ -398,18 +450,16 @@ pub fn leave(table: &mut Table, at: Place, own: &Judgement, past: usize) -> Foun
     ensures { IsLeft at.cell at.traps own.now past table.old.cells.items table.new.cells.items
         result }
 {
-    let cell = at.cell + 1;
-    let count = at.traps + 2;
-    tell(table, cell, count, own);
+    let read = tell(table, at.cell + 1, at.traps + 2, own);
     Found {
         judged: Judgement {
             must: Acts {
                 signals: own.must.signals,
-                codes: read_sure(table, cell, count),
+                codes: read.sure,
             },
             can: Acts {
                 signals: own.can.signals,
-                codes: read_possible(table, cell, count),
+                codes: read.possible,
             },
         },
         past,

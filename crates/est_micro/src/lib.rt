@@ -14,6 +14,7 @@
 
 mod begin;
 mod cells;
+mod idle;
 pub mod laws;
 pub mod micro;
 mod next;

@@ -189,13 +189,14 @@ fn resume_seq(
         traps: at.traps,
     };
     let first = part(table, place, p, pauses, is_on, go, run, env);
+    let inside = cells::told(env, first.judged.must.signals);
     let later = cells::ends(&first.judged);
     let place = Place {
         main: at.main,
         cell: first.past,
         traps: at.traps,
     };
-    let second = part(table, place, q, pauses, !is_on, later, run, env);
+    let second = part(table, place, q, pauses, !is_on, later, run, &inside);
     let own = cells::followed(&first.judged, &second.judged);
     cells::leave(table, at, &own, second.past)
 }
@@ -228,13 +229,14 @@ fn resume_loop(
         traps: at.traps,
     };
     let first = resume(table, place, p, pauses, run, env);
+    let inside = cells::told(env, first.judged.must.signals);
     let later = cells::ends(&first.judged);
     let place = Place {
         main: false,
         cell: first.past,
         traps: at.traps,
     };
-    let again = begin(table, place, p, later, env);
+    let again = begin(table, place, p, later, &inside);
     let own = cells::followed(&first.judged, &again.judged);
     cells::leave(table, at, &own, again.past)
 }
@@ -284,12 +286,13 @@ fn resume_par(
         traps: at.traps,
     };
     let first = part(table, place, p, pauses, first_on, go, run, env);
+    let inside = cells::told(env, first.judged.must.signals);
     let place = Place {
         main: at.main,
         cell: first.past,
         traps: at.traps,
     };
-    let second = part(table, place, q, pauses, second_on, go, run, env);
+    let second = part(table, place, q, pauses, second_on, go, run, &inside);
     let left = side(first_on, &first, run);
     let right = side(second_on, &second, run);
     let own = cells::beside(&left, &right);

@@ -1,6 +1,6 @@
 //! Rounds over the table of a kernel, until nothing more can be decided.
 
-ghost use Rattle.std.specs.Prelude.{◌≡◌, ◌≤◌, ◌+◌, true, length};
+ghost use Rattle.std.specs.Prelude.{◌≡◌, ◌≢◌, ◌≤◌, ◌+◌, ◌⊎◌, true, false, length};
 ghost use Rattle.est_kernel.specs.Bits.{bits};
 ghost use Rattle.est_kernel.specs.Limits.{trap_depth};
 ghost use Rattle.est_kernel.specs.Masks.{FitsMasks};
@@ -74,6 +74,14 @@ pub struct Settled {
     pub env: Env,
 }
 
+/// Whether more may be decided: the last round has decided something, and there is an open cell.
+fn goes_on(now: usize, before: usize, cells: usize) -> bool
+    ensures more { result ≡ true → now ≢ before }
+    ensures rest { result ≡ false → (now ≡ before) ⊎ (now ≡ cells) }
+{
+    now != before && now != cells
+}
+
 /// Opens the table, and makes rounds until nothing more can be decided.
 pub fn settle(
     table: &mut Table,
@@ -87,13 +95,14 @@ pub fn settle(
     requires size { length table.old.cells.items ≡ cell_count kernel.now }
     ensures { IsSettled kernel.now state.now (bits inputs) table.new.cells.items result }
 {
+    let cells = table.len();
     table.clear();
     let doubt = in_doubt(kernel);
     let mut env = exchange(table, kernel, inputs, &doubt);
-    let mut before = table.decided();
+    let mut before = 0;
     let mut found = round(table, kernel, outputs, state, inputs, &mut env);
     let mut now = table.decided();
-    while now != before {
+    while goes_on(now, before, cells) {
         before = now;
         found = round(table, kernel, outputs, state, inputs, &mut env);
         now = table.decided();

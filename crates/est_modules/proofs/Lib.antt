@@ -2,6 +2,7 @@ pub mod Descending
 pub mod Lists
 pub mod NameSets
 pub mod Opening
+pub mod Numbering
 pub mod OrderLemmas
 pub mod OrderPlaces
 pub mod Ordering

@@ -3,6 +3,7 @@ pub mod Inner
 pub mod ModuleOrders
 pub mod Modules
 pub mod NameSets
+pub mod NameTables
 pub mod Occurrences
 pub mod OpenNames
 pub mod PlaceOrders

@@ -13,6 +13,7 @@ pub mod head;
 pub mod library_heads;
 pub mod module_order;
 pub mod name_set;
+pub mod name_table;
 pub mod open_names;
 pub mod order_fault;
 pub mod place_order;

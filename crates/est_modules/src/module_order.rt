@@ -9,6 +9,7 @@ ghost use Rattle.est_modules.specs.Modules.{Program, program_of};
 ghost use Rattle.est_modules.specs.ModuleOrders.{IsOrderOf, run_rows, places_run};
 
 use crate::head::Head;
+use crate::name_table::NameTable;
 use crate::open_names::OpenNames;
 use crate::order_fault::OrderFault;
 use crate::place_order::{Order, order_modules};
@@ -51,7 +52,7 @@ struct RunPlaces<'a> {
 }
 
 impl Visitor for RunPlaces<'_> {
-    ghost use Rattle.std.specs.Prelude.{ℕ, List, [], ◌++◌, map};
+    ghost use Rattle.std.specs.Prelude.{ℕ, List, ⊤, ◌++◌, map};
     ghost use Rattle.est_modules.specs.Modules.{program_of};
     ghost use Rattle.est_modules.specs.ModuleOrders.{place_run};
 
@@ -61,14 +62,14 @@ impl Visitor for RunPlaces<'_> {
 
     ghost state = { λ seen. seen.items };
 
-    ghost base = { λ v m. [] };
+    ghost fits = { λ v t ks. ⊤ };
 
     ghost after = { λ v places o. places ++ place_run (map program_of v.heads.now) o.act };
 
     fn visit(
         &self,
         seen: &mut Vec<usize>,
-        _kept: &OpenNames,
+        _kept: &OpenNames<'_, '_>,
         act: &Act<'_>,
         _scope: &Scope<'_>,
     ) -> Result<(), AllocError> {
@@ -89,8 +90,9 @@ pub fn places_run<'a>(
         (program_of home.now)) }
 {
     let mut places = Vec::new(alloc);
-    let kept = OpenNames::new(alloc);
-    walk_body(&RunPlaces { heads: &*heads }, &mut places, &kept, home.body)?;
+    let visitor = RunPlaces { heads: &*heads };
+    let table = NameTable::new(alloc);
+    walk_body(&visitor, &mut places, alloc, &table, &[], home.body)?;
     Ok(places)
 }
 

@@ -1,16 +1,21 @@
-//! Names of the modules that are run, as far as no `signal` round a place declares them.
-ghost use Rattle.std.specs.Prelude.{◌≡◌, ℕ, List, [], ◌∷◌, ◌++◌, filter, not, option_map, ◌||◌, IfOk, IfSome, OnOk};
+//! Names of the modules that are run, as far as no `signal` around a place declares them.
+ghost use Rattle.std.specs.Prelude.{◌≡◌, ℕ, Bool, List, [], ◌∷◌, ◌||◌, not, IfOk, IfSome, OnOk};
+ghost use Rattle.std.specs.Prelude.{option_map, map};
 ghost use Rattle.std.specs.List.{find};
 ghost use Rattle.std.specs.Str.{bytes_eq};
-ghost use Rattle.est_syntax.specs.Views.{names_view};
-ghost use Rattle.est_modules.specs.Visible.{stands_in};
-ghost use Rattle.est_modules.specs.NameSets.{has};
+ghost use Rattle.est_syntax.specs.Views.{names_view, renaming_view};
+ghost use Rattle.est_modules.specs.NameTables.{IsTable};
 ghost use Rattle.est_modules.specs.Occurrences.{Binder, signals};
-ghost use Rattle.est_modules.specs.OpenNames.{opens_of, open_of, outside, open_at, AreOpen};
-ghost use Rattle.est_modules.specs.Visible.{is_among};
+ghost use Rattle.est_modules.specs.OpenNames.{AreNumbers, AreKept, Tells, IsSame, open_at, open_name};
+ghost use Rattle.est_modules.specs.OpenNames.{is_left};
+ghost use Rattle.est_modules.specs.Renamings.{is_renamed};
+ghost use Rattle.est_modules.specs.Visible.{is_local, stands_in};
+ghost use Rattle.est_modules.specs.declared.name_table.NameTable.{NameTable};
+ghost use Rattle.est_modules.specs.declared.open_names.Kept.{Kept};
 
-use crate::name_set::NameSet;
-use est_syntax::tree::Names;
+use crate::name_table::NameTable;
+use crate::renamings::is_renamed;
+use est_syntax::tree::{Names, Renaming};
 use est_text::identifier::Identifier;
 use std::alloc::{AllocError, Global};
 
@@ -19,64 +24,27 @@ use std::alloc::{AllocError, Global};
 pub struct Kept {
     /// The name of the module.
     pub module_name: Identifier,
-    /// The names.
-    pub names: Vec<Identifier>,
+    /// The numbers of the names, in their order.
+    pub numbers: Vec<usize>,
 }
 
-/// For some modules those of certain names of them that no `signal` round a place declares, in their order. Which names
-/// these are, whoever asks the places says. They are worked out once for each `signal`, so that a run inside it costs no
-/// more than the names that it leaves open, however many it declares.
-#[derive(Drop)]
-pub struct OpenNames {
+/// The numbers of names, if each has one.
+fn numbers_of(
     alloc: Global,
-    modules: Vec<Kept>,
-}
-
-/// Puts the names of a list into a set.
-fn add_names<'a>(set: &mut NameSet<'a>, names: &'a [Identifier]) -> Result<(), AllocError>
-    ensures { OnOk result ((s : List ℕ) → has set.new s ≡ (has set.old s || stands_in names.now s)) }
-{
-    for name in names {
-        set.insert(name)?;
-    }
-    Ok(())
-}
-
-/// The names of a `signal`.
-fn set_of<'a>(alloc: Global, names: &'a Names) -> Result<NameSet<'a>, AllocError>
-    ensures { IfOk result (λ set. (s : List ℕ) → has set s ≡ is_among (names_view names.now) s) }
-{
-    let mut set = NameSet::new(alloc);
-    set.insert(&names.first)?;
-    add_names(&mut set, &names.later)?;
-    Ok(set)
-}
-
-/// The names that are not in a set.
-fn names_outside(
-    alloc: Global,
-    set: &NameSet<'_>,
+    table: &NameTable<'_>,
     names: &[Identifier],
-) -> Result<Vec<Identifier>, AllocError>
-    ensures { IfOk result (λ left. left.items ≡ filter (λ n. not (has set.now n)) names.now) }
+) -> Result<Option<Vec<usize>>, AllocError>
+    ensures { IfOk result (λ found. IfSome found (λ numbers. AreNumbers table.now names.now
+        numbers.items)) }
 {
-    let mut left = Vec::new(alloc);
+    let mut numbers = Vec::new(alloc);
     for name in names {
-        if !set.contains(name) {
-            left.push(*name)?;
+        match table.number(name) {
+            Some(number) => numbers.push(number)?,
+            None => return Ok(None),
         }
     }
-    Ok(left)
-}
-
-/// What is kept of a module, without the names of a set.
-fn kept_outside(alloc: Global, set: &NameSet<'_>, kept: &Kept) -> Result<Kept, AllocError>
-    ensures { IfOk result (λ left. open_of left ≡ outside (has set.now) (open_of kept.now)) }
-{
-    Ok(Kept {
-        module_name: kept.module_name,
-        names: names_outside(alloc, set, &kept.names)?,
-    })
+    Ok(Some(numbers))
 }
 
 fn find_kept<'a>(modules: &'a [Kept], name: &Identifier) -> Option<&'a Kept>
@@ -86,27 +54,97 @@ fn find_kept<'a>(modules: &'a [Kept], name: &Identifier) -> Option<&'a Kept>
     modules.iter().find(|kept| kept.module_name.is(name))
 }
 
-impl OpenNames {
-    /// Those of no module.
-    pub fn new(alloc: Global) -> OpenNames
-        ensures { opens_of result ≡ [] }
-    {
-        OpenNames {
-            alloc,
-            modules: Vec::new(alloc),
+/// Keeps names of a module, if each of them has a number.
+///
+/// # Errors
+///
+/// `AllocError` where memory is refused.
+pub fn keep(
+    modules: &mut Vec<Kept>,
+    alloc: Global,
+    table: &NameTable<'_>,
+    module_name: &Identifier,
+    names: &[Identifier],
+) -> Result<(), AllocError>
+    ensures { OnOk result ((base : List ℕ → List (List ℕ))
+        → AreKept table.now base modules.old.items → names.now ≡ base module_name.now
+        → AreKept table.now base modules.new.items) }
+{
+    if let Some(numbers) = numbers_of(alloc, table, names)? {
+        let module_name = *module_name;
+        modules.push(Kept {
+            module_name,
+            numbers,
+        })?;
+    }
+    Ok(())
+}
+
+/// The names that are kept, at a place: those that a `signal` around it declares are hidden. That
+/// is worked out once for each `signal`, by one look-up for each name that it declares.
+#[derive(Drop)]
+pub struct OpenNames<'a, 'b> {
+    alloc: Global,
+    table: &'a NameTable<'b>,
+    modules: &'a [Kept],
+    hidden: Vec<bool>,
+}
+
+/// Hides a name.
+fn hide(hidden: &mut [bool], table: &NameTable<'_>, name: &Identifier)
+    requires { IsTable table.now }
+    ensures { (f : List ℕ → Bool) → Tells table.now f hidden.old → Tells table.now
+        (λ s. f s || bytes_eq name.now s) hidden.new }
+{
+    if let Some(number) = table.number(name) {
+        if number < hidden.len() {
+            hidden[number] = true;
         }
     }
+}
 
-    /// Adds those of a module.
+/// Hides the names of a list.
+fn hide_names(hidden: &mut [bool], table: &NameTable<'_>, names: &[Identifier])
+    requires { IsTable table.now }
+    ensures { (f : List ℕ → Bool) → Tells table.now f hidden.old → Tells table.now
+        (λ s. f s || stands_in names.now s) hidden.new }
+{
+    for name in names {
+        hide(hidden, table, name);
+    }
+}
+
+/// Hides the names that a `signal` declares.
+fn hide_declared(hidden: &mut [bool], table: &NameTable<'_>, names: &Names)
+    requires { IsTable table.now }
+    ensures { (bs : List Binder) → Tells table.now (is_local bs) hidden.old → Tells table.now
+        (is_local (signals (names_view names.now) ∷ bs)) hidden.new }
+{
+    hide(hidden, table, &names.first);
+    hide_names(hidden, table, &names.later);
+}
+
+impl<'a, 'b> OpenNames<'a, 'b> {
+    /// Outermost in a module no name is hidden.
     ///
     /// # Errors
     ///
     /// `AllocError` where memory is refused.
-    pub fn push(&mut self, kept: Kept) -> Result<(), AllocError>
-        ensures { OnOk result (opens_of self.new ≡ opens_of self.old ++ open_of kept ∷ []) }
+    pub fn outermost(
+        alloc: Global,
+        table: &'a NameTable<'b>,
+        modules: &'a [Kept],
+    ) -> Result<OpenNames<'a, 'b>, AllocError>
+        requires { IsTable table.now }
+        ensures same { IfOk result (λ found. IsSame found table.now modules.now) }
+        ensures hidden { IfOk result (λ found. Tells table.now (is_local []) found.hidden.items) }
     {
-        self.modules.push(kept)?;
-        Ok(())
+        Ok(OpenNames {
+            alloc,
+            table,
+            modules,
+            hidden: vec![in alloc; false; table.len()]?,
+        })
     }
 
     /// Those inside a `signal`.
@@ -114,27 +152,79 @@ impl OpenNames {
     /// # Errors
     ///
     /// `AllocError` where memory is refused.
-    pub fn inside(&self, names: &Names) -> Result<OpenNames, AllocError>
-        ensures { IfOk result (λ inner. (base : List ℕ → List (List ℕ)) (bs : List Binder)
-            → AreOpen base bs (opens_of self.now) → AreOpen base (signals (names_view names.now) ∷ bs)
-            (opens_of inner)) }
+    pub fn inside(&self, names: &Names) -> Result<OpenNames<'a, 'b>, AllocError>
+        requires { IsTable self.now.table.now }
+        ensures same { IfOk result (λ inner. IsSame inner self.now.table.now self.now.modules.now) }
+        ensures hidden { IfOk result (λ inner. (bs : List Binder) → Tells self.now.table.now
+            (is_local bs) self.now.hidden.items → Tells self.now.table.now
+            (is_local (signals (names_view names.now) ∷ bs)) inner.hidden.items) }
     {
-        let set = set_of(self.alloc, names)?;
-        let mut modules = Vec::new(self.alloc);
-        for kept in &self.modules {
-            modules.push(kept_outside(self.alloc, &set, kept)?)?;
-        }
+        let mut hidden = Vec::from_slice(self.alloc, &self.hidden)?;
+        hide_declared(&mut hidden, self.table, names);
         Ok(OpenNames {
             alloc: self.alloc,
-            modules,
+            table: self.table,
+            modules: self.modules,
+            hidden,
         })
+    }
+
+    /// The name of a number, unless it is hidden.
+    pub fn open_name(&self, number: usize) -> Option<&Identifier>
+        ensures { option_map (λ n. n.now) result ≡ open_name self.now number }
+    {
+        match self.hidden.get(number) {
+            Some(hidden) => if *hidden {
+                None
+            } else {
+                self.table.name(number)
+            },
+            None => None,
+        }
     }
 
     /// What is kept of the module of a name.
     pub fn named(&self, name: &Identifier) -> Option<&Kept>
-        ensures { IfSome result (λ kept. (base : List ℕ → List (List ℕ)) (bs : List Binder)
-            → AreOpen base bs (opens_of self.now) → kept.now.names.items ≡ open_at bs (base name.now)) }
+        ensures { option_map (λ k. k.now) result ≡ find (λ k. bytes_eq k.module_name name.now)
+            self.now.modules.now }
     {
-        find_kept(&self.modules, name)
+        find_kept(self.modules, name)
+    }
+
+    /// Whether a name is neither hidden nor renamed.
+    pub fn is_left(&self, renamings: &[Renaming], number: usize) -> bool
+        ensures { result ≡ is_left (map renaming_view renamings.now) self.now number }
+    {
+        match self.open_name(number) {
+            Some(name) => !is_renamed(renamings, name),
+            None => false,
+        }
+    }
+
+    /// The first number of a list whose name is neither hidden nor renamed.
+    fn left_number<'c>(&self, numbers: &'c [usize], renamings: &[Renaming]) -> Option<&'c usize>
+        ensures { option_map (λ i. i.now) result ≡ find (is_left (map renaming_view
+            renamings.now) self.now) numbers.now }
+    {
+        numbers
+            .iter()
+            .find(|number| self.is_left(renamings, **number))
+    }
+
+    /// The first of the names that are kept of a module which is neither hidden nor renamed.
+    pub fn first_left(&self, kept: &Kept, renamings: &[Renaming]) -> Option<Identifier>
+        ensures { (names : List (List ℕ)) (bs : List Binder) → IsTable self.now.table.now
+            → Tells self.now.table.now (is_local bs) self.now.hidden.items
+            → AreNumbers self.now.table.now names kept.now.numbers.items
+            → result ≡ find (λ n. not (is_renamed (map renaming_view renamings.now) n))
+            (open_at bs names) }
+    {
+        match self.left_number(&kept.numbers, renamings) {
+            Some(number) => match self.table.name(*number) {
+                Some(name) => Some(*name),
+                None => None,
+            },
+            None => None,
+        }
     }
 }

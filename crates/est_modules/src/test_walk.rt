@@ -5,7 +5,7 @@
 ghost use Rattle.std.specs.Prelude.{◌≡◌, OnOk};
 ghost use Rattle.est_syntax.specs.Views.{literal_view, conjunction_view, expression_view};
 ghost use Rattle.est_syntax.specs.Views.{test_view};
-ghost use Rattle.est_modules.specs.OpenNames.{AreOpen, opens_of};
+ghost use Rattle.est_modules.specs.OpenNames.{IsOpen};
 ghost use Rattle.est_modules.specs.Scopes.{binders_of};
 ghost use Rattle.est_modules.specs.Tests.{literal_names, conjunction_names, expression_names};
 ghost use Rattle.est_modules.specs.Walks.{past_names, past_test};
@@ -21,11 +21,11 @@ use std::alloc::AllocError;
 fn walk_literal<V: Visitor>(
     visitor: &V,
     seen: &mut V::Seen,
-    kept: &OpenNames,
+    kept: &OpenNames<'_, '_>,
     scope: &Scope<'_>,
     literal: &Literal,
 ) -> Result<(), AllocError>
-    requires { AreOpen (V.base visitor.now) (binders_of scope.now) (opens_of kept.now) }
+    requires { IsOpen (V.fits visitor.now) (binders_of scope.now) kept.now }
     ensures { OnOk result
         (V.state seen.new ≡ past_names (V.after visitor.now) (binders_of scope.now)
         (literal_names (literal_view literal.now)) (V.state seen.old)) }
@@ -42,11 +42,11 @@ fn walk_literal<V: Visitor>(
 fn walk_conjunction<V: Visitor>(
     visitor: &V,
     seen: &mut V::Seen,
-    kept: &OpenNames,
+    kept: &OpenNames<'_, '_>,
     scope: &Scope<'_>,
     conjunction: &Conjunction,
 ) -> Result<(), AllocError>
-    requires { AreOpen (V.base visitor.now) (binders_of scope.now) (opens_of kept.now) }
+    requires { IsOpen (V.fits visitor.now) (binders_of scope.now) kept.now }
     ensures { OnOk result
         (V.state seen.new ≡ past_names (V.after visitor.now) (binders_of scope.now)
         (conjunction_names (conjunction_view conjunction.now)) (V.state seen.old)) }
@@ -63,11 +63,11 @@ fn walk_conjunction<V: Visitor>(
 fn walk_expression<V: Visitor>(
     visitor: &V,
     seen: &mut V::Seen,
-    kept: &OpenNames,
+    kept: &OpenNames<'_, '_>,
     scope: &Scope<'_>,
     expression: &Expression,
 ) -> Result<(), AllocError>
-    requires { AreOpen (V.base visitor.now) (binders_of scope.now) (opens_of kept.now) }
+    requires { IsOpen (V.fits visitor.now) (binders_of scope.now) kept.now }
     ensures { OnOk result
         (V.state seen.new ≡ past_names (V.after visitor.now) (binders_of scope.now)
         (expression_names (expression_view expression.now)) (V.state seen.old)) }
@@ -83,11 +83,11 @@ fn walk_expression<V: Visitor>(
 pub fn walk_test<V: Visitor>(
     visitor: &V,
     seen: &mut V::Seen,
-    kept: &OpenNames,
+    kept: &OpenNames<'_, '_>,
     scope: &Scope<'_>,
     test: &Test,
 ) -> Result<(), AllocError>
-    requires { AreOpen (V.base visitor.now) (binders_of scope.now) (opens_of kept.now) }
+    requires { IsOpen (V.fits visitor.now) (binders_of scope.now) kept.now }
     ensures { OnOk result (V.state seen.new ≡ past_test (V.after visitor.now) (binders_of scope.now)
         (test_view test.now) (V.state seen.old)) }
 {

@@ -1,5 +1,5 @@
 //! What is done at one place after another.
-ghost use Rattle.std.specs.Prelude.{◌≡◌, OnOk};
+ghost use Rattle.std.specs.Prelude.{◌≡◌, List, OnOk};
 
 use crate::open_names::OpenNames;
 use crate::scope::{Act, Scope};
@@ -7,9 +7,10 @@ use std::alloc::AllocError;
 
 /// What is to be learned from the places in the body of a module.
 pub trait Visitor {
-    ghost use Rattle.std.specs.Prelude.{ℕ, List};
     ghost use Rattle.est_modules.specs.Occurrences.{Occurrence};
-    ghost use Rattle.est_modules.specs.OpenNames.{AreOpen, opens_of};
+    ghost use Rattle.est_modules.specs.OpenNames.{IsOpen};
+    ghost use Rattle.est_modules.specs.declared.name_table.NameTable.{NameTable};
+    ghost use Rattle.est_modules.specs.declared.open_names.Kept.{Kept};
     ghost use Rattle.est_modules.specs.Scopes.{act_of, binders_of};
 
     /// What has been learned so far.
@@ -24,8 +25,8 @@ pub trait Visitor {
     /// What is known behind an occurrence, from what was known before it.
     ghost after: { Self → State → Occurrence → State };
 
-    /// The names of a module that is run which the walk keeps, as far as no `signal` round a place declares them.
-    ghost base: { Self → List ℕ → List (List ℕ) };
+    /// What is known of the names that the walk keeps.
+    ghost fits: { Self → NameTable → List Kept → Type 0 };
 
     /// Learns from an occurrence.
     ///
@@ -35,11 +36,11 @@ pub trait Visitor {
     fn visit(
         &self,
         seen: &mut Self::Seen,
-        kept: &OpenNames,
+        kept: &OpenNames<'_, '_>,
         act: &Act<'_>,
         scope: &Scope<'_>,
     ) -> Result<(), AllocError>
-        requires { AreOpen (base self.now) (binders_of scope.now) (opens_of kept.now) }
+        requires { IsOpen (fits self.now) (binders_of scope.now) kept.now }
         ensures { OnOk result (state seen.new ≡ after self.now (state seen.old) (record
             { act = act_of act.now; round = binders_of scope.now })) };
 }

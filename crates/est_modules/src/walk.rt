@@ -8,27 +8,29 @@ ghost use Rattle.est_syntax.specs.Views.{test_view, unit_view, branches_view};
 ghost use Rattle.est_syntax.specs.Views.{sequence_view, statement_view};
 ghost use Rattle.est_modules.specs.Derived.{unit_derived, branches_derived, sequence_derived, statement_derived};
 ghost use Rattle.est_modules.specs.Occurrences.{occurrences};
-ghost use Rattle.est_modules.specs.OpenNames.{AreOpen, opens_of};
+ghost use Rattle.est_modules.specs.NameTables.{IsTable};
+ghost use Rattle.est_modules.specs.OpenNames.{IsOpen};
 ghost use Rattle.est_modules.specs.Scopes.{binders_of};
 ghost use Rattle.est_modules.specs.Walks.{passed, passed_branches, past_test};
 
-use crate::open_names::OpenNames;
+use crate::name_table::NameTable;
+use crate::open_names::{Kept, OpenNames};
 use crate::scope::{Act, Scope};
 use crate::test_walk::walk_test;
 use crate::visit::Visitor;
 use est_syntax::tree::{Branches, Sequence, Statement, Test, Unit};
-use std::alloc::AllocError;
+use std::alloc::{AllocError, Global};
 
 /// Visits the places of a unit.
 #[cycle(walk)]
 fn walk_unit<V: Visitor>(
     visitor: &V,
     seen: &mut V::Seen,
-    kept: &OpenNames,
+    kept: &OpenNames<'_, '_>,
     scope: &Scope<'_>,
     unit: &Unit,
 ) -> Result<(), AllocError>
-    requires { AreOpen (V.base visitor.now) (binders_of scope.now) (opens_of kept.now) }
+    requires { IsOpen (V.fits visitor.now) (binders_of scope.now) kept.now }
     ensures { OnOk result (V.state seen.new ≡ passed (V.after visitor.now) (binders_of scope.now)
         (unit_derived (unit_view unit.now)) (V.state seen.old)) }
 {
@@ -77,12 +79,12 @@ fn walk_unit<V: Visitor>(
 fn walk_watched<V: Visitor>(
     visitor: &V,
     seen: &mut V::Seen,
-    kept: &OpenNames,
+    kept: &OpenNames<'_, '_>,
     scope: &Scope<'_>,
     body: &Statement,
     test: &Test,
 ) -> Result<(), AllocError>
-    requires { AreOpen (V.base visitor.now) (binders_of scope.now) (opens_of kept.now) }
+    requires { IsOpen (V.fits visitor.now) (binders_of scope.now) kept.now }
     ensures { OnOk result (V.state seen.new ≡ past_test (V.after visitor.now) (binders_of scope.now)
         (test_view test.now) (passed (V.after visitor.now) (binders_of scope.now)
         (statement_derived (statement_view body.now)) (V.state seen.old))) }
@@ -96,12 +98,12 @@ fn walk_watched<V: Visitor>(
 fn walk_behind<V: Visitor>(
     visitor: &V,
     seen: &mut V::Seen,
-    kept: &OpenNames,
+    kept: &OpenNames<'_, '_>,
     scope: &Scope<'_>,
     test: &Test,
     body: &Statement,
 ) -> Result<(), AllocError>
-    requires { AreOpen (V.base visitor.now) (binders_of scope.now) (opens_of kept.now) }
+    requires { IsOpen (V.fits visitor.now) (binders_of scope.now) kept.now }
     ensures { OnOk result (V.state seen.new ≡ passed (V.after visitor.now) (binders_of scope.now)
         (statement_derived (statement_view body.now)) (past_test (V.after visitor.now)
         (binders_of scope.now) (test_view test.now) (V.state seen.old))) }
@@ -115,11 +117,11 @@ fn walk_behind<V: Visitor>(
 fn walk_branches<V: Visitor>(
     visitor: &V,
     seen: &mut V::Seen,
-    kept: &OpenNames,
+    kept: &OpenNames<'_, '_>,
     scope: &Scope<'_>,
     branches: &Branches,
 ) -> Result<(), AllocError>
-    requires { AreOpen (V.base visitor.now) (binders_of scope.now) (opens_of kept.now) }
+    requires { IsOpen (V.fits visitor.now) (binders_of scope.now) kept.now }
     ensures { OnOk result (V.state seen.new ≡ passed_branches (V.after visitor.now) (binders_of
         scope.now) (branches_view branches.now) (V.state seen.old)) }
 {
@@ -139,11 +141,11 @@ fn walk_branches<V: Visitor>(
 fn walk_sequence<V: Visitor>(
     visitor: &V,
     seen: &mut V::Seen,
-    kept: &OpenNames,
+    kept: &OpenNames<'_, '_>,
     scope: &Scope<'_>,
     sequence: &Sequence,
 ) -> Result<(), AllocError>
-    requires { AreOpen (V.base visitor.now) (binders_of scope.now) (opens_of kept.now) }
+    requires { IsOpen (V.fits visitor.now) (binders_of scope.now) kept.now }
     ensures { OnOk result (V.state seen.new ≡ passed (V.after visitor.now) (binders_of scope.now)
         (sequence_derived (sequence_view sequence.now)) (V.state seen.old)) }
 {
@@ -159,11 +161,11 @@ fn walk_sequence<V: Visitor>(
 fn walk_statement<V: Visitor>(
     visitor: &V,
     seen: &mut V::Seen,
-    kept: &OpenNames,
+    kept: &OpenNames<'_, '_>,
     scope: &Scope<'_>,
     statement: &Statement,
 ) -> Result<(), AllocError>
-    requires { AreOpen (V.base visitor.now) (binders_of scope.now) (opens_of kept.now) }
+    requires { IsOpen (V.fits visitor.now) (binders_of scope.now) kept.now }
     ensures { OnOk result (V.state seen.new ≡ passed (V.after visitor.now) (binders_of scope.now)
         (statement_derived (statement_view statement.now)) (V.state seen.old)) }
 {
@@ -184,12 +186,16 @@ fn walk_statement<V: Visitor>(
 pub fn walk_body<V: Visitor>(
     visitor: &V,
     seen: &mut V::Seen,
-    kept: &OpenNames,
+    alloc: Global,
+    table: &NameTable<'_>,
+    kept: &[Kept],
     body: &Statement,
 ) -> Result<(), AllocError>
-    requires { AreOpen (V.base visitor.now) [] (opens_of kept.now) }
+    requires fits { V.fits visitor.now table.now kept.now }
+    requires table { IsTable table.now }
     ensures { OnOk result (V.state seen.new ≡ fold (V.after visitor.now) (V.state seen.old)
         (occurrences [] (statement_derived (statement_view body.now)))) }
 {
-    walk_statement(visitor, seen, kept, &Scope::Module, body)
+    let open = OpenNames::outermost(alloc, table, kept)?;
+    walk_statement(visitor, seen, &open, &Scope::Module, body)
 }

@@ -1,1 +1,2 @@
 pub mod Deciding
+mod Ranges

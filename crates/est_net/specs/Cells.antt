@@ -1,5 +1,5 @@
 -- Lists of cells, and how many of them are decided (this project's own form).
-use Rattle.std.specs.Prelude.{◌≡◌, ◌≤◌, ◌<◌, ℕ, Bool, true, false, List, Option, Some, None, get_or, length}
+use Rattle.std.specs.Prelude.{◌≡◌, ◌≢◌, ◌≤◌, ◌<◌, ℕ, Bool, true, false, List, Option, Some, None, get_or, length}
 use Rattle.std.specs.List.{sum_by}
 use Rattle.est_meaning.specs.declared.status.Status.{Status}
 use Rattle.est_meaning.specs.declared.status.Status.TheVariants.{Present, Absent, Unknown}
@@ -40,6 +40,19 @@ pub record Learns (cell : ℕ) (now : Status) (old new : List Status) : Type 0 w
   pub here : cell_at new cell ≡ learned (cell_at old cell) now
   pub others : (i : ℕ) → (i < cell) → cell_at new i ≡ cell_at old i
   pub later : (i : ℕ) → (cell < i) → cell_at new i ≡ cell_at old i
+  pub size : length new ≡ length old
+  pub more : decided old ≤ decided new
+  pub quiet : decided new ≡ decided old → new ≡ old
+
+-- no cell from place lo on and before place hi is true
+unfoldable pub NoneTrue : (lo hi : ℕ) → List Status → Type 0
+NoneTrue lo hi cells = (i : ℕ) → lo ≤ i → i < hi → cell_at cells i ≢ Present
+
+-- the cells from place lo on and before place hi are false, and no others have changed
+pub record AreFalse (lo hi : ℕ) (old new : List Status) : Type 0 where
+  pub false_now : (i : ℕ) → lo ≤ i → i < hi → cell_at new i ≡ Absent
+  pub before : (i : ℕ) → i < lo → cell_at new i ≡ cell_at old i
+  pub after : (i : ℕ) → hi ≤ i → cell_at new i ≡ cell_at old i
   pub size : length new ≡ length old
   pub more : decided old ≤ decided new
   pub quiet : decided new ≡ decided old → new ≡ old

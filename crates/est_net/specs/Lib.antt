@@ -1,2 +1,4 @@
 pub mod Cells
+pub mod Inner
 pub mod Layout
+pub mod Owners

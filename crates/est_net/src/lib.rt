@@ -8,4 +8,5 @@
 
 mod lay;
 pub mod net;
+pub mod owners;
 pub mod table;

@@ -1,8 +1,10 @@
 //! Cells, each open or decided.
 
-ghost use Rattle.std.specs.Prelude.{◌≡◌, ◌<◌, ◌+◌, length, set, slice_get, Some};
+ghost use Rattle.std.specs.Prelude.{◌≡◌, ◌<◌, ◌≤◌, ◌+◌, true, length, set, slice_get, Some};
 ghost use Rattle.std.specs.Prelude.{option_map, replicate};
-ghost use Rattle.est_net.specs.Cells.{Learns, cell_at, decided, known_as, value_of};
+ghost use Rattle.est_cells.specs.Tables.{is_sure};
+ghost use Rattle.est_net.specs.Cells.{AreFalse, Learns, NoneTrue, cell_at, decided, known_as};
+ghost use Rattle.est_net.specs.Cells.{value_of};
 ghost use Rattle.est_meaning.specs.declared.status.Status.TheVariants.{Unknown};
 
 use est_meaning::status::Status;
@@ -52,6 +54,52 @@ fn tell(cells: &mut [Status], cell: usize, now: Status)
             Status::Absent => decide(cells, cell, false),
             Status::Unknown => {}
         }
+    }
+}
+
+/// What a cell knows.
+#[inline(always)]
+fn read(cells: &[Status], cell: usize) -> Status
+    requires { cell < length cells.now }
+    ensures { result ≡ cell_at cells.now cell }
+{
+    cells[cell]
+}
+
+/// Whether a cell is true.
+#[inline(always)]
+fn is_true(status: Status) -> bool
+    ensures { result ≡ is_sure status }
+{
+    match status {
+        Status::Present => true,
+        Status::Absent | Status::Unknown => false,
+    }
+}
+
+/// Whether no cell of a range is true.
+fn has_no_true(cells: &[Status], from: usize, past: usize) -> bool
+    requires range { from ≤ past }
+    requires within { past ≤ length cells.now }
+    ensures { result ≡ true → NoneTrue from past cells.now }
+{
+    for cell in from..past {
+        if is_true(read(cells, cell)) {
+            return false;
+        }
+    }
+    true
+}
+
+/// Decides the open cells of a range, in which none is true, to be false.
+fn make_false(cells: &mut [Status], from: usize, past: usize)
+    requires range { from ≤ past }
+    requires within { past ≤ length cells.old }
+    requires none { NoneTrue from past cells.old }
+    ensures { AreFalse from past cells.old cells.new }
+{
+    for cell in from..past {
+        tell(cells, cell, Status::Absent);
     }
 }
 
@@ -123,6 +171,26 @@ impl Table {
     {
         tell(self.cells.as_mut_slice(), cell, now);
         self.cells[cell]
+    }
+
+    /// Whether no cell of a range is true.
+    pub fn has_no_true(&self, from: usize, past: usize) -> bool
+        requires range { from ≤ past }
+        requires within { past ≤ length self.now.cells.items }
+        ensures { result ≡ true → NoneTrue from past self.now.cells.items }
+    {
+        has_no_true(self.cells.as_slice(), from, past)
+    }
+
+    /// Decides the open cells of a range, in which none is true, to be false. Each of them is
+    /// decided by the one assignment that decides a cell, and no other cell changes.
+    pub fn make_false(&mut self, from: usize, past: usize)
+        requires range { from ≤ past }
+        requires within { past ≤ length self.old.cells.items }
+        requires none { NoneTrue from past self.old.cells.items }
+        ensures { AreFalse from past self.old.cells.items self.new.cells.items }
+    {
+        make_false(self.cells.as_mut_slice(), from, past);
     }
 
     /// How many cells are decided.

@@ -1,77 +1,68 @@
 //! Whether two policy entries are equal.
 ghost use Rattle.std.specs.Prelude.{◌≡◌};
 ghost use Rattle.std.specs.Bool.{Decides};
+ghost use Rattle.rbac_policy.specs.declared.commands.AdminCommand.TheVariants.{GrantPermission};
+ghost use Rattle.rbac_policy.specs.declared.commands.AdminCommand.TheVariants.{RevokePermission};
 
 use rbac_policy::commands::{AdminCommand, Entry};
+use rbac_policy::names::Name;
+use rbac_policy::objects::{Object, Operation};
+
+/// Whether the command grants this permission to this role.
+#[tactic(auto, using(crate::proofs::Sameness::names_one, crate::proofs::Sameness::objects_one))]
+fn grants(command: &AdminCommand, role: &Name, operation: Operation, object: &Object) -> bool
+    ensures { Decides result (command.now ≡ GrantPermission role.now operation object.now) }
+{
+    matches!(command, AdminCommand::GrantPermission { role: r, operation: o, object: named }
+        if role == r && operation == *o && object == named)
+}
+
+/// Whether the command revokes this permission from this role.
+#[tactic(auto, using(crate::proofs::Sameness::names_one, crate::proofs::Sameness::objects_one))]
+fn revokes(command: &AdminCommand, role: &Name, operation: Operation, object: &Object) -> bool
+    ensures { Decides result (command.now ≡ RevokePermission role.now operation object.now) }
+{
+    matches!(command, AdminCommand::RevokePermission { role: r, operation: o, object: named }
+        if role == r && operation == *o && object == named)
+}
 
 /// Whether the two commands are equal.
-#[tactic(auto, using(crate::proofs::Sameness::names_one, crate::proofs::Sameness::lists_one, crate::proofs::Sameness::objects_one))]
+#[tactic(auto, using(crate::proofs::Sameness::names_one, crate::proofs::Sameness::lists_one))]
 fn is_same_command(one: &AdminCommand, other: &AdminCommand) -> bool
     ensures { Decides result (one.now ≡ other.now) }
 {
+    use AdminCommand::*;
     match one {
-        AdminCommand::AddUser { user } =>
-            matches!(other, AdminCommand::AddUser { user: other_user } if user == other_user),
-        AdminCommand::DeleteUser { user } =>
-            matches!(other, AdminCommand::DeleteUser { user: other_user } if user == other_user),
-        AdminCommand::AddRole { role } =>
-            matches!(other, AdminCommand::AddRole { role: other_role } if role == other_role),
-        AdminCommand::DeleteRole { role } =>
-            matches!(other, AdminCommand::DeleteRole { role: other_role } if role == other_role),
-        AdminCommand::AssignUser { user, role } =>
-            matches!(other, AdminCommand::AssignUser { user: other_user, role: other_role }
-                if user == other_user
-                    && role == other_role),
-        AdminCommand::DeassignUser { user, role } =>
-            matches!(other, AdminCommand::DeassignUser { user: other_user, role: other_role }
-                if user == other_user
-                    && role == other_role),
-        AdminCommand::GrantPermission {
+        AddUser { user } => matches!(other, AddUser { user: u } if user == u),
+        DeleteUser { user } => matches!(other, DeleteUser { user: u } if user == u),
+        AddRole { role } => matches!(other, AddRole { role: r } if role == r),
+        DeleteRole { role } => matches!(other, DeleteRole { role: r } if role == r),
+        AssignUser { user, role } =>
+            matches!(other, AssignUser { user: u, role: r } if user == u && role == r),
+        DeassignUser { user, role } =>
+            matches!(other, DeassignUser { user: u, role: r } if user == u && role == r),
+        GrantPermission {
             role,
             operation,
             object,
-        } => matches!(other, AdminCommand::GrantPermission
-                { role: other_role, operation: other_operation, object: other_object }
-                if role == other_role
-                    && operation == other_operation
-                    && object == other_object),
-        AdminCommand::RevokePermission {
+        } => grants(other, role, *operation, object),
+        RevokePermission {
             role,
             operation,
             object,
-        } => matches!(other, AdminCommand::RevokePermission
-                { role: other_role, operation: other_operation, object: other_object }
-                if role == other_role
-                    && operation == other_operation
-                    && object == other_object),
-        AdminCommand::AddInheritance { senior, junior } =>
-            matches!(other, AdminCommand::AddInheritance
-                { senior: other_senior, junior: other_junior }
-                if senior == other_senior
-                    && junior == other_junior),
-        AdminCommand::DeleteInheritance { senior, junior } =>
-            matches!(other, AdminCommand::DeleteInheritance
-                { senior: other_senior, junior: other_junior }
-                if senior == other_senior
-                    && junior == other_junior),
-        AdminCommand::CreateDsdSet { set, count, roles } =>
-            matches!(other, AdminCommand::CreateDsdSet
-                { set: other_set, count: other_count, roles: other_roles }
-                if set == other_set
-                    && count == other_count
-                    && roles == other_roles),
-        AdminCommand::DeleteDsdSet { set } =>
-            matches!(other, AdminCommand::DeleteDsdSet { set: other_set } if set == other_set),
-        AdminCommand::CreateSession { user, roles } =>
-            matches!(other, AdminCommand::CreateSession { user: other_user, roles: other_roles }
-                if user == other_user
-                    && roles == other_roles),
-        AdminCommand::DeleteSession => matches!(other, AdminCommand::DeleteSession),
-        AdminCommand::AddActiveRole { role } =>
-            matches!(other, AdminCommand::AddActiveRole { role: other_role } if role == other_role),
-        AdminCommand::DropActiveRole { role } =>
-            matches!(other, AdminCommand::DropActiveRole { role: other_role }
-                if role == other_role),
+        } => revokes(other, role, *operation, object),
+        AddInheritance { senior, junior } =>
+            matches!(other, AddInheritance { senior: s, junior: j } if senior == s && junior == j),
+        DeleteInheritance { senior, junior } => matches!(other,
+            DeleteInheritance { senior: s, junior: j } if senior == s && junior == j),
+        CreateDsdSet { set, count, roles } => matches!(other,
+            CreateDsdSet { set: s, count: n, roles: r } if set == s && count == n && roles == r),
+        DeleteDsdSet { set } => matches!(other, DeleteDsdSet { set: s } if set == s),
+        CreateSession { user, roles } =>
+            matches!(other, CreateSession { user: u, roles: r } if user == u && roles == r),
+        DeleteSession => matches!(other, DeleteSession),
+        AddActiveRole { role } => matches!(other, AddActiveRole { role: r } if role == r),
+        DropActiveRole { role } => matches!(other, DropActiveRole { role: r } if role == r),
     }
 }
 

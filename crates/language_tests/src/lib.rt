@@ -22,6 +22,8 @@ mod microsteps;
 #[cfg(test)]
 mod modules;
 #[cfg(test)]
+mod owners;
+#[cfg(test)]
 mod pending;
 #[cfg(test)]
 mod reductions;

@@ -15,7 +15,7 @@ use std::test::Fail;
 /// Modules, and how many of their cells each of three instants without inputs decides. A statement
 /// inside n traps has n + 3 cells, and one more if it declares a local signal; inside a loop it has
 /// them twice. Each output has one.
-const DECIDED: [(&str, &str); 6] = [
+const DECIDED: [(&str, &str); 7] = [
     // five statements, and two outputs; it ends in the second instant
     ("output O, P; emit O; pause; emit P", "17, 17, 17 of 17"),
     // a loop around eight statements, of which one declares a signal
@@ -33,6 +33,11 @@ const DECIDED: [(&str, &str); 6] = [
     (
         "output O; signal S in [present S then emit O end || emit S] end",
         "20, 20, 20 of 20",
+    ),
+    // a body that stands still in the second instant
+    (
+        "output O, P; suspend sustain P when O || pause; emit O",
+        "38, 38, 38 of 38",
     ),
     // the two paradoxes: the first statement is begun, and no statement pauses
     ("output O; present O then emit O end", "4, 4, 4 of 10"),

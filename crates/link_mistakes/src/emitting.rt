@@ -11,6 +11,7 @@ ghost use Rattle.est_syntax.specs.Views.{renaming_view};
 use est_checks::emission::Emission;
 use est_checks::module_emissions;
 use est_modules::head::Head;
+use est_modules::name_table::numbered;
 use est_modules::renamings;
 use est_syntax::tree::Renaming;
 use est_text::identifier::Identifier;
@@ -31,7 +32,8 @@ pub fn emissions_of<'a>(
         → stands_in v.items s ≡ list_any (emits_here (map program_of heads.now)
         (emitted_of table.now) s) (occurrences [] (program_of home.now).body)) }
 {
-    module_emissions::emissions_of(alloc, heads, table, home)
+    let names = numbered(alloc, &*heads)?;
+    module_emissions::emissions_of(alloc, &names, heads, table, home)
 }
 
 /// The caller's name for a signal of the module that is run.

@@ -4,6 +4,7 @@ ghost use Rattle.est_checks.specs.Duplicates.{first_duplicate};
 ghost use Rattle.est_checks.specs.Emissions.{emitted_of, refused_at};
 ghost use Rattle.est_checks.specs.LinkFaults.{lawless_number, fault_before_order, fault_behind_order};
 ghost use Rattle.est_modules.specs.Modules.{program_of, first_in_bodies};
+ghost use Rattle.est_modules.specs.NameTables.{IsTable};
 ghost use Rattle.est_modules.specs.Occurrences.{first_of, occurrences};
 ghost use Rattle.est_checks.specs.BadRenamings.{bad_renaming_at};
 ghost use Rattle.est_checks.specs.UnknownNames.{unknown_at};
@@ -18,6 +19,7 @@ use est_checks::unknown_names::UnknownName;
 use est_checks::unseen_names::unseen_of;
 use est_checks::{duplicates, input_emissions};
 use est_modules::head::{Head, head_named};
+use est_modules::name_table::{NameTable, numbered};
 use est_modules::open_names::OpenNames;
 use est_modules::scope::{Act, Scope};
 use est_text::identifier::Identifier;
@@ -49,8 +51,8 @@ pub fn first_bad_renaming<'a>(
     ensures { IfOk result (λ name. name ≡ first_in_bodies (bad_renaming_at
         (map program_of heads.now)) (map program_of heads.now)) }
 {
-    let kept = OpenNames::new(alloc);
-    first_in_bodies(&kept, &BadRename { heads: &*heads }, &*heads)
+    let names = NameTable::new(alloc);
+    first_in_bodies(alloc, &names, &[], &BadRename { heads: &*heads }, &*heads)
 }
 
 /// The check for names that aren't visible where they are used. It is asked of the places in one module.
@@ -65,11 +67,12 @@ pub struct Unknown<'a> {
 impl Check for Unknown<'_> {
     ghost use Rattle.std.specs.Prelude.{map};
     ghost use Rattle.est_modules.specs.Modules.{program_of, is_declared};
+    ghost use Rattle.est_modules.specs.OpenNames.{AreKept};
     ghost use Rattle.est_checks.specs.Unseen.{unseen_by};
     ghost use Rattle.est_checks.specs.UnknownNames.{unknown_at};
 
-    ghost base = { λ c. unseen_by (map program_of c.heads.now)
-        (is_declared (program_of c.home.now).interface) };
+    ghost fits = { λ c t. AreKept t (unseen_by (map program_of c.heads.now)
+        (is_declared (program_of c.home.now).interface)) };
 
     ghost fault = { λ c p. unknown_at (map program_of c.heads.now)
         (program_of c.home.now) };
@@ -77,7 +80,7 @@ impl Check for Unknown<'_> {
     fn fault(
         &self,
         home: &Head<'_>,
-        kept: &OpenNames,
+        kept: &OpenNames<'_, '_>,
         act: &Act<'_>,
         scope: &Scope<'_>,
     ) -> Result<Option<Identifier>, AllocError> {
@@ -92,14 +95,16 @@ impl Check for Unknown<'_> {
 /// The first name of a module that isn't visible where it is used.
 fn unknown_in<'a>(
     alloc: Global,
+    table: &NameTable<'_>,
     heads: &'a [Head<'a>],
     home: &'a Head<'a>,
 ) -> Result<Option<Identifier>, AllocError>
+    requires { IsTable table.now }
     ensures { IfOk result (λ name. name ≡ first_of (unknown_at (map program_of heads.now)
         (program_of home.now)) (occurrences [] (program_of home.now).body)) }
 {
-    let kept = unseen_of(alloc, &*heads, &*home)?;
-    first_in_body(&Unknown { heads, home }, &kept, &*home)
+    let kept = unseen_of(alloc, table, &*heads, &*home)?;
+    first_in_body(&Unknown { heads, home }, alloc, table, &kept, &*home)
 }
 
 /// The first name of a library that isn't visible where it is used.
@@ -114,8 +119,9 @@ pub fn first_unknown<'a>(
     ensures { IfOk result (λ name. name ≡ first_in_bodies (unknown_at (map program_of heads.now))
         (map program_of heads.now)) }
 {
+    let table = numbered(alloc, &*heads)?;
     for home in heads {
-        if let Some(name) = unknown_in(alloc, &*heads, &*home)? {
+        if let Some(name) = unknown_in(alloc, &table, &*heads, &*home)? {
             return Ok(Some(name));
         }
     }
@@ -135,7 +141,8 @@ pub fn first_refused<'a>(
     ensures { IfOk result (λ name. name ≡ first_in_bodies (refused_at (map program_of heads.now)
         (emitted_of table.now)) (map program_of heads.now)) }
 {
-    input_emissions::first_refused(alloc, heads, table)
+    let names = numbered(alloc, &*heads)?;
+    input_emissions::first_refused(alloc, &names, heads, table)
 }
 
 /// The number of the first lawless relation of the main module.

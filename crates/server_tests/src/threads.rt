@@ -3,6 +3,7 @@ mod clients;
 mod lending;
 mod many;
 mod meeting;
+mod memory;
 mod revocation;
 mod server;
 mod shared;

@@ -2,3 +2,4 @@ mod changes;
 mod deepest;
 mod findings;
 mod journals;
+mod memory;

@@ -1,68 +1,89 @@
--- What has been noted of what a module emits, and what is left to be noted of each module that it runs
--- (this project's own form).
-use Rattle.std.specs.Prelude.{ℕ, List, Bool, false, not, ◌&&◌, ◌||◌, filter, Option, Some, None, option_map, if◌then◌else◌, Vec}
-use Rattle.std.specs.Borrow.{Bor}
-use Rattle.std.specs.BTreeMap.{BTreeMap, get_by}
-use Rattle.std.specs.Cmp.Lexicographic.{slice_cmp}
-use Rattle.std.specs.List.{list_any, list_all}
-use Rattle.std.specs.Ordering.{nat_cmp}
+-- What has been noted of what a module emits (this project's own form).
+use Rattle.std.specs.Prelude.{ℕ, List, Bool, true, false, not, ◌&&◌, ◌||◌, Option, Some, None, if◌then◌else◌, fold, slice_set, slice_index_or, nat_lt, length}
+use Rattle.std.specs.List.{list_any, find}
 use Rattle.std.specs.Str.{bytes_eq}
-use Rattle.std.specs.Global.{Global}
 use Rattle.est_syntax.specs.Tree.{RenamingTree}
 use Rattle.est_modules.specs.Modules.{Program, program_named, is_declared}
+use Rattle.est_modules.specs.NameTables.{number_in}
 use Rattle.est_modules.specs.Occurrences.{Binder, Act, emits, tests, exits, binds, runs, Occurrence}
+use Rattle.est_modules.specs.OpenNames.{is_left}
 use Rattle.est_modules.specs.Renamings.{is_renamed, renamed}
 use Rattle.est_modules.specs.Visible.{is_local, stands_in}
+use Rattle.est_modules.specs.declared.name_table.NameTable.{NameTable}
+use Rattle.est_modules.specs.declared.open_names.Kept.{Kept}
+use Rattle.est_modules.specs.declared.open_names.OpenNames.{OpenNames}
 use Rattle.est_checks.specs.Inner.Emitted.{sent_by}
 use Rattle.est_checks.specs.declared.module_emissions.Notes.{Notes}
 
--- the names that are noted, and of each module that was run those that are left
+-- a row that has for each number whether its name is noted, and other names
 pub record Noted : Type 0 where
-  pub names : List ℕ → Bool
-  pub left : List ℕ → Option (List (List ℕ))
-
--- what a table of the code has for a module
-abbrev pub entry_of : BTreeMap (Bor (List ℕ)) (Vec (List ℕ) Global) → List ℕ → Option (List (List ℕ))
-entry_of left m = option_map (λ (v : Vec (List ℕ) Global). v.items) (get_by (λ (k : Bor (List ℕ)). slice_cmp nat_cmp m k.now) left)
+  pub row : List Bool
+  pub others : List ℕ → Bool
 
 -- those of a value of the code
 abbrev pub noted_of : Notes → Noted
-noted_of n = record { names = stands_in n.names.items; left = entry_of n.left }
+noted_of n = record { row = n.numbered.items; others = stands_in n.others.items }
 
--- what is left of a module: before its first run all interface names that it emits
-abbrev pub left_or : List Program → (List ℕ → List ℕ → Bool) → List ℕ → Option (List (List ℕ)) → List (List ℕ)
-left_or ps emitted m None = sent_by ps emitted m
-left_or ps emitted m (Some ns) = ns
+-- the row has the number
+abbrev pub in_row : List Bool → Option ℕ → Bool
+in_row row None = false
+in_row row (Some i) = slice_index_or row i false
 
--- a run doesn't emit the name by itself: it renames it, or a `signal` round the run declares it
-abbrev pub stays : List Binder → List RenamingTree → List ℕ → Bool
-stays bs rs n = is_renamed rs n || is_local bs n
+-- the name is noted
+abbrev pub is_noted : NameTable → Noted → List ℕ → Bool
+is_noted t k s = in_row k.row (number_in t s) || k.others s
 
--- a module was run before, and a run emits none of the names that are left of it by itself
-abbrev pub none_goes : List Binder → List RenamingTree → Option (List (List ℕ)) → Bool
-none_goes bs rs None = false
-none_goes bs rs (Some ns) = list_all (stays bs rs) ns
+-- the row after a look at a number whose name goes, or doesn't
+abbrev pub row_with : List Bool → ℕ → Bool → List Bool
+row_with row i goes = if (nat_lt i (length row) && not (slice_index_or row i false)) && goes then slice_set row i true else row
+
+-- the row after a run, by the numbers of its names
+abbrev pub row_by_numbers : List RenamingTree → OpenNames → List Bool → List ℕ → List Bool
+row_by_numbers rs o row numbers = fold (λ r i. row_with r i (is_left rs o i)) row numbers
+
+-- a run emits the name by itself: it doesn't rename it, and no `signal` around the run declares it
+abbrev pub goes : List Binder → List RenamingTree → List ℕ → Bool
+goes bs rs n = not (is_local bs n) && not (is_renamed rs n)
+
+-- the row after one name that goes, or doesn't
+abbrev pub row_at : List Bool → Option ℕ → Bool → List Bool
+row_at row None g = row
+row_at row (Some i) g = row_with row i g
+
+-- the row after a run, by its names
+abbrev pub row_by_names : NameTable → List Binder → List RenamingTree → List Bool → List (List ℕ) → List Bool
+row_by_names t bs rs row names = fold (λ r n. row_at r (number_in t n) (goes bs rs n)) row names
 
 -- a run emits the name as the caller's name of a signal that it renames
 abbrev pub sends_renamed : (List ℕ → List ℕ → Bool) → Program → List RenamingTree → List ℕ → Bool
 sends_renamed emitted q rs s = list_any (λ (r : RenamingTree). (is_declared q.interface r.inner && emitted q.name r.inner) && bytes_eq (renamed rs r.inner) s) rs
 
--- what is noted behind a run of a module of which these names were left
-abbrev pub noted_run : (List ℕ → List ℕ → Bool) → Noted → List Binder → List RenamingTree → List (List ℕ) → Option Program → Noted
-noted_run emitted k bs rs ns None = k
-noted_run emitted k bs rs ns (Some q) = record {
-  names = λ s. (k.names s || stands_in (filter (λ n. not (stays bs rs n)) ns) s) || (not (is_local bs s) && sends_renamed emitted q rs s);
-  left = λ m. if bytes_eq q.name m then Some (filter (stays bs rs) ns) else k.left m;
-}
+-- what is kept of the module of a name
+abbrev pub kept_named : List Kept → List ℕ → Option Kept
+kept_named ks m = find (λ (k : Kept). bytes_eq k.module_name m) ks
 
--- what is noted behind an act
-abbrev pub noted_act : List Program → (List ℕ → List ℕ → Bool) → Noted → List Binder → Act → Noted
-noted_act ps emitted k bs (emits n) = record { names = λ s. k.names s || (not (is_local bs s) && bytes_eq n s); left = k.left }
-noted_act ps emitted k bs (tests s) = k
-noted_act ps emitted k bs (exits t) = k
-noted_act ps emitted k bs (binds ns) = k
-noted_act ps emitted k bs (runs m rs) = noted_run emitted k bs rs (left_or ps emitted m (k.left m)) (program_named ps m)
+-- the names of a run are noted: in the row, where what the module emits is kept
+abbrev pub noted_names : NameTable → List Binder → List RenamingTree → List (List ℕ) → Noted → Option Kept → Noted
+noted_names t bs rs names k (Some kept) = record { row = row_by_names t bs rs k.row names; others = k.others }
+noted_names t bs rs names k None = record { row = k.row; others = λ s. k.others s || (goes bs rs s && stands_in names s) }
+
+-- the caller's names of signals that the run renames are noted
+abbrev pub noted_renamed : (List ℕ → List ℕ → Bool) → List Binder → List RenamingTree → Program → Noted → Noted
+noted_renamed emitted bs rs q k = record { row = k.row; others = λ s. k.others s || (not (is_local bs s) && sends_renamed emitted q rs s) }
+
+-- what is noted after a run, where these names are kept
+abbrev pub noted_run : List Program → (List ℕ → List ℕ → Bool) → NameTable → List Kept → Noted → List Binder → List RenamingTree → Option Program → Noted
+noted_run ps emitted t ks k bs rs None = k
+noted_run ps emitted t ks k bs rs (Some q) = noted_renamed emitted bs rs q (noted_names t bs rs (sent_by ps emitted q.name) k (kept_named ks q.name))
+
+-- what is noted after an act
+abbrev pub noted_act : List Program → (List ℕ → List ℕ → Bool) → NameTable → List Kept → Noted → List Binder → Act → Noted
+noted_act ps emitted t ks k bs (emits n) = record { row = k.row; others = λ s. k.others s || (not (is_local bs s) && bytes_eq n s) }
+noted_act ps emitted t ks k bs (tests s) = k
+noted_act ps emitted t ks k bs (exits n) = k
+noted_act ps emitted t ks k bs (binds ns) = k
+noted_act ps emitted t ks k bs (runs m rs) = noted_run ps emitted t ks k bs rs (program_named ps m)
 
 -- the same of an occurrence
-abbrev pub noted_behind : List Program → (List ℕ → List ℕ → Bool) → Noted → Occurrence → Noted
-noted_behind ps emitted k o = noted_act ps emitted k o.round o.act
+abbrev pub noted_after : List Program → (List ℕ → List ℕ → Bool) → NameTable → List Kept → Noted → Occurrence → Noted
+noted_after ps emitted t ks k o = noted_act ps emitted t ks k o.round o.act

@@ -4,18 +4,28 @@
 //! turn.
 use crate::access::reactors::{Held, STAMP, Told, show, step, unload};
 use crate::words::identifier;
+use est_kernel::kernel::Kernel;
+use est_kernel::state::{Inputs, State};
+use est_micro::micro::Micro;
+use est_net::net::Net;
 use reactor_core::journal::Journal;
 use reactor_core::reactor::Reactor;
 use reactor_core::refusal::Refusal;
-use std::alloc::Global;
+use std::alloc::{AllocError, Global};
 use std::process::Abort;
 use std::test::Fail;
 
-/// The module M of the text, on an empty journal.
-fn load(alloc: Global, text: &str) -> Result<Reactor, Fail> {
+/// The module M of the text, on an empty journal. A refused load hands the journal back, and the
+/// next one is accepted.
+fn load(rt: &impl Abort, alloc: Global, text: &str) -> Result<Reactor, Fail> {
     match Reactor::load(alloc, Journal::new(alloc), STAMP, "M", text) {
         Ok(reactor) => Ok(reactor),
-        Err((_refusal, _journal)) => Err(Fail::from("refused a load")),
+        Err((refusal, journal)) => {
+            assert_eq!(rt; refusal, Refusal::Memory);
+            assert_eq!(rt; journal.len(), 0);
+            assert!(rt; Reactor::load(alloc, journal, STAMP, "M", text).is_ok());
+            Err(Fail::from("refused a load"))
+        }
     }
 }
 
@@ -105,16 +115,66 @@ fn step_with_input(rt: &impl Abort, reactor: Reactor, row: &Row) -> Result<React
     }
 }
 
+/// Loads the text, and takes the steps of the table.
+fn take_steps(rt: &impl Abort, alloc: Global, text: &str) -> Result<(), Fail> {
+    let mut reactor = load(rt, alloc, text)?;
+    for row in &ROWS {
+        reactor = step_with_input(rt, reactor, row)?;
+    }
+    Ok(())
+}
+
 /// What is refused is the load, an offer, or a commit, which leaves the reactor as it was opened.
 #[test]
 fn want_of_memory(rt: HostRuntime) -> Result<(), Fail> {
     let text =
         "module M: input I; output O; emit O; pause; pause; present I then emit O end end module";
-    let mut reactor = load(rt.alloc(), text)?;
-    for row in &ROWS {
-        reactor = step_with_input(&rt, reactor, row)?;
+    take_steps(&rt, rt.alloc(), text)
+}
+
+/// A module whose local signals nest four deep, so that its load builds a table of cells. It shows
+/// what the module of `want_of_memory` does.
+const NESTED: &str = "module M: input I; output O; emit O; pause; pause; \
+    signal A, B, C, D in [present I then emit A end || present A then emit B end \
+    || present B then emit C end || present C then emit D end || present D then emit O end] end \
+    end module";
+
+/// What is refused is the load, of which the table is a part, an offer, or a commit.
+#[test]
+fn nested_locals_without_memory(rt: HostRuntime) -> Result<(), Fail> {
+    take_steps(&rt, rt.alloc(), NESTED)
+}
+
+/// Whether the first instant without inputs decides all cells of the table of a kernel, or memory
+/// was refused for the table. The engine on it takes none.
+fn is_decided(alloc: Global, kernel: &Kernel) -> Result<bool, AllocError> {
+    let mut engine = Micro::new(Net::build(alloc, kernel)?);
+    let is_settled = engine
+        .run(kernel, &State::Fresh, &Inputs { signals: 0 })
+        .is_ok();
+    let steps = engine.steps();
+    Ok(is_settled && steps > 0 && steps == engine.net().cells())
+}
+
+/// A refused table leaves nothing, and the next one is built.
+fn build(rt: &impl Abort, alloc: Global, kernel: &Kernel) -> Result<(), Fail> {
+    match is_decided(alloc, kernel) {
+        Ok(is_decided) => {
+            assert!(rt; is_decided);
+            Ok(())
+        }
+        Err(_refused) => {
+            assert!(rt; matches!(is_decided(alloc, kernel), Ok(true)));
+            Err(Fail::from("refused a table"))
+        }
     }
-    Ok(())
+}
+
+/// What is refused is the load, or the table.
+#[test]
+fn tables_without_memory(rt: HostRuntime) -> Result<(), Fail> {
+    let reactor = load(&rt, rt.alloc(), NESTED)?;
+    build(&rt, rt.alloc(), reactor.kernel())
 }
 
 /// Offers I, and takes it back.
@@ -171,7 +231,7 @@ fn unload_offered(rt: &impl Abort, reactor: Reactor) -> Result<(), Fail> {
 /// 17, the unload.
 #[test]
 fn entries_without_memory(rt: HostRuntime) -> Result<(), Fail> {
-    let mut reactor = load(rt.alloc(), "module M: input I; pause end module")?;
+    let mut reactor = load(&rt, rt.alloc(), "module M: input I; pause end module")?;
     discard_twice(&rt, &mut reactor)?;
     discard_twice(&rt, &mut reactor)?;
     for _ in 0..4 {

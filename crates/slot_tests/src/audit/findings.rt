@@ -138,7 +138,7 @@ fn an_entry_too_many(rt: HostRuntime) -> Result<(), Fail> {
 }
 
 /// The report on the journals of the opening script.
-const OPENING_REPORT: &str =
+pub const OPENING_REPORT: &str =
     "policy: 10 entries\nslot 0: 4 entries, 1 loads, 3 instants\ncheck: ok\n";
 
 /// The report on those journals, where slot 15 has the same journal.

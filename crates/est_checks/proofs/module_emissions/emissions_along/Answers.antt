@@ -7,8 +7,8 @@ use Rattle.est_modules.proofs.Standing.{order_within, program_at}
 use Rattle.est_checks.proofs.Sending.{sending_begins, sending_goes_on, sending_ends}
 use Rattle.est_checks.proofs.module_emissions.emissions_along.Goals as goal
 
-pub add_module-requires : goal.add_module-requires
-add_module-requires c =
+pub add_module-requires-clause-place : goal.add_module-requires-clause-place
+add_module-requires-clause-place c =
     omega (arith, order_within (map program_of c.args.heads.now) c.args.order.now c.loop-place.place-index c.requires.order c.loop-place-test.true, length-map c.args.heads.now program_of)
 
 pub loop-place-init : goal.loop-place-init

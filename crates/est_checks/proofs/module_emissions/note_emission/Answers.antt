@@ -1,10 +1,10 @@
 use Rattle.std.proofs.Common.{refl}
-use Rattle.est_checks.specs.Inner.Noted.{noted_of, noted_behind}
+use Rattle.est_checks.specs.Inner.Noted.{noted_of, noted_after}
 use Rattle.est_modules.specs.Occurrences.{emits}
 use Rattle.est_modules.specs.Scopes.{binders_of}
 use Rattle.est_checks.proofs.Noting.{same_noted}
 use Rattle.est_checks.proofs.module_emissions.note_emission.Goals as goal
 
 pub returns : goal.returns
-returns c = λ ps em.
-    same_noted _ (noted_behind ps em (noted_of c.args.seen.now) (record { act = emits c.args.signal.now; round = binders_of c.args.scope.now })) c.in_ok-add_outer.ensures (λ m. refl)
+returns c = λ ps em t ks.
+    same_noted _ (noted_after ps em t ks (noted_of c.args.seen.now) (record { act = emits c.args.signal.now; round = binders_of c.args.scope.now })) refl c.in_ok-add_outer.ensures

@@ -1,6 +1,7 @@
 use Rattle.std.proofs.Common.{not, sym, ap, ◌∙◌, map}
 use Rattle.std.specs.List.{find}
 use Rattle.est_syntax.specs.Views.{renaming_view}
+use Rattle.est_modules.proofs.Opening.{kept_found}
 use Rattle.est_modules.specs.Modules.{program_of, is_declared}
 use Rattle.est_modules.specs.OpenNames.{open_at}
 use Rattle.est_modules.specs.Renamings.{is_renamed}
@@ -16,6 +17,8 @@ returns-in-Some c =
     let bs = binders_of c.args.scope.now in
     let rs = map renaming_view c.args.renamings.now in
     let base = unseen_by (map program_of c.args.heads.now) known in
-    c.first_unrenamed.ensures
-    ∙ ap (find (λ n. not (is_renamed rs n))) (c.deref.ensures.value ∙ (c.in-Some.ensures base bs c.requires.outside ∙ ap (λ o. open_at bs (unseen_in known o)) c.requires.named))
+    let m = c.args.name.now in
+    let o = c.args.kept.now in
+    c.first_left.ensures (base m) bs c.requires.outside.1 c.requires.outside.2 (kept_found o.table.now base m o.modules.now c.in-Some.left.now c.requires.outside.0 (sym c.in-Some.ensures))
+    ∙ ap (λ q. find (λ n. not (is_renamed rs n)) (open_at bs (unseen_in known q))) c.requires.named
     ∙ sym (first_unbound p bs rs (program_of c.args.run.now).interface)

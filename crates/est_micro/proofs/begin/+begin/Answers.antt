@@ -6,6 +6,7 @@ use Rattle.est_rounds.specs.Views.{env_of}
 use Rattle.est_micro.proofs.BegunNodes.{present_begun, seq_begun, par_begun, suspend_begun, trap_begun, again_begun}
 use Rattle.est_micro.proofs.BegunNodes.{loop_begun, local_begun, within_one, within_two, within_next, within_local}
 use Rattle.est_micro.proofs.BegunNodes.{within_told}
+use Rattle.est_micro.proofs.IdleSheets.{idle_begun}
 use Rattle.est_micro.proofs.begin.+begin.Goals as goal
 
 pub begin_present-returns : goal.begin_present-returns
@@ -23,14 +24,14 @@ begin_suspend-returns t c = λ q a.
 
 pub begin_seq-returns : goal.begin_seq-returns
 begin_seq-returns t c = λ a b.
-    seq_begun c.args.at a c.args.p.now b c.args.q.now c.args.gate _ _ c.args.env.now _ _ _ _ _ _ _ _ _
-    c.learn-go.ensures.learns c.learn-go.ensures.known c.ends-later.ensures c.begin-first.ensures c.begin-second.ensures
+    seq_begun c.args.at a c.args.p.now b c.args.q.now c.args.gate _ _ c.args.env.now _ _ _ _ _ _ _ _ _ _
+    c.learn-go.ensures.learns c.learn-go.ensures.known c.ends-later.ensures c.told-inside.ensures c.begin-first.ensures c.begin-second.ensures
     c.followed-own.ensures c.leave.ensures
 
 pub begin_par-returns : goal.begin_par-returns
 begin_par-returns t c = λ a b.
-    par_begun c.args.at a c.args.p.now b c.args.q.now c.args.gate _ c.args.env.now _ _ _ _ _ _ _ _ _
-    c.learn-go.ensures.learns c.learn-go.ensures.known c.begin-first.ensures c.begin-second.ensures
+    par_begun c.args.at a c.args.p.now b c.args.q.now c.args.gate _ c.args.env.now _ _ _ _ _ _ _ _ _ _
+    c.learn-go.ensures.learns c.learn-go.ensures.known c.told-inside.ensures c.begin-first.ensures c.begin-second.ensures
     c.beside-own.ensures c.leave.ensures
 
 pub begin_trap-returns : goal.begin_trap-returns
@@ -159,3 +160,8 @@ pub begin_local-leave-requires-clause-within : goal.begin_local-leave-requires-c
 begin_local-leave-requires-clause-within t c =
     within_told (c.args.at.cell + c.args.at.traps) _ c.args.table.now.cells.items _ _ _ _ _ _ _ _ c.requires.within
     c.learn-go.ensures.learns.size c.begin-body.ensures c.learn.ensures.learns.size
+
+pub begin-returns-in-Some : goal.begin-returns-in-Some
+begin-returns-in-Some t c =
+    idle_begun c.args.s.now c.args.at c.args.gate c.args.env.now c.args.table.now.cells.items _ _ _
+    (rw c.in-Some.is at c.past_idle.ensures) c.make_false.ensures c.nothing.ensures.judged c.nothing.ensures.past

@@ -1,20 +1,40 @@
 use Rattle.std.proofs.Common.{◌≡◌, ℕ, arith, subst}
-use Rattle.est_micro.proofs.Telling.{ToldSoFar, told_none, told_more, told_done}
+use Rattle.est_kernel.specs.CodeViews.{codes_of}
+use Rattle.est_net.specs.Cells.{cell_at}
+use Rattle.est_micro.proofs.Telling.{ToldAndRead, nothing_read, one_read, read_possible_done, read_sure_done, told_done}
 use Rattle.est_micro.proofs.cells.tell.Goals as goal
 
 pub loop-code-init : goal.loop-code-init
-loop-code-init c = told_none c.args.cell c.args.judged.now c.args.table.now.cells.items
+loop-code-init c =
+    nothing_read c.args.cell c.args.judged.now c.args.table.now.cells.items _ _ c.empty.ensures c.empty-2.ensures
 
 pub loop-code-preserved : goal.loop-code-preserved
 loop-code-preserved c =
-    told_more c.args.cell _ c.args.judged.now c.args.table.now.cells.items _ _ _ c.loop-code.invariant
-    c.learn.ensures.learns
-    c.verdict_on.ensures
+    one_read c.args.cell _ c.args.judged.now c.args.table.now.cells.items _ _ _ _ _ _ _ _ c.loop-code.invariant
+    c.learn-status.ensures.learns c.verdict_on.ensures c.learn-status.ensures.known
+    c.with_cell-read.ensures.sure c.with_cell-read.ensures.other_sure
+    c.with_cell-read.ensures.possible c.with_cell-read.ensures.other_possible
 
-pub returns : goal.returns
-returns c =
+pub returns-clause-told : goal.returns-clause-told
+returns-clause-told c =
     let e : c.loop-code.code ≡ c.args.count = omega arith in
-    told_done c.args.cell c.args.count c.args.judged.now c.args.table.now.cells.items _
-    (subst (λ (z : ℕ). ToldSoFar c.args.cell z c.args.judged.now c.args.table.now.cells.items
-    c.loop-code.table.cells.items) e
-    c.loop-code.invariant)
+    let h = subst (λ (z : ℕ). ToldAndRead c.args.cell z c.args.judged.now c.args.table.now.cells.items
+    c.loop-code.table.cells.items (codes_of c.loop-code.read.sure) (codes_of c.loop-code.read.possible)) e
+    c.loop-code.invariant in
+    told_done c.args.cell c.args.count c.args.judged.now c.args.table.now.cells.items _ h.told
+
+pub returns-clause-sure : goal.returns-clause-sure
+returns-clause-sure c =
+    let e : c.loop-code.code ≡ c.args.count = omega arith in
+    let h = subst (λ (z : ℕ). ToldAndRead c.args.cell z c.args.judged.now c.args.table.now.cells.items
+    c.loop-code.table.cells.items (codes_of c.loop-code.read.sure) (codes_of c.loop-code.read.possible)) e
+    c.loop-code.invariant in
+    read_sure_done _ (cell_at c.loop-code.table.cells.items) c.args.cell c.args.count h.sure_read
+
+pub returns-clause-possible : goal.returns-clause-possible
+returns-clause-possible c =
+    let e : c.loop-code.code ≡ c.args.count = omega arith in
+    let h = subst (λ (z : ℕ). ToldAndRead c.args.cell z c.args.judged.now c.args.table.now.cells.items
+    c.loop-code.table.cells.items (codes_of c.loop-code.read.sure) (codes_of c.loop-code.read.possible)) e
+    c.loop-code.invariant in
+    read_possible_done _ (cell_at c.loop-code.table.cells.items) c.args.cell c.args.count h.possible_read

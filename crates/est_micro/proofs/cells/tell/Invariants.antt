@@ -1,5 +1,8 @@
-use Rattle.est_micro.proofs.Telling.{ToldSoFar}
+use Rattle.est_kernel.specs.CodeViews.{codes_of}
+use Rattle.est_micro.proofs.Telling.{ToldAndRead}
 use Rattle.est_micro.proofs.cells.tell.Given as goal
 
 abbrev pub invariant-loop-code : goal.invariant-loop-code
-invariant-loop-code l = ToldSoFar l.cell l.code l.judged l.fn.table.cells.items l.table.cells.items
+invariant-loop-code l =
+    ToldAndRead l.cell l.code l.judged l.fn.table.cells.items l.table.cells.items (codes_of l.read.sure)
+    (codes_of l.read.possible)

@@ -1,14 +1,15 @@
-use Rattle.std.proofs.Common.{List, length, subst, arith}
+use Rattle.std.proofs.Common.{◌≡◌, ◌⊎◌, ◌∙◌, ℕ, List, length, subst, sym, arith}
 use Rattle.std.proofs.lemmas.List.{length-replicate}
 use Rattle.est_kernel.specs.Bits.{bits}
 use Rattle.est_meaning.specs.declared.status.Status.{Status}
 use Rattle.est_meaning.specs.declared.status.Status.TheVariants.{Unknown}
 use Rattle.est_micro.specs.Runs.{IsExchanged}
-use Rattle.est_micro.proofs.Settling.{start_ready, round_made, settled, decided_within}
+use Rattle.est_micro.proofs.FullTables.{decided_within}
+use Rattle.est_micro.proofs.Settling.{start_ready, round_made, settled}
 use Rattle.est_micro.proofs.run.settle.Goals as goal
 
-pub loop-now-init : goal.loop-now-init
-loop-now-init c =
+pub loop-before-init : goal.loop-before-init
+loop-before-init c =
     let k = c.args.kernel.now in
     let n = length c.args.table.now.cells.items in
     let h = subst
@@ -21,25 +22,33 @@ loop-now-init c =
     (start_ready k c.args.state.now (bits c.args.inputs) _ _ n _ _ k.closed c.requires.size
     c.in_doubt-doubt.ensures.sure
     c.in_doubt-doubt.ensures.possible h (length-replicate n Unknown))
-    c.round-found.ensures c.decided-before.ensures c.decided-now.ensures
+    c.round-found.ensures (omega arith) c.decided-now.ensures
 
-pub loop-now-preserved : goal.loop-now-preserved
-loop-now-preserved c =
-    round_made c.args.kernel.now c.args.state.now (bits c.args.inputs) _ _ _ _ _ _ _ c.loop-now.invariant.ready
-    c.round-found-in-loop-now.ensures c.loop-now.invariant.counted c.decided-now-in-loop-now.ensures
+pub loop-before-preserved : goal.loop-before-preserved
+loop-before-preserved c =
+    round_made c.args.kernel.now c.args.state.now (bits c.args.inputs) _ _ _ _ _ _ _ c.loop-before.invariant.ready
+    c.round-found-in-loop-before.ensures
+    (let counted = c.loop-before.invariant.counted in omega arith) c.decided-now-in-loop-before.ensures
 
-pub loop-now-smaller : goal.loop-now-smaller
-loop-now-smaller c =
-    let m = round_made c.args.kernel.now c.args.state.now (bits c.args.inputs) _ _ _ _ _ _ _ c.loop-now.invariant.ready
-    c.round-found-in-loop-now.ensures c.loop-now.invariant.counted c.decided-now-in-loop-now.ensures in
+pub loop-before-smaller : goal.loop-before-smaller
+loop-before-smaller c =
+    let m = round_made c.args.kernel.now c.args.state.now (bits c.args.inputs) _ _ c.loop-before.table.cells.items _ _
+    c.loop-before.now _ c.loop-before.invariant.ready
+    c.round-found-in-loop-before.ensures
+    (let counted = c.loop-before.invariant.counted in omega arith) c.decided-now-in-loop-before.ensures in
     let a = m.ready.size in
-    let b = c.loop-now.invariant.ready.size in
-    let d = c.loop-now.invariant.rising in
-    let e = c.loop-now.invariant.counted in
-    let f = decided_within c.loop-now.table.cells.items in
-    let g = c.loop-now-test.true in
+    let b = c.loop-before.invariant.ready.size in
+    let d = c.loop-before.invariant.rising in
+    let e = c.loop-before.invariant.counted in
+    let f = decided_within c.loop-before.table.cells.items in
+    let g = c.goes_on.ensures.more c.loop-before-test.true in
     omega arith
 
 pub returns : goal.returns
 returns c =
-    settled c.args.kernel.now c.args.state.now (bits c.args.inputs) _ _ _ _ c.loop-now.invariant c.loop-now-test.false
+    let now = c.loop-before.now in
+    let count : c.len-cells.result ≡ length c.loop-before.table.cells.items
+    = c.len-cells.ensures ∙ (c.requires.size ∙ sym c.loop-before.invariant.ready.size) in
+    settled c.args.kernel.now c.args.state.now (bits c.args.inputs) _ _ _ _ c.loop-before.invariant
+    (subst (λ (z : ℕ). (now ≡ c.loop-before.before) ⊎ (now ≡ z)) count
+    (c.goes_on.ensures.rest c.loop-before-test.false))

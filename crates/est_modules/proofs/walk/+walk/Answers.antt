@@ -1,9 +1,12 @@
-use Rattle.std.proofs.Common.{◌∙◌, sym, ap, rules}
+use Rattle.std.proofs.Common.{◌∙◌, ◌∷◌, sym, ap, rules}
 use Rattle.std.proofs.lemmas.List.{take_all}
 use Rattle.std.specs.List.{fold}
 use Rattle.est_syntax.specs.declared.tree.Branches.TheViews.{out-Sequence, out-Statement}
 use Rattle.est_syntax.specs.declared.tree.Branches.TheFolds.{the_lemmas}
+use Rattle.est_syntax.specs.Views.{names_view}
+use Rattle.est_modules.specs.Occurrences.{signals}
 use Rattle.est_modules.specs.Scopes.{binders_of}
+use Rattle.est_modules.proofs.Opening.{open_so}
 use Rattle.est_modules.proofs.Passing.{unit_passed, sequence_passed, sequence_whole, statement_whole}
 use Rattle.est_modules.proofs.walk.+walk.Goals as goal
 
@@ -31,5 +34,7 @@ walk_statement-returns g t c =
 
 pub walk_unit-walk_statement-requires-in-Signal : goal.walk_unit-walk_statement-requires-in-Signal
 walk_unit-walk_statement-requires-in-Signal g t c κs within =
-    let inside = c.in_ok-inside-in-Signal.ensures (g.V.Visitor.base c.args.visitor.now) (binders_of c.args.scope.now) c.requires in
+    let bs = binders_of c.args.scope.now in
+    let o = c.args.kept.now in
+    let inside = open_so (g.V.Visitor.fits c.args.visitor.now) (signals (names_view c.in-Signal.names) ∷ bs) c.in_ok-inside-in-Signal.inside o.table.now o.modules.now c.in_ok-inside-in-Signal.ensures.same c.requires.0 c.requires.1 (c.in_ok-inside-in-Signal.ensures.hidden bs c.requires.2) in
     search (rules, the_lemmas, inside)

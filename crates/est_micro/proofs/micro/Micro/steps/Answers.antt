@@ -1,5 +1,5 @@
 use Rattle.std.proofs.Common.{arith}
-use Rattle.est_micro.proofs.Settling.{decided_within}
+use Rattle.est_micro.proofs.FullTables.{decided_within}
 use Rattle.est_micro.proofs.micro.Micro.steps.Goals as goal
 
 pub returns-clause-bound : goal.returns-clause-bound

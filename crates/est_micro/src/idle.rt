@@ -1,0 +1,84 @@
+//! Statements that take no part in an instant.
+
+ghost use Rattle.std.specs.Prelude.{◌≡◌, ◌≤◌, ◌+◌, true, length, IfSome};
+ghost use Rattle.est_cells.specs.Tables.{sheet_size};
+ghost use Rattle.est_meaning.specs.declared.status.Status.TheVariants.{Absent};
+ghost use Rattle.est_net.specs.Cells.{learned};
+ghost use Rattle.est_micro.specs.Views.{IsIdle};
+
+use crate::cells::Place;
+use est_kernel::statement::Statement;
+use est_meaning::status::Status;
+use est_net::table::Table;
+
+/// The first place after the cells of a statement whose first cell stands at this one. Recursion is
+/// as deep as the statement is.
+fn past(cell: usize, main: bool, s: &Statement, traps: usize) -> usize
+    requires { cell + sheet_size main s.now traps ≤ 18446744073709551615 }
+    ensures { result ≡ cell + sheet_size main s.now traps }
+{
+    match s {
+        Statement::Nothing | Statement::Pause(_) | Statement::Emit(_) | Statement::Exit(_) => {
+            cell + (traps + 3)
+        }
+        Statement::Present(_, p, q) | Statement::Seq(p, q) | Statement::Par(p, q) => {
+            past(past(cell + (traps + 3), main, p, traps), main, q, traps)
+        }
+        Statement::Suspend(_, p) => past(cell + (traps + 3), main, p, traps),
+        Statement::Loop(p) => {
+            let body = past(cell + (traps + 3), main, p, traps);
+            if main {
+                past(body, false, p, traps)
+            } else {
+                body
+            }
+        }
+        Statement::Trap(p) => past(cell + (traps + 3), main, p, traps + 1),
+        Statement::Local(_, p) => past(cell + (traps + 4), main, p, traps),
+    }
+}
+
+/// Whether a statement has parts. One that has none is swept as fast as it is passed over.
+fn has_parts(s: &Statement) -> bool {
+    match s {
+        Statement::Nothing | Statement::Pause(_) | Statement::Emit(_) | Statement::Exit(_) => false,
+        Statement::Present(_, _, _)
+        | Statement::Suspend(_, _)
+        | Statement::Seq(_, _)
+        | Statement::Loop(_)
+        | Statement::Par(_, _)
+        | Statement::Trap(_)
+        | Statement::Local(_, _) => true,
+    }
+}
+
+/// Whether a go cell is false, or open and told by the gate that it is.
+fn is_off(go: Status, gate: Status) -> bool
+    ensures { result ≡ true → learned go gate ≡ Absent }
+{
+    match go {
+        Status::Present => false,
+        Status::Absent => true,
+        Status::Unknown => match gate {
+            Status::Absent => true,
+            Status::Present | Status::Unknown => false,
+        },
+    }
+}
+
+/// The first place after the cells of a statement with parts that is not begun, by its go cell and
+/// the gate, if none of its cells is true.
+pub fn past_idle(table: &Table, at: Place, s: &Statement, gate: Status) -> Option<usize>
+    requires { at.cell + sheet_size at.main s.now at.traps ≤ length table.now.cells.items }
+    ensures { IfSome result (IsIdle s.now at gate table.now.cells.items) }
+{
+    if !has_parts(s) || !is_off(table.status(at.cell), gate) {
+        return None;
+    }
+    let past = past(at.cell, at.main, s, at.traps);
+    if table.has_no_true(at.cell, past) {
+        Some(past)
+    } else {
+        None
+    }
+}

@@ -1,0 +1,76 @@
+//! Whose each cell is.
+
+use crate::literature::loads::load;
+use est_kernel::kernel::Kernel;
+use est_net::net::Net;
+use est_net::owners::{CellKind, Owner, owner_of};
+use std::alloc::Global;
+use std::test::Fail;
+
+/// Modules, and their cells in order: those of signals by their places, and those of each statement
+/// and incarnation by the codes that they are of, with an `s` for the status of a local signal.
+/// Statements are numbered from 0, each before its parts.
+const OWNED: [(&str, &str); 4] = [
+    (
+        "output O, P; emit O; pause; emit P",
+        "#0 #1 0.0:01 1.0:01 2.0:01 3.0:01 4.0:01",
+    ),
+    // statement 1 is the signal, and each statement in the loop has an incarnation for the restart
+    (
+        "output O, P; loop signal S in present S then emit O else emit P end; pause; \
+            emit S end end",
+        "#0 #1 0.0:01 1.0:01s 2.0:01 3.0:01 4.0:01 5.0:01 6.0:01 7.0:01 8.0:01 \
+            1.1:01s 2.1:01 3.1:01 4.1:01 5.1:01 6.1:01 7.1:01 8.1:01",
+    ),
+    // what lies in the trap has code 2 too
+    (
+        "output O, P, Q; trap T in [emit O; exit T || pause; emit P] end; emit Q",
+        "#0 #1 #2 0.0:01 1.0:01 2.0:012 3.0:012 4.0:012 5.0:012 6.0:012 7.0:012 8.0:012 9.0:01",
+    ),
+    // what lies in both loops has incarnation 1 for the restart of the inner one, and 2 for that of
+    // the outer one; for the inner loop itself the outer one is the first round it
+    (
+        "output O; loop loop emit O; pause end end",
+        "#0 0.0:01 1.0:01 2.0:01 3.0:01 4.0:01 2.1:01 3.1:01 4.1:01 1.1:01 2.2:01 3.2:01 4.2:01",
+    ),
+];
+
+/// The cells of a kernel, as the table above has them.
+fn owned(alloc: Global, kernel: &Kernel) -> Result<String, Fail> {
+    let net = Net::build(alloc, kernel)?;
+    let mut told = String::new(alloc);
+    for cell in 0..net.cells() {
+        if cell > 0 && starts(owner_of(kernel, cell)) {
+            told.push_str(" ")?;
+        }
+        match owner_of(kernel, cell) {
+            Owner::Signal(place) => write!(told, "#{place}")?,
+            Owner::Statement(of) => match of.kind {
+                CellKind::Go => write!(told, "{}.{}:", of.statement, of.incarnation)?,
+                CellKind::Code(code) => write!(told, "{code}")?,
+                CellKind::Status => write!(told, "s")?,
+            },
+        }
+    }
+    Ok(told)
+}
+
+/// Whether the cell is the first of its owner.
+fn starts(owner: Owner) -> bool {
+    match owner {
+        Owner::Signal(_) => true,
+        Owner::Statement(of) => of.kind == CellKind::Go,
+    }
+}
+
+#[test]
+fn owners_of_cells(rt: HostRuntime) -> Result<(), Fail> {
+    for (body, wanted) in &OWNED {
+        let text = format!(in rt.alloc(); "module M: {body} end module")?;
+        let told = owned(rt.alloc(), &load(rt.alloc(), text.as_str())?)?;
+        if told.as_str() != *wanted {
+            return Err(Fail::from(format!(in rt.alloc(); "{told}: {body}")?));
+        }
+    }
+    Ok(())
+}
