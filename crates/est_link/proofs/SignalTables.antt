@@ -75,7 +75,10 @@ place_told es n o named is = ap (λ (p : Option ℕ). unwrap_or p 0) (is ∙ sam
 
 -- a table without signals
 pub no_signals : (es : List Entry) → es ≡ [] → (values_of es ≡ []) × IsTableOfSignals es
-no_signals es e = (ap (λ (xs : List Entry). values_of xs) e, subst IsTableOfSignals (sym e) (record { named = refl; bound = omega arith }))
+no_signals es e = (
+  ap (λ (xs : List Entry). values_of xs) e,
+  subst IsTableOfSignals (sym e) (record { named = refl; bound = omega arith }),
+)
 
 names_pushed : (es : List Entry) (k : Bor (List ℕ)) (x : Declaration) → HasNamesAsKeys es → k.now ≡ x.name
     → HasNamesAsKeys (es ++ (k, x) ∷ [])
@@ -101,7 +104,8 @@ one_more ds i d es new k distinct room within at_i values table same added =
     ∙ new_signal ds i d distinct within at_i in
     let last : new ≡ es ++ (k, x) ∷ [] = added ∙ added_last es k x table.named unseen in
     let shown : values_of new ≡ map declaration_of (take (i + 1) ds) =
-    ap (λ (xs : List Entry). values_of xs) last ∙ values_pushed es (k, x) ∙ ap (λ (ys : List Declaration). ys ++ x ∷ []) values
+    ap (λ (xs : List Entry). values_of xs) last ∙ values_pushed es (k, x)
+    ∙ ap (λ (ys : List Declaration). ys ++ x ∷ []) values
     ∙ ap (λ (y : Declared). map declaration_of (take i ds) ++ declaration_of y ∷ []) at_i
     ∙ more declaration_of ds i (i + 1) d within (omega arith) in
     let count : length es ≡ i = sym (length-map es (λ (e : Entry). e.1)) ∙ ap length values

@@ -13,9 +13,9 @@ use indexmap::IndexMap;
 use std::alloc::{AllocError, Global};
 use std::marker::Model;
 
-/// The signals of a module, each at the text of its name. There are at most `MOST_SIGNALS`, so names
-/// that are chosen to fall together cost no more than as many comparisons. A contract sees the list of
-/// their declarations.
+/// The signals of a module, each at the text of its name. There are at most `MOST_SIGNALS`: names
+/// that are chosen to have one hash cost at most that number of comparisons. A contract sees the
+/// list of their declarations.
 #[derive(Drop)]
 pub struct SignalTable<'a> {
     signals: IndexMap<&'a [u8], Declaration>,
