@@ -94,6 +94,7 @@ bench: build
 	python3 bench/instants.py $(ENGINE)
 	@python3 scripts/run.py engine_pairs < crates/engine_pairs/stdin > /dev/null
 	python3 bench/engines.py $(PAIRS) 500000
+	python3 bench/worklist.py $(PAIRS)
 	@python3 scripts/run.py text_bench 1 < crates/text_bench/stdin > /dev/null
 	python3 bench/texts.py $(TEXTS)
 	@python3 scripts/run.py load_bench 1 < crates/load_bench/stdin > /dev/null

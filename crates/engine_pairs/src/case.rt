@@ -17,7 +17,7 @@ use est_rounds::rounds::Rounds;
 use std::alloc::Global;
 
 /// Those of the signals in the mask that may be offered.
-fn offered(kernel: &Kernel, present: u64) -> Inputs
+pub fn offered(kernel: &Kernel, present: u64) -> Inputs
     ensures { AreInputs kernel.now result }
 {
     Inputs {
