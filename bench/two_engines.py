@@ -15,6 +15,8 @@ import subprocess
 import sys
 import tempfile
 
+from engines import ANSWER
+
 LARGE = ("200 loops", "large", "sequence", "relay", "relay backwards")
 COUNTED = re.compile(r"^\s*([\d,]+) \(\s*[\d.]+%\)\s+\S*?:(\S.*?)(?: \[.*)?$")
 MAKING = ("lay::", "Net::build", "open_cells")
@@ -117,9 +119,9 @@ def main(words):
             offers = inputs.split(",")
             given = ",".join(offers[n % len(offers)] for n in range(instants))
             answers, microsteps, plain = counted(words[0], f"{given} module M: {text} end module\n", pathlib.Path(name))
-            if any("!" in answer.replace("!=", "=") or "=" not in answer for answer in answers.split()[1:]):
+            cells, *each = answers.split()
+            if any((found := ANSWER.match(answer)) is None or found[2] != "=" for answer in each):
                 sys.exit(f"{module}: the engines differ: {answers}")
-            cells = answers.split()[0]
             print(f"{module}: {cells} cells, {microsteps // instants} and {plain // instants}, {microsteps / plain:.2f} times")
 
 
