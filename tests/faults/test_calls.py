@@ -27,7 +27,6 @@ CALLS = {
         "audit::memory::audits_without_memory": {"AllocError": 1, "AllocFailed": 1, "refused a check": 1, "refused a report": 1},
     },
     "policy_tests": {"board::receipts::receipts_without_memory": {"a board": 5, "went on": 1}},
-    "server_tests": {"threads::memory::workers_without_memory": {"a board": 5, "refused the workers": 2}},
 }
 TEST_SECONDS = 60
 

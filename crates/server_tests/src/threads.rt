@@ -3,7 +3,6 @@ mod clients;
 mod lending;
 mod many;
 mod meeting;
-mod memory;
 mod revocation;
 mod server;
 mod shared;
