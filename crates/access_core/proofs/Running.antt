@@ -9,7 +9,7 @@ use Rattle.rbac_policy.specs.declared.commands.Entry.{Entry}
 use Rattle.reactor_core.specs.declared.entry.PastInstant.{PastInstant}
 use Rattle.reactor_core.specs.declared.entry.SlotEntry.{SlotEntry}
 use Rattle.reactor_core.specs.declared.reactor.Shown.{Shown}
-use Rattle.reactor_core.specs.Meaning.{is_loaded, instants_of, Running, Runs}
+use Rattle.reactor_core.specs.Meaning.{is_loaded, instants_of, Running, RunsAfter}
 use Rattle.reactor_core.specs.Answers.{IsInstant, HasNoInstant, within_mask as masked}
 use Rattle.access_core.specs.declared.reply.Reply.TheVariants.{Look}
 use Rattle.access_core.specs.declared.reply.ShownSignal.{ShownSignal}
@@ -64,7 +64,7 @@ shown_is interface i seen = same_kept _ _ (bits seen)
 pub looks_from : (entries : List Entry) (slot session n : ℕ) (journal : List SlotEntry) (r : Running)
     (interface : List Declaration) (i : PastInstant)
     (seen : ℕ) (shown : Shown) (signals : List ShownSignal) (version : ℕ)
-    → Runs journal r → interface ≡ r.interface → IsInstant journal n i → shown ≡ masked i seen
+    → RunsAfter journal r → interface ≡ r.interface → IsInstant journal n i → shown ≡ masked i seen
     → Sees entries session slot interface (bits seen)
     → signals ≡ map (present_at interface shown.present) (filter (bits shown.mask) (places_of interface))
     → version ≡ length entries

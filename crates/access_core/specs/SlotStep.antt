@@ -19,7 +19,7 @@ use Rattle.reactor_core.specs.declared.entry.Action.TheVariants as action
 use Rattle.reactor_core.specs.declared.entry.SlotEntry.{SlotEntry}
 use Rattle.reactor_core.specs.declared.refusal.Refusal.{Refusal as ReactorRefusal}
 use Rattle.reactor_core.specs.declared.refusal.ModuleRefusal.TheVariants.{Pending, NoInstant}
-use Rattle.reactor_core.specs.Meaning.{entry, is_loaded, instants_of, Running, Runs}
+use Rattle.reactor_core.specs.Meaning.{entry, is_loaded, instants_of, Running, RunsAfter}
 use Rattle.reactor_core.specs.Answers.{LoadAnswer, OfferAnswer, HasRoom, IsInstant, HasNoInstant}
 use Rattle.reactor_core.specs.Instants.{IsOutcome, HasNoOutcome, AddsInstant, not_ready}
 use Rattle.access_core.specs.declared.command.SlotCommand.{SlotCommand}
@@ -97,7 +97,7 @@ pub record NamesUndecided (entries : List Entry) (slot session : ℕ) (journal :
   pub undecided : ℕ
   pub none : HasNoOutcome journal undecided
   pub running : Running
-  pub runs : Runs journal running
+  pub runs : RunsAfter journal running
   pub sees : ℕ → Bool
   pub observes : Sees entries session slot running.interface sees
   pub named : refusal ≡ Stuck (names_of running.interface sees undecided)
@@ -124,7 +124,7 @@ pub record Steps (stamp : Stamp) (before : List SlotEntry) (reply : Reply) (afte
 pub record Looks (entries : List Entry) (slot session n : ℕ) (before : List SlotEntry) (reply : Reply)
     (after : List SlotEntry) : Type 0 where
   pub running : Running
-  pub runs : Runs before running
+  pub runs : RunsAfter before running
   pub instant : PastInstant
   pub there : IsInstant before n instant
   pub sees : ℕ → Bool

@@ -13,7 +13,7 @@ use Rattle.rbac_policy.specs.declared.objects.Object.TheVariants.{Slot, Signal}
 use Rattle.rbac_policy.specs.Facts.{IsLive, May}
 use Rattle.reactor_core.specs.declared.entry.SlotEntry.{SlotEntry}
 use Rattle.reactor_core.specs.declared.refusal.Refusal.{Refusal as ReactorRefusal}
-use Rattle.reactor_core.specs.Meaning.{last_load, Running, Runs}
+use Rattle.reactor_core.specs.Meaning.{last_load, Running, RunsAfter}
 use Rattle.reactor_core.specs.Answers.{OfferAnswer}
 use Rattle.reactor_core.specs.Instants.{KeepsRelations}
 use Rattle.reactor_core.proofs.OneMeaning.{OneModule, same_running, is_loaded_where, not_both, ready_or_lacking}
@@ -65,7 +65,7 @@ sixteen_slots past m comes =
 
 -- where a module runs there is a slot
 slot_below : (slots : List SlotState) (slot : ℕ) (running : Running) → length slots ≡ 16
-    → Runs (journal_in (slice_get slots slot)) running → slot < 16
+    → RunsAfter (journal_in (slice_get slots slot)) running → slot < 16
 slot_below slots slot running sixteen runs = by_option (slice_get slots slot) refl where
   by_option : (o : Option SlotState) → slice_get slots slot ≡ o → slot < 16
   by_option None is = let none : None ≡ Some runs.load = sym (ap (λ o. last_load (journal_in o)) is) ∙ runs.last in
@@ -74,7 +74,7 @@ slot_below slots slot running sixteen runs = by_option (slice_get slots slot) re
 
 module _ (modules : OneModule) (entries : List Entry) (slot session : ℕ) (before : List SlotEntry) (reply : Reply)
     (after : List SlotEntry)
-    (limit : MeetsNoLimit reply) (running : Running) (runs : Runs before running) where
+    (limit : MeetsNoLimit reply) (running : Running) (runs : RunsAfter before running) where
   -- a refusal that tells of a limit
   at_limit : (refusal : Refusal) → (MeetsNoLimit (Refused refusal) → ⊥) → reply ≡ Refused refusal → IsAccepted reply
   at_limit refusal tells replied = absurd (tells (subst MeetsNoLimit replied limit))
@@ -178,7 +178,7 @@ can_offer running name input new kept = record {
 pub offer_law : OneModule → (past : List Moment) (m : Moment) (seat version slot session : ℕ) (name : List ℕ)
     (running : Running) → Comes past m
     → m.event ≡ OnSlot seat version slot session (Offer name) → MeetsNoLimit m.reply
-    → Runs (journal_at m.before slot) running → IsInputName running.interface name → ¬ (WasOffered past slot name)
+    → RunsAfter (journal_at m.before slot) running → IsInputName running.interface name → ¬ (WasOffered past slot name)
     → (IsAccepted m.reply
     ↔ (May (take version m.before.entries) session ToOffer (Signal slot name) × ¬ (IsExcluded running name)))
 offer_law modules past m seat version slot session name running comes is limit runs input new =
@@ -189,8 +189,8 @@ offer_law modules past m seat version slot session name running comes is limit r
       λ accepted.
           let added = adds_entry m seat version slot session (Offer name) (offer_adds name (Offer name) refl) accepted
           (by_event m (OnSlot seat version slot session (Offer name)) step) in
-          let here : Runs (journal_at m.before slot) added.is.running =
-          subst (λ j. Runs j added.is.running) (sym (ap journal_in added.there)) added.is.runs in
+          let here : RunsAfter (journal_at m.before slot) added.is.running =
+          subst (λ j. RunsAfter j added.is.running) (sym (ap journal_in added.there)) added.is.runs in
           let same : added.is.running ≡ running = same_running modules
           (journal_at m.before slot) added.is.running running here runs in
           (added.allowed, (subst (λ (r : Running). CanOffer r name) same added.is.can).kept),
@@ -204,7 +204,8 @@ offer_law modules past m seat version slot session name running comes is limit r
 
 pub step_law : OneModule → (past : List Moment) (m : Moment) (seat version slot session : ℕ) (running : Running)
     → Comes past m
-    → m.event ≡ OnSlot seat version slot session Step → MeetsNoLimit m.reply → Runs (journal_at m.before slot) running
+    → m.event ≡ OnSlot seat version slot session Step → MeetsNoLimit m.reply
+    → RunsAfter (journal_at m.before slot) running
     → (IsAccepted m.reply
     ↔ (May (take version m.before.entries) session ToStep (Slot slot) × KeepsRelations (journal_at m.before slot)
     × HasReaction (journal_at m.before slot)))

@@ -6,7 +6,7 @@ use Rattle.reactor_core.specs.declared.entry.Action.{Action}
 use Rattle.reactor_core.specs.declared.entry.SlotEntry.{SlotEntry}
 use Rattle.reactor_core.specs.declared.entry.Action.TheVariants as action
 use Rattle.reactor_core.specs.Meaning.{entry, last_load, load_after, offers_of, offers_after, instants_of, mask_of}
-use Rattle.reactor_core.specs.Meaning.{with_signal, Running, Runs}
+use Rattle.reactor_core.specs.Meaning.{with_signal, Running, RunsAfter}
 use Rattle.reactor_core.proofs.OneMeaning.{OneModule, same_running}
 use Rattle.reactor_core.proofs.Steps.{after_snoc}
 use Rattle.access_core.specs.declared.command.SlotCommand.{SlotCommand}
@@ -23,7 +23,7 @@ use Rattle.access_events.proofs.Standing.{offered_stands, none_stands}
 
 -- where a module runs, exactly what was offered is pending
 abbrev pub PendingAsOffered : List Moment → (slot : ℕ) → List SlotEntry → Type 0
-PendingAsOffered past slot journal = (r : Running) → Runs journal r → (name : List ℕ)
+PendingAsOffered past slot journal = (r : Running) → RunsAfter journal r → (name : List ℕ)
     → StandsIn r.interface r.pending name ↔ WasOffered past slot name
 
 -- nothing is made and nothing undone, and nothing else changes
@@ -138,7 +138,7 @@ module _ (one : OneModule) (past : List Moment) (m : Moment) (seat version slot 
         pending = mask_of r.interface (offers_of before);
         instants = instants_of before;
       } in
-      let runs_old : Runs before old = record {
+      let runs_old : RunsAfter before old = record {
         load = runs.load;
         last = sym (load_then (action.Offer signal) h.is) ∙ runs.last;
         term = runs.term;

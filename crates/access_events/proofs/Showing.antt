@@ -16,8 +16,8 @@ use Rattle.reactor_core.specs.declared.entry.PastInstant.{PastInstant}
 use Rattle.reactor_core.specs.declared.entry.Stamp.{Stamp}
 use Rattle.reactor_core.specs.declared.entry.SlotEntry.{SlotEntry}
 use Rattle.reactor_core.specs.Meaning.{entry, instant, is_loaded, last_load, load_after, instants_of, instants_after}
-use Rattle.reactor_core.specs.Meaning.{offers_of, mask_of, ModuleOf, Running, Runs, Leaves, loaded, offered, discarded}
-use Rattle.reactor_core.specs.Meaning.{stepped}
+use Rattle.reactor_core.specs.Meaning.{offers_of, mask_of, ModuleOf, Running, RunsAfter, Leaves, loaded, offered}
+use Rattle.reactor_core.specs.Meaning.{discarded, stepped}
 use Rattle.reactor_core.specs.Reacting.{ReactsWith}
 use Rattle.reactor_core.proofs.OneMeaning.{OneModule, one_term, same_running}
 use Rattle.reactor_core.proofs.Steps.{after_snoc}
@@ -93,7 +93,7 @@ record Known (past : List Moment) (slot : ℕ) (journal : List SlotEntry) (inter
       → Since (WasStep slot n interface i) (Accepts slot IsLoad) past
 
 abbrev KnownSlot : List Moment → (slot : ℕ) → List SlotEntry → Type 0
-KnownSlot past slot journal = (r : Running) (runs : Runs journal r) → Known past slot journal r.interface runs.term
+KnownSlot past slot journal = (r : Running) (runs : RunsAfter journal r) → Known past slot journal r.interface runs.term
 
 -- a fact of the history stays where nothing undoes it
 still_since : {A : Type 0} (M U : A → Type 0) (xs : List A) (x : A) → (U x → ⊥) → Since M U xs
@@ -145,7 +145,8 @@ module _ (modules : OneModule) (past : List Moment) (m : Moment) (seat version s
     instants = instants_of before;
   }
 
-  abbrev ran_before : (r : Running) (runs : Runs after r) → last_load after ≡ last_load before → Runs before (ran r)
+  abbrev ran_before : (r : Running) (runs : RunsAfter after r) → last_load after ≡ last_load before
+      → RunsAfter before (ran r)
   ran_before r runs same = record {
     load = runs.load;
     last = sym same ∙ runs.last;
@@ -211,7 +212,7 @@ module _ (modules : OneModule) (past : List Moment) (m : Moment) (seat version s
   steps e h told r runs =
       let o = h.outcome in
       let now : PastInstant = instant o.running.pending h.outputs in
-      let runs_old : Runs before (ran r) = ran_before r runs (load_then (action.Step now) h.is) in
+      let runs_old : RunsAfter before (ran r) = ran_before r runs (load_then (action.Step now) h.is) in
       let k = known (ran r) runs_old in
       let same_run : o.running ≡ ran r = same_running modules before o.running (ran r) o.runs runs_old in
       let declares : o.running.interface ≡ r.interface = ap (λ (s : Running). s.interface) same_run in

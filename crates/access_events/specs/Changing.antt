@@ -6,7 +6,7 @@ use Rattle.reactor_core.specs.declared.entry.Action.{Action}
 use Rattle.reactor_core.specs.declared.entry.Action.TheVariants as action
 use Rattle.reactor_core.specs.declared.entry.SlotEntry.{SlotEntry}
 use Rattle.reactor_core.specs.Loading.{GivenModule, Gives}
-use Rattle.reactor_core.specs.Meaning.{entry, instant, Running, Runs, is_loaded, instants_of}
+use Rattle.reactor_core.specs.Meaning.{entry, instant, Running, RunsAfter, is_loaded, instants_of}
 use Rattle.reactor_core.specs.Answers.{HasRoom, load_of}
 use Rattle.reactor_core.specs.Instants.{IsOutcome, KeepsRelations}
 use Rattle.access_core.specs.declared.command.SlotCommand.{SlotCommand}
@@ -28,7 +28,7 @@ pub record LoadsModule (main text : List ℕ) (before : List SlotEntry) (a : Act
 -- an offer of an input or inputoutput of the running module that isn't pending, and with which no exclusion is broken
 pub record OffersInput (signal : List ℕ) (before : List SlotEntry) (a : Action) : Type 0 where
   pub running : Running
-  pub runs : Runs before running
+  pub runs : RunsAfter before running
   pub can : CanOffer running signal
   pub is : a ≡ action.Offer signal
 

@@ -14,7 +14,7 @@ use Rattle.reactor_core.specs.Answers.{gives_module}
 use Rattle.reactor_core.specs.Converting.{all_converted}
 use Rattle.reactor_core.specs.Faults.{refusal_of_pending}
 use Rattle.reactor_core.specs.Instants.{not_ready}
-use Rattle.reactor_core.specs.Meaning.{Running, Runs, pending_of}
+use Rattle.reactor_core.specs.Meaning.{Running, RunsAfter, pending_of}
 use Rattle.access_core.specs.declared.command.SlotCommand.{SlotCommand}
 use Rattle.access_core.specs.declared.command.SlotCommand.TheVariants.{Load, Offer, Discard, Step, Unload, Look, Audit}
 use Rattle.access_core.specs.declared.refusal.Refusal.{Refusal}
@@ -46,10 +46,11 @@ all_told_as tell (rule ▸ later) = told_as tell rule ▸ all_told_as tell later
 abbrev pub bad_offer : List SlotEntry → (name : List ℕ) → Rule Refusal
 bad_offer journal name = record {
   refuses = λ refusal.
-      (r : Running) × Runs journal r × (given : ReactorRefusal) × (refusal ≡ of_reactor given)
+      (r : Running) × RunsAfter journal r × (given : ReactorRefusal) × (refusal ≡ of_reactor given)
       × FirstRefuses (all_converted refusal_of_pending (pending_rules (pending_of r) name)) given;
   passes =
-      (r : Running) × Runs journal r × AllPass (all_converted refusal_of_pending (pending_rules (pending_of r) name));
+      (r : Running) × RunsAfter journal r
+          × AllPass (all_converted refusal_of_pending (pending_rules (pending_of r) name));
 }
 
 -- the rules of what a command asks of its slot, for a session that lives; memory apart

@@ -6,7 +6,7 @@ use Rattle.reactor_core.specs.declared.entry.Stamp.{Stamp}
 use Rattle.reactor_core.specs.declared.entry.PastInstant.{PastInstant}
 use Rattle.reactor_core.specs.declared.entry.Action.TheVariants as action
 use Rattle.est_relations.specs.Offers.{place_of}
-use Rattle.reactor_core.specs.Meaning.{entry, Running, Runs}
+use Rattle.reactor_core.specs.Meaning.{entry, Running, RunsAfter}
 use Rattle.access_core.specs.declared.command.SlotCommand.{SlotCommand}
 use Rattle.access_core.specs.declared.command.SlotCommand.TheVariants.{Load, Offer, Discard, Step}
 use Rattle.access_core.specs.Needs.{IsAccepted}
@@ -57,7 +57,7 @@ pub record StandsIn (interface : List Declaration) (signals : ℕ) (name : List 
 -- at this moment an instant is added to the slot
 pub record AddsInstantAt (m : Moment) (slot : ℕ) (running : Running) (i : PastInstant) : Type 0 where
   pub stamp : Stamp
-  pub runs : Runs (journal_at m.before slot) running
+  pub runs : RunsAfter (journal_at m.before slot) running
   pub added : journal_at m.after slot ≡ journal_at m.before slot ++ entry stamp (action.Step i) ∷ []
 
 -- at this moment an instant of the slot is run, and the signal of this name stands in its inputs

@@ -3,7 +3,7 @@ use Rattle.std.specs.Prelude.{◌≡◌, ◌↔◌, ℕ, ◌-◌, Bool, List, []
 use Rattle.est_kernel.specs.Term.{Term}
 use Rattle.est_kernel.specs.declared.interface.Declaration.{Declaration}
 use Rattle.reactor_core.specs.declared.entry.PastInstant.{PastInstant}
-use Rattle.reactor_core.specs.Meaning.{instant, Running, Runs}
+use Rattle.reactor_core.specs.Meaning.{instant, Running, RunsAfter}
 use Rattle.reactor_core.specs.Reacting.{ReactsWith}
 use Rattle.access_core.specs.declared.reply.Reply.TheVariants.{Step as Stepped, Look as Shown}
 use Rattle.access_core.specs.Shown.{Sees, shown_of}
@@ -36,7 +36,7 @@ pub record WasStep (slot n : ℕ) (interface : List Declaration) (i : PastInstan
 -- the reactions before it have left of the module
 pub record ShowsReaction (past : List Moment) (m : Moment) (version slot session n : ℕ) : Type 0 where
   pub running : Running
-  pub runs : Runs (journal_at m.before slot) running
+  pub runs : RunsAfter (journal_at m.before slot) running
   pub instant : PastInstant
   pub stepped : Since (WasStep slot n running.interface instant) (Accepts slot IsLoad) past
   pub inputs : (name : List ℕ) → StandsIn running.interface instant.inputs name

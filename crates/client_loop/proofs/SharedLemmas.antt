@@ -141,7 +141,7 @@ module _ {B : Type 0} where
   -- the seat keeps the receipt of the entry that the command added, if it added one
   pub keeps_added : (old new : List Entry) (answer : Result (Receipt B) Refusal) (seat after : SeatState)
       (session : Option ℕ) (command : AdminCommand)
-      → board_step.AdminStep old session command answer new → board_step.SeatAfter seat answer new after
+      → board_step.BoardStep old session command answer new → board_step.SeatAfter seat answer new after
       → KeepsAdded old new seat after
   keeps_added old new (Ok receipt) seat after session command step keeps =
       let p = published_by old new receipt step.answer step.replied in
@@ -153,7 +153,7 @@ module _ {B : Type 0} where
   -- the receipt, if the answer is one, is of a published entry
   pub published : (session : Option ℕ) (command : AdminCommand) (old new : List Entry)
       (answer : Result (Receipt B) Refusal)
-      → board_step.AdminStep old session command answer new
+      → board_step.BoardStep old session command answer new
       → IfOk answer
       (λ receipt. (entry : Entry) × (o : List Entry) × (n : List Entry) × IsPublished entry o (Ok receipt) n)
   published session command old new (Ok receipt) step = let p = published_by old new receipt step.answer step.replied in
@@ -208,7 +208,7 @@ module _ {B : Type 0} where
     pub step_same : (session : Option ℕ) (command : AdminCommand)
         → IfErr answer (λ refusal. given ≡ Refused (of_board refusal))
         → ((entry : Entry) → IsPublished entry old answer new → given ≡ accepted_reply old entry.command)
-        → board_step.AdminStep old session command answer new
+        → board_step.BoardStep old session command answer new
         → AdminStep session command (desk_with old slots) given (desk_with new slots)
     step_same session command refused accepted step = record {
       answer = step.answer;

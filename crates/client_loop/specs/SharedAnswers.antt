@@ -13,7 +13,7 @@ use Rattle.access_core.specs.declared.reply.Reply.TheVariants.{Refused, Check}
 use Rattle.access_core.specs.Desk.{DeskState, AdminStep}
 use Rattle.access_core.specs.SlotState.{SlotState}
 use Rattle.policy_board.specs.declared.refusal.Refusal.{Refusal}
-use Rattle.policy_board.specs.Reads.{Asks}
+use Rattle.policy_board.specs.Reads.{AnswersFor}
 use Rattle.policy_board.specs.SeatState.{SeatState}
 use Rattle.seat_receipts.specs.declared.receipt.Kept.TheVariants.{Admin}
 use Rattle.slot_table.specs.Conversions.{of_board}
@@ -55,7 +55,7 @@ check_reply (Err refusal) = Refused (of_board refusal)
 pub record IsCheckedAt (session : ℕ) (operation : Operation) (object : Object) (seat : SeatState) (given : Reply)
     (after : SeatState) : Type 0 where
   pub answer : Result Bool Refusal
-  pub asks : Asks (λ entries. May entries session operation object) seat answer after
+  pub asks : AnswersFor (λ entries. May entries session operation object) seat answer after
   pub replied : given ≡ check_reply answer
 
 -- what a seat at a board and a table is answered to what it asks, and the seat afterwards

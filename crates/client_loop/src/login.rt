@@ -81,7 +81,7 @@ impl Login {
         desk.admin(Some(self.session), AdminCommand::DeleteSession)
     }
 
-    /// Ends the session, and gives the reply. The login is held on where memory was refused.
+    /// Ends the session, and gives the reply. Keeps the login where memory was refused.
     pub(crate) fn end<D: Desk>(self, desk: &mut D) -> (Reply, Option<Login>)
         ensures asked { EndsSession D.answers self.session desk.old result.0 desk.new }
         ensures held { session_of result.1 ≡ after_logout result.0 (Some self.session) }

@@ -20,10 +20,9 @@ use std::alloc::{AllocError, Global};
 use std::marker::PhantomData;
 use std::sync::Wait;
 use std::thread::Threads;
-use worker_threads::workers::{Turn, Work, run_each};
+use worker_threads::workers::{Back, Turn, Work, run_each};
 
-/// What lends workers a value of type T. Proofs know no more of the lender than that, so threads
-/// may share it.
+/// Lends workers a value of type T. Proofs know nothing else of it, so threads may share it.
 trait Lends<T> {
     /// The value.
     fn lent(&self) -> &T;
@@ -95,15 +94,18 @@ fn run_over<
     rt: &R,
     service: &Service<'_, B, L, T, S, G>,
     seats: Vec<Seat<B>>,
-) -> Result<Vec<Seat<B>>, AllocError>
-    ensures { IfOk result (λ back. AreBack ServesNext seats.items back.items) }
+    connections: u64,
+) -> Result<Back<Seat<B>>, AllocError>
+    ensures { IfOk result (λ back. AreBack ServesNext connections back.all_taken seats.items
+        back.seats.items) }
 {
-    run_each(rt, service.alloc, service, seats)
+    run_each(rt, service.alloc, service, seats, connections)
 }
 
 /// Serves the connections of a source over this board and table: a thread for each seat, all
-/// started before the source is asked, which each serve one connection after another until there is
-/// none. It waits for their ends. A worker is its seat's place, counted from 0.
+/// started before the source is asked, which each serve this number of connections one after
+/// another, or as many as there are. It waits for their ends, and tells whether each served all of
+/// its connections. A worker is its seat's place, counted from 0.
 ///
 /// # Errors
 ///
@@ -122,9 +124,10 @@ pub fn run_workers<
     seats: Vec<Seat<B>>,
     source: &S,
     gate: &G,
-) -> Result<Vec<Seat<B>>, Refusal>
+    connections: u64,
+) -> Result<Back<Seat<B>>, Refusal>
     ensures { MatchResult result
-        (λ back. AreBack ServesNext seats.items back.items)
+        (λ back. AreBack ServesNext connections back.all_taken seats.items back.seats.items)
         (λ refusal. refusal ≡ Memory) }
 {
     let service = Service {
@@ -136,7 +139,7 @@ pub fn run_workers<
         of: PhantomData,
     };
     may_cross::<SlotReader<B>>();
-    let back = run_over(rt, &service, seats);
+    let back = run_over(rt, &service, seats, connections);
     let Service {
         alloc: _,
         board: _,

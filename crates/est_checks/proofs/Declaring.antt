@@ -1,5 +1,6 @@
 -- Names that are declared a second time, along lists of the code.
-use Rattle.std.proofs.Common.{◌≡◌, ℕ, suc, ◌<◌, List, [], ◌∷◌, ◌++◌, Option, Some, None, refl, ap, sym, ◌∙◌, map, length, get_or, take, drop}
+use Rattle.std.proofs.Common.{◌≡◌, ℕ, suc, ◌<◌, List, [], ◌∷◌, ◌++◌, Option, Some, None, refl, ap, sym, ◌∙◌, map}
+use Rattle.std.proofs.Common.{length, get_or, take, drop}
 use Rattle.std.proofs.Math.Seq.{drop-cons, take-suc}
 use Rattle.std.proofs.lemmas.List.{map-append}
 use Rattle.std.specs.Option.{option_or}
@@ -8,8 +9,11 @@ use Rattle.est_checks.specs.Duplicates.{duplicate_of, duplicate_after}
 use Rattle.est_modules.specs.declared.head.Head.{Head}
 
 -- a list of which i were taken goes on with the next
-pub more : {X Y : Type 0} (f : X → Y) (xs : List X) (i j : ℕ) (d : X) → i < length xs → j ≡ suc i → map f (take i xs) ++ f (get_or xs i d) ∷ [] ≡ map f (take j xs)
-more f xs i j d lt next = sym (ap (λ k. map f (take k xs)) next ∙ ap (map f) (take-suc xs i d lt) ∙ map-append f (take i xs) (get_or xs i d ∷ []))
+pub more : {X Y : Type 0} (f : X → Y) (xs : List X) (i j : ℕ) (d : X) → i < length xs → j ≡ suc i
+    → map f (take i xs) ++ f (get_or xs i d) ∷ [] ≡ map f (take j xs)
+more f xs i j d lt next =
+    sym (ap (λ k. map f (take k xs)) next ∙ ap (map f) (take-suc xs i d lt)
+    ∙ map-append f (take i xs) (get_or xs i d ∷ []))
 
 -- ---- modules of a library
 
@@ -19,16 +23,24 @@ module_name h = h.name
 abbrev pub modules_left : List Head → ℕ → Option (List ℕ)
 modules_left hs i = duplicate_after (map module_name (take i hs)) (map program_of (drop i hs))
 
-next_module : (hs : List Head) (i j : ℕ) (d : Head) → i < length hs → j ≡ suc i → modules_left hs i ≡ option_or (duplicate_of (map module_name (take i hs)) (program_of (get_or hs i d))) (modules_left hs j)
+next_module : (hs : List Head) (i j : ℕ) (d : Head) → i < length hs → j ≡ suc i
+    → modules_left hs i ≡ option_or (duplicate_of (map module_name (take i hs)) (program_of (get_or hs i d)))
+    (modules_left hs j)
 next_module hs i j d lt next =
     let h = get_or hs i d in
     let seen = map module_name (take i hs) in
     ap (λ ys. duplicate_after seen (map program_of ys)) (drop-cons hs i d lt)
-    ∙ ap (λ k. option_or (duplicate_of seen (program_of h)) (duplicate_after k (map program_of (drop (suc i) hs)))) (more module_name hs i j d lt next)
-    ∙ ap (λ k. option_or (duplicate_of seen (program_of h)) (duplicate_after (map module_name (take j hs)) (map program_of (drop k hs)))) (sym next)
+    ∙ ap (λ k. option_or (duplicate_of seen (program_of h)) (duplicate_after k (map program_of (drop (suc i) hs))))
+    (more module_name hs i j d lt next)
+    ∙ ap (λ k. option_or (duplicate_of seen (program_of h))
+    (duplicate_after (map module_name (take j hs)) (map program_of (drop k hs)))) (sym next)
 
-pub module_found : (hs : List Head) (i : ℕ) (d : Head) {n : List ℕ} → i < length hs → Some n ≡ duplicate_of (map module_name (take i hs)) (program_of (get_or hs i d)) → Some n ≡ modules_left hs i
-module_found hs i d lt e = sym (next_module hs i (suc i) d lt refl ∙ ap (λ o. option_or o (modules_left hs (suc i))) (sym e))
+pub module_found : (hs : List Head) (i : ℕ) (d : Head) {n : List ℕ} → i < length hs
+    → Some n ≡ duplicate_of (map module_name (take i hs)) (program_of (get_or hs i d)) → Some n ≡ modules_left hs i
+module_found hs i d lt e =
+    sym (next_module hs i (suc i) d lt refl ∙ ap (λ o. option_or o (modules_left hs (suc i))) (sym e))
 
-pub module_passed : (hs : List Head) (i j : ℕ) (d : Head) → i < length hs → j ≡ suc i → None ≡ duplicate_of (map module_name (take i hs)) (program_of (get_or hs i d)) → modules_left hs i ≡ modules_left hs j
+pub module_passed : (hs : List Head) (i j : ℕ) (d : Head) → i < length hs → j ≡ suc i
+    → None ≡ duplicate_of (map module_name (take i hs)) (program_of (get_or hs i d))
+    → modules_left hs i ≡ modules_left hs j
 module_passed hs i j d lt next e = next_module hs i j d lt next ∙ ap (λ o. option_or o (modules_left hs j)) (sym e)

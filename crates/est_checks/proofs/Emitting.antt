@@ -8,5 +8,8 @@ use Rattle.est_modules.specs.Renamings.{renamed}
 use Rattle.est_checks.specs.Emissions.{is_refused_in_run, refused_in_run}
 use Rattle.est_modules.specs.declared.head.Declared.{Declared}
 
-pub signal_found : (emitted : List ℕ → List ℕ → Bool) (p : Program) (bs : List Binder) (rs : List RenamingTree) (m : List ℕ) (q : Program) (d : Declared) {n : List ℕ} → Some d ≡ find (λ (d : Declared). is_refused_in_run emitted p bs rs m d.name) q.interface → n ≡ renamed rs d.name → Some n ≡ refused_in_run emitted p bs rs m (Some q)
+pub signal_found : (emitted : List ℕ → List ℕ → Bool) (p : Program) (bs : List Binder) (rs : List RenamingTree)
+    (m : List ℕ) (q : Program) (d : Declared) {n : List ℕ}
+    → Some d ≡ find (λ (d : Declared). is_refused_in_run emitted p bs rs m d.name) q.interface → n ≡ renamed rs d.name
+    → Some n ≡ refused_in_run emitted p bs rs m (Some q)
 signal_found emitted p bs rs m q d e h = ap Some h ∙ ap (option_map (λ (d : Declared). renamed rs d.name)) e

@@ -11,15 +11,20 @@ kept : {X A : Type 0} (f : X → Option A) (a : A) (xs : List X) → fold (λ k 
 kept f a [] = refl
 kept f a (x ∷ xs) = kept f a xs
 
-begun : {X A : Type 0} (f : X → Option A) (k : Option A) (xs : List X) → fold (λ k x. option_or k (f x)) k xs ≡ option_or k (first_of f xs)
+begun : {X A : Type 0} (f : X → Option A) (k : Option A) (xs : List X)
+    → fold (λ k x. option_or k (f x)) k xs ≡ option_or k (first_of f xs)
 begun f (Some a) xs = kept f a xs
 begun f None [] = refl
 begun f None (x ∷ xs) = begun f (f x) xs
 
 -- what is kept along a list is its first answer
-pub fold_first : {X A : Type 0} (f : X → Option A) (xs : List X) → fold (λ k x. option_or k (f x)) None xs ≡ first_of f xs
+pub fold_first : {X A : Type 0} (f : X → Option A) (xs : List X)
+    → fold (λ k x. option_or k (f x)) None xs ≡ first_of f xs
 fold_first f xs = begun f None xs
 
 -- the first in the bodies of modules, from that of the module at a place
-pub next_home : (f : Program → Occurrence → Option (List ℕ)) (hs : List Head) (i : ℕ) (d : Head) → i < length hs → first_in_bodies f (map program_of (drop i hs)) ≡ option_or (first_of (f (program_of (get_or hs i d))) (occurrences [] (program_of (get_or hs i d)).body)) (first_in_bodies f (map program_of (drop (suc i) hs)))
+pub next_home : (f : Program → Occurrence → Option (List ℕ)) (hs : List Head) (i : ℕ) (d : Head) → i < length hs
+    → first_in_bodies f (map program_of (drop i hs)) ≡ option_or
+    (first_of (f (program_of (get_or hs i d))) (occurrences [] (program_of (get_or hs i d)).body))
+    (first_in_bodies f (map program_of (drop (suc i) hs)))
 next_home f hs i d lt = ap (λ ys. first_in_bodies f (map program_of ys)) (drop-cons hs i d lt)

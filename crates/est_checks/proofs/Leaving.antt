@@ -1,5 +1,6 @@
 -- What a run without renamings emits, among names of its module.
-use Rattle.std.proofs.Common.{◌≡◌, ◌||◌, ◌&&◌, ℕ, List, [], ◌∷◌, Some, Bool, true, false, cond, map, filter, refl, ap, sym, ◌∙◌}
+use Rattle.std.proofs.Common.{◌≡◌, ◌||◌, ◌&&◌, ℕ, List, [], ◌∷◌, Some, Bool, true, false, cond, map, filter, refl, ap}
+use Rattle.std.proofs.Common.{sym, ◌∙◌}
 use Rattle.std.specs.List.{list_any}
 use Rattle.std.specs.Str.{bytes_eq}
 use Rattle.est_modules.specs.Visible.{stands_in}
@@ -17,17 +18,20 @@ distributed : (a b c : Bool) → ((a && b) || (a && c)) ≡ (a && (b || c))
 distributed true b c = refl
 distributed false b c = refl
 
-pub one_left : (p : List ℕ → Bool) (n s : List ℕ) (r : Bool) (e : Bool) → bytes_eq n s ≡ e → ((p n && e) || (p s && r)) ≡ (p s && (e || r))
+pub one_left : (p : List ℕ → Bool) (n s : List ℕ) (r : Bool) (e : Bool) → bytes_eq n s ≡ e
+    → ((p n && e) || (p s && r)) ≡ (p s && (e || r))
 one_left p n s r true same = ap (λ m. (p m && true) || (p s && r)) (same_bytes n s same) ∙ distributed (p s) true r
 one_left p n s r false other = ap (λ b. b || (p s && r)) (and_false (p n))
 
 -- a name that is kept stands in the list, or in its rest
-kept_name : (p : List ℕ → Bool) (n : List ℕ) (ns : List (List ℕ)) (s : List ℕ) (b : Bool) → stands_in (cond b (n ∷ ns) ns) s ≡ ((b && bytes_eq n s) || stands_in ns s)
+kept_name : (p : List ℕ → Bool) (n : List ℕ) (ns : List (List ℕ)) (s : List ℕ) (b : Bool)
+    → stands_in (cond b (n ∷ ns) ns) s ≡ ((b && bytes_eq n s) || stands_in ns s)
 kept_name p n ns s true = refl
 kept_name p n ns s false = refl
 
 -- what stands in a list from which names were taken is the name of one that was left
-pub stands_left : (p : List ℕ → Bool) (ns : List (List ℕ)) (s : List ℕ) → stands_in (filter p ns) s ≡ (p s && stands_in ns s)
+pub stands_left : (p : List ℕ → Bool) (ns : List (List ℕ)) (s : List ℕ)
+    → stands_in (filter p ns) s ≡ (p s && stands_in ns s)
 stands_left p [] s = sym (and_false (p s))
 stands_left p (n ∷ ns) s =
     kept_name p n (filter p ns) s (p n)
@@ -35,21 +39,25 @@ stands_left p (n ∷ ns) s =
     ∙ one_left p n s (stands_in ns s) (bytes_eq n s) refl
 
 -- the name of an interface signal that passes
-named_so : (p : List ℕ → Bool) (ds : List Declared) (s : List ℕ) → list_any (λ (d : Declared). p d.name && bytes_eq d.name s) ds ≡ (p s && stands_in (map (λ (d : Declared). d.name) ds) s)
+named_so : (p : List ℕ → Bool) (ds : List Declared) (s : List ℕ)
+    → list_any (λ (d : Declared). p d.name && bytes_eq d.name s) ds
+    ≡ (p s && stands_in (map (λ (d : Declared). d.name) ds) s)
 named_so p [] s = sym (and_false (p s))
 named_so p (d ∷ ds) s =
     ap (λ b. (p d.name && bytes_eq d.name s) || b) (named_so p ds s)
     ∙ one_left p d.name s (stands_in (map (λ (d : Declared). d.name) ds) s) (bytes_eq d.name s) refl
 
 -- the names that a module emits are those that a run of it emits without renamings
-names_sent : (em : List ℕ → List ℕ → Bool) (m : List ℕ) (q : Program) (s : List ℕ) → q.name ≡ m → stands_in (sent_in (em m) (Some q)) s ≡ emits_in_run em s [] (Some q)
+names_sent : (em : List ℕ → List ℕ → Bool) (m : List ℕ) (q : Program) (s : List ℕ) → q.name ≡ m
+    → stands_in (sent_in (em m) (Some q)) s ≡ emits_in_run em s [] (Some q)
 names_sent em m q s named =
     stands_left (em m) (map (λ (d : Declared). d.name) q.interface) s
     ∙ sym (named_so (em m) q.interface s)
     ∙ ap (λ k. list_any (λ (d : Declared). em k d.name && bytes_eq d.name s) q.interface) (sym named)
 
 -- the same of a module that was asked for
-pub sent_is : (ps : List Program) (em : List ℕ → List ℕ → Bool) (m : List ℕ) (q : Program) (s : List ℕ) → program_named ps m ≡ Some q → stands_in (sent_in (em m) (program_named ps m)) s ≡ emits_in_run em s [] (Some q)
+pub sent_is : (ps : List Program) (em : List ℕ → List ℕ → Bool) (m : List ℕ) (q : Program) (s : List ℕ)
+    → program_named ps m ≡ Some q → stands_in (sent_in (em m) (program_named ps m)) s ≡ emits_in_run em s [] (Some q)
 sent_is ps em m q s found =
     ap (λ o. stands_in (sent_in (em m) o) s) found
     ∙ names_sent em m q s (same_bytes q.name m (found_passes (λ (p : Program). bytes_eq p.name m) ps q found))

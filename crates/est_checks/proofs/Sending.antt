@@ -1,6 +1,8 @@
 -- What the modules of a library emit, worked out along an order.
 use mathlib.Core.Path.{fun_ext}
-use Rattle.std.proofs.Common.{◌≡◌, ℕ, zero, suc, ◌+◌, ◌<◌, ◌≤◌, ◌⊎◌, inl, inr, List, [], ◌∷◌, ◌++◌, length, Bool, true, false, cond, not, ◌||◌, ◌&&◌, slice_index, Option, Some, None, option_map, Contains, refl, ap, sym, ◌∙◌, subst, arith}
+use Rattle.std.proofs.Common.{◌≡◌, ℕ, zero, suc, ◌+◌, ◌<◌, ◌≤◌, ◌⊎◌, inl, inr, List, [], ◌∷◌, ◌++◌, length, Bool, true}
+use Rattle.std.proofs.Common.{false, cond, not, ◌||◌, ◌&&◌, slice_index, Option, Some, None, option_map, Contains, refl}
+use Rattle.std.proofs.Common.{ap, sym, ◌∙◌, subst, arith}
 use Rattle.std.proofs.lemmas.Bool.{cases_lt, false≢true}
 use Rattle.std.proofs.lemmas.List.{length-map}
 use Rattle.std.proofs.lemmas.List.Elements.{Contains-append_right}
@@ -30,23 +32,31 @@ use Rattle.est_modules.proofs.OrderPlaces.{each_stands}
 
 -- two tables say the same of each module that an act runs
 abbrev pub SayTheSame : List Program → (f g : List ℕ → List ℕ → Bool) → Act → Type 0
-SayTheSame ps f g act = (m : List ℕ) → IsRunOf act m → (q : Program) → program_named ps m ≡ Some q → (t : List ℕ) → f q.name t ≡ g q.name t
+SayTheSame ps f g act = (m : List ℕ) → IsRunOf act m → (q : Program) → program_named ps m ≡ Some q → (t : List ℕ)
+    → f q.name t ≡ g q.name t
 
-same_in_run : (f g : List ℕ → List ℕ → Bool) (s : List ℕ) (rs : List RenamingTree) (o : Option Program) → ((q : Program) → o ≡ Some q → (t : List ℕ) → f q.name t ≡ g q.name t) → emits_in_run f s rs o ≡ emits_in_run g s rs o
+same_in_run : (f g : List ℕ → List ℕ → Bool) (s : List ℕ) (rs : List RenamingTree) (o : Option Program)
+    → ((q : Program) → o ≡ Some q → (t : List ℕ) → f q.name t ≡ g q.name t)
+    → emits_in_run f s rs o ≡ emits_in_run g s rs o
 same_in_run f g s rs None h = refl
-same_in_run f g s rs (Some q) h = ap (λ (k : List ℕ → Bool). list_any (λ (d : Declared). k d.name && bytes_eq (renamed rs d.name) s) q.interface) (fun_ext (h q refl))
+same_in_run f g s rs (Some q) h =
+    ap (λ (k : List ℕ → Bool). list_any (λ (d : Declared). k d.name && bytes_eq (renamed rs d.name) s) q.interface)
+    (fun_ext (h q refl))
 
-same_by : (ps : List Program) (f g : List ℕ → List ℕ → Bool) (s : List ℕ) (act : Act) → SayTheSame ps f g act → emits_by ps f s act ≡ emits_by ps g s act
+same_by : (ps : List Program) (f g : List ℕ → List ℕ → Bool) (s : List ℕ) (act : Act) → SayTheSame ps f g act
+    → emits_by ps f s act ≡ emits_by ps g s act
 same_by ps f g s (emits n) h = refl
 same_by ps f g s (tests n) h = refl
 same_by ps f g s (exits t) h = refl
 same_by ps f g s (binds ns) h = refl
 same_by ps f g s (runs m rs) h = same_in_run f g s rs (program_named ps m) (h m refl)
 
-pub same_here : (ps : List Program) (f g : List ℕ → List ℕ → Bool) (s : List ℕ) (o : Occurrence) → SayTheSame ps f g o.act → emits_here ps f s o ≡ emits_here ps g s o
+pub same_here : (ps : List Program) (f g : List ℕ → List ℕ → Bool) (s : List ℕ) (o : Occurrence)
+    → SayTheSame ps f g o.act → emits_here ps f s o ≡ emits_here ps g s o
 same_here ps f g s o h = ap (λ b. not (is_local o.round s) && b) (same_by ps f g s o.act h)
 
-pub same_any : {X : Type 0} (f g : X → Bool) (xs : List X) → ((x : X) → Contains xs x → f x ≡ g x) → list_any f xs ≡ list_any g xs
+pub same_any : {X : Type 0} (f g : X → Bool) (xs : List X) → ((x : X) → Contains xs x → f x ≡ g x)
+    → list_any f xs ≡ list_any g xs
 same_any f g [] h = refl
 same_any f g (x ∷ xs) h =
     ap (λ b. b || list_any f xs) (h x (0, omega arith, refl))
@@ -57,27 +67,36 @@ same_any f g (x ∷ xs) h =
 place_here : (b : Bool) (o : Option ℕ) → b ≡ true → cond b (Some 0) (option_map (λ i. i + 1) o) ≡ Some 0
 place_here b o h = ap (λ b. cond b (Some 0) (option_map (λ i. i + 1) o)) h
 
-place_later : (b : Bool) (o : Option ℕ) (i : ℕ) → b ≡ false → o ≡ Some i → cond b (Some 0) (option_map (λ i. i + 1) o) ≡ Some (suc i)
-place_later b o i h e = ap (λ b. cond b (Some 0) (option_map (λ i. i + 1) o)) h ∙ ap (option_map (λ i. i + 1)) e ∙ ap Some (omega arith)
+place_later : (b : Bool) (o : Option ℕ) (i : ℕ) → b ≡ false → o ≡ Some i
+    → cond b (Some 0) (option_map (λ i. i + 1) o) ≡ Some (suc i)
+place_later b o i h e = ap (λ b. cond b (Some 0) (option_map (λ i. i + 1) o)) h ∙ ap (option_map (λ i. i + 1)) e
+    ∙ ap Some (omega arith)
 
 -- each module stands at the place of its name
-pub place_of_name : (seen : List (List ℕ)) (ps : List Program) → duplicate_after seen ps ≡ None → (i : ℕ) (p : Program) → slice_get ps i ≡ Some p → place_named ps p.name ≡ Some i
+pub place_of_name : (seen : List (List ℕ)) (ps : List Program) → duplicate_after seen ps ≡ None → (i : ℕ) (p : Program)
+    → slice_get ps i ≡ Some p → place_named ps p.name ≡ Some i
 place_of_name seen [] h i p at = absurd (none-some p at)
 place_of_name seen (q ∷ qs) h zero p at =
     position_cons (λ (r : Program). bytes_eq r.name p.name) q qs
-    ∙ place_here (bytes_eq q.name p.name) (place_named qs p.name) (ap (λ (r : Program). bytes_eq r.name p.name) (some_same q p at) ∙ equal_bytes p.name)
+    ∙ place_here (bytes_eq q.name p.name) (place_named qs p.name)
+    (ap (λ (r : Program). bytes_eq r.name p.name) (some_same q p at) ∙ equal_bytes p.name)
 place_of_name seen (q ∷ qs) h (suc i) p at =
     let rest = (or_none_parts (duplicate_of seen q) (duplicate_after (seen ++ q.name ∷ []) qs) h).1 in
     let later = not_seen (seen ++ q.name ∷ []) qs rest i p at in
-    let other = (or_parts (bytes_eq q.name p.name) false ((or_parts (stands_in seen p.name) _ (sym (list_any-append (λ n. bytes_eq n p.name) seen (q.name ∷ [])) ∙ later)).1)).0 in
+    let other =
+    (or_parts (bytes_eq q.name p.name) false
+    ((or_parts (stands_in seen p.name) _
+    (sym (list_any-append (λ n. bytes_eq n p.name) seen (q.name ∷ [])) ∙ later)).1)).0 in
     position_cons (λ (r : Program). bytes_eq r.name p.name) q qs
-    ∙ place_later (bytes_eq q.name p.name) (place_named qs p.name) i other (place_of_name (seen ++ q.name ∷ []) qs rest i p at)
+    ∙ place_later (bytes_eq q.name p.name) (place_named qs p.name) i other
+    (place_of_name (seen ++ q.name ∷ []) qs rest i p at)
 
 -- ---- one more module
 
 -- the table says besides what the module emits
 abbrev pub IsMore : List Program → (f g : List ℕ → List ℕ → Bool) → Program → Type 0
-IsMore ps f g q = (m s : List ℕ) → g m s ≡ (f m s || (bytes_eq q.name m && list_any (emits_here ps f s) (occurrences [] q.body)))
+IsMore ps f g q = (m s : List ℕ)
+    → g m s ≡ (f m s || (bytes_eq q.name m && list_any (emits_here ps f s) (occurrences [] q.body)))
 
 unchanged : (a b c : Bool) → b ≡ false → (a || (b && c)) ≡ a
 unchanged true b c h = refl
@@ -89,18 +108,30 @@ cases_bool true = inl refl
 cases_bool false = inr refl
 
 -- a module among the first k + 1 runs none at k, so that what it runs emits what it did
-same_runs : (ps : List Program) (order : List ℕ) (f g : List ℕ → List ℕ → Bool) (k i : ℕ) (p q : Program) → IsOrderOf ps order → first_duplicate ps ≡ None → k < length order → i < k + 1 → i < length order → slice_get ps (slice_index order k) ≡ Some q → slice_get ps (slice_index order i) ≡ Some p → IsMore ps f g q → (o : Occurrence) → Contains (occurrences [] p.body) o → SayTheSame ps f g o.act
-same_runs ps order f g k i p q up distinct k_in below i_in q_at p_at more o stands m is_run r found t = elim (cases_bool (bytes_eq q.name r.name)) [
-  | inl same ↦
-      let named : r.name ≡ m = same_bytes r.name m (found_passes (λ (p : Program). bytes_eq p.name m) ps r found) in
-      let is_m : q.name ≡ m = same_bytes q.name r.name same ∙ named in
-      let place : place_named ps m ≡ Some (slice_index order k) = subst (λ n. place_named ps n ≡ Some (slice_index order k)) is_m (place_of_name [] ps distinct (slice_index order k) q q_at) in
-      let leads = run_is_run ps (slice_index order i) (slice_index order k) p o m p_at stands is_run place in
-      absurd (omega (arith, below, up.after_runs i k i_in k_in leads))
-  | inr other ↦ sym (more r.name t ∙ unchanged (f r.name t) (bytes_eq q.name r.name) (list_any (emits_here ps f t) (occurrences [] q.body)) other)
-]
+same_runs : (ps : List Program) (order : List ℕ) (f g : List ℕ → List ℕ → Bool) (k i : ℕ) (p q : Program)
+    → IsOrderOf ps order → first_duplicate ps ≡ None → k < length order → i < k + 1 → i < length order
+    → slice_get ps (slice_index order k) ≡ Some q → slice_get ps (slice_index order i) ≡ Some p → IsMore ps f g q
+    → (o : Occurrence) → Contains (occurrences [] p.body) o → SayTheSame ps f g o.act
+same_runs ps order f g k i p q up distinct k_in below i_in q_at p_at more o stands m is_run r found t =
+    elim (cases_bool (bytes_eq q.name r.name)) [
+      | inl same ↦
+          let named : r.name ≡ m = same_bytes r.name m (found_passes (λ (p : Program). bytes_eq p.name m) ps r found) in
+          let is_m : q.name ≡ m = same_bytes q.name r.name same ∙ named in
+          let place : place_named ps m ≡ Some (slice_index order k) =
+          subst (λ n. place_named ps n ≡ Some (slice_index order k)) is_m
+          (place_of_name [] ps distinct (slice_index order k) q q_at) in
+          let leads = run_is_run ps (slice_index order i) (slice_index order k) p o m p_at stands is_run place in
+          absurd (omega (arith, below, up.after_runs i k i_in k_in leads))
+      | inr other ↦
+          sym (more r.name t ∙ unchanged (f r.name t) (bytes_eq q.name r.name)
+          (list_any (emits_here ps f t) (occurrences [] q.body)) other)
+    ]
 
-same_emissions : (ps : List Program) (order : List ℕ) (f g : List ℕ → List ℕ → Bool) (k i : ℕ) (p q : Program) → IsOrderOf ps order → first_duplicate ps ≡ None → k < length order → i < k + 1 → i < length order → slice_get ps (slice_index order k) ≡ Some q → slice_get ps (slice_index order i) ≡ Some p → IsMore ps f g q → (s : List ℕ) → list_any (emits_here ps f s) (occurrences [] p.body) ≡ list_any (emits_here ps g s) (occurrences [] p.body)
+same_emissions : (ps : List Program) (order : List ℕ) (f g : List ℕ → List ℕ → Bool) (k i : ℕ) (p q : Program)
+    → IsOrderOf ps order → first_duplicate ps ≡ None → k < length order → i < k + 1 → i < length order
+    → slice_get ps (slice_index order k) ≡ Some q → slice_get ps (slice_index order i) ≡ Some p → IsMore ps f g q
+    → (s : List ℕ) → list_any (emits_here ps f s) (occurrences [] p.body)
+    ≡ list_any (emits_here ps g s) (occurrences [] p.body)
 same_emissions ps order f g k i p q up distinct k_in below i_in q_at p_at more s =
     same_any (emits_here ps f s) (emits_here ps g s) (occurrences [] p.body) (λ o stands.
     same_here ps f g s o (same_runs ps order f g k i p q up distinct k_in below i_in q_at p_at more o stands))
@@ -118,39 +149,52 @@ added_new false true c h k = refl
 added_new false false c h k = absurd (false≢true h)
 
 -- two modules of one name are one
-same_module : (ps : List Program) → first_duplicate ps ≡ None → (i j : ℕ) (p q : Program) → slice_get ps i ≡ Some p → slice_get ps j ≡ Some q → p.name ≡ q.name → p ≡ q
+same_module : (ps : List Program) → first_duplicate ps ≡ None → (i j : ℕ) (p q : Program) → slice_get ps i ≡ Some p
+    → slice_get ps j ≡ Some q → p.name ≡ q.name → p ≡ q
 same_module ps distinct i j p q p_at q_at e =
-    some_same p q (sym (first_of_name [] ps distinct i p p_at) ∙ ap (program_named ps) e ∙ first_of_name [] ps distinct j q q_at)
+    some_same p q
+    (sym (first_of_name [] ps distinct i p p_at) ∙ ap (program_named ps) e ∙ first_of_name [] ps distinct j q q_at)
 
 -- the module that is added is said to emit nothing before, or what it emits
-said_before : (ps : List Program) (order : List ℕ) (f : List ℕ → List ℕ → Bool) (k i : ℕ) (p : Program) → first_duplicate ps ≡ None → slice_get ps i ≡ Some p → AreSent ps order k f → (s : List ℕ) → f p.name s ≡ true → list_any (emits_here ps f s) (occurrences [] p.body) ≡ true
+said_before : (ps : List Program) (order : List ℕ) (f : List ℕ → List ℕ → Bool) (k i : ℕ) (p : Program)
+    → first_duplicate ps ≡ None → slice_get ps i ≡ Some p → AreSent ps order k f → (s : List ℕ) → f p.name s ≡ true
+    → list_any (emits_here ps f s) (occurrences [] p.body) ≡ true
 said_before ps order f k i p distinct p_at sent s said =
     let w = sent.only p.name s said in
     let same : w.program ≡ p = same_module ps distinct (slice_index order w.place) i w.program p w.there p_at w.named in
-    sym (subst (λ (r : Program). f r.name s ≡ list_any (emits_here ps f s) (occurrences [] r.body)) same (sent.each w.place w.before w.program w.there s)) ∙ said
+    sym (subst (λ (r : Program). f r.name s ≡ list_any (emits_here ps f s) (occurrences [] r.body)) same
+    (sent.each w.place w.before w.program w.there s)) ∙ said
 
-one_more : (ps : List Program) (order : List ℕ) (f g : List ℕ → List ℕ → Bool) (k : ℕ) (q : Program) → IsOrderOf ps order → first_duplicate ps ≡ None → k < length order → slice_get ps (slice_index order k) ≡ Some q → IsMore ps f g q → AreSent ps order k f
+one_more : (ps : List Program) (order : List ℕ) (f g : List ℕ → List ℕ → Bool) (k : ℕ) (q : Program)
+    → IsOrderOf ps order → first_duplicate ps ≡ None → k < length order → slice_get ps (slice_index order k) ≡ Some q
+    → IsMore ps f g q → AreSent ps order k f
     → (i : ℕ) → i < k + 1 → (p : Program) → slice_get ps (slice_index order i) ≡ Some p → IsEmitted ps g p
 one_more ps order f g k q up distinct k_in q_at more sent i below p p_at s =
-    let same = same_emissions ps order f g k i p q up distinct k_in below (omega (arith, below, k_in)) q_at p_at more s in
+    let same = same_emissions ps order f g k i p q up distinct k_in below
+    (omega (arith, below, k_in)) q_at p_at more s in
     let mine : Bool = list_any (emits_here ps f s) (occurrences [] p.body) in
     let added : Bool = list_any (emits_here ps f s) (occurrences [] q.body) in
     elim (cases_lt i k) [
       | inl earlier ↦ (elim (cases_bool (bytes_eq q.name p.name)) [
         | inl named ↦
-            let is_p : q ≡ p = same_module ps distinct (slice_index order k) (slice_index order i) q p q_at p_at (same_bytes q.name p.name named) in
+            let is_p : q ≡ p = same_module ps distinct (slice_index order k) (slice_index order i) q p q_at p_at
+            (same_bytes q.name p.name named) in
             more p.name s
-            ∙ ap (λ (r : Program). f p.name s || (bytes_eq q.name p.name && list_any (emits_here ps f s) (occurrences [] r.body))) is_p
+            ∙ ap (λ (r : Program). f p.name s
+            || (bytes_eq q.name p.name && list_any (emits_here ps f s) (occurrences [] r.body))) is_p
             ∙ added_again (f p.name s) (bytes_eq q.name p.name) mine (sent.each i earlier p p_at s)
             ∙ same
-        | inr other ↦ more p.name s ∙ unchanged (f p.name s) (bytes_eq q.name p.name) added other ∙ sent.each i earlier p p_at s ∙ same
+        | inr other ↦ more p.name s ∙ unchanged (f p.name s) (bytes_eq q.name p.name) added other
+            ∙ sent.each i earlier p p_at s ∙ same
       ])
       | inr last ↦
           let is_k : k ≡ i = omega (arith, below, last) in
           let is_p : q ≡ p = some_same q p (sym q_at ∙ ap (λ j. slice_get ps (slice_index order j)) is_k ∙ p_at) in
           more p.name s
-          ∙ ap (λ (r : Program). f p.name s || (bytes_eq r.name p.name && list_any (emits_here ps f s) (occurrences [] r.body))) is_p
-          ∙ added_new (f p.name s) (bytes_eq p.name p.name) mine (equal_bytes p.name) (said_before ps order f k (slice_index order i) p distinct p_at sent s)
+          ∙ ap (λ (r : Program). f p.name s
+          || (bytes_eq r.name p.name && list_any (emits_here ps f s) (occurrences [] r.body))) is_p
+          ∙ added_new (f p.name s) (bytes_eq p.name p.name) mine (equal_bytes p.name)
+          (said_before ps order f k (slice_index order i) p distinct p_at sent s)
           ∙ same
     ]
 
@@ -162,16 +206,35 @@ and_first : (b c : Bool) → (b && c) ≡ true → b ≡ true
 and_first true c h = refl
 and_first false c h = absurd (false≢true h)
 
-one_only : (ps : List Program) (order : List ℕ) (f g : List ℕ → List ℕ → Bool) (k : ℕ) (q : Program) → slice_get ps (slice_index order k) ≡ Some q → IsMore ps f g q → AreSent ps order k f → (m s : List ℕ) → g m s ≡ true → StandsBefore ps order (k + 1) m
-one_only ps order f g k q q_at more sent m s said = elim (or_cases (f m s) (bytes_eq q.name m && list_any (emits_here ps f s) (occurrences [] q.body)) (sym (more m s) ∙ said)) [
-  | inl old ↦
-      let w = sent.only m s old in
-      record { place = w.place; before = omega (arith, w.before); program = w.program; there = w.there; named = w.named }
-  | inr new ↦ record { place = k; before = omega arith; program = q; there = q_at; named = same_bytes q.name m (and_first (bytes_eq q.name m) _ new) }
-]
+one_only : (ps : List Program) (order : List ℕ) (f g : List ℕ → List ℕ → Bool) (k : ℕ) (q : Program)
+    → slice_get ps (slice_index order k) ≡ Some q → IsMore ps f g q → AreSent ps order k f → (m s : List ℕ)
+    → g m s ≡ true → StandsBefore ps order (k + 1) m
+one_only ps order f g k q q_at more sent m s said = elim
+    (or_cases (f m s) (bytes_eq q.name m && list_any (emits_here ps f s) (occurrences [] q.body))
+    (sym (more m s) ∙ said)) [
+      | inl old ↦
+          let w = sent.only m s old in
+          record {
+            place = w.place;
+            before = omega (arith, w.before);
+            program = w.program;
+            there = w.there;
+            named = w.named;
+          }
+      | inr new ↦
+          record {
+            place = k;
+            before = omega arith;
+            program = q;
+            there = q_at;
+            named = same_bytes q.name m (and_first (bytes_eq q.name m) _ new);
+          }
+    ]
 
 -- one more module's emissions are said
-pub sending_goes_on : (ps : List Program) (order : List ℕ) (f g : List ℕ → List ℕ → Bool) (k : ℕ) (q : Program) → IsOrderOf ps order → first_duplicate ps ≡ None → k < length order → slice_get ps (slice_index order k) ≡ Some q → IsMore ps f g q → AreSent ps order k f → AreSent ps order (k + 1) g
+pub sending_goes_on : (ps : List Program) (order : List ℕ) (f g : List ℕ → List ℕ → Bool) (k : ℕ) (q : Program)
+    → IsOrderOf ps order → first_duplicate ps ≡ None → k < length order → slice_get ps (slice_index order k) ≡ Some q
+    → IsMore ps f g q → AreSent ps order k f → AreSent ps order (k + 1) g
 sending_goes_on ps order f g k q up distinct k_in q_at more sent = record {
   each = one_more ps order f g k q up distinct k_in q_at more sent;
   only = one_only ps order f g k q q_at more sent;
@@ -185,8 +248,10 @@ sending_begins ps order = record {
 }
 
 -- behind the last one, what each module emits
-pub sending_ends : (ps : List Program) (order : List ℕ) (f : List ℕ → List ℕ → Bool) (n : ℕ) → IsOrderOf ps order → length order ≤ n → AreSent ps order n f → AreEmissions ps f
+pub sending_ends : (ps : List Program) (order : List ℕ) (f : List ℕ → List ℕ → Bool) (n : ℕ) → IsOrderOf ps order
+    → length order ≤ n → AreSent ps order n f → AreEmissions ps f
 sending_ends ps order f n up long sent m p found =
     let place = found_place (λ (q : Program). bytes_eq q.name m) ps p found in
-    let stood = each_stands (run_rows ps) order up place.0 (omega (arith, slice_get_within ps place.0 p place.2, length-map ps (places_run ps))) in
+    let stood = each_stands (run_rows ps) order up place.0
+    (omega (arith, slice_get_within ps place.0 p place.2, length-map ps (places_run ps))) in
     sent.each stood.0 (omega (arith, stood.1, long)) p (ap (slice_get ps) stood.2 ∙ place.2)

@@ -14,7 +14,8 @@ use Rattle.est_syntax.specs.declared.tree.Sequence.{Sequence}
 use Rattle.est_syntax.specs.declared.tree.Statement.{Statement}
 use Rattle.est_syntax.specs.declared.tree.Branches.TheViews.{out-Sequence, out-Statement}
 use Rattle.est_syntax.specs.declared.tree.Branches.TheFolds.{the_lemmas}
-use Rattle.est_modules.specs.Derived.{Derived, unit_derived, sequence_derived, statement_derived, then_units, beside_sequences}
+use Rattle.est_modules.specs.Derived.{Derived, unit_derived, sequence_derived, statement_derived, then_units}
+use Rattle.est_modules.specs.Derived.{beside_sequences}
 use Rattle.est_modules.specs.Tests.{literal_words, conjunction_words, literals_words}
 use Rattle.est_modules.specs.Tests.{expression_words, conjunctions_words}
 use Rattle.est_checks.specs.Counting.{counted}
@@ -102,26 +103,39 @@ unit_counted counts u = counted counts (unit_derived (unit_view u))
 abbrev pub sequence_counted : (List ℕ → ℕ) → Sequence → ℕ
 sequence_counted counts q = counted counts (sequence_derived (sequence_view q))
 
-later_units : (counts : List ℕ → ℕ) (d : Derived) (us : List Unit) → counted counts (then_units d (units_of (map unit_view us))) ≡ all_counted (unit_counted counts) (counted counts d) us
+later_units : (counts : List ℕ → ℕ) (d : Derived) (us : List Unit)
+    → counted counts (then_units d (units_of (map unit_view us)))
+    ≡ all_counted (unit_counted counts) (counted counts d) us
 later_units counts d [] = refl
 later_units counts d (u ∷ us) =
     ap (λ n. counted counts d + n + 1) (later_units counts (unit_derived (unit_view u)) us)
     ∙ joined (unit_counted counts) (counted counts d) (unit_counted counts u) us
 
-later_sequences : (counts : List ℕ → ℕ) (d : Derived) (qs : List Sequence) → counted counts (beside_sequences d (sequences_of (map sequence_view qs))) ≡ all_counted (sequence_counted counts) (counted counts d) qs
+later_sequences : (counts : List ℕ → ℕ) (d : Derived) (qs : List Sequence)
+    → counted counts (beside_sequences d (sequences_of (map sequence_view qs)))
+    ≡ all_counted (sequence_counted counts) (counted counts d) qs
 later_sequences counts d [] = refl
 later_sequences counts d (q ∷ qs) =
     ap (λ n. counted counts d + n + 1) (later_sequences counts (sequence_derived (sequence_view q)) qs)
     ∙ joined (sequence_counted counts) (counted counts d) (sequence_counted counts q) qs
 
-pub sequence_whole : (counts : List ℕ → ℕ) (q : Sequence) → sequence_counted counts q ≡ all_counted (unit_counted counts) (unit_counted counts (out-Sequence q).first.value) (out-Sequence q).later.items
+pub sequence_whole : (counts : List ℕ → ℕ) (q : Sequence)
+    → sequence_counted counts q ≡ all_counted (unit_counted counts) (unit_counted counts (out-Sequence q).first.value)
+    (out-Sequence q).later.items
 sequence_whole counts q =
     let parts = out-Sequence q in
-    let seen : sequence_view q ≡ sequence (unit_view parts.first.value) (units_of (map unit_view parts.later.items)) parts.closed = search (rules, the_lemmas) in
-    ap (λ t. counted counts (sequence_derived t)) seen ∙ later_units counts (unit_derived (unit_view parts.first.value)) parts.later.items
+    let seen : sequence_view q ≡ sequence (unit_view parts.first.value)
+    (units_of (map unit_view parts.later.items)) parts.closed = search (rules, the_lemmas) in
+    ap (λ t. counted counts (sequence_derived t)) seen ∙ later_units counts
+    (unit_derived (unit_view parts.first.value)) parts.later.items
 
-pub statement_whole : (counts : List ℕ → ℕ) (t : Statement) → counted counts (statement_derived (statement_view t)) ≡ all_counted (sequence_counted counts) (sequence_counted counts (out-Statement t).first.value) (out-Statement t).later.items
+pub statement_whole : (counts : List ℕ → ℕ) (t : Statement)
+    → counted counts (statement_derived (statement_view t))
+    ≡ all_counted (sequence_counted counts) (sequence_counted counts (out-Statement t).first.value)
+    (out-Statement t).later.items
 statement_whole counts t =
     let parts = out-Statement t in
-    let seen : statement_view t ≡ statement (sequence_view parts.first.value) (sequences_of (map sequence_view parts.later.items)) = search (rules, the_lemmas) in
-    ap (λ t. counted counts (statement_derived t)) seen ∙ later_sequences counts (sequence_derived (sequence_view parts.first.value)) parts.later.items
+    let seen : statement_view t ≡ statement (sequence_view parts.first.value)
+    (sequences_of (map sequence_view parts.later.items)) = search (rules, the_lemmas) in
+    ap (λ t. counted counts (statement_derived t)) seen ∙ later_sequences counts
+    (sequence_derived (sequence_view parts.first.value)) parts.later.items

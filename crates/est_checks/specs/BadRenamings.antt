@@ -18,7 +18,8 @@ is_misnamed q rs s = not (is_declared q.interface s) || is_renamed_twice rs s
 -- the right name of the first such renaming
 abbrev pub bad_in_run : List RenamingTree → Option Program → Option (List ℕ)
 bad_in_run rs None = None
-bad_in_run rs (Some q) = option_map (λ (r : RenamingTree). r.inner) (find (λ (r : RenamingTree). is_misnamed q rs r.inner) rs)
+bad_in_run rs (Some q) = option_map (λ (r : RenamingTree). r.inner)
+    (find (λ (r : RenamingTree). is_misnamed q rs r.inner) rs)
 
 -- the same of an act
 abbrev pub bad_act : List Program → Act → Option (List ℕ)

@@ -7,7 +7,8 @@ use Rattle.est_modules.specs.declared.head.Declared.{Declared}
 -- the interface names of a module that it emits and that are such inputs, or `tick`
 abbrev pub barred_in : (List ℕ → Bool) → (List ℕ → Bool) → Option Program → List (List ℕ)
 barred_in emitted input None = []
-barred_in emitted input (Some q) = filter (λ n. (input n || is_tick n) && emitted n) (map (λ (d : Declared). d.name) q.interface)
+barred_in emitted input (Some q) = filter (λ n. (input n || is_tick n) && emitted n)
+    (map (λ (d : Declared). d.name) q.interface)
 
 -- the same of the module of a name
 abbrev pub barred_by : List Program → (List ℕ → List ℕ → Bool) → (List ℕ → Bool) → List ℕ → List (List ℕ)

@@ -27,7 +27,8 @@ redeclared_at p o = redeclared_act o.act
 
 -- the first in a module: of its interface, or else in its body
 abbrev pub redeclared_in : Program → Option (List ℕ)
-redeclared_in p = option_or (redeclared [] (map (λ (d : Declared). d.name) p.interface)) (first_of (redeclared_at p) (occurrences [] p.body))
+redeclared_in p = option_or (redeclared [] (map (λ (d : Declared). d.name) p.interface))
+    (first_of (redeclared_at p) (occurrences [] p.body))
 
 -- the name of a module, where one of this name was seen before; else the first in the module
 abbrev pub duplicate_of : List (List ℕ) → Program → Option (List ℕ)

@@ -1,5 +1,6 @@
 -- Emissions of inputs (this project's own form).
-use Rattle.std.specs.Prelude.{◌≡◌, ℕ, List, [], Bool, false, not, ◌||◌, ◌&&◌, Option, Some, None, option_map, if◌then◌else◌}
+use Rattle.std.specs.Prelude.{◌≡◌, ℕ, List, [], Bool, false, not, ◌||◌, ◌&&◌, Option, Some, None, option_map}
+use Rattle.std.specs.Prelude.{if◌then◌else◌}
 use Rattle.std.specs.List.{list_any, find}
 use Rattle.std.specs.Str.{bytes_eq}
 use Rattle.est_syntax.specs.Tree.{RenamingTree}
@@ -14,7 +15,8 @@ use Rattle.est_checks.specs.declared.emission.Emission.{Emission}
 -- a run binds to a name of the caller an interface name that the module that is run emits
 abbrev pub emits_in_run : (List ℕ → List ℕ → Bool) → List ℕ → List RenamingTree → Option Program → Bool
 emits_in_run emitted s rs None = false
-emits_in_run emitted s rs (Some q) = list_any (λ (d : Declared). emitted q.name d.name && bytes_eq (renamed rs d.name) s) q.interface
+emits_in_run emitted s rs (Some q) =
+    list_any (λ (d : Declared). emitted q.name d.name && bytes_eq (renamed rs d.name) s) q.interface
 
 -- an act emits the name: a statement does, or a run binds to it what the module that is run emits
 abbrev pub emits_by : List Program → (List ℕ → List ℕ → Bool) → List ℕ → Act → Bool
@@ -39,13 +41,16 @@ unfoldable pub is_refused : Program → List Binder → List ℕ → Bool
 is_refused p bs s = not (is_local bs s) && (is_input p.interface s || is_tick s)
 
 -- the interface name is emitted by the module that is run, and bound to an input or to `tick`
-unfoldable pub is_refused_in_run : (List ℕ → List ℕ → Bool) → Program → List Binder → List RenamingTree → List ℕ → List ℕ → Bool
+unfoldable pub is_refused_in_run : (List ℕ → List ℕ → Bool) → Program → List Binder → List RenamingTree → List ℕ
+    → List ℕ → Bool
 is_refused_in_run emitted p bs rs m s = emitted m s && is_refused p bs (renamed rs s)
 
 -- the caller's name for the first interface name of the module that is run for which that holds
-abbrev pub refused_in_run : (List ℕ → List ℕ → Bool) → Program → List Binder → List RenamingTree → List ℕ → Option Program → Option (List ℕ)
+abbrev pub refused_in_run : (List ℕ → List ℕ → Bool) → Program → List Binder → List RenamingTree → List ℕ
+    → Option Program → Option (List ℕ)
 refused_in_run emitted p bs rs m None = None
-refused_in_run emitted p bs rs m (Some q) = option_map (λ (d : Declared). renamed rs d.name) (find (λ (d : Declared). is_refused_in_run emitted p bs rs m d.name) q.interface)
+refused_in_run emitted p bs rs m (Some q) = option_map (λ (d : Declared). renamed rs d.name)
+    (find (λ (d : Declared). is_refused_in_run emitted p bs rs m d.name) q.interface)
 
 -- the emission that an act is refused for
 abbrev pub refused_act : List Program → (List ℕ → List ℕ → Bool) → Program → List Binder → Act → Option (List ℕ)

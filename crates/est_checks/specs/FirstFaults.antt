@@ -1,6 +1,7 @@
--- The first fault of a library, by all its checks in their order, and what a library without a fault is linked to (this project's
--- own form).
-use Rattle.std.specs.Prelude.{◌≡◌, ℕ, nat_lt, Bool, List, [], length, map, get_or, if◌then◌else◌, Option, Some, None, option_map, Result, Ok, Err, ◌⊎◌}
+-- The first fault of a library, by all its checks in their order, and what a library without a fault is linked to (this
+-- project's own form).
+use Rattle.std.specs.Prelude.{◌≡◌, ℕ, nat_lt, Bool, List, [], length, map, get_or, if◌then◌else◌, Option, Some, None}
+use Rattle.std.specs.Prelude.{option_map, Result, Ok, Err, ◌⊎◌}
 use Rattle.est_checks.specs.Counting.{AreCounts}
 use Rattle.est_checks.specs.Emissions.{AreEmissions}
 use Rattle.est_checks.specs.LinkFaults.{fault_before_order, fault_behind_order}
@@ -63,8 +64,8 @@ pub record ByRuns (ps : List Program) (main : List ℕ) (found : Option LinkFaul
 abbrev pub IsFirstFault : List Program → List ℕ → Option LinkFault → Type 0
 IsFirstFault ps main found = Else (fault_before_order ps main) (ByRuns ps main) found
 
--- the answer is that of checks: no fault is found where it is Ok, and else this one; or memory was refused, which no definition
--- foresees
+-- the answer is that of checks: no fault is found where it is Ok, and else this one; or memory was refused, which no
+-- definition foresees
 abbrev pub Finds : {T : Type 0} → (Option LinkFault → Type 0) → Result T LinkFault → Type 0
 Finds P (Ok t) = P None
 Finds P (Err fault) = (fault ≡ Memory) ⊎ P (Some fault)

@@ -9,11 +9,13 @@ use Rattle.est_checks.specs.UnknownNames.{unknown_at}
 use Rattle.est_checks.specs.Emissions.{first_refused}
 use Rattle.est_checks.specs.LawlessRelations.{first_lawless}
 use Rattle.est_checks.specs.declared.fault.LinkFault.{LinkFault}
-use Rattle.est_checks.specs.declared.fault.LinkFault.TheVariants.{DuplicateName, UnknownModule, BadRename, UnknownName, EmitInput, Semantics}
+use Rattle.est_checks.specs.declared.fault.LinkFault.TheVariants.{DuplicateName, UnknownModule, BadRename, UnknownName}
+use Rattle.est_checks.specs.declared.fault.LinkFault.TheVariants.{EmitInput, Semantics}
 
 -- the first of the checks that come before the order of the modules: names declared twice, modules that aren't there
 abbrev pub fault_before_order : List Program → List ℕ → Option LinkFault
-fault_before_order ps main = option_or (option_map DuplicateName (first_duplicate ps)) (option_map UnknownModule (first_missing ps main))
+fault_before_order ps main = option_or (option_map DuplicateName (first_duplicate ps))
+    (option_map UnknownModule (first_missing ps main))
 
 -- the number of the first lawless relation of the main module
 abbrev pub lawless_number : Option Program → Option ℕ

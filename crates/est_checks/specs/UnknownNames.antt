@@ -19,12 +19,14 @@ is_unbound p bs rs s = not (is_renamed rs s || is_visible p bs s)
 
 -- the left name of the first renaming where it isn't visible
 abbrev pub unknown_renaming : Program → List Binder → List RenamingTree → Option (List ℕ)
-unknown_renaming p bs rs = option_map (λ (r : RenamingTree). r.outer) (find (λ (r : RenamingTree). not (is_visible p bs r.outer)) rs)
+unknown_renaming p bs rs = option_map (λ (r : RenamingTree). r.outer)
+    (find (λ (r : RenamingTree). not (is_visible p bs r.outer)) rs)
 
 -- that, or else the first interface name of the module that is run which is neither renamed nor visible
 abbrev pub unknown_in_run : Program → List Binder → List RenamingTree → Option Program → Option (List ℕ)
 unknown_in_run p bs rs None = unknown_renaming p bs rs
-unknown_in_run p bs rs (Some q) = option_or (unknown_renaming p bs rs) (option_map (λ (d : Declared). d.name) (find (λ (d : Declared). is_unbound p bs rs d.name) q.interface))
+unknown_in_run p bs rs (Some q) = option_or (unknown_renaming p bs rs)
+    (option_map (λ (d : Declared). d.name) (find (λ (d : Declared). is_unbound p bs rs d.name) q.interface))
 
 -- the name that isn't known at an occurrence in the module p
 abbrev pub unknown_act : List Program → Program → List Binder → Act → Option (List ℕ)

@@ -60,8 +60,8 @@ fn bad_in_run(renamings: &[Renaming], run: Option<&Head<'_>>) -> Option<Identifi
     }
 }
 
-/// The check for renamings whose right name is no interface signal of the module that is run, or stands on the right
-/// twice.
+/// The check for renamings whose right name is no interface signal of the module that is run, or
+/// stands on the right twice.
 #[derive(Clone, Copy)]
 pub struct BadRename<'a> {
     /// The modules of the library.

@@ -91,9 +91,9 @@ fn add_barred(
     Ok(())
 }
 
-/// The modules that a module runs, each with its interface names that it emits and that are inputs of the module that
-/// runs it, or `tick`. So only these are looked at where such a module is run: a `signal` round the run has to declare
-/// them, or a renaming to name them.
+/// The modules that a module runs, each with its interface names that it emits and that are inputs
+/// of the module that runs it, or `tick`. So only these are looked at where such a module is run: a
+/// `signal` round the run has to declare them, or a renaming to name them.
 ///
 /// # Errors
 ///

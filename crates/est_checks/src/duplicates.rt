@@ -4,7 +4,8 @@ ghost use Rattle.std.specs.List.{list_any};
 ghost use Rattle.std.specs.Str.{bytes_eq};
 ghost use Rattle.est_syntax.specs.Views.{names_view};
 ghost use Rattle.est_modules.specs.Modules.{program_of};
-ghost use Rattle.est_checks.specs.Duplicates.{redeclared, redeclared_in, duplicate_of, first_duplicate};
+ghost use Rattle.est_checks.specs.Duplicates.{redeclared, redeclared_in, duplicate_of};
+ghost use Rattle.est_checks.specs.Duplicates.{first_duplicate};
 
 use crate::place_check::{Check, first_in_body};
 use est_modules::head::{Declared, Head};
@@ -106,7 +107,8 @@ fn is_named(heads: &[Head<'_>], name: &Identifier) -> bool
     heads.iter().any(|head| head.name.is(name))
 }
 
-/// The name of a module that stands behind one of its name; else the first signal of it that is declared a second time.
+/// The name of a module that stands behind one of its name; else the first signal of it that is
+/// declared a second time.
 #[tactic(auto, using(est_modules::proofs::Lists::any_map))]
 fn duplicate_of<'a>(
     alloc: Global,
@@ -122,8 +124,8 @@ fn duplicate_of<'a>(
     redeclared_in(alloc, home)
 }
 
-/// The first name of a library that is declared a second time, or is `tick`: of a module, of an interface, or in one
-/// `signal` list.
+/// The first name of a library that is declared a second time, or is `tick`: of a module, of an
+/// interface, or in one `signal` list.
 ///
 /// # Errors
 ///

@@ -8,7 +8,8 @@ ghost use Rattle.est_modules.specs.NameTables.{IsTable};
 ghost use Rattle.est_modules.specs.OpenNames.{AreKept, IsOpen};
 ghost use Rattle.est_checks.specs.Barred.{barred_by};
 ghost use Rattle.est_modules.specs.Occurrences.{first_of, occurrences};
-ghost use Rattle.est_checks.specs.Emissions.{is_refused, is_refused_in_run, refused_in_run, refused_at, emitted_of};
+ghost use Rattle.est_checks.specs.Emissions.{is_refused, is_refused_in_run, refused_in_run};
+ghost use Rattle.est_checks.specs.Emissions.{refused_at, emitted_of};
 
 use crate::barred_names::barred_of;
 use crate::emission::{Emission, is_emitted};
@@ -68,7 +69,8 @@ fn refused_signal<'a>(
     ))
 }
 
-/// The caller's name for the first interface signal of a module that is run for which a run of it is refused.
+/// The caller's name for the first interface signal of a module that is run for which a run of it
+/// is refused.
 fn refused_name(
     check: &EmitInput<'_>,
     scope: &Scope<'_>,
@@ -93,7 +95,8 @@ fn refused_name(
     }
 }
 
-/// Whether a renaming binds a signal that the module which is run emits to an input of the caller, or to `tick`.
+/// Whether a renaming binds a signal that the module which is run emits to an input of the caller,
+/// or to `tick`.
 fn binds_input(
     check: &EmitInput<'_>,
     scope: &Scope<'_>,
@@ -107,8 +110,8 @@ fn binds_input(
         && is_emitted(check.table, name, &renaming.inner))
 }
 
-/// The same name, found among the names that were kept: where no renaming is at fault, a run is refused for those that
-/// it does not rename.
+/// The same name, found among the names that were kept: where no renaming is at fault, a run is
+/// refused for those that it does not rename.
 fn refused_of(
     check: &EmitInput<'_>,
     kept: &OpenNames<'_, '_>,
@@ -155,7 +158,8 @@ fn refused_in_run(
     }
 }
 
-/// The check for emissions of inputs and of `tick`, by statements and by runs. It is asked of the places in one module.
+/// The check for emissions of inputs and of `tick`, by statements and by runs. It is asked of the
+/// places in one module.
 #[derive(Clone, Copy)]
 pub struct EmitInput<'a> {
     /// The modules of the library.
@@ -221,7 +225,8 @@ fn refused_in<'a>(
     first_in_body(&check, alloc, names, &kept, &*home)
 }
 
-/// The first input, or `tick`, that a module of a library emits. The table says what each module emits.
+/// The first input, or `tick`, that a module of a library emits. The table says what each module
+/// emits.
 ///
 /// # Errors
 ///

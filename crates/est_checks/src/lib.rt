@@ -1,8 +1,9 @@
 //! The checks of a library of modules that is to be linked: its first fault, or that it has none.
 //!
-//! A check is asked of each place of a body in the order of the text, and answers the first that has its fault
-//! (`place_check`). `check_library` asks all of them in their order, before any run is replaced, so that a library costs
-//! no more than its text. `specs/FirstFaults` says which fault is the first; `laws`, that there is only one.
+//! A check is asked of each place of a body in the order of the text, and answers the first that
+//! has its fault (`place_check`). `check_library` asks all of them in their order, before any run
+//! is replaced, so that a library costs no more than its text. `specs/FirstFaults` says which fault
+//! is the first; `laws`, that there is only one.
 #![tactic(auto)]
 
 pub mod bad_renamings;

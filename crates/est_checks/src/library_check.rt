@@ -66,8 +66,8 @@ fn check_runs<'a>(
     Ok(order)
 }
 
-/// All checks of a library in their order: the order of its modules, each after those that it runs, exactly where no
-/// check has a fault.
+/// All checks of a library in their order: the order of its modules, each after those that it runs,
+/// exactly where no check has a fault.
 ///
 /// # Errors
 ///

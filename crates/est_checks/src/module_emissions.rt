@@ -1,6 +1,6 @@
 //! What a module emits of the signals that its callers see.
-ghost use Rattle.std.specs.Prelude.{◌≡◌, ℕ, ◌<◌, List, [], length, map, slice_get, Some, None, not, ◌||◌, filter};
-ghost use Rattle.std.specs.Prelude.{◌&&◌, OnOk, IfOk, Bool};
+ghost use Rattle.std.specs.Prelude.{◌≡◌, ℕ, ◌<◌, List, [], length, map, slice_get, Some, None, not};
+ghost use Rattle.std.specs.Prelude.{◌||◌, filter, ◌&&◌, OnOk, IfOk, Bool};
 ghost use Rattle.std.specs.List.{list_any};
 ghost use Rattle.std.specs.Str.{bytes_eq};
 ghost use Rattle.est_syntax.specs.Views.{renaming_view};
@@ -55,7 +55,8 @@ fn add_outer(
     Ok(())
 }
 
-/// Adds the caller's names for those signals of a module that a run of it renames and that it emits.
+/// Adds the caller's names for those signals of a module that a run of it renames and that it
+/// emits.
 #[tactic(auto, using(est_modules::proofs::Lists::any_map))]
 fn add_renamed(
     seen: &mut Vec<Identifier>,
@@ -285,7 +286,8 @@ fn add_numbered(
     Ok(())
 }
 
-/// What a module emits of the signals that its callers see, where the table says what those that it runs emit.
+/// What a module emits of the signals that its callers see, where the table says what those that it
+/// runs emit.
 ///
 /// # Errors
 ///

@@ -3,7 +3,8 @@ ghost use Rattle.std.specs.Prelude.{◌≡◌, map, option_map, IfOk};
 ghost use Rattle.est_modules.specs.Modules.{program_of};
 ghost use Rattle.est_modules.specs.NameTables.{IsTable};
 ghost use Rattle.est_checks.specs.Emissions.{emitted_of};
-ghost use Rattle.est_checks.specs.LinkFaults.{lawless_number, fault_before_order, fault_behind_order};
+ghost use Rattle.est_checks.specs.LinkFaults.{lawless_number, fault_before_order};
+ghost use Rattle.est_checks.specs.LinkFaults.{fault_behind_order};
 
 use crate::bad_renamings::BadRename;
 use crate::duplicates::first_duplicate;
@@ -19,8 +20,8 @@ use est_modules::name_table::NameTable;
 use est_text::identifier::Identifier;
 use std::alloc::{AllocError, Global};
 
-/// The first fault of the checks that come before the order of the modules: names that are declared twice, modules
-/// that aren't there.
+/// The first fault of the checks that come before the order of the modules: names that are declared
+/// twice, modules that aren't there.
 ///
 /// # Errors
 ///
@@ -53,8 +54,9 @@ fn lawless_number(alloc: Global, main: Option<&Head<'_>>) -> Result<Option<usize
     }
 }
 
-/// The first fault of the checks that come behind the order of the modules: renamings, names that aren't visible,
-/// emissions of inputs, relations of the main module. The table says what each module emits.
+/// The first fault of the checks that come behind the order of the modules: renamings, names that
+/// aren't visible, emissions of inputs, relations of the main module. The table says what each
+/// module emits.
 ///
 /// # Errors
 ///

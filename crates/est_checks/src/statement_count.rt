@@ -1,12 +1,15 @@
-//! How many statements a linked module has before reduction, worked out before any `run` is replaced: chains of runs
-//! that double the number at each step cost no more than their texts, and the numbers end at one more than may be.
+//! How many statements a linked module has before reduction, worked out before any `run` is
+//! replaced: chains of runs that double the number at each step cost no more than their texts, and
+//! the numbers end at one more than may be.
 //!
-//! The functions call each other once for each unit that is open, of which the reader lets at most 128 be so at once. A run is no call: its
-//! module was counted before.
-ghost use Rattle.std.specs.Prelude.{◌≡◌, ℕ, ◌+◌, ◌<◌, ◌≤◌, List, Some, length, map, min, slice_get, IfOk};
+//! The functions call each other once for each unit that is open, of which the reader lets at most
+//! 128 be so at once. A run is no call: its module was counted before.
+ghost use Rattle.std.specs.Prelude.{◌≡◌, ℕ, ◌+◌, ◌<◌, ◌≤◌, List, Some, length, map, min, slice_get};
+ghost use Rattle.std.specs.Prelude.{IfOk};
 ghost use Rattle.est_syntax.specs.Views.{test_view, unit_view, branches_view};
 ghost use Rattle.est_syntax.specs.Views.{sequence_view, statement_view};
-ghost use Rattle.est_modules.specs.Derived.{unit_derived, branches_derived, sequence_derived, statement_derived};
+ghost use Rattle.est_modules.specs.Derived.{unit_derived, branches_derived, sequence_derived};
+ghost use Rattle.est_modules.specs.Derived.{statement_derived};
 ghost use Rattle.est_modules.specs.Modules.{Program, program_of};
 ghost use Rattle.est_checks.specs.Counting.{counted, IsCountOf};
 ghost use Rattle.est_modules.specs.ModuleOrders.{IsOrderOf};
@@ -26,15 +29,16 @@ use std::alloc::{AllocError, Global};
 /// kernel. Where a number would be larger, it is this one.
 pub const TOO_MANY: u16 = MOST_STATEMENTS + 1;
 
-/// The modules, and the numbers of statements of those that were counted, each at its module's place.
+/// The modules, and the numbers of statements of those that were counted, each at its module's
+/// place.
 #[derive(Clone, Copy)]
 struct Numbers<'a> {
     heads: &'a [Head<'a>],
     numbers: &'a [u16],
 }
 
-/// The number of statements that the linked module `main` has before reduction, or none if it has more than
-/// `MOST_STATEMENTS`. A module that isn't there has none.
+/// The number of statements that the linked module `main` has before reduction, or none if it has
+/// more than `MOST_STATEMENTS`. A module that isn't there has none.
 ///
 /// # Errors
 /// Memory was refused.

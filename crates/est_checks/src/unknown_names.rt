@@ -3,7 +3,8 @@ ghost use Rattle.std.specs.Prelude.{◌≡◌, [], Some, IfOk, map, option_map, 
 ghost use Rattle.std.specs.List.{find};
 ghost use Rattle.est_syntax.specs.Views.{renaming_view};
 ghost use Rattle.est_modules.specs.Scopes.{binders_of};
-ghost use Rattle.est_modules.specs.Modules.{program_of, program_named, first_in_bodies, is_declared};
+ghost use Rattle.est_modules.specs.Modules.{program_of, program_named, first_in_bodies};
+ghost use Rattle.est_modules.specs.Modules.{is_declared};
 ghost use Rattle.est_modules.specs.Occurrences.{first_of, occurrences};
 ghost use Rattle.est_modules.specs.NameTables.{IsTable};
 ghost use Rattle.est_modules.specs.OpenNames.{AreKept, IsOpen};
@@ -66,8 +67,9 @@ fn unbound_name(
     }
 }
 
-/// The first interface name of a module that is run which is neither renamed nor visible. Only names that neither the
-/// module that runs it nor a `signal` round the run declares are looked at, if they were kept.
+/// The first interface name of a module that is run which is neither renamed nor visible. Only
+/// names that neither the module that runs it nor a `signal` round the run declares are looked at,
+/// if they were kept.
 fn unbound_in(
     heads: &[Head<'_>],
     home: &Head<'_>,
@@ -116,9 +118,9 @@ fn unknown_in_run(
     }
 }
 
-/// The check for names that aren't visible where they are used: a signal that is emitted, tested, or on the left of a
-/// renaming; a trap that is exited; an interface signal of a module that is run without renaming it. It is asked of the
-/// places in one module.
+/// The check for names that aren't visible where they are used: a signal that is emitted, tested,
+/// or on the left of a renaming; a trap that is exited; an interface signal of a module that is run
+/// without renaming it. It is asked of the places in one module.
 #[derive(Clone, Copy)]
 pub struct UnknownName<'a> {
     /// The modules of the library.

@@ -79,9 +79,10 @@ fn add_unseen(
     Ok(())
 }
 
-/// The modules that a module runs, each with its interface names that are not visible outermost there: neither in the
-/// interface of the module that runs it nor `tick`. So only these are looked at where such a module is run: a `signal`
-/// round the run has to declare them, or a renaming to name them.
+/// The modules that a module runs, each with its interface names that are not visible outermost
+/// there: neither in the interface of the module that runs it nor `tick`. So only these are looked
+/// at where such a module is run: a `signal` round the run has to declare them, or a renaming to
+/// name them.
 ///
 /// # Errors
 ///

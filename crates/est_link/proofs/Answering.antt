@@ -9,7 +9,8 @@ use Rattle.est_modules.proofs.Testing.{some_same}
 use Rattle.est_checks.proofs.Uniqueness.{one_first_fault}
 
 -- two faults that are answered are one, unless memory was refused
-pub one_fault : (ps : List Program) (main : List ℕ) (a b : LinkFault) → (a ≡ Memory) ⊎ IsFirstFault ps main (Some a) → (b ≡ Memory) ⊎ IsFirstFault ps main (Some b) → (a ≡ b) ⊎ (a ≡ Memory) ⊎ (b ≡ Memory)
+pub one_fault : (ps : List Program) (main : List ℕ) (a b : LinkFault) → (a ≡ Memory) ⊎ IsFirstFault ps main (Some a)
+    → (b ≡ Memory) ⊎ IsFirstFault ps main (Some b) → (a ≡ b) ⊎ (a ≡ Memory) ⊎ (b ≡ Memory)
 one_fault ps main a b h k = elim h [
   | inl e ↦ inr (inl e)
   | inr first ↦ (elim k [
@@ -19,7 +20,8 @@ one_fault ps main a b h k = elim h [
 ]
 
 -- where a module is answered, no fault is
-pub never_both : (ps : List Program) (main : List ℕ) (b : LinkFault) → IsFirstFault ps main None → (b ≡ Memory) ⊎ IsFirstFault ps main (Some b) → b ≡ Memory
+pub never_both : (ps : List Program) (main : List ℕ) (b : LinkFault) → IsFirstFault ps main None
+    → (b ≡ Memory) ⊎ IsFirstFault ps main (Some b) → b ≡ Memory
 never_both ps main b sound h = elim h [
   | inl e ↦ e
   | inr fault ↦ absurd (none-some b (one_first_fault ps main None (Some b) sound fault))

@@ -1,19 +1,23 @@
 -- What a test asks, by what its names mean.
-use Rattle.std.proofs.Common.{◌≡◌, ◌+◌, ◌<◌, ℕ, suc, List, [], ◌∷◌, ◌++◌, length, get_or, map, take, refl, ap, sym, ◌∙◌, arith, rules}
+use Rattle.std.proofs.Common.{◌≡◌, ◌+◌, ◌<◌, ℕ, suc, List, [], ◌∷◌, ◌++◌, length, get_or, map, take, refl, ap, sym, ◌∙◌}
+use Rattle.std.proofs.Common.{arith, rules}
 use Rattle.std.proofs.Math.Seq.{take-suc}
 use Rattle.std.proofs.lemmas.List.{map-append}
 use Rattle.est_kernel.specs.Scope.{EachSignal, EachSignalOfAll}
 use Rattle.est_kernel.specs.Term.{Name, Query, joined, more}
 use Rattle.est_kernel.specs.View.{queries_of}
 use Rattle.est_kernel.specs.declared.statement.Connective.TheVariants.{And, Or}
-use Rattle.est_syntax.specs.Tree.{LiteralTree, named, negated, enclosed, ConjunctionTree, conjunction, LiteralsTree, no_literals, literals, ExpressionTree, expression, ConjunctionsTree, no_conjunctions, conjunctions, TestTree, bare, bracketed}
+use Rattle.est_syntax.specs.Tree.{LiteralTree, named, negated, enclosed, ConjunctionTree, conjunction, LiteralsTree}
+use Rattle.est_syntax.specs.Tree.{no_literals, literals, ExpressionTree, expression, ConjunctionsTree, no_conjunctions}
+use Rattle.est_syntax.specs.Tree.{conjunctions, TestTree, bare, bracketed}
 use Rattle.est_syntax.specs.Views.{literal_view, conjunction_view, expression_view, literals_of, conjunctions_of}
 use Rattle.est_syntax.specs.declared.tree.Literal.{Literal}
 use Rattle.est_syntax.specs.declared.tree.Conjunction.{Conjunction}
 use Rattle.est_syntax.specs.declared.tree.Expression.{Expression}
 use Rattle.est_syntax.specs.declared.tree.Literal.TheViews.{out-Conjunction, out-Expression}
 use Rattle.est_syntax.specs.declared.tree.Literal.TheFolds.{the_lemmas}
-use Rattle.est_link.specs.Asking.{literal_asked, conjunction_asked, and_literals, all_literals, expression_asked, or_conjunctions, all_conjunctions, test_asked}
+use Rattle.est_link.specs.Asking.{literal_asked, conjunction_asked, and_literals, all_literals, expression_asked}
+use Rattle.est_link.specs.Asking.{or_conjunctions, all_conjunctions, test_asked}
 
 mutual
   -- a property that each name's signal has is one of each signal of the test
@@ -126,7 +130,8 @@ one_more : (i : ℕ) → i + 1 ≡ suc i
 one_more i = omega arith
 
 -- one more of a list is seen
-pub more_seen : {Y X Z : Type 0} (v : Y → Z) (f : X → Z) (ys : List Y) (y : Y) (xs : List X) (i : ℕ) (d : X) → i < length xs
+pub more_seen : {Y X Z : Type 0} (v : Y → Z) (f : X → Z) (ys : List Y) (y : Y) (xs : List X) (i : ℕ) (d : X)
+    → i < length xs
     → map v ys ≡ map f (take i xs) → v y ≡ f (get_or xs i d) → map v (ys ++ y ∷ []) ≡ map f (take (i + 1) xs)
 more_seen {Y} {X} {Z} v f ys y xs i d lt h e =
     map-append v ys (y ∷ [])

@@ -6,7 +6,8 @@ use Rattle.est_reduce.specs.declared.body.BoundTest.{BoundTest}
 use Rattle.est_kernel.specs.Scope.{EachSignalOfAll}
 use Rattle.est_kernel.specs.Term.{Name, outer, inner, Query, tick, of, negated, joined, Queries, last, more}
 use Rattle.est_kernel.proofs.Tests.{each_implies}
-use Rattle.est_reduce.specs.Bodies.{Body, nothing, pause, halt, emit, sustain, exit, await, present, suspend, abort, weak_abort, repeat, repeat_each, every, trap, signal, seq, par}
+use Rattle.est_reduce.specs.Bodies.{Body, nothing, pause, halt, emit, sustain, exit, await, present, suspend, abort}
+use Rattle.est_reduce.specs.Bodies.{weak_abort, repeat, repeat_each, every, trap, signal, seq, par}
 use Rattle.est_link.specs.Linking.{bound, bound_name, bound_query, bound_queries, emitted}
 use Rattle.est_link.specs.Bodies.{MayEmit, MayAsk, IsThere, IsBody, AreBindings}
 
@@ -42,11 +43,16 @@ mutual
   all_asked_bound n may m callers k qs b l (more t ts) a =
       (asked_bound n may m callers k qs b l t a.0, all_asked_bound n may m callers k qs b l ts a.1)
 
-sent_bound : (n : ℕ) (may : ℕ → Type 0) (m : ℕ) (callers : ℕ → Type 0) (k : ℕ) (qs : List Query) → AreBindings n may m callers k qs → (l : ℕ) (s : Name) → MayEmit n may l s → MayEmit m callers (k + l) (emitted (bound_name qs k s))
-sent_bound n may m callers k qs b l (outer i) a = more_sent m callers k l (emitted (get_or qs i tick)) (b.sent i a.0 a.1)
+sent_bound : (n : ℕ) (may : ℕ → Type 0) (m : ℕ) (callers : ℕ → Type 0) (k : ℕ) (qs : List Query)
+    → AreBindings n may m callers k qs → (l : ℕ) (s : Name) → MayEmit n may l s
+    → MayEmit m callers (k + l) (emitted (bound_name qs k s))
+sent_bound n may m callers k qs b l (outer i) a = more_sent m callers k l (emitted (get_or qs i tick))
+    (b.sent i a.0 a.1)
 sent_bound n may m callers k qs b l (inner j) a = omega (arith, a)
 
-pub bound_body : (n : ℕ) (may : ℕ → Type 0) (m : ℕ) (callers : ℕ → Type 0) (k : ℕ) (qs : List Query) → AreBindings n may m callers k qs → (t l : ℕ) (f : Body) → IsBody n may t l f → IsBody m callers t (k + l) (bound qs k f)
+pub bound_body : (n : ℕ) (may : ℕ → Type 0) (m : ℕ) (callers : ℕ → Type 0) (k : ℕ) (qs : List Query)
+    → AreBindings n may m callers k qs → (t l : ℕ) (f : Body) → IsBody n may t l f
+    → IsBody m callers t (k + l) (bound qs k f)
 bound_body n may m callers k qs b t l nothing h = tt
 bound_body n may m callers k qs b t l pause h = tt
 bound_body n may m callers k qs b t l halt h = tt
@@ -54,20 +60,31 @@ bound_body n may m callers k qs b t l (emit s) h = sent_bound n may m callers k 
 bound_body n may m callers k qs b t l (sustain s) h = sent_bound n may m callers k qs b l s h
 bound_body n may m callers k qs b t l (exit j) h = h
 bound_body n may m callers k qs b t l (await now s) h = asked_bound n may m callers k qs b l s h
-bound_body n may m callers k qs b t l (present s p q) h = (asked_bound n may m callers k qs b l s h.0, bound_body n may m callers k qs b t l p h.1, bound_body n may m callers k qs b t l q h.2)
-bound_body n may m callers k qs b t l (suspend now s p) h = (asked_bound n may m callers k qs b l s h.0, bound_body n may m callers k qs b t l p h.1)
-bound_body n may m callers k qs b t l (abort now s p) h = (asked_bound n may m callers k qs b l s h.0, bound_body n may m callers k qs b t l p h.1)
-bound_body n may m callers k qs b t l (weak_abort now s p) h = (asked_bound n may m callers k qs b l s h.0, bound_body n may m callers k qs b t l p h.1)
+bound_body n may m callers k qs b t l (present s p q) h = (
+  asked_bound n may m callers k qs b l s h.0,
+  bound_body n may m callers k qs b t l p h.1,
+  bound_body n may m callers k qs b t l q h.2,
+)
+bound_body n may m callers k qs b t l (suspend now s p) h =
+    (asked_bound n may m callers k qs b l s h.0, bound_body n may m callers k qs b t l p h.1)
+bound_body n may m callers k qs b t l (abort now s p) h =
+    (asked_bound n may m callers k qs b l s h.0, bound_body n may m callers k qs b t l p h.1)
+bound_body n may m callers k qs b t l (weak_abort now s p) h =
+    (asked_bound n may m callers k qs b l s h.0, bound_body n may m callers k qs b t l p h.1)
 bound_body n may m callers k qs b t l (repeat p) h = bound_body n may m callers k qs b t l p h
-bound_body n may m callers k qs b t l (repeat_each s p) h = (asked_bound n may m callers k qs b l s h.0, bound_body n may m callers k qs b t l p h.1)
-bound_body n may m callers k qs b t l (every now s p) h = (asked_bound n may m callers k qs b l s h.0, bound_body n may m callers k qs b t l p h.1)
+bound_body n may m callers k qs b t l (repeat_each s p) h =
+    (asked_bound n may m callers k qs b l s h.0, bound_body n may m callers k qs b t l p h.1)
+bound_body n may m callers k qs b t l (every now s p) h =
+    (asked_bound n may m callers k qs b l s h.0, bound_body n may m callers k qs b t l p h.1)
 bound_body n may m callers k qs b t l (trap p) h = bound_body n may m callers k qs b (t + 1) l p h
 bound_body n may m callers k qs b t l (signal j p) h =
     let P : ℕ → Type 0 = λ x. IsBody m callers t x (bound qs k p) in
     let e : k + (l + j) ≡ k + l + j = omega arith in
     subst P e (bound_body n may m callers k qs b t (l + j) p h)
-bound_body n may m callers k qs b t l (seq p q) h = (bound_body n may m callers k qs b t l p h.0, bound_body n may m callers k qs b t l q h.1)
-bound_body n may m callers k qs b t l (par p q) h = (bound_body n may m callers k qs b t l p h.0, bound_body n may m callers k qs b t l q h.1)
+bound_body n may m callers k qs b t l (seq p q) h =
+    (bound_body n may m callers k qs b t l p h.0, bound_body n may m callers k qs b t l q h.1)
+bound_body n may m callers k qs b t l (par p q) h =
+    (bound_body n may m callers k qs b t l p h.0, bound_body n may m callers k qs b t l q h.1)
 
 -- ---- tests of the code
 

@@ -1,5 +1,6 @@
 -- Where no name is at fault, each name of a module's flat body is bound.
-use Rattle.std.proofs.Common.{◌≡◌, ℕ, ◌+◌, List, [], ◌∷◌, ◌++◌, length, Bool, true, false, not, ◌||◌, ◌&&◌, if◌then◌else◌, Option, Some, None, refl, ap, sym, ◌∙◌, subst, ⊎_elim, arith}
+use Rattle.std.proofs.Common.{◌≡◌, ℕ, ◌+◌, List, [], ◌∷◌, ◌++◌, length, Bool, true, false, not, ◌||◌, ◌&&◌}
+use Rattle.std.proofs.Common.{if◌then◌else◌, Option, Some, None, refl, ap, sym, ◌∙◌, subst, ⊎_elim, arith}
 use Rattle.std.proofs.lemmas.Bool.{false≢true}
 use Rattle.std.specs.List.{list_any, AllByRecursion}
 use Rattle.est_modules.specs.Derived as derived
@@ -9,7 +10,8 @@ use Rattle.est_checks.specs.Emissions.{refused_at, is_refused, emits_by}
 use Rattle.est_link.specs.Inner.Tables.{AreMade, none, next, IsMade, has_body, bodies_of, body_linked}
 use Rattle.est_link.specs.Linking.{linked, bound, interface_bound, interface_run, locals_round, signal_at, emitted}
 use Rattle.est_modules.specs.Modules.{Program, program_named}
-use Rattle.est_modules.specs.Occurrences.{Binder, signals, a_trap, emits, runs, Occurrence, tested, occurrences, first_of}
+use Rattle.est_modules.specs.Occurrences.{Binder, signals, a_trap, emits, runs, Occurrence, tested, occurrences}
+use Rattle.est_modules.specs.Occurrences.{first_of}
 use Rattle.est_checks.specs.UnknownNames.{unknown_at, unless}
 use Rattle.est_modules.specs.Visible.{is_local, is_trap, is_visible}
 use Rattle.est_link.specs.declared.flatten.Linked.{Linked}
@@ -18,9 +20,11 @@ use Rattle.est_syntax.specs.Tree.{RenamingTree}
 use Rattle.est_link.proofs.Binding.{bound_body}
 use Rattle.est_link.proofs.Made.{kept, new_last, last_body, old_or_last}
 use Rattle.est_link.proofs.Naming.{IsFine, test_at, traps_round, trap_within, sent_at, run_bindings}
-use Rattle.est_modules.proofs.Testing.{or_left, or_right, and_both, not_true, same_bytes, equal_bytes, or_none_parts, all_parts}
+use Rattle.est_modules.proofs.Testing.{or_left, or_right, and_both, not_true, same_bytes, equal_bytes, or_none_parts}
+use Rattle.est_modules.proofs.Testing.{all_parts}
 use Rattle.est_link.proofs.RunModules.{more_runs}
-use Rattle.est_reduce.specs.Bodies.{Body, nothing, pause, halt, emit, sustain, exit, await, present, suspend, abort, weak_abort, repeat, repeat_each, every, trap, signal, seq, par}
+use Rattle.est_reduce.specs.Bodies.{Body, nothing, pause, halt, emit, sustain, exit, await, present, suspend, abort}
+use Rattle.est_reduce.specs.Bodies.{weak_abort, repeat, repeat_each, every, trap, signal, seq, par}
 
 -- a body is bound inside further traps
 more_traps : (n : ℕ) (may : ℕ → Type 0) (k t l : ℕ) (f : Body) → IsBody n may t l f → IsBody n may (t + k) l f
@@ -48,10 +52,15 @@ more_traps n may k t l (par p q) h = (more_traps n may k t l p h.0, more_traps n
 
 -- ---- what is known of each occurrence
 
-emission_here : (local sent : Bool) (others : Bool) → local ≡ false → sent ≡ true → ((not local && sent) || others) ≡ true
-emission_here local sent others h e = or_left (not local && sent) others (and_both (not local) sent (not_true local h) e)
+emission_here : (local sent : Bool) (others : Bool) → local ≡ false → sent ≡ true
+    → ((not local && sent) || others) ≡ true
+emission_here local sent others h e = or_left (not local && sent) others
+    (and_both (not local) sent (not_true local h) e)
 
-pub all_fine : (ps : List Program) (em : List ℕ → List ℕ → Bool) (p : Program) (os : List Occurrence) → first_of (unknown_at ps p) os ≡ None → first_of (refused_at ps em p) os ≡ None → ((s : List ℕ) → list_any (λ (o : Occurrence). not (is_local o.round s) && emits_by ps em s o.act) os ≡ true → em p.name s ≡ true) → AllByRecursion (IsFine ps em p) os
+pub all_fine : (ps : List Program) (em : List ℕ → List ℕ → Bool) (p : Program) (os : List Occurrence)
+    → first_of (unknown_at ps p) os ≡ None → first_of (refused_at ps em p) os ≡ None
+    → ((s : List ℕ) → list_any (λ (o : Occurrence). not (is_local o.round s) && emits_by ps em s o.act) os ≡ true
+    → em p.name s ≡ true) → AllByRecursion (IsFine ps em p) os
 all_fine ps em p [] known accepted sent = tt
 all_fine ps em p (o ∷ os) known accepted sent =
     let unknown = or_none_parts (unknown_at ps p o) (first_of (unknown_at ps p) os) known in
@@ -62,7 +71,8 @@ all_fine ps em p (o ∷ os) known accepted sent =
         accepted = refused.0;
         sent = λ s h e. sent s (emission_here (is_local o.round s) (emits_by ps em s o.act) (later s) h e);
       },
-      all_fine ps em p os unknown.1 refused.1 (λ s h. sent s (or_right (not (is_local o.round s) && emits_by ps em s o.act) (later s) h)),
+      all_fine ps em p os unknown.1 refused.1
+          (λ s h. sent s (or_right (not (is_local o.round s) && emits_by ps em s o.act) (later s) h)),
     )
 
 -- ---- a statement
@@ -76,25 +86,39 @@ accepted_name : (b : Bool) (s : List ℕ) → (if b then Some s else None) ≡ N
 accepted_name true s h = cc
 accepted_name false s h = refl
 
-fine_emission : (ps : List Program) (em : List ℕ → List ℕ → Bool) (p : Program) (bs : List Binder) (s : List ℕ) → IsFine ps em p (record { act = emits s; round = bs }) → MayEmit (length p.interface) (IsSent em p) (locals_round bs) (emitted (signal_at p bs s))
-fine_emission ps em p bs s fine = sent_at em p bs s (known_name (is_visible p bs s) s fine.known) (accepted_name (is_refused p bs s) s fine.accepted) (λ h. fine.sent s h (equal_bytes s))
+fine_emission : (ps : List Program) (em : List ℕ → List ℕ → Bool) (p : Program) (bs : List Binder) (s : List ℕ)
+    → IsFine ps em p (record { act = emits s; round = bs })
+    → MayEmit (length p.interface) (IsSent em p) (locals_round bs) (emitted (signal_at p bs s))
+fine_emission ps em p bs s fine = sent_at em p bs s (known_name (is_visible p bs s) s fine.known)
+    (accepted_name (is_refused p bs s) s fine.accepted) (λ h. fine.sent s h (equal_bytes s))
 
 -- the body of a module that is run has its names bound; one that isn't there does nothing
 abbrev pub IsSound : (List ℕ → List ℕ → Bool) → Option Program → Body → Type 0
 IsSound em None f = f ≡ nothing
 IsSound em (Some q) f = IsBody (length q.interface) (IsSent em q) 0 0 f
 
-run_bound : (ps : List Program) (em : List ℕ → List ℕ → Bool) (p : Program) (bs : List Binder) (m : List ℕ) (rs : List RenamingTree) (o : Option Program) (f : Body) → program_named ps m ≡ o → IsFine ps em p (record { act = runs m rs; round = bs }) → IsSound em o f → IsBody (length p.interface) (IsSent em p) (traps_round bs) (locals_round bs) (bound (interface_bound p bs rs (interface_run o)) (locals_round bs) f)
+run_bound : (ps : List Program) (em : List ℕ → List ℕ → Bool) (p : Program) (bs : List Binder) (m : List ℕ)
+    (rs : List RenamingTree) (o : Option Program) (f : Body) → program_named ps m ≡ o
+    → IsFine ps em p (record { act = runs m rs; round = bs }) → IsSound em o f
+    → IsBody (length p.interface) (IsSent em p) (traps_round bs) (locals_round bs)
+    (bound (interface_bound p bs rs (interface_run o)) (locals_round bs) f)
 run_bound ps em p bs m rs None f found fine sound =
-    subst (λ x. IsBody (length p.interface) (IsSent em p) (traps_round bs) (locals_round bs) (bound (interface_bound p bs rs []) (locals_round bs) x)) (sym sound) tt
+    subst (λ x. IsBody (length p.interface) (IsSent em p) (traps_round bs) (locals_round bs)
+    (bound (interface_bound p bs rs []) (locals_round bs) x)) (sym sound) tt
 run_bound ps em p bs m rs (Some q) f found fine sound =
     let e : locals_round bs + 0 ≡ locals_round bs = omega arith in
     let none : 0 + traps_round bs ≡ traps_round bs = omega arith in
-    subst (λ l. IsBody (length p.interface) (IsSent em p) (traps_round bs) l (bound (interface_bound p bs rs q.interface) (locals_round bs) f)) e
-    (bound_body (length q.interface) (IsSent em q) (length p.interface) (IsSent em p) (locals_round bs) (interface_bound p bs rs q.interface) (run_bindings ps em p bs m rs q found fine) (traps_round bs) 0 f
-    (subst (λ t. IsBody (length q.interface) (IsSent em q) t 0 f) none (more_traps (length q.interface) (IsSent em q) (traps_round bs) 0 0 f sound)))
+    subst (λ l. IsBody (length p.interface) (IsSent em p) (traps_round bs) l
+    (bound (interface_bound p bs rs q.interface) (locals_round bs) f)) e
+    (bound_body (length q.interface) (IsSent em q) (length p.interface) (IsSent em p) (locals_round bs)
+    (interface_bound p bs rs q.interface) (run_bindings ps em p bs m rs q found fine) (traps_round bs) 0 f
+    (subst (λ t. IsBody (length q.interface) (IsSent em q) t 0 f) none
+    (more_traps (length q.interface) (IsSent em q) (traps_round bs) 0 0 f sound)))
 
-pub linked_bound : (ps : List Program) (em : List ℕ → List ℕ → Bool) (p : Program) (b : List ℕ → Body) (bs : List Binder) (d : Derived) → AllByRecursion (IsFine ps em p) (occurrences bs d) → AllRuns (λ m. IsSound em (program_named ps m) (b m)) d → IsBody (length p.interface) (IsSent em p) (traps_round bs) (locals_round bs) (linked ps b p bs d)
+pub linked_bound : (ps : List Program) (em : List ℕ → List ℕ → Bool) (p : Program) (b : List ℕ → Body)
+    (bs : List Binder) (d : Derived) → AllByRecursion (IsFine ps em p) (occurrences bs d)
+    → AllRuns (λ m. IsSound em (program_named ps m) (b m)) d
+    → IsBody (length p.interface) (IsSent em p) (traps_round bs) (locals_round bs) (linked ps b p bs d)
 linked_bound ps em p b bs derived.missing h r = tt
 linked_bound ps em p b bs derived.nothing h r = tt
 linked_bound ps em p b bs derived.pause h r = tt
@@ -145,27 +169,39 @@ linked_bound ps em p b bs (derived.par q e) h r =
 
 -- ---- a table
 
-sound_linked : (ps : List Program) (em : List ℕ → List ℕ → Bool) (b : List ℕ → Body) (m : List ℕ) (o : Option Program) → program_named ps m ≡ o → HasSoundNames ps em → ((p : Program) → o ≡ Some p → AllRuns (λ n. IsSound em (program_named ps n) (b n)) p.body) → IsSound em o (body_linked ps b o)
+sound_linked : (ps : List Program) (em : List ℕ → List ℕ → Bool) (b : List ℕ → Body) (m : List ℕ) (o : Option Program)
+    → program_named ps m ≡ o → HasSoundNames ps em
+    → ((p : Program) → o ≡ Some p → AllRuns (λ n. IsSound em (program_named ps n) (b n)) p.body)
+    → IsSound em o (body_linked ps b o)
 sound_linked ps em b m None found names runs_sound = refl
 sound_linked ps em b m (Some p) found names runs_sound =
     linked_bound ps em p b [] p.body
-    (all_fine ps em p (occurrences [] p.body) (names.known m p found) (names.accepted m p found) (λ s h. names.emissions m p found s ∙ h))
+    (all_fine ps em p (occurrences [] p.body) (names.known m p found) (names.accepted m p found)
+    (λ s h. names.emissions m p found s ∙ h))
     (runs_sound p refl)
 
-old_sound : (ps : List Program) (em : List ℕ → List ℕ → Bool) (es : List Linked) (e : Linked) (m : List ℕ) → has_body es m ≡ true → IsSound em (program_named ps m) (bodies_of es m) → IsSound em (program_named ps m) (bodies_of (es ++ e ∷ []) m)
+old_sound : (ps : List Program) (em : List ℕ → List ℕ → Bool) (es : List Linked) (e : Linked) (m : List ℕ)
+    → has_body es m ≡ true → IsSound em (program_named ps m) (bodies_of es m)
+    → IsSound em (program_named ps m) (bodies_of (es ++ e ∷ []) m)
 old_sound ps em es e m here sound = subst (IsSound em (program_named ps m)) (sym (kept es e m here)) sound
 
-last_sound : (ps : List Program) (em : List ℕ → List ℕ → Bool) (es : List Linked) (e : Linked) (m : List ℕ) → HasSoundNames ps em → ((n : List ℕ) → has_body es n ≡ true → IsSound em (program_named ps n) (bodies_of es n)) → has_body es m ≡ false → bytes_eq e.name m ≡ true → IsMade ps es e → IsSound em (program_named ps m) (bodies_of (es ++ e ∷ []) m)
+last_sound : (ps : List Program) (em : List ℕ → List ℕ → Bool) (es : List Linked) (e : Linked) (m : List ℕ)
+    → HasSoundNames ps em → ((n : List ℕ) → has_body es n ≡ true → IsSound em (program_named ps n) (bodies_of es n))
+    → has_body es m ≡ false → bytes_eq e.name m ≡ true → IsMade ps es e
+    → IsSound em (program_named ps m) (bodies_of (es ++ e ∷ []) m)
 last_sound ps em es e m names before absent is made =
     let same : e.name ≡ m = same_bytes e.name m is in
     let body : bodies_of (es ++ e ∷ []) m ≡ body_linked ps (bodies_of es) (program_named ps m) =
-    new_last es e m absent ∙ last_body e m is ∙ made.made ∙ ap (λ n. body_linked ps (bodies_of es) (program_named ps n)) same in
+    new_last es e m absent ∙ last_body e m is ∙ made.made
+    ∙ ap (λ n. body_linked ps (bodies_of es) (program_named ps n)) same in
     subst (IsSound em (program_named ps m)) (sym body)
     (sound_linked ps em (bodies_of es) m (program_named ps m) refl names
-    (λ p found. more_runs (λ n. has_body es n ≡ true) (λ n. IsSound em (program_named ps n) (bodies_of es n)) before p.body (made.ready p (ap (program_named ps) same ∙ found))))
+    (λ p found. more_runs (λ n. has_body es n ≡ true) (λ n. IsSound em (program_named ps n) (bodies_of es n)) before
+    p.body (made.ready p (ap (program_named ps) same ∙ found))))
 
 -- each name of each body of a table is bound
-pub made_sound : (ps : List Program) (em : List ℕ → List ℕ → Bool) (es : List Linked) → AreMade ps es → HasSoundNames ps em → (m : List ℕ) → has_body es m ≡ true → IsSound em (program_named ps m) (bodies_of es m)
+pub made_sound : (ps : List Program) (em : List ℕ → List ℕ → Bool) (es : List Linked) → AreMade ps es
+    → HasSoundNames ps em → (m : List ℕ) → has_body es m ≡ true → IsSound em (program_named ps m) (bodies_of es m)
 made_sound ps em es none names m h = absurd (false≢true h)
 made_sound ps em es (next before e is made this) names m h =
     let here : has_body (before ++ e ∷ []) m ≡ true = sym (ap (λ xs. has_body xs m) is) ∙ h in

@@ -1,5 +1,6 @@
 -- A library of which no check has a fault.
-use Rattle.std.proofs.Common.{◌≡◌, ℕ, zero, suc, ◌≤◌, List, [], ◌∷◌, ◌++◌, length, map, nat_lt, Bool, true, false, if◌then◌else◌, Option, Some, None, option_map, refl, ap, sym, ◌∙◌}
+use Rattle.std.proofs.Common.{◌≡◌, ℕ, zero, suc, ◌≤◌, List, [], ◌∷◌, ◌++◌, length, map, nat_lt, Bool, true, false}
+use Rattle.std.proofs.Common.{if◌then◌else◌, Option, Some, None, option_map, refl, ap, sym, ◌∙◌}
 use Rattle.std.proofs.lemmas.Bool.{ltb-false}
 use Rattle.std.proofs.lemmas.Option.{none-some}
 use Rattle.std.specs.List.{slice_get}
@@ -7,10 +8,12 @@ use Rattle.std.specs.Option.{option_or}
 use Rattle.std.specs.Str.{bytes_eq}
 use Rattle.est_kernel.specs.declared.interface.TheConstants.{MOST_SIGNALS}
 use Rattle.est_link.specs.Bodies.{HasSoundNames}
-use Rattle.est_checks.specs.Duplicates.{redeclared, redeclared_in, redeclared_at, duplicate_of, duplicate_after, first_duplicate}
+use Rattle.est_checks.specs.Duplicates.{redeclared, redeclared_in, redeclared_at, duplicate_of, duplicate_after}
+use Rattle.est_checks.specs.Duplicates.{first_duplicate}
 use Rattle.est_modules.specs.Visible.{stands_in}
 use Rattle.est_checks.specs.Emissions.{AreEmissions, first_refused, refused_at}
-use Rattle.est_checks.specs.FirstFaults.{Else, ByLimits, ByNames, ByRuns, IsFirstFault, recursive_run, limit_passed, limit_passed_by}
+use Rattle.est_checks.specs.FirstFaults.{Else, ByLimits, ByNames, ByRuns, IsFirstFault, recursive_run, limit_passed}
+use Rattle.est_checks.specs.FirstFaults.{limit_passed_by}
 use Rattle.est_kernel.specs.declared.limits.TheConstants.{MOST_STATEMENTS}
 use Rattle.est_link.specs.Inner.Checked.{IsChecked, IsSoundMain}
 use Rattle.est_checks.specs.LinkFaults.{fault_before_order, fault_behind_order, lawless_number}
@@ -22,7 +25,8 @@ use Rattle.est_checks.specs.UnknownNames.{unknown_at}
 use Rattle.est_checks.specs.declared.fault.Limit.{Limit}
 use Rattle.est_checks.specs.declared.fault.Limit.TheVariants.{Signals, Relations, Statements}
 use Rattle.est_checks.specs.declared.fault.LinkFault.{LinkFault}
-use Rattle.est_checks.specs.declared.fault.LinkFault.TheVariants.{DuplicateName, UnknownModule, BadRename, UnknownName, EmitInput, Semantics, TooLarge}
+use Rattle.est_checks.specs.declared.fault.LinkFault.TheVariants.{DuplicateName, UnknownModule, BadRename, UnknownName}
+use Rattle.est_checks.specs.declared.fault.LinkFault.TheVariants.{EmitInput, Semantics, TooLarge}
 use Rattle.est_modules.specs.declared.head.Declared.{Declared}
 use Rattle.est_link.proofs.Distinct.{kept_name}
 use Rattle.est_modules.proofs.Standing.{first_none, found_place}
@@ -37,7 +41,8 @@ else_none (Some fault) next h = absurd (none-some fault h)
 
 -- ---- names
 
-four_none : (a b c d : Option LinkFault) → option_or a (option_or b (option_or c d)) ≡ None → (b ≡ None) × (c ≡ None) × (d ≡ None)
+four_none : (a b c d : Option LinkFault) → option_or a (option_or b (option_or c d)) ≡ None
+    → (b ≡ None) × (c ≡ None) × (d ≡ None)
 four_none a b c d h =
     let one = or_none_parts a (option_or b (option_or c d)) h in
     let two = or_none_parts b (option_or c d) one.1 in
@@ -45,12 +50,14 @@ four_none a b c d h =
     (two.0, three.0, three.1)
 
 -- a check without a fault in all bodies has none in a module that is named
-none_in : (f : Program → Occurrence → Option (List ℕ)) (ps : List Program) → first_in_bodies f ps ≡ None → (m : List ℕ) (p : Program) → program_named ps m ≡ Some p → first_of (f p) (occurrences [] p.body) ≡ None
+none_in : (f : Program → Occurrence → Option (List ℕ)) (ps : List Program) → first_in_bodies f ps ≡ None
+    → (m : List ℕ) (p : Program) → program_named ps m ≡ Some p → first_of (f p) (occurrences [] p.body) ≡ None
 none_in f ps h m p found =
     let place = found_place (λ (q : Program). bytes_eq q.name m) ps p found in
     first_none (λ (q : Program). first_of (f q) (occurrences [] q.body)) ps place.0 p h place.2
 
-sound_names : (ps : List Program) (em : List ℕ → List ℕ → Bool) → AreEmissions ps em → first_in_bodies (unknown_at ps) ps ≡ None → first_refused ps em ≡ None → HasSoundNames ps em
+sound_names : (ps : List Program) (em : List ℕ → List ℕ → Bool) → AreEmissions ps em
+    → first_in_bodies (unknown_at ps) ps ≡ None → first_refused ps em ≡ None → HasSoundNames ps em
 sound_names ps em are known accepted = record {
   emissions = are;
   known = none_in (unknown_at ps) ps known;
@@ -66,25 +73,32 @@ kept_limit false l o h = (refl, h)
 within : (s r n : ℕ) → limit_passed s r n ≡ None → (s ≤ MOST_SIGNALS) × (r ≤ MOST_RELATIONS)
 within s r n h =
     let statements : Option Limit = if nat_lt MOST_STATEMENTS n then Some Statements else None in
-    let one = kept_limit (nat_lt MOST_SIGNALS s) Signals (if nat_lt MOST_RELATIONS r then Some Relations else statements) h in
+    let one =
+    kept_limit (nat_lt MOST_SIGNALS s) Signals (if nat_lt MOST_RELATIONS r then Some Relations else statements) h in
     let two = kept_limit (nat_lt MOST_RELATIONS r) Relations statements one.1 in
     (ltb-false MOST_SIGNALS s one.0, ltb-false MOST_RELATIONS r two.0)
 
 -- no signal of a module is declared twice
-none_redeclared : (seen : List (List ℕ)) (ps : List Program) → duplicate_after seen ps ≡ None → (i : ℕ) (p : Program) → slice_get ps i ≡ Some p → redeclared [] (map (λ (d : Declared). d.name) p.interface) ≡ None
+none_redeclared : (seen : List (List ℕ)) (ps : List Program) → duplicate_after seen ps ≡ None → (i : ℕ) (p : Program)
+    → slice_get ps i ≡ Some p → redeclared [] (map (λ (d : Declared). d.name) p.interface) ≡ None
 none_redeclared seen [] h i p at = absurd (none-some p at)
 none_redeclared seen (q ∷ qs) h zero p at =
     let here = (or_none_parts (duplicate_of seen q) (duplicate_after (seen ++ q.name ∷ []) qs) h).0 in
     let inside = (kept_name (stands_in seen q.name) q.name (redeclared_in q) here).1 in
     ap (λ (r : Program). redeclared [] (map (λ (d : Declared). d.name) r.interface)) (sym (some_same q p at))
-    ∙ (or_none_parts (redeclared [] (map (λ (d : Declared). d.name) q.interface)) (first_of (redeclared_at q) (occurrences [] q.body)) inside).0
+    ∙ (or_none_parts (redeclared [] (map (λ (d : Declared). d.name) q.interface))
+    (first_of (redeclared_at q) (occurrences [] q.body)) inside).0
 none_redeclared seen (q ∷ qs) h (suc i) p at =
-    none_redeclared (seen ++ q.name ∷ []) qs (or_none_parts (duplicate_of seen q) (duplicate_after (seen ++ q.name ∷ []) qs) h).1 i p at
+    none_redeclared (seen ++ q.name ∷ []) qs
+    (or_none_parts (duplicate_of seen q) (duplicate_after (seen ++ q.name ∷ []) qs) h).1 i p at
 
-sound_main : (ps : List Program) (main : List ℕ) (n : ℕ) → first_duplicate ps ≡ None → lawless_number (program_named ps main) ≡ None → limit_passed_by (program_named ps main) n ≡ None → (p : Program) → program_named ps main ≡ Some p → IsSoundMain p
+sound_main : (ps : List Program) (main : List ℕ) (n : ℕ) → first_duplicate ps ≡ None
+    → lawless_number (program_named ps main) ≡ None → limit_passed_by (program_named ps main) n ≡ None → (p : Program)
+    → program_named ps main ≡ Some p → IsSoundMain p
 sound_main ps main n distinct lawful small p found =
     let place = found_place (λ (q : Program). bytes_eq q.name main) ps p found in
-    let limits = within (length p.interface) (length p.relations) n (ap (λ o. limit_passed_by o n) (sym found) ∙ small) in
+    let limits = within (length p.interface) (length p.relations) n
+    (ap (λ o. limit_passed_by o n) (sym found) ∙ small) in
     record {
       signals = limits.0;
       relations = limits.1;
@@ -94,7 +108,9 @@ sound_main ps main n distinct lawful small p found =
 
 -- ---- all checks
 
-by_limits : (ps : List Program) (main : List ℕ) → first_duplicate ps ≡ None → first_missing ps main ≡ None → (em : List ℕ → List ℕ → Bool) → AreEmissions ps em → fault_behind_order ps main em ≡ None → ByLimits ps main None → IsChecked ps main
+by_limits : (ps : List Program) (main : List ℕ) → first_duplicate ps ≡ None → first_missing ps main ≡ None
+    → (em : List ℕ → List ℕ → Bool) → AreEmissions ps em → fault_behind_order ps main em ≡ None → ByLimits ps main None
+    → IsChecked ps main
 by_limits ps main distinct there em are behind limits =
     let none = four_none
     (option_map BadRename (first_in_bodies (bad_renaming_at ps) ps))
@@ -106,16 +122,20 @@ by_limits ps main distinct there em are behind limits =
       distinct = distinct;
       there = there;
       emitted = em;
-      names = sound_names ps em are (map_none UnknownName (first_in_bodies (unknown_at ps) ps) none.0) (map_none EmitInput (first_refused ps em) none.1);
-      home = sound_main ps main (limits.counts main) distinct (map_none Semantics (lawless_number (program_named ps main)) none.2) small;
+      names = sound_names ps em are (map_none UnknownName (first_in_bodies (unknown_at ps) ps) none.0)
+          (map_none EmitInput (first_refused ps em) none.1);
+      home = sound_main ps main (limits.counts main) distinct
+          (map_none Semantics (lawless_number (program_named ps main)) none.2) small;
     }
 
-by_names : (ps : List Program) (main : List ℕ) → first_duplicate ps ≡ None → first_missing ps main ≡ None → ByNames ps main None → IsChecked ps main
+by_names : (ps : List Program) (main : List ℕ) → first_duplicate ps ≡ None → first_missing ps main ≡ None
+    → ByNames ps main None → IsChecked ps main
 by_names ps main distinct there h =
     let parts = else_none (fault_behind_order ps main h.emitted) (ByLimits ps main) h.is in
     by_limits ps main distinct there h.emitted h.emissions parts.0 parts.1
 
-by_runs : (ps : List Program) (main : List ℕ) → first_duplicate ps ≡ None → first_missing ps main ≡ None → ByRuns ps main None → IsChecked ps main
+by_runs : (ps : List Program) (main : List ℕ) → first_duplicate ps ≡ None → first_missing ps main ≡ None
+    → ByRuns ps main None → IsChecked ps main
 by_runs ps main distinct there h =
     by_names ps main distinct there (else_none (option_map (recursive_run ps) h.place) (ByNames ps main) h.is).1
 
@@ -123,8 +143,10 @@ by_runs ps main distinct there h =
 pub is_checked : (ps : List Program) (main : List ℕ) → IsFirstFault ps main None → IsChecked ps main
 is_checked ps main h =
     let parts = else_none (fault_before_order ps main) (ByRuns ps main) h in
-    let none = or_none_parts (option_map DuplicateName (first_duplicate ps)) (option_map UnknownModule (first_missing ps main)) parts.0 in
-    by_runs ps main (map_none DuplicateName (first_duplicate ps) none.0) (map_none UnknownModule (first_missing ps main) none.1) parts.1
+    let none = or_none_parts (option_map DuplicateName (first_duplicate ps))
+    (option_map UnknownModule (first_missing ps main)) parts.0 in
+    by_runs ps main (map_none DuplicateName (first_duplicate ps) none.0)
+    (map_none UnknownModule (first_missing ps main) none.1) parts.1
 
 -- the main module of such a library is there
 pub main_stands : (ps : List Program) (main : List ℕ) → IsFirstFault ps main None → program_named ps main ≡ None → ⊥

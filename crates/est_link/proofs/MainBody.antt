@@ -1,5 +1,6 @@
 -- The names of the main module's body are bound in its interface.
-use Rattle.std.proofs.Common.{◌≡◌, ℕ, zero, suc, ◌+◌, ◌<◌, List, [], ◌∷◌, length, map, get_or, Bool, true, false, Some, refl, ap, sym, ◌∙◌, subst}
+use Rattle.std.proofs.Common.{◌≡◌, ℕ, zero, suc, ◌+◌, ◌<◌, List, [], ◌∷◌, length, map, get_or, Bool, true, false, Some}
+use Rattle.std.proofs.Common.{refl, ap, sym, ◌∙◌, subst}
 use Rattle.std.proofs.lemmas.Bool.{true≢false}
 use Rattle.std.proofs.lemmas.List.{length-map}
 use Rattle.std.proofs.lemmas.Option.{slice_get-get_or, none-some}
@@ -16,7 +17,8 @@ use Rattle.est_modules.specs.declared.head.Kind.{Kind}
 use Rattle.est_modules.specs.declared.head.Kind.TheVariants.{Input, Output, InputOutput}
 use Rattle.est_link.proofs.Naming.{nobody}
 use Rattle.est_modules.proofs.Testing.{some_same}
-use Rattle.est_reduce.specs.Bodies.{Body, nothing, pause, halt, emit, sustain, exit, await, present, suspend, abort, weak_abort, repeat, repeat_each, every, trap, signal, seq, par}
+use Rattle.est_reduce.specs.Bodies.{Body, nothing, pause, halt, emit, sustain, exit, await, present, suspend, abort}
+use Rattle.est_reduce.specs.Bodies.{weak_abort, repeat, repeat_each, every, trap, signal, seq, par}
 use Rattle.est_reduce.specs.Bound.{IsBound}
 
 is_output : (k : Kind) → is_input_kind k ≡ false → can_be_emitted (kernel_kind k) ≡ true
@@ -38,14 +40,16 @@ main_asked : (p : Program) (l : ℕ) (q : Query) → MayAsk (length p.interface)
 main_asked p l q h = each_implies (IsThere (length p.interface) l) (IsVisible (declarations_of p) l)
     (main_there p l) q h
 
-main_sent : (em : List ℕ → List ℕ → Bool) (p : Program) (l : ℕ) (s : Name) → MayEmit (length p.interface) (IsSent em p) l s → IsEmitted (declarations_of p) l s
+main_sent : (em : List ℕ → List ℕ → Bool) (p : Program) (l : ℕ) (s : Name)
+    → MayEmit (length p.interface) (IsSent em p) l s → IsEmitted (declarations_of p) l s
 main_sent em p l (outer i) h =
     let there = slice_get-get_or p.interface i nobody h.0 in
     output_at p.interface i (get_or p.interface i nobody) there (h.1 (get_or p.interface i nobody) there).1
 main_sent em p l (inner k) h = h
 
 -- each name is bound, and no input is emitted
-pub main_bound : (em : List ℕ → List ℕ → Bool) (p : Program) (t l : ℕ) (f : Body) → IsBody (length p.interface) (IsSent em p) t l f → IsBound (declarations_of p) t l f
+pub main_bound : (em : List ℕ → List ℕ → Bool) (p : Program) (t l : ℕ) (f : Body)
+    → IsBody (length p.interface) (IsSent em p) t l f → IsBound (declarations_of p) t l f
 main_bound em p t l nothing h = tt
 main_bound em p t l pause h = tt
 main_bound em p t l halt h = tt

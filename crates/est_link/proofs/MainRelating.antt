@@ -1,5 +1,6 @@
 -- The relations of the main module lie over its signals that may be offered.
-use Rattle.std.proofs.Common.{◌≡◌, ℕ, suc, ◌+◌, List, [], ◌∷◌, ◌++◌, map, unwrap_or, Bool, true, false, cond, not, ◌||◌, ◌&&◌, Option, Some, None, option_map, refl, ap, sym, ◌∙◌, subst, arith}
+use Rattle.std.proofs.Common.{◌≡◌, ℕ, suc, ◌+◌, List, [], ◌∷◌, ◌++◌, map, unwrap_or, Bool, true, false, cond, not, ◌||◌}
+use Rattle.std.proofs.Common.{◌&&◌, Option, Some, None, option_map, refl, ap, sym, ◌∙◌, subst, arith}
 use Rattle.std.proofs.lemmas.Bool.{false≢true, true≢false}
 use Rattle.std.proofs.lemmas.List.Folds.{list_any-append}
 use Rattle.std.specs.List.{list_any, list_all, position}
@@ -27,19 +28,22 @@ use Rattle.est_syntax.specs.Tree.{RelationTree, excludes, implies}
 -- ---- one signal of each name
 
 -- a name that was seen doesn't come again
-not_again : (seen ns : List (List ℕ)) (n : List ℕ) → redeclared seen ns ≡ None → stands_in seen n ≡ true → stands_in ns n ≡ false
+not_again : (seen ns : List (List ℕ)) (n : List ℕ) → redeclared seen ns ≡ None → stands_in seen n ≡ true
+    → stands_in ns n ≡ false
 not_again seen [] n h s = refl
 not_again seen (m ∷ ns) n h s =
     let parts = kept_name (is_tick m || stands_in seen m) m (redeclared (seen ++ m ∷ []) ns) h in
     let unseen : stands_in seen m ≡ false = (or_parts (is_tick m) (stands_in seen m) parts.0).1 in
     other (bytes_eq m n) (stands_in ns n) (λ e. false≢true (sym unseen ∙ ap (stands_in seen) (same_bytes m n e) ∙ s))
-    (not_again (seen ++ m ∷ []) ns n parts.1 (list_any-append (λ k. bytes_eq k n) seen (m ∷ []) ∙ or_left (stands_in seen n) _ s))
+    (not_again (seen ++ m ∷ []) ns n parts.1
+    (list_any-append (λ k. bytes_eq k n) seen (m ∷ []) ∙ or_left (stands_in seen n) _ s))
   where
     other : (b c : Bool) → (b ≡ true → ⊥) → c ≡ false → (b || c) ≡ false
     other true c h k = absurd (h refl)
     other false c h k = k
 
-declared_names : (ds : List Declared) (n : List ℕ) → list_any (λ (d : Declared). bytes_eq d.name n) ds ≡ stands_in (map (λ (d : Declared). d.name) ds) n
+declared_names : (ds : List Declared) (n : List ℕ) → list_any (λ (d : Declared). bytes_eq d.name n) ds
+    ≡ stands_in (map (λ (d : Declared). d.name) ds) n
 declared_names [] n = refl
 declared_names (d ∷ ds) n = ap (λ b. bytes_eq d.name n || b) (declared_names ds n)
 
@@ -95,7 +99,8 @@ not_offer ds n h = un (has_offer ds n) refl
     un true e = absurd (true≢false (sym (offer_declared ds n e) ∙ h))
     un false e = e
 
-named_same : (ds : List Declared) (n : List ℕ) → list_any (is_named n) (map declaration_of ds) ≡ list_any (λ (d : Declared). bytes_eq d.name n) ds
+named_same : (ds : List Declared) (n : List ℕ) → list_any (is_named n) (map declaration_of ds)
+    ≡ list_any (λ (d : Declared). bytes_eq d.name n) ds
 named_same [] n = refl
 named_same (d ∷ ds) n = ap (λ b. bytes_eq d.name n || b) (named_same ds n)
 
@@ -105,7 +110,8 @@ offer_at_place : (seen : List (List ℕ)) (ds : List Declared) (n : List ℕ)
     → offerable (map declaration_of ds) (place_of (map declaration_of ds) n) ≡ true
 offer_at_place seen [] n h is = absurd (false≢true is)
 offer_at_place seen (d ∷ ds) n h is =
-    let parts = kept_name (is_tick d.name || stands_in seen d.name) d.name (redeclared (seen ++ d.name ∷ []) (map (λ (d : Declared). d.name) ds)) h in
+    let parts = kept_name (is_tick d.name || stands_in seen d.name) d.name
+    (redeclared (seen ++ d.name ∷ []) (map (λ (d : Declared). d.name) ds)) h in
     let o = position (is_named n) (map declaration_of ds) in
     let one : bytes_eq d.name n ≡ true → has_offer ds n ≡ false = λ e.
     not_offer ds n (declared_names ds n
@@ -144,7 +150,9 @@ relation_within ds (implies a b) (Implication x y) distinct h is =
     (ap inputs is.0 ∙ offer_at_place [] ds a distinct (sym (offer_is ds a) ∙ not_false (is_offerable ds a) first.0))
     (ap inputs is.1 ∙ offer_at_place [] ds b distinct (sym (offer_is ds b) ∙ not_false (is_offerable ds b) second.0))
 
-all_within : (ds : List Declared) (ts : List RelationTree) (rs : List Relation) → redeclared [] (map (λ (d : Declared). d.name) ds) ≡ None → list_any (is_lawless ds) ts ≡ false → AreRelations (map declaration_of ds) ts rs → AreOverInputs (map declaration_of ds) rs
+all_within : (ds : List Declared) (ts : List RelationTree) (rs : List Relation)
+    → redeclared [] (map (λ (d : Declared). d.name) ds) ≡ None → list_any (is_lawless ds) ts ≡ false
+    → AreRelations (map declaration_of ds) ts rs → AreOverInputs (map declaration_of ds) rs
 all_within ds [] [] distinct h are = refl
 all_within ds [] (r ∷ rs) distinct h are = absurd are
 all_within ds (t ∷ ts) [] distinct h are = absurd are
@@ -154,13 +162,17 @@ all_within ds (t ∷ ts) (r ∷ rs) distinct h are =
     (all_within ds ts rs distinct parts.1 are.1)
 
 -- relations of which none is lawless lie over the signals that may be offered
-pub over_inputs : (p : Program) (rs : List Relation) → redeclared [] (map (λ (d : Declared). d.name) p.interface) ≡ None → first_lawless p ≡ None → AreRelations (declarations_of p) p.relations rs → AreOverInputs (declarations_of p) rs
+pub over_inputs : (p : Program) (rs : List Relation) → redeclared [] (map (λ (d : Declared). d.name) p.interface) ≡ None
+    → first_lawless p ≡ None → AreRelations (declarations_of p) p.relations rs → AreOverInputs (declarations_of p) rs
 over_inputs p rs distinct lawful are =
-    all_within p.interface p.relations rs distinct (no_place (is_lawless p.interface) p.relations (map_none (λ i. i + 1) (position (is_lawless p.interface) p.relations) lawful)) are
+    all_within p.interface p.relations rs distinct
+    (no_place (is_lawless p.interface) p.relations
+    (map_none (λ i. i + 1) (position (is_lawless p.interface) p.relations) lawful)) are
 
 -- ---- one more relation
 
-pub one_related : (ds : List Declaration) (ts : List RelationTree) (rs : List Relation) (t : RelationTree) (r : Relation) → AreRelations ds ts rs → IsRelation ds t r → AreRelations ds (ts ++ t ∷ []) (rs ++ r ∷ [])
+pub one_related : (ds : List Declaration) (ts : List RelationTree) (rs : List Relation) (t : RelationTree)
+    (r : Relation) → AreRelations ds ts rs → IsRelation ds t r → AreRelations ds (ts ++ t ∷ []) (rs ++ r ∷ [])
 one_related ds [] [] t r are is = (is, tt)
 one_related ds [] (x ∷ xs) t r are is = absurd are
 one_related ds (y ∷ ys) [] t r are is = absurd are

@@ -1,16 +1,21 @@
 -- The modules that main runs, in an order.
-use Rattle.std.proofs.Common.{◌≡◌, ℕ, ◌+◌, ◌<◌, inl, inr, List, [], ◌∷◌, ◌++◌, length, take, get_or, slice_index, slice_index_or, true, false, if◌then◌else◌, Some, None, Contains, refl, ap, sym, ◌∙◌, subst, arith}
+use Rattle.std.proofs.Common.{◌≡◌, ℕ, ◌+◌, ◌<◌, inl, inr, List, [], ◌∷◌, ◌++◌, length, take, get_or, slice_index}
+use Rattle.std.proofs.Common.{slice_index_or, true, false, if◌then◌else◌, Some, None, Contains, refl, ap, sym, ◌∙◌}
+use Rattle.std.proofs.Common.{subst, arith}
 use Rattle.std.proofs.lemmas.Bool.{cases_lt}
 use Rattle.std.proofs.lemmas.Option.{slice_get_within, slice_get-get_or, get_or_from_slice_get}
 use Rattle.std.proofs.lemmas.List.{get_or-map, length-append, get_or_append_left, take-append-le}
 use Rattle.std.proofs.Math.ListN.{get_or-eq_default}
 use Rattle.std.proofs.Math.Seq.{get_or-append_seam, take-append_seam}
-use Rattle.std.proofs.lemmas.List.Elements.{Contains-append_left, Contains-append_right, Contains-append_cases, Contains-push}
+use Rattle.std.proofs.lemmas.List.Elements.{Contains-append_left, Contains-append_right, Contains-append_cases}
+use Rattle.std.proofs.lemmas.List.Elements.{Contains-push}
 use Rattle.std.proofs.lemmas.List.Folds.{list_any-append}
 use Rattle.std.specs.List.{slice_get}
 use Rattle.std.specs.Str.{bytes_eq}
 use Rattle.est_link.specs.Bodies.{AllRuns, AreBottomUp, is_listed}
-use Rattle.est_modules.specs.Derived.{Derived, missing, nothing, pause, halt, emit, sustain, exit, await, present, suspend, abort, weak_abort, repeat, repeat_each, every, trap, signal, run, seq, par}
+use Rattle.est_modules.specs.Derived.{Derived, missing, nothing, pause, halt, emit, sustain, exit, await, present}
+use Rattle.est_modules.specs.Derived.{suspend, abort, weak_abort, repeat, repeat_each, every, trap, signal, run, seq}
+use Rattle.est_modules.specs.Derived.{par}
 use Rattle.est_checks.specs.Duplicates.{first_duplicate}
 use Rattle.est_link.specs.Inner.Needs.{IsClosed, IsClosedFrom, HasFront}
 use Rattle.est_modules.specs.Modules.{Program, program_named, first_in_bodies}
@@ -27,7 +32,8 @@ use Rattle.est_checks.proofs.RunsThere.{run_is_there}
 
 -- ---- what a statement runs stands among its occurrences
 
-pub runs_among : (P : List ℕ → Type 0) (bs : List Binder) (d : Derived) → ((o : Occurrence) → Contains (occurrences bs d) o → (m : List ℕ) → IsRunOf o.act m → P m) → AllRuns P d
+pub runs_among : (P : List ℕ → Type 0) (bs : List Binder) (d : Derived)
+    → ((o : Occurrence) → Contains (occurrences bs d) o → (m : List ℕ) → IsRunOf o.act m → P m) → AllRuns P d
 runs_among P bs missing h = tt
 runs_among P bs nothing h = tt
 runs_among P bs pause h = tt
@@ -37,18 +43,27 @@ runs_among P bs (sustain s) h = tt
 runs_among P bs (exit t) h = tt
 runs_among P bs (await d) h = tt
 runs_among P bs (present s p q) h = (
-  runs_among P bs p (λ o x. h o (Contains-append_right (tested bs s) (occurrences bs p ++ occurrences bs q) o (Contains-append_left (occurrences bs p) (occurrences bs q) o x))),
-  runs_among P bs q (λ o x. h o (Contains-append_right (tested bs s) (occurrences bs p ++ occurrences bs q) o (Contains-append_right (occurrences bs p) (occurrences bs q) o x))),
+  runs_among P bs p
+      (λ o x. h o
+      (Contains-append_right (tested bs s) (occurrences bs p ++ occurrences bs q) o
+      (Contains-append_left (occurrences bs p) (occurrences bs q) o x))),
+  runs_among P bs q
+      (λ o x. h o
+      (Contains-append_right (tested bs s) (occurrences bs p ++ occurrences bs q) o
+      (Contains-append_right (occurrences bs p) (occurrences bs q) o x))),
 )
 runs_among P bs (suspend p d) h = runs_among P bs p (λ o x. h o (Contains-append_left (occurrences bs p) _ o x))
 runs_among P bs (abort p d) h = runs_among P bs p (λ o x. h o (Contains-append_left (occurrences bs p) _ o x))
 runs_among P bs (weak_abort p d) h = runs_among P bs p (λ o x. h o (Contains-append_left (occurrences bs p) _ o x))
 runs_among P bs (repeat p) h = runs_among P bs p h
 runs_among P bs (repeat_each p s) h = runs_among P bs p (λ o x. h o (Contains-append_left (occurrences bs p) _ o x))
-runs_among P bs (every d p) h = runs_among P bs p (λ o x. h o (Contains-append_right (tested bs d.test) (occurrences bs p) o x))
+runs_among P bs (every d p) h =
+    runs_among P bs p (λ o x. h o (Contains-append_right (tested bs d.test) (occurrences bs p) o x))
 runs_among P bs (trap t p) h = runs_among P (a_trap t ∷ bs) p h
-runs_among P bs (signal ns p) h = runs_among P (signals ns ∷ bs) p (λ o x. h o (Contains-append_right (_ ∷ []) (occurrences (signals ns ∷ bs) p) o x))
-runs_among P bs (run m rs) h = h (record { act = runs m rs; round = bs }) (Contains-push [] (record { act = runs m rs; round = bs })) m refl
+runs_among P bs (signal ns p) h = runs_among P (signals ns ∷ bs) p
+    (λ o x. h o (Contains-append_right (_ ∷ []) (occurrences (signals ns ∷ bs) p) o x))
+runs_among P bs (run m rs) h = h (record { act = runs m rs; round = bs })
+    (Contains-push [] (record { act = runs m rs; round = bs })) m refl
 runs_among P bs (seq p q) h = (
   runs_among P bs p (λ o x. h o (Contains-append_left (occurrences bs p) (occurrences bs q) o x)),
   runs_among P bs q (λ o x. h o (Contains-append_right (occurrences bs p) (occurrences bs q) o x)),
@@ -60,27 +75,35 @@ runs_among P bs (par p q) h = (
 
 -- ---- the set of what main runs
 
-row_is : (ps : List Program) (i : ℕ) (p : Program) → slice_get ps i ≡ Some p → slice_index_or (run_rows ps) i [] ≡ places_run ps p
-row_is ps i p at = get_or-map (places_run ps) ps i p [] (slice_get_within ps i p at) ∙ ap (places_run ps) (get_or_from_slice_get ps i p p at)
+row_is : (ps : List Program) (i : ℕ) (p : Program) → slice_get ps i ≡ Some p
+    → slice_index_or (run_rows ps) i [] ≡ places_run ps p
+row_is ps i p at = get_or-map (places_run ps) ps i p [] (slice_get_within ps i p at)
+    ∙ ap (places_run ps) (get_or_from_slice_get ps i p p at)
 
 -- a module's runs are added
-pub closed_more : (ps : List Program) (order set : List ℕ) (k : ℕ) (p : Program) → IsOrderOf ps order → k < length order → slice_get ps (slice_index order k) ≡ Some p → IsClosedFrom ps order (k + 1) set → IsClosedFrom ps order k (set ++ places_run ps p)
+pub closed_more : (ps : List Program) (order set : List ℕ) (k : ℕ) (p : Program) → IsOrderOf ps order → k < length order
+    → slice_get ps (slice_index order k) ≡ Some p → IsClosedFrom ps order (k + 1) set
+    → IsClosedFrom ps order k (set ++ places_run ps p)
 closed_more ps order set k p up lt at closed i from within has to is = elim (cases_lt k i) [
   | inl later ↦ elim (Contains-append_cases set (places_run ps p) (slice_index order i) has) [
     | inl old ↦ Contains-append_left set (places_run ps p) to (closed i (omega (arith, later)) within old to is)
     | inr new ↦
         let there : slice_index order i < length (run_rows ps) = places_are_there (run_rows ps) order up i within in
-        let named : Contains (slice_index_or (run_rows ps) (slice_index order k) []) (slice_index order i) = subst (λ r. Contains r (slice_index order i)) (sym (row_is ps (slice_index order k) p at)) new in
+        let named : Contains (slice_index_or (run_rows ps) (slice_index order k) []) (slice_index order i) =
+        subst (λ r. Contains r (slice_index order i)) (sym (row_is ps (slice_index order k) p at)) new in
         absurd (omega (arith, later, up.after_runs k i lt within (record { there = there; named = named })))
   ]
   | inr here ↦
       let same : i ≡ k = omega (arith, from, here) in
-      let named : Contains (places_run ps p) to = subst (λ r. Contains r to) (ap (λ j. slice_index_or (run_rows ps) (slice_index order j) []) same ∙ row_is ps (slice_index order k) p at) is.named in
+      let named : Contains (places_run ps p) to = subst (λ r. Contains r to)
+      (ap (λ j. slice_index_or (run_rows ps) (slice_index order j) []) same ∙ row_is ps (slice_index order k) p at)
+      is.named in
       Contains-append_right set (places_run ps p) to named
 ]
 
 -- a module that isn't needed adds nothing
-pub closed_past : (ps : List Program) (order set : List ℕ) (k : ℕ) → (Contains set (slice_index order k) → ⊥) → IsClosedFrom ps order (k + 1) set → IsClosedFrom ps order k set
+pub closed_past : (ps : List Program) (order set : List ℕ) (k : ℕ) → (Contains set (slice_index order k) → ⊥)
+    → IsClosedFrom ps order (k + 1) set → IsClosedFrom ps order k set
 closed_past ps order set k absent closed i from within has to is = elim (cases_lt k i) [
   | inl later ↦ closed i (omega (arith, later)) within has to is
   | inr here ↦
@@ -89,11 +112,13 @@ closed_past ps order set k absent closed i from within has to is = elim (cases_l
 ]
 
 -- the whole order closes the set
-pub closed_whole : (ps : List Program) (order set : List ℕ) → IsOrderOf ps order → IsClosedFrom ps order 0 set → IsClosed ps set
+pub closed_whole : (ps : List Program) (order set : List ℕ) → IsOrderOf ps order → IsClosedFrom ps order 0 set
+    → IsClosed ps set
 closed_whole ps order set up closed runner to has is = elim (cases_lt runner (length (run_rows ps))) [
   | inl there ↦
       let at = each_stands (run_rows ps) order up runner there in
-      closed at.0 (omega arith) at.1 (subst (Contains set) (sym at.2) has) to (subst (λ r. IsRun (run_rows ps) r to) (sym at.2) is)
+      closed at.0 (omega arith) at.1 (subst (Contains set) (sym at.2) has) to
+      (subst (λ r. IsRun (run_rows ps) r to) (sym at.2) is)
   | inr past ↦
       let none : Contains [] to = subst (λ r. Contains r to) (get_or-eq_default (run_rows ps) [] past) is.named in
       absurd (omega (arith, none.1))
@@ -102,50 +127,83 @@ closed_whole ps order set up closed runner to has is = elim (cases_lt runner (le
 -- ---- names in the order
 
 -- the names of the modules that the next one runs are there
-run_listed : (ps : List Program) (order set : List ℕ) (names : List (List ℕ)) (k : ℕ) (p : Program) → IsOrderOf ps order → IsClosed ps set → first_in_bodies (missing_at ps) ps ≡ None → HasFront ps set order k names → k < length order → Contains set (slice_index order k) → slice_get ps (slice_index order k) ≡ Some p → (o : Occurrence) → Contains (occurrences [] p.body) o → (m : List ℕ) → IsRunOf o.act m → is_listed names m ≡ true
+run_listed : (ps : List Program) (order set : List ℕ) (names : List (List ℕ)) (k : ℕ) (p : Program) → IsOrderOf ps order
+    → IsClosed ps set → first_in_bodies (missing_at ps) ps ≡ None → HasFront ps set order k names → k < length order
+    → Contains set (slice_index order k) → slice_get ps (slice_index order k) ≡ Some p → (o : Occurrence)
+    → Contains (occurrences [] p.body) o → (m : List ℕ) → IsRunOf o.act m → is_listed names m ≡ true
 run_listed ps order set names k p up closed there front lt has at o stands m is_run =
-    let body = first_none (λ (p : Program). first_of (missing_at ps p) (occurrences [] p.body)) ps (slice_index order k) p there at in
-    let here : slice_get (occurrences [] p.body) stands.0 ≡ Some o = slice_get-get_or (occurrences [] p.body) stands.0 o stands.1 ∙ ap Some stands.2 in
-    let found = run_is_there ps o.act m is_run (first_none (missing_at ps p) (occurrences [] p.body) stands.0 o body here) in
+    let body = first_none (λ (p : Program). first_of (missing_at ps p) (occurrences [] p.body)) ps
+    (slice_index order k) p there at in
+    let here : slice_get (occurrences [] p.body) stands.0 ≡ Some o =
+    slice_get-get_or (occurrences [] p.body) stands.0 o stands.1 ∙ ap Some stands.2 in
+    let found =
+    run_is_there ps o.act m is_run (first_none (missing_at ps p) (occurrences [] p.body) stands.0 o body here) in
     let place = found_place (λ (p : Program). bytes_eq p.name m) ps found.0 found.1 in
     let leads = run_is_run ps (slice_index order k) place.0 p o m at stands is_run place.1 in
     let stood = each_stands (run_rows ps) order up place.0 leads.there in
-    let before : stood.0 < k = up.after_runs k stood.0 lt stood.1 (subst (λ r. IsRun (run_rows ps) (slice_index order k) r) (sym stood.2) leads) in
-    let listed = front stood.0 before (subst (Contains set) (sym stood.2) (closed (slice_index order k) place.0 has leads)) found.0 (ap (slice_get ps) stood.2 ∙ place.2) in
-    ap (is_listed names) (sym (same_bytes found.0.name m (found_passes (λ (p : Program). bytes_eq p.name m) ps found.0 found.1))) ∙ listed
+    let before : stood.0 < k = up.after_runs k stood.0 lt stood.1
+    (subst (λ r. IsRun (run_rows ps) (slice_index order k) r) (sym stood.2) leads) in
+    let listed =
+    front stood.0 before (subst (Contains set) (sym stood.2) (closed (slice_index order k) place.0 has leads))
+    found.0 (ap (slice_get ps) stood.2 ∙ place.2) in
+    ap (is_listed names)
+    (sym (same_bytes found.0.name m (found_passes (λ (p : Program). bytes_eq p.name m) ps found.0 found.1)))
+    ∙ listed
 
-pub next_ready : (ps : List Program) (order set : List ℕ) (names : List (List ℕ)) (k : ℕ) (p : Program) → IsOrderOf ps order → IsClosed ps set → first_in_bodies (missing_at ps) ps ≡ None → HasFront ps set order k names → k < length order → Contains set (slice_index order k) → slice_get ps (slice_index order k) ≡ Some p → AllRuns (λ n. is_listed names n ≡ true) p.body
-next_ready ps order set names k p up closed there front lt has at = runs_among (λ n. is_listed names n ≡ true) [] p.body (run_listed ps order set names k p up closed there front lt has at)
+pub next_ready : (ps : List Program) (order set : List ℕ) (names : List (List ℕ)) (k : ℕ) (p : Program)
+    → IsOrderOf ps order → IsClosed ps set → first_in_bodies (missing_at ps) ps ≡ None → HasFront ps set order k names
+    → k < length order → Contains set (slice_index order k) → slice_get ps (slice_index order k) ≡ Some p
+    → AllRuns (λ n. is_listed names n ≡ true) p.body
+next_ready ps order set names k p up closed there front lt has at =
+    runs_among (λ n. is_listed names n ≡ true) [] p.body
+    (run_listed ps order set names k p up closed there front lt has at)
 
-bottom_up_more : (ps : List Program) (names : List (List ℕ)) (m : List ℕ) → AreBottomUp ps names → ((p : Program) → program_named ps m ≡ Some p → AllRuns (λ n. is_listed names n ≡ true) p.body) → AreBottomUp ps (names ++ m ∷ [])
+bottom_up_more : (ps : List Program) (names : List (List ℕ)) (m : List ℕ) → AreBottomUp ps names
+    → ((p : Program) → program_named ps m ≡ Some p → AllRuns (λ n. is_listed names n ≡ true) p.body)
+    → AreBottomUp ps (names ++ m ∷ [])
 bottom_up_more ps names m up ready i lt p found = elim (cases_lt i (length names)) [
   | inl before ↦
-      subst (λ ns. AllRuns (λ n. is_listed ns n ≡ true) p.body) (sym (take-append-le i names (m ∷ []) (omega (arith, before))))
+      subst (λ ns. AllRuns (λ n. is_listed ns n ≡ true) p.body)
+      (sym (take-append-le i names (m ∷ []) (omega (arith, before))))
       (up i before p (ap (program_named ps) (sym (get_or_append_left names (m ∷ []) [] i before)) ∙ found))
   | inr behind ↦
       let last : i ≡ length names = omega (arith, behind, lt, length-append names (m ∷ [])) in
-      let name : get_or (names ++ m ∷ []) i [] ≡ m = ap (λ j. get_or (names ++ m ∷ []) j []) last ∙ get_or-append_seam names m [] [] in
-      let front : take i (names ++ m ∷ []) ≡ names = ap (λ j. take j (names ++ m ∷ [])) last ∙ take-append_seam names (m ∷ []) in
-      subst (λ ns. AllRuns (λ n. is_listed ns n ≡ true) p.body) (sym front) (ready p (ap (program_named ps) (sym name) ∙ found))
+      let name : get_or (names ++ m ∷ []) i [] ≡ m = ap (λ j. get_or (names ++ m ∷ []) j []) last
+      ∙ get_or-append_seam names m [] [] in
+      let front : take i (names ++ m ∷ []) ≡ names = ap (λ j. take j (names ++ m ∷ [])) last
+      ∙ take-append_seam names (m ∷ []) in
+      subst (λ ns. AllRuns (λ n. is_listed ns n ≡ true) p.body) (sym front)
+      (ready p (ap (program_named ps) (sym name) ∙ found))
 ]
 
 -- the names with one more
-pub next_name : (ps : List Program) (order set : List ℕ) (names : List (List ℕ)) (k : ℕ) (p : Program) → IsOrderOf ps order → IsClosed ps set → first_duplicate ps ≡ None → first_in_bodies (missing_at ps) ps ≡ None → AreBottomUp ps names → HasFront ps set order k names → k < length order → Contains set (slice_index order k) → slice_get ps (slice_index order k) ≡ Some p → AreBottomUp ps (names ++ p.name ∷ [])
+pub next_name : (ps : List Program) (order set : List ℕ) (names : List (List ℕ)) (k : ℕ) (p : Program)
+    → IsOrderOf ps order → IsClosed ps set → first_duplicate ps ≡ None → first_in_bodies (missing_at ps) ps ≡ None
+    → AreBottomUp ps names → HasFront ps set order k names → k < length order → Contains set (slice_index order k)
+    → slice_get ps (slice_index order k) ≡ Some p → AreBottomUp ps (names ++ p.name ∷ [])
 next_name ps order set names k p up closed distinct there names_up front lt has at =
     bottom_up_more ps names p.name names_up (λ q found.
     let same : p ≡ q = some_same p q (sym (first_of_name [] ps distinct (slice_index order k) p at) ∙ found) in
-    subst (λ (r : Program). AllRuns (λ n. is_listed names n ≡ true) r.body) same (next_ready ps order set names k p up closed there front lt has at))
+    subst (λ (r : Program). AllRuns (λ n. is_listed names n ≡ true) r.body) same
+    (next_ready ps order set names k p up closed there front lt has at))
 
-pub next_front : (ps : List Program) (order set : List ℕ) (names : List (List ℕ)) (k : ℕ) (p : Program) → HasFront ps set order k names → slice_get ps (slice_index order k) ≡ Some p → HasFront ps set order (k + 1) (names ++ p.name ∷ [])
+pub next_front : (ps : List Program) (order set : List ℕ) (names : List (List ℕ)) (k : ℕ) (p : Program)
+    → HasFront ps set order k names → slice_get ps (slice_index order k) ≡ Some p
+    → HasFront ps set order (k + 1) (names ++ p.name ∷ [])
 next_front ps order set names k p front at i lt has q here = elim (cases_lt i k) [
-  | inl before ↦ list_any-append (λ n. bytes_eq n q.name) names (p.name ∷ []) ∙ or_left (is_listed names q.name) _ (front i before has q here)
+  | inl before ↦ list_any-append (λ n. bytes_eq n q.name) names (p.name ∷ [])
+      ∙ or_left (is_listed names q.name) _ (front i before has q here)
   | inr behind ↦
       let last : k ≡ i = omega (arith, behind, lt) in
       let same : p ≡ q = some_same p q (sym at ∙ ap (λ j. slice_get ps (slice_index order j)) last ∙ here) in
-      list_any-append (λ n. bytes_eq n q.name) names (p.name ∷ []) ∙ or_right (is_listed names q.name) _ (or_left (bytes_eq p.name q.name) false (ap (λ (r : Program). bytes_eq r.name q.name) same ∙ equal_bytes q.name))
+      list_any-append (λ n. bytes_eq n q.name) names (p.name ∷ [])
+      ∙ or_right (is_listed names q.name) _
+      (or_left (bytes_eq p.name q.name) false
+      (ap (λ (r : Program). bytes_eq r.name q.name) same ∙ equal_bytes q.name))
 ]
 
-pub front_past : (ps : List Program) (order set : List ℕ) (names : List (List ℕ)) (k : ℕ) → HasFront ps set order k names → (Contains set (slice_index order k) → ⊥) → HasFront ps set order (k + 1) names
+pub front_past : (ps : List Program) (order set : List ℕ) (names : List (List ℕ)) (k : ℕ)
+    → HasFront ps set order k names → (Contains set (slice_index order k) → ⊥) → HasFront ps set order (k + 1) names
 front_past ps order set names k front absent i lt has q here = elim (cases_lt i k) [
   | inl before ↦ front i before has q here
   | inr behind ↦

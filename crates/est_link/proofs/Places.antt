@@ -1,5 +1,6 @@
 -- Places of elements, and statements along lists.
-use Rattle.std.proofs.Common.{◌≡◌, ℕ, ◌+◌, ◌<◌, List, [], ◌∷◌, length, map, drop, get_or, Some, option_map, refl, ap, sym, ◌∙◌, rules}
+use Rattle.std.proofs.Common.{◌≡◌, ℕ, ◌+◌, ◌<◌, List, [], ◌∷◌, length, map, drop, get_or, Some, option_map, refl, ap}
+use Rattle.std.proofs.Common.{sym, ◌∙◌, rules}
 use Rattle.std.specs.List.{find}
 use Rattle.std.proofs.lemmas.List.{at_drop_more}
 use Rattle.std.specs.Str.{bytes_eq}
@@ -10,7 +11,8 @@ use Rattle.est_syntax.specs.declared.tree.Sequence.{Sequence}
 use Rattle.est_syntax.specs.declared.tree.Statement.{Statement}
 use Rattle.est_syntax.specs.declared.tree.Branches.TheViews.{out-Sequence, out-Statement}
 use Rattle.est_syntax.specs.declared.tree.Branches.TheFolds.{the_lemmas}
-use Rattle.est_modules.specs.Derived.{Derived, unit_derived, sequence_derived, statement_derived, then_units, beside_sequences}
+use Rattle.est_modules.specs.Derived.{Derived, unit_derived, sequence_derived, statement_derived, then_units}
+use Rattle.est_modules.specs.Derived.{beside_sequences}
 use Rattle.est_modules.specs.Occurrences.{Binder}
 use Rattle.est_modules.specs.Modules.{Program, program_of, program_named}
 use Rattle.est_modules.specs.declared.head.Head.{Head}
@@ -28,35 +30,55 @@ unit_linked ps bodies p bs u = linked ps bodies p bs (unit_derived (unit_view u)
 abbrev pub sequence_linked : List Program → (List ℕ → Body) → Program → List Binder → Sequence → Body
 sequence_linked ps bodies p bs q = linked ps bodies p bs (sequence_derived (sequence_view q))
 
-later_units : (ps : List Program) (bodies : List ℕ → Body) (p : Program) (bs : List Binder) (d : Derived) (us : List Unit) → linked ps bodies p bs (then_units d (units_of (map unit_view us))) ≡ joined_by seq (linked ps bodies p bs d) (chained seq (unit_linked ps bodies p bs) us)
+later_units : (ps : List Program) (bodies : List ℕ → Body) (p : Program) (bs : List Binder) (d : Derived)
+    (us : List Unit) → linked ps bodies p bs (then_units d (units_of (map unit_view us)))
+    ≡ joined_by seq (linked ps bodies p bs d) (chained seq (unit_linked ps bodies p bs) us)
 later_units ps bodies p bs d [] = refl
-later_units ps bodies p bs d (u ∷ us) = ap (seq (linked ps bodies p bs d)) (later_units ps bodies p bs (unit_derived (unit_view u)) us)
+later_units ps bodies p bs d (u ∷ us) = ap (seq (linked ps bodies p bs d))
+    (later_units ps bodies p bs (unit_derived (unit_view u)) us)
 
-later_sequences : (ps : List Program) (bodies : List ℕ → Body) (p : Program) (bs : List Binder) (d : Derived) (qs : List Sequence) → linked ps bodies p bs (beside_sequences d (sequences_of (map sequence_view qs))) ≡ joined_by par (linked ps bodies p bs d) (chained par (sequence_linked ps bodies p bs) qs)
+later_sequences : (ps : List Program) (bodies : List ℕ → Body) (p : Program) (bs : List Binder) (d : Derived)
+    (qs : List Sequence) → linked ps bodies p bs (beside_sequences d (sequences_of (map sequence_view qs)))
+    ≡ joined_by par (linked ps bodies p bs d) (chained par (sequence_linked ps bodies p bs) qs)
 later_sequences ps bodies p bs d [] = refl
-later_sequences ps bodies p bs d (q ∷ qs) = ap (par (linked ps bodies p bs d)) (later_sequences ps bodies p bs (sequence_derived (sequence_view q)) qs)
+later_sequences ps bodies p bs d (q ∷ qs) = ap (par (linked ps bodies p bs d))
+    (later_sequences ps bodies p bs (sequence_derived (sequence_view q)) qs)
 
-pub sequence_whole : (ps : List Program) (bodies : List ℕ → Body) (p : Program) (bs : List Binder) (q : Sequence) → sequence_linked ps bodies p bs q ≡ joined_by seq (unit_linked ps bodies p bs (out-Sequence q).first.value) (chained seq (unit_linked ps bodies p bs) (out-Sequence q).later.items)
+pub sequence_whole : (ps : List Program) (bodies : List ℕ → Body) (p : Program) (bs : List Binder) (q : Sequence)
+    → sequence_linked ps bodies p bs q ≡ joined_by seq (unit_linked ps bodies p bs (out-Sequence q).first.value)
+    (chained seq (unit_linked ps bodies p bs) (out-Sequence q).later.items)
 sequence_whole ps bodies p bs q =
     let parts = out-Sequence q in
-    let seen : sequence_view q ≡ sequence (unit_view parts.first.value) (units_of (map unit_view parts.later.items)) parts.closed = search (rules, the_lemmas) in
-    ap (λ t. linked ps bodies p bs (sequence_derived t)) seen ∙ later_units ps bodies p bs (unit_derived (unit_view parts.first.value)) parts.later.items
+    let seen : sequence_view q ≡ sequence (unit_view parts.first.value)
+    (units_of (map unit_view parts.later.items)) parts.closed = search (rules, the_lemmas) in
+    ap (λ t. linked ps bodies p bs (sequence_derived t)) seen
+    ∙ later_units ps bodies p bs (unit_derived (unit_view parts.first.value)) parts.later.items
 
-pub statement_whole : (ps : List Program) (bodies : List ℕ → Body) (p : Program) (bs : List Binder) (t : Statement) → linked ps bodies p bs (statement_derived (statement_view t)) ≡ joined_by par (sequence_linked ps bodies p bs (out-Statement t).first.value) (chained par (sequence_linked ps bodies p bs) (out-Statement t).later.items)
+pub statement_whole : (ps : List Program) (bodies : List ℕ → Body) (p : Program) (bs : List Binder) (t : Statement)
+    → linked ps bodies p bs (statement_derived (statement_view t))
+    ≡ joined_by par (sequence_linked ps bodies p bs (out-Statement t).first.value)
+    (chained par (sequence_linked ps bodies p bs) (out-Statement t).later.items)
 statement_whole ps bodies p bs t =
     let parts = out-Statement t in
-    let seen : statement_view t ≡ statement (sequence_view parts.first.value) (sequences_of (map sequence_view parts.later.items)) = search (rules, the_lemmas) in
-    ap (λ t. linked ps bodies p bs (statement_derived t)) seen ∙ later_sequences ps bodies p bs (sequence_derived (sequence_view parts.first.value)) parts.later.items
+    let seen : statement_view t ≡ statement (sequence_view parts.first.value)
+    (sequences_of (map sequence_view parts.later.items)) = search (rules, the_lemmas) in
+    ap (λ t. linked ps bodies p bs (statement_derived t)) seen
+    ∙ later_sequences ps bodies p bs (sequence_derived (sequence_view parts.first.value)) parts.later.items
 
 -- ---- a loop from the end of a list
 
-pub chained_more : {X : Type 0} (f : Body → Body → Body) (g : X → Body) (xs : List X) (i : ℕ) (x : X) → i < length xs → x ≡ get_or xs i x → chained f g (drop i xs) ≡ Some (joined_by f (g x) (chained f g (drop (i + 1) xs)))
-chained_more f g xs i x lt e = at_drop_more (chained f g) xs i x lt ∙ ap (λ y. Some (joined_by f (g y) (chained f g (drop (i + 1) xs)))) (sym e)
+pub chained_more : {X : Type 0} (f : Body → Body → Body) (g : X → Body) (xs : List X) (i : ℕ) (x : X) → i < length xs
+    → x ≡ get_or xs i x → chained f g (drop i xs) ≡ Some (joined_by f (g x) (chained f g (drop (i + 1) xs)))
+chained_more f g xs i x lt e = at_drop_more (chained f g) xs i x lt
+    ∙ ap (λ y. Some (joined_by f (g y) (chained f g (drop (i + 1) xs)))) (sym e)
 
 -- ---- the interface of a module that is run
 
-pub interface_found : (hs : List Head) (m : List ℕ) → interface_run (program_named (map program_of hs) m) ≡ interface_run (option_map program_of (find (λ (h : Head). bytes_eq h.name m) hs))
+pub interface_found : (hs : List Head) (m : List ℕ) → interface_run (program_named (map program_of hs) m)
+    ≡ interface_run (option_map program_of (find (λ (h : Head). bytes_eq h.name m) hs))
 interface_found hs m = ap interface_run (program_found hs m)
 
-pub body_found : (hs : List Head) (bodies : List ℕ → Body) (m : List ℕ) → body_linked (map program_of hs) bodies (program_named (map program_of hs) m) ≡ body_linked (map program_of hs) bodies (option_map program_of (find (λ (h : Head). bytes_eq h.name m) hs))
+pub body_found : (hs : List Head) (bodies : List ℕ → Body) (m : List ℕ)
+    → body_linked (map program_of hs) bodies (program_named (map program_of hs) m)
+    ≡ body_linked (map program_of hs) bodies (option_map program_of (find (λ (h : Head). bytes_eq h.name m) hs))
 body_found hs bodies m = ap (body_linked (map program_of hs) bodies) (program_found hs m)

@@ -2,8 +2,9 @@
 use Rattle.std.specs.Prelude.{ℕ, List}
 use Rattle.est_kernel.specs.Term.{Query, negated, joined, Queries, last, more}
 use Rattle.est_kernel.specs.declared.statement.Connective.TheVariants.{And, Or}
-use Rattle.est_syntax.specs.Tree.{LiteralTree, named, enclosed, ConjunctionTree, conjunction, LiteralsTree, no_literals, literals, ExpressionTree, expression, ConjunctionsTree, no_conjunctions, conjunctions, TestTree, bare, bracketed}
-use Rattle.est_syntax.specs.Tree.{negated as not_so}
+use Rattle.est_syntax.specs.Tree.{LiteralTree, named, enclosed, ConjunctionTree, conjunction, LiteralsTree, no_literals}
+use Rattle.est_syntax.specs.Tree.{literals, ExpressionTree, expression, ConjunctionsTree, no_conjunctions, conjunctions}
+use Rattle.est_syntax.specs.Tree.{TestTree, bare, bracketed, negated as not_so}
 
 abbrev mutual
   -- a literal, where a name asks so

@@ -1,6 +1,6 @@
--- Linking: a `run` is replaced by the body of the module that it runs, with its interface names bound as the renamings and
--- the names visible there say; each name becomes the number of its binder. (Berry, The Esterel v5 Language Primer, the
--- statement `run`; the numbers of binders are this project's own form)
+-- Linking: a `run` is replaced by the body of the module that it runs, with its interface names bound as the renamings
+-- and the names visible there say; each name becomes the number of its binder. (Berry, The Esterel v5 Language Primer,
+-- the statement `run`; the numbers of binders are this project's own form)
 use Rattle.std.specs.Prelude.{◌≡◌, ℕ, ◌+◌, List, [], ◌∷◌, length, map, get_or, Option, Some, None, if◌then◌else◌}
 use Rattle.std.specs.List.{position}
 use Rattle.std.specs.Str.{bytes_eq}
@@ -13,7 +13,8 @@ use Rattle.est_modules.specs.Occurrences.{Binder, signals, a_trap}
 use Rattle.est_modules.specs.Modules.{Program, program_named}
 use Rattle.est_modules.specs.Renamings.{renamed}
 use Rattle.est_modules.specs.declared.head.Declared.{Declared}
-use Rattle.est_reduce.specs.Bodies.{Body, nothing, pause, halt, emit, sustain, exit, await, present, suspend, abort, weak_abort, repeat, repeat_each, every, trap, signal, seq, par}
+use Rattle.est_reduce.specs.Bodies.{Body, nothing, pause, halt, emit, sustain, exit, await, present, suspend, abort}
+use Rattle.est_reduce.specs.Bodies.{weak_abort, repeat, repeat_each, every, trap, signal, seq, par}
 
 -- ---- what names mean at a place
 

@@ -35,7 +35,8 @@ place_of ds s = unwrap_or (position (is_named s) ds) 0
 -- the relation is the one that is written, its members by their places
 abbrev pub IsRelation : List Declaration → RelationTree → Relation → Type 0
 IsRelation ds (excludes a b ns) (Exclusion members) = members ≡ map (place_of ds) (a ∷ b ∷ ns)
-IsRelation ds (implies a b) (Implication condition implied) = (condition.index ≡ place_of ds a) × (implied.index ≡ place_of ds b)
+IsRelation ds (implies a b) (Implication condition implied) =
+    (condition.index ≡ place_of ds a) × (implied.index ≡ place_of ds b)
 IsRelation ds _ _ = ⊥
 
 -- the relations are those that are written

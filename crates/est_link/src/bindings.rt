@@ -34,7 +34,8 @@ pub struct Binding<'a> {
     pub interface: &'a [Declared],
 }
 
-/// A number in 32 bits. Lists of 2^32 names would have to be in memory for a larger one, which is answered as its want.
+/// A number in 32 bits. Lists of 2^32 names would have to be in memory for a larger one, which is
+/// answered as its want.
 fn small(number: usize) -> Result<u32, AllocError>
     ensures { IfOk result (λ n. n ≡ number) }
 {
@@ -101,8 +102,8 @@ fn interface_signal(interface: &[Declared], name: &Identifier) -> Result<BoundTe
     }
 }
 
-/// How many local signals lie round a place. It calls itself once for each binder round the place, of
-/// which there are at most 128.
+/// How many local signals lie round a place. It calls itself once for each binder round the place,
+/// of which there are at most 128.
 pub fn locals_round(scope: &Scope<'_>) -> Result<u32, AllocError>
     ensures { IfOk result (λ n. n ≡ locals_round (binders_of scope.now)) }
 {
@@ -136,8 +137,8 @@ pub fn signal_at(
     }
 }
 
-/// How many traps lie between an exit and its trap. It calls itself once for each binder round the place, of
-/// which there are at most 128.
+/// How many traps lie between an exit and its trap. It calls itself once for each binder round the
+/// place, of which there are at most 128.
 pub fn trap_at(scope: &Scope<'_>, name: &Identifier) -> Result<u32, AllocError>
     ensures { IfOk result (λ k. k ≡ trap_at (binders_of scope.now) name.now) }
 {
@@ -154,7 +155,8 @@ pub fn trap_at(scope: &Scope<'_>, name: &Identifier) -> Result<u32, AllocError>
     }
 }
 
-/// The signal that an interface signal of the module that is run stands for. Only names that are met are looked up.
+/// The signal that an interface signal of the module that is run stands for. Only names that are
+/// met are looked up.
 pub fn interface_bound(binding: &Binding<'_>, index: u32) -> Result<BoundTest, AllocError>
     ensures { IfOk result (λ t. query_view t ≡ get_or (binding_of binding.now) index tick) }
 {

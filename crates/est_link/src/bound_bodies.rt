@@ -1,10 +1,11 @@
 //! A module's flat body where it is run.
 //!
-//! What goes over a flat body calls itself as deep as that is: at most 2,048 levels, since the statements of the main module, with all that
-//! it runs, are counted before any is made flat.
+//! What goes over a flat body calls itself as deep as that is: at most 2,048 levels, since the
+//! statements of the main module, with all that it runs, are counted before any is made flat.
 ghost use Rattle.std.specs.Prelude.{◌≡◌, ◌+◌, IfOk};
 ghost use Rattle.est_kernel.specs.Term.{joined};
-ghost use Rattle.est_reduce.specs.Views.{bound_joint as joint_view, bound_name as name_view, bound_query as query_view, body_of};
+ghost use Rattle.est_reduce.specs.Views.{bound_joint as joint_view, bound_name as name_view};
+ghost use Rattle.est_reduce.specs.Views.{bound_query as query_view, body_of};
 ghost use Rattle.est_link.specs.Linking.{bound, bound_name, bound_queries, bound_query, emitted};
 ghost use Rattle.est_link.specs.Inner.Binds.{binding_of};
 
@@ -13,7 +14,8 @@ use est_kernel::statement::Connective;
 use est_reduce::body::{Body, BoundOperands, BoundSignal, BoundTest, Wait};
 use std::alloc::AllocError;
 
-/// The signal that an emission means; `tick` is never emitted, and a name asks for no more than a signal.
+/// The signal that an emission means; `tick` is never emitted, and a name asks for no more than a
+/// signal.
 pub fn emitted(test: BoundTest) -> BoundSignal
     ensures { name_view result ≡ emitted (query_view test) }
 {
@@ -44,8 +46,8 @@ fn bind_sent(binding: &Binding<'_>, signal: BoundSignal) -> Result<BoundSignal, 
     Ok(emitted(bind_signal(binding, signal)?))
 }
 
-/// What is asked in place of a test of the body: each name of it is bound. It goes as deep as the expressions lie in one
-/// another.
+/// What is asked in place of a test of the body: each name of it is bound. It goes as deep as the
+/// expressions lie in one another.
 #[cycle(tests)]
 fn bind_test(binding: &Binding<'_>, test: &BoundTest) -> Result<BoundTest, AllocError>
     ensures { IfOk result (λ t. query_view t ≡ bound_query (binding_of binding.now)
@@ -92,7 +94,8 @@ fn bind_wait(binding: &Binding<'_>, wait: &Wait) -> Result<Wait, AllocError>
     })
 }
 
-/// A flat body whose interface signals stand for those that the `run` binds, inside the local signals round the `run`.
+/// A flat body whose interface signals stand for those that the `run` binds, inside the local
+/// signals round the `run`.
 #[cycle(bind)]
 pub fn bind_body(run: &Binding<'_>, flat: &Body) -> Result<Body, AllocError>
     ensures { IfOk result (λ f. body_of f ≡ bound (binding_of run.now) run.now.locals (body_of

@@ -1,19 +1,23 @@
 //! The flat body of a module, from its text and the flat bodies of the modules that it runs.
 //!
-//! The functions call each other once for each unit that is open, of which the reader lets at most 128 be so at once. A run is no call: its
-//! module was made flat before.
+//! The functions call each other once for each unit that is open, of which the reader lets at most
+//! 128 be so at once. A run is no call: its module was made flat before.
 ghost use Rattle.std.specs.Prelude.{◌≡◌, IfOk, map, option_map};
 ghost use Rattle.std.specs.List.{find};
 ghost use Rattle.std.specs.Str.{bytes_eq};
-ghost use Rattle.est_syntax.specs.Views.{test_view, unit_view, branches_view, sequence_view, statement_view, renaming_view};
-ghost use Rattle.est_modules.specs.Derived.{unit_derived, branches_derived, sequence_derived, statement_derived};
+ghost use Rattle.est_syntax.specs.Views.{test_view, unit_view, branches_view, sequence_view};
+ghost use Rattle.est_syntax.specs.Views.{statement_view, renaming_view};
+ghost use Rattle.est_modules.specs.Derived.{unit_derived, branches_derived, sequence_derived};
+ghost use Rattle.est_modules.specs.Derived.{statement_derived};
 ghost use Rattle.est_modules.specs.Scopes.{binders_of};
 ghost use Rattle.est_modules.specs.Modules.{program_of, program_named};
-ghost use Rattle.est_link.specs.Linking.{linked, interface_bound, interface_run, bound, asked_at, emitted, locals_round, signal_at};
+ghost use Rattle.est_link.specs.Linking.{linked, interface_bound, interface_run, bound, asked_at};
+ghost use Rattle.est_link.specs.Linking.{emitted, locals_round, signal_at};
 ghost use Rattle.est_link.specs.Inner.Tables.{bodies_of};
 ghost use Rattle.est_link.specs.Inner.Joins.{joined_by};
 ghost use Rattle.est_reduce.specs.Bodies.{seq, par};
-ghost use Rattle.est_reduce.specs.Views.{body_of, bound_name as name_view, bound_query as query_view};
+ghost use Rattle.est_reduce.specs.Views.{body_of, bound_name as name_view};
+ghost use Rattle.est_reduce.specs.Views.{bound_query as query_view};
 
 use crate::bindings::{Binding, count, locals_round, signal_at, trap_at};
 use crate::bound_bodies::{bind_body, emitted};

@@ -14,8 +14,8 @@ ghost use Rattle.est_reduce.specs.Bound.{IsBound};
 ghost use Rattle.est_reduce.specs.declared.flat.Flat.{Flat};
 ghost use Rattle.est_syntax.specs.Tree.{LibraryTree};
 
-/// A table whose bodies were made one after another has the flat body of each of its modules. Where the names of the library have
-/// no fault, each name of such a body is bound.
+/// A table whose bodies were made one after another has the flat body of each of its modules. Where
+/// the names of the library have no fault, each name of such a body is bound.
 fn tables_are_linked()
     ensures linked { (ps : List Program) (es : List Linked) → AreMade ps es → (main : List ℕ)
         → has_body es main ≡ true → IsLinked ps main (bodies_of es main) }
@@ -31,8 +31,8 @@ pub fn one_flat()
         → IsFlatOf ps main a → IsFlatOf ps main b → AreAlike a b }
 {}
 
-/// Linking has one answer: one flat module or one fault, and never both. Want of memory, which no definition foresees, can come at any
-/// time.
+/// Linking has one answer: one flat module or one fault, and never both. Want of memory, which no
+/// definition foresees, can come at any time.
 pub fn one_link()
     ensures flat { (library : LibraryTree) (main : List ℕ) (a b : Flat)
         → IsLinkOf library main (Ok a) → IsLinkOf library main (Ok b) → AreAlike a b }

@@ -1,8 +1,9 @@
-//! Linking: the flat main module of a library, its runs replaced and each name bound to the number of its binder.
+//! Linking: the flat main module of a library, its runs replaced and each name bound to the number
+//! of its binder.
 //!
-//! `link` asks all checks first (`est_checks`), and then builds the flat bodies of the modules that main runs, each after
-//! those that it runs, and with them main's own. `specs/Linking` says what a flat body is, `specs/FlatModules` what
-//! `link` answers; `laws`, that there is one answer.
+//! `link` asks all checks first (`est_checks`), and then builds the flat bodies of the modules that
+//! main runs, each after those that it runs, and with them main's own. `specs/Linking` says what a
+//! flat body is, `specs/FlatModules` what `link` answers; `laws`, that there is one answer.
 #![tactic(auto)]
 
 mod bindings;

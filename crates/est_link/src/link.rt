@@ -1,4 +1,5 @@
-//! Linking: a library of modules and the name of its main module give one flat module, or their first fault.
+//! Linking: a library of modules and the name of its main module give one flat module, or their
+//! first fault.
 ghost use Rattle.std.specs.Prelude.{◌≡◌, None, IsTrue, IfOk, map};
 ghost use Rattle.est_checks.specs.FirstFaults.{Finds, IsFirstFault};
 ghost use Rattle.est_link.specs.FlatModules.{IsFlatOf, IsLinkOf};
@@ -50,14 +51,15 @@ fn link_heads<'a>(
     Ok(flat_module(alloc, &*heads, &order, main)?)
 }
 
-/// Links a library: its main module, each `run` replaced by the body of the module that it runs, and each name bound.
-/// Every check is asked before anything is built, so a library whose modules run each other without end, or one whose
-/// runs double at each step, costs no more than its text.
+/// Links a library: its main module, each `run` replaced by the body of the module that it runs,
+/// and each name bound. Every check is asked before anything is built, so a library whose modules
+/// run each other without end, or one whose runs double at each step, costs no more than its text.
 ///
 /// # Errors
 ///
-/// The first fault of the checks in their order: names declared twice, modules that aren't there, recursive runs,
-/// renamings, names that aren't visible, emissions of inputs, relations of the main module, its limits; or `Memory`.
+/// The first fault of the checks in their order: names declared twice, modules that aren't there,
+/// recursive runs, renamings, names that aren't visible, emissions of inputs, relations of the main
+/// module, its limits; or `Memory`.
 pub fn link(alloc: Global, library: &Library, main: &str) -> Result<Flat, LinkFault>
     requires { IsTrue (is_identifier main.now) }
     ensures { IsLinkOf (library_view library.now) main.now result }

@@ -1,11 +1,13 @@
-//! The main module as a flat module: its interface and its relations, as the kernel has them, and its body.
+//! The main module as a flat module: its interface and its relations, as the kernel has them, and
+//! its body.
 ghost use Rattle.std.specs.Prelude.{◌≡◌, ◌≤◌, ◌∷◌, [], None, IfOk, length, map};
 ghost use Rattle.est_reduce.specs.Bound.{IsBound};
 ghost use Rattle.est_reduce.specs.Views.{body_of};
 ghost use Rattle.est_syntax.specs.Views.{relation_view};
 ghost use Rattle.est_kernel.specs.declared.interface.TheConstants.{MOST_SIGNALS};
 ghost use Rattle.est_relations.specs.declared.relations.TheConstants.{MOST_RELATIONS};
-ghost use Rattle.est_link.specs.MainModule.{kernel_kind, declaration_of, declarations_of, place_of, IsRelation, AreRelations};
+ghost use Rattle.est_link.specs.MainModule.{kernel_kind, declaration_of, declarations_of, place_of};
+ghost use Rattle.est_link.specs.MainModule.{IsRelation, AreRelations};
 ghost use Rattle.est_checks.specs.LawlessRelations.{first_lawless};
 ghost use Rattle.est_modules.specs.Modules.{program_of};
 ghost use Rattle.est_checks.specs.Duplicates.{redeclared};

@@ -23,7 +23,8 @@ use Rattle.est_cells.specs.Tables.{Again, AgainBelow, Below, Cells, CellsBelow, 
 use Rattle.est_cells.specs.Tables.{make_again, sheet_size, is_sure, is_possible}
 use Rattle.est_cells.specs.Whole.{TableBelow, table_gates, table_meaning}
 use Rattle.est_net.specs.Cells.{cell_at, decided, steps_of}
-use Rattle.est_net.specs.Layout.{cell_count, node_in, output_count, parts_in, possible_codes, rank, sheet_in, sure_codes}
+use Rattle.est_net.specs.Layout.{cell_count, node_in, output_count, parts_in, possible_codes, rank, sheet_in}
+use Rattle.est_net.specs.Layout.{sure_codes}
 use Rattle.est_micro.specs.Runs.{table_of}
 use Rattle.est_micro.proofs.Frames.{size_least}
 use Rattle.est_micro.proofs.Rounds.{rank_within, may_be}

@@ -87,7 +87,8 @@ present_resumed at t a p b q pauses run asked g1 g2 o go on e old m0 m1 m2 new r
     (let x = w.past in omega arith)
 
 pub seq_resumed : (at : Place) (a : _) (p : Statement) (b : _) (q : Statement) (pauses : PauseSet)
-    (run later go : Status) (on : Bool) (e f : Known) (old m0 m1 m2 new : List Status) (r1 r2 r : Found) (own : Judgement)
+    (run later go : Status) (on : Bool) (e f : Known) (old m0 m1 m2 new : List Status) (r1 r2 r : Found)
+    (own : Judgement)
     → on ≡ is_live p (pauses_of pauses) → Learns at.cell Absent old m0 → go ≡ cell_at m0 at.cell
     → later ≡ verdict (codes_of r1.judged.must.codes 0) (codes_of r1.judged.can.codes 0)
     → env_of f ≡ told (env_of e) (set_of r1.judged.must.signals)

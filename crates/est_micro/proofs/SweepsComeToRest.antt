@@ -376,7 +376,8 @@ live_parts_quiet (Binder' s a p) bits r g e l T b k z c q =
 
 -- a statement that goes on from its pauses
 pub live_swept_quiet : (s : Statement) (bits : ℕ → Bool) (r g : Status) (e l : Env) (T : Sheet true s) → IsBelow g r
-    → KnowsLess l e → Seen (emits is_sure true s T) l → Below true s T (resumed s bits r e) → live_swept s bits g l T ≡ T
+    → KnowsLess l e → Seen (emits is_sure true s T) l → Below true s T (resumed s bits r e)
+    → live_swept s bits g l T ≡ T
     → Below true s (live_gates s bits g l T) T
 live_swept_quiet s bits r g e l T b k z c q =
     live_sweep_quiet s (live_swept_parts s bits g l) bits r g e l T b k c q

@@ -1,5 +1,5 @@
--- One sweep over a sheet, in program order: each cell that is open is told what its gate says then, and a second part is
--- told what the first surely emits (this project's own form).
+-- One sweep over a sheet, in program order: each cell that is open is told what its gate says then, and a second part
+-- is told what the first surely emits (this project's own form).
 use Rattle.std.specs.Prelude.{ℕ, Bool, true, false, cond}
 use Rattle.est_kernel.specs.Codes.{Codes}
 use Rattle.est_kernel.specs.View.{query_of}

@@ -1,5 +1,8 @@
--- Where no module runs itself, however many runs further down, what holds of each module whose runs it holds of holds of all.
-use Rattle.std.proofs.Common.{◌≡◌, ℕ, zero, suc, ◌+◌, ◌<◌, ◌⊎◌, inl, inr, Bool, true, false, not, List, [], length, replicate, Some, slice_index_or, slice_set, if◌then◌else◌, count_by, Contains, refl, sym, ◌∙◌, subst, arith}
+-- Where no module runs itself, however many runs further down, what holds of each module whose runs it holds of holds
+-- of all.
+use Rattle.std.proofs.Common.{◌≡◌, ℕ, zero, suc, ◌+◌, ◌<◌, ◌⊎◌, inl, inr, Bool, true, false, not, List, [], length}
+use Rattle.std.proofs.Common.{replicate, Some, slice_index_or, slice_set, if◌then◌else◌, count_by, Contains, refl, sym}
+use Rattle.std.proofs.Common.{◌∙◌, subst, arith}
 use Rattle.std.proofs.lemmas.Bool.{cases_eq, false≢true}
 use Rattle.std.proofs.lemmas.List.{length-set, length-map, length-replicate, get_or-replicate, get_or-set_other}
 use Rattle.std.proofs.lemmas.List.Sums.{sum_by-set}
@@ -20,13 +23,18 @@ use Rattle.est_modules.proofs.SearchLemmas.{extended, in_bounds}
 
 -- a place of the set with one more is an old one, or that one
 old_or_new : (seen : List Bool) (p q : ℕ) → IsIn (slice_set seen p true) q → IsIn seen q ⊎ (p ≡ q)
-old_or_new seen p q h = elim (cases_eq q p) [ inl e ↦ inr (sym e) | inr d ↦ inl (sym (get_or-set_other seen p q true false d) ∙ h) ]
+old_or_new seen p q h =
+    elim (cases_eq q p) [ inl e ↦ inr (sym e) | inr d ↦ inl (sym (get_or-set_other seen p q true false d) ∙ h) ]
 
 -- one place fewer is left
-one_fewer : (seen : List Bool) (p : ℕ) → p < length seen → slice_index_or seen p false ≡ false → count_by (λ b. not b) (slice_set seen p true) + 1 ≡ count_by (λ b. not b) seen
+one_fewer : (seen : List Bool) (p : ℕ) → p < length seen → slice_index_or seen p false ≡ false
+    → count_by (λ b. not b) (slice_set seen p true) + 1 ≡ count_by (λ b. not b) seen
 one_fewer seen p l e =
-    let counted : count_by (λ b. not b) (slice_set seen p true) + (if not (slice_index_or seen p false) then 1 else 0) ≡ count_by (λ b. not b) seen + 0 = sum_by-set (λ b. if not b then 1 else 0) seen p true false l in
-    let one : count_by (λ b. not b) (slice_set seen p true) + 1 ≡ count_by (λ b. not b) seen + 0 = subst (λ b. count_by (λ b. not b) (slice_set seen p true) + (if not b then 1 else 0) ≡ count_by (λ b. not b) seen + 0) e counted in
+    let counted : count_by (λ b. not b) (slice_set seen p true) + (if not (slice_index_or seen p false) then 1 else 0)
+    ≡ count_by (λ b. not b) seen + 0 = sum_by-set (λ b. if not b then 1 else 0) seen p true false l in
+    let one : count_by (λ b. not b) (slice_set seen p true) + 1 ≡ count_by (λ b. not b) seen + 0 =
+    subst (λ b. count_by (λ b. not b) (slice_set seen p true) + (if not b then 1 else 0)
+    ≡ count_by (λ b. not b) seen + 0) e counted in
     omega (arith, one)
 
 not_true : (b : Bool) → (b ≡ true → ⊥) → b ≡ false
@@ -34,21 +42,25 @@ not_true true h = absurd (h refl)
 not_true false h = refl
 
 -- the way to a place goes on by one run
-led_on : (rows : List (List ℕ)) (seen : List Bool) (place run : ℕ) → IsRun rows place run → ((s : ℕ) → IsIn seen s → Leads rows s place) → (s : ℕ) → IsIn (slice_set seen place true) s → Leads rows s run
+led_on : (rows : List (List ℕ)) (seen : List Bool) (place run : ℕ) → IsRun rows place run
+    → ((s : ℕ) → IsIn seen s → Leads rows s place) → (s : ℕ) → IsIn (slice_set seen place true) s → Leads rows s run
 led_on rows seen place run is led s h = elim (old_or_new seen place s h) [
   | inl old ↦ extended rows (led s old) is
   | inr e ↦ subst (λ k. Leads rows k run) e (once is)
 ]
 
-down : (n : ℕ) (rows : List (List ℕ)) (P : ℕ → Type 0) → NoneIsRecursive rows → ((place : ℕ) → place < length rows → ((run : ℕ) → IsRun rows place run → P run) → P place)
+down : (n : ℕ) (rows : List (List ℕ)) (P : ℕ → Type 0) → NoneIsRecursive rows
+    → ((place : ℕ) → place < length rows → ((run : ℕ) → IsRun rows place run → P run) → P place)
     → (seen : List Bool) → length seen ≡ length rows → count_by (λ b. not b) seen < n
-    → (place : ℕ) → place < length rows → slice_index_or seen place false ≡ false → ((s : ℕ) → IsIn seen s → Leads rows s place) → P place
+    → (place : ℕ) → place < length rows → slice_index_or seen place false ≡ false
+    → ((s : ℕ) → IsIn seen s → Leads rows s place) → P place
 down zero rows P none step seen same few place there unseen led = absurd (omega (arith, few))
 down (suc n) rows P none step seen same few place there unseen led =
     let fewer = one_fewer seen place (subst (λ k. place < k) (sym same) there) unseen in
     step place there (λ run is.
     let on = led_on rows seen place run is led in
-    down n rows P none step (slice_set seen place true) (length-set seen place true ∙ same) (omega (arith, few, fewer)) run is.there
+    down n rows P none step (slice_set seen place true) (length-set seen place true ∙ same)
+    (omega (arith, few, fewer)) run is.there
     (not_true (slice_index_or (slice_set seen place true) run false) (λ h. none run (on run h))) on)
 
 none_at_first : (n p : ℕ) → IsIn (replicate n false) p → ⊥
@@ -57,20 +69,25 @@ none_at_first n p h =
     false≢true (sym (get_or-replicate n p false false (omega (arith, there, length-replicate n false))) ∙ h)
 
 -- what holds of a place where it holds of those that it runs holds of each
-pub by_places : (rows : List (List ℕ)) (P : ℕ → Type 0) → NoneIsRecursive rows → ((place : ℕ) → place < length rows → ((run : ℕ) → IsRun rows place run → P run) → P place) → (place : ℕ) → place < length rows → P place
+pub by_places : (rows : List (List ℕ)) (P : ℕ → Type 0) → NoneIsRecursive rows
+    → ((place : ℕ) → place < length rows → ((run : ℕ) → IsRun rows place run → P run) → P place) → (place : ℕ)
+    → place < length rows → P place
 by_places rows P none step place there =
     let seen : List Bool = replicate (length rows) false in
-    down (suc (count_by (λ b. not b) seen)) rows P none step seen (length-replicate (length rows) false) (omega arith) place there
+    down (suc (count_by (λ b. not b) seen)) rows P none step seen (length-replicate (length rows) false)
+    (omega arith) place there
     (get_or-replicate (length rows) place false false there) (λ s h. absurd (none_at_first (length rows) s h))
 
 -- the same of modules and their names
 pub by_modules : (ps : List Program) (P : List ℕ → Program → Type 0) → NoneIsRecursive (run_rows ps)
     → ((m : List ℕ) (p : Program) → program_named ps m ≡ Some p
-    → ((o : Occurrence) → Contains (occurrences [] p.body) o → (n : List ℕ) → IsRunOf o.act n → (q : Program) → program_named ps n ≡ Some q → P n q) → P m p)
+    → ((o : Occurrence) → Contains (occurrences [] p.body) o → (n : List ℕ) → IsRunOf o.act n → (q : Program)
+    → program_named ps n ≡ Some q → P n q) → P m p)
     → (m : List ℕ) (p : Program) → program_named ps m ≡ Some p → P m p
 by_modules ps P none step m p found =
     let here = found_place (λ (r : Program). bytes_eq r.name m) ps p found in
-    by_places (run_rows ps) (λ place. (p : Program) → slice_get ps place ≡ Some p → (m : List ℕ) → program_named ps m ≡ Some p → P m p) none
+    by_places (run_rows ps) (λ place. (p : Program) → slice_get ps place ≡ Some p → (m : List ℕ)
+    → program_named ps m ≡ Some p → P m p) none
     (λ place there below p at m found. step m p found (λ o stands n is_run q named.
     let its = found_place (λ (r : Program). bytes_eq r.name n) ps q named in
     below its.0 (run_is_run ps place its.0 p o n at stands is_run its.1) q its.2 n named))

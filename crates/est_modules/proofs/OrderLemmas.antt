@@ -1,5 +1,7 @@
 -- Modules sorted by how many they lead to stand in a bottom-up order.
-use Rattle.std.proofs.Common.{◌≡◌, ℕ, zero, suc, ◌+◌, ◌<◌, ◌≤◌, inl, inr, Bool, true, false, List, [], ◌∷◌, ◌++◌, if◌then◌else◌, length, map, slice_index, slice_index_or, get_or, All, IsPermutation, map-id, refl, ap, sym, ◌∙◌, subst, arith}
+use Rattle.std.proofs.Common.{◌≡◌, ℕ, zero, suc, ◌+◌, ◌<◌, ◌≤◌, inl, inr, Bool, true, false, List, [], ◌∷◌, ◌++◌}
+use Rattle.std.proofs.Common.{if◌then◌else◌, length, map, slice_index, slice_index_or, get_or, All, IsPermutation}
+use Rattle.std.proofs.Common.{map-id, refl, ap, sym, ◌∙◌, subst, arith}
 use Rattle.std.specs.List.{range_with_len}
 use Rattle.std.specs.List.Sorted.{IsNonDecreasingBy}
 use Rattle.std.proofs.lemmas.Bool.{cases_lt, false≢true}
@@ -106,7 +108,8 @@ pub ranked_more : (rows : List (List ℕ)) (n rank : ℕ) (xs ys : List Ranked) 
 ranked_more rows n rank xs ys set e h reach counted =
     let one : Ranked = record { place = n; rank = rank } in
     subst (λ zs. AreRanked rows (n + 1) zs) (sym e) (record {
-      places = map_push (λ (m : Ranked). m.place) xs one ∙ ap (λ (ks : List ℕ). ks ++ n ∷ []) h.places ∙ sym (range_more n);
+      places = map_push (λ (m : Ranked). m.place) xs one ∙ ap (λ (ks : List ℕ). ks ++ n ∷ []) h.places
+          ∙ sym (range_more n);
       ranks = All-push (λ (m : Ranked). IsRankOf rows m.place m.rank) xs one h.ranks
           (record { set = set; reach = reach; counted = counted });
     })

@@ -1,11 +1,17 @@
--- The search for what a module leads to: what following a row changes, that the search stays right, and what it ends with.
-use Rattle.std.proofs.Common.{◌≡◌, ℕ, ◌+◌, ◌<◌, ◌⊎◌, inl, inr, Bool, true, false, not, nat_lt, List, [], ◌∷◌, ◌++◌, if◌then◌else◌, length, replicate, slice_index_or, slice_set, set, get_or, count_by, Contains, Vec, Global, refl, ap, sym, ◌∙◌, subst, arith, rules}
+-- The search for what a module leads to: what following a row changes, that the search stays right, and what it ends
+-- with.
+use Rattle.std.proofs.Common.{◌≡◌, ℕ, ◌+◌, ◌<◌, ◌⊎◌, inl, inr, Bool, true, false, not, nat_lt, List, [], ◌∷◌, ◌++◌}
+use Rattle.std.proofs.Common.{if◌then◌else◌, length, replicate, slice_index_or, slice_set, set, get_or, count_by}
+use Rattle.std.proofs.Common.{Contains, Vec, Global, refl, ap, sym, ◌∙◌, subst, arith, rules}
 use Rattle.std.proofs.lemmas.Bool.{cases_eq, cases_lt, and_parts, and_cases, false≢true}
-use Rattle.std.proofs.lemmas.List.{length-set, get_or-set_same, get_or-set_other, get_or-map, get_or-replicate, get_or_past, length-replicate, length_push}
-use Rattle.std.proofs.lemmas.List.Elements.{Contains-append_left, Contains-append_right, Contains-append_cases, Contains-push, Contains-push_cases}
+use Rattle.std.proofs.lemmas.List.{length-set, get_or-set_same, get_or-set_other, get_or-map, get_or-replicate}
+use Rattle.std.proofs.lemmas.List.{get_or_past, length-replicate, length_push}
+use Rattle.std.proofs.lemmas.List.Elements.{Contains-append_left, Contains-append_right, Contains-append_cases}
+use Rattle.std.proofs.lemmas.List.Elements.{Contains-push, Contains-push_cases}
 use Rattle.std.proofs.lemmas.List.Sums.{sum_by-set}
 use Rattle.est_modules.specs.RunRows.{IsRun, Leads, once, through, rows_of}
-use Rattle.est_modules.specs.Inner.Reached.{IsIn, IsReach, Search, is_new, visited, followed, left_to_do, IsMet, IsSearching}
+use Rattle.est_modules.specs.Inner.Reached.{IsIn, IsReach, Search, is_new, visited, followed, left_to_do, IsMet}
+use Rattle.est_modules.specs.Inner.Reached.{IsSearching}
 
 -- what following runs leaves and adds
 pub record Grows (s t : Search) : Type 0 where
@@ -17,7 +23,8 @@ pub record Grows (s t : Search) : Type 0 where
   pub work : left_to_do t ≡ left_to_do s
 
 grows_none : (s : Search) → Grows s s
-grows_none s = record { same = refl; keeps = λ p h. h; noted = λ p h. inl h; waits = λ p h. h; added = λ p h. inl h; work = refl }
+grows_none s =
+    record { same = refl; keeps = λ p h. h; noted = λ p h. inl h; waits = λ p h. h; added = λ p h. inl h; work = refl }
 
 grows_on : (s t u : Search) → Grows s t → Grows t u → Grows s u
 grows_on s t u a b = record {
@@ -48,7 +55,8 @@ new_is seen p h =
 
 -- a place beside the one that was put in is in the set as before
 in_set : (seen : List Bool) (p q : ℕ) → IsIn (slice_set seen p true) q → IsIn seen q ⊎ (p ≡ q)
-in_set seen p q h = elim (cases_eq q p) [ inl e ↦ inr (sym e) | inr d ↦ inl (sym (get_or-set_other seen p q true false d) ∙ h) ]
+in_set seen p q h =
+    elim (cases_eq q p) [ inl e ↦ inr (sym e) | inr d ↦ inl (sym (get_or-set_other seen p q true false d) ∙ h) ]
 
 set_in : (seen : List Bool) (p q : ℕ) → p < length seen → IsIn seen q → IsIn (slice_set seen p true) q
 set_in seen p q l h = elim (cases_eq q p) [
@@ -67,7 +75,8 @@ grows_new s p l e = record {
   added = λ q h. elim (Contains-push_cases s.waiting p q h) [
     | inl x ↦ inl x
     | inr x ↦
-        inr (subst (λ n. (n < length s.seen) × IsIn (slice_set s.seen p true) n) x (l, get_or-set_same s.seen p true false l))
+        inr (subst (λ n. (n < length s.seen) × IsIn (slice_set s.seen p true) n) x
+        (l, get_or-set_same s.seen p true false l))
   ];
   work =
       let counted : count_by (λ b. not b) (slice_set s.seen p true) +
@@ -94,7 +103,11 @@ grows s (p ∷ row) = grows_on s (visited s p) (followed (visited s p) row) (gro
 -- what a set has is there
 pub in_bounds : (set : List Bool) (p : ℕ) → IsIn set p → p < length set
 in_bounds set p h =
-    elim (cases_lt p (length set)) [ inl l ↦ l | inr past ↦ absurd (false≢true (sym (get_or_past set p false past) ∙ h)) ]
+    elim (cases_lt p (length set)) [
+      | inl l ↦ l
+      | inr past ↦
+          absurd (false≢true (sym (get_or_past set p false past) ∙ h))
+    ]
 
 is_true : (b : Bool) → not b ≡ false → b ≡ true
 is_true true h = refl
@@ -170,7 +183,8 @@ search_begins rows first n e l = record {
   ];
 }
 
-met_still : (first : ℕ) (s t : Search) → ((p : ℕ) → IsIn s.seen p → IsIn t.seen p) → (p : ℕ) → IsMet first s p → IsMet first t p
+met_still : (first : ℕ) (s t : Search) → ((p : ℕ) → IsIn s.seen p → IsIn t.seen p) → (p : ℕ) → IsMet first s p
+    → IsMet first t p
 met_still first s t keeps p h = elim h [ inl e ↦ inl e | inr x ↦ inr (keeps p x) ]
 
 -- the runs of the place that waited last are followed
@@ -213,7 +227,8 @@ search_goes_on rows first s next h =
               | inl w ↦ (elim (Contains-push_cases s.waiting next p w) [
                 | inl z ↦ inl (g.waits p z)
                 | inr e ↦ inr (λ r run. row_all s row r
-                    (subst (λ n. Contains (slice_index_or rows n []) r) (sym e) run.named) (omega (arith, run.there, h.each)))
+                    (subst (λ n. Contains (slice_index_or rows n []) r) (sym e) run.named)
+                    (omega (arith, run.there, h.each)))
               ])
             ])
           ];
@@ -247,11 +262,13 @@ search_ends rows first s none h = record {
 -- what stands in the row at a place
 pub row_at : (runs : List (Vec ℕ Global)) (i : ℕ) (row : Vec ℕ Global) → i < length runs → row ≡ get_or runs i row
     → row.items ≡ slice_index_or (rows_of runs) i []
-row_at runs i row l e = ap (λ (v : Vec ℕ Global). v.items) e ∙ sym (get_or-map (λ (v : Vec ℕ Global). v.items) runs i row [] l)
+row_at runs i row l e = ap (λ (v : Vec ℕ Global). v.items) e
+    ∙ sym (get_or-map (λ (v : Vec ℕ Global). v.items) runs i row [] l)
 
 -- the place that waited last is there
 pub next_is_there : (rows : List (List ℕ)) (first : ℕ) (seen : List Bool) (before after : List ℕ) (next : ℕ)
-    → before ≡ after ++ next ∷ [] → IsSearching rows first (record { seen = seen; waiting = before }) → next < length rows
+    → before ≡ after ++ next ∷ [] → IsSearching rows first (record { seen = seen; waiting = before })
+    → next < length rows
 next_is_there rows first seen before after next e h =
     h.there next (subst (λ ws. Contains ws next) (sym e) (Contains-push after next))
 

@@ -1,5 +1,6 @@
 -- Elements of lists that pass a test, or don't.
-use Rattle.std.proofs.Common.{◌≡◌, ℕ, zero, suc, ◌+◌, List, [], ◌∷◌, ◌++◌, Bool, true, false, not, ◌||◌, ◌&&◌, cond, Option, Some, None, option_map, refl, ap, sym, ◌∙◌}
+use Rattle.std.proofs.Common.{◌≡◌, ℕ, zero, suc, ◌+◌, List, [], ◌∷◌, ◌++◌, Bool, true, false, not, ◌||◌, ◌&&◌, cond}
+use Rattle.std.proofs.Common.{Option, Some, None, option_map, refl, ap, sym, ◌∙◌}
 use Rattle.std.proofs.lemmas.Bool.{false≢true, true≢false}
 use Rattle.std.proofs.lemmas.Option.{none-some, get_or_from_slice_get}
 use Rattle.std.proofs.lemmas.List.Quantifiers.{position-Some}
@@ -64,18 +65,21 @@ element d (Some x) = x
 pub some_same : {A : Type 0} (x y : A) → Some x ≡ Some y → x ≡ y
 some_same x y e = ap (element x) e
 
-pub none_at : {X : Type 0} (p : X → Bool) (xs : List X) (i : ℕ) (x : X) → list_any p xs ≡ false → slice_get xs i ≡ Some x → p x ≡ false
+pub none_at : {X : Type 0} (p : X → Bool) (xs : List X) (i : ℕ) (x : X) → list_any p xs ≡ false
+    → slice_get xs i ≡ Some x → p x ≡ false
 none_at p [] i x h e = absurd (none-some x e)
 none_at p (y ∷ ys) zero x h e = ap p (sym (some_same y x e)) ∙ (or_parts (p y) (list_any p ys) h).0
 none_at p (y ∷ ys) (suc i) x h e = none_at p ys i x (or_parts (p y) (list_any p ys) h).1 e
 
-pub any_at : {X : Type 0} (p : X → Bool) (xs : List X) (i : ℕ) (x : X) → slice_get xs i ≡ Some x → p x ≡ true → list_any p xs ≡ true
+pub any_at : {X : Type 0} (p : X → Bool) (xs : List X) (i : ℕ) (x : X) → slice_get xs i ≡ Some x → p x ≡ true
+    → list_any p xs ≡ true
 any_at p [] i x e h = absurd (none-some x e)
 any_at p (y ∷ ys) zero x e h = or_left (p y) (list_any p ys) (ap p (some_same y x e) ∙ h)
 any_at p (y ∷ ys) (suc i) x e h = or_right (p y) (list_any p ys) (any_at p ys i x e h)
 
 -- the element that is found passes
-found_here : {X : Type 0} (p : X → Bool) (y x : X) (b : Bool) (o : Option X) → p y ≡ b → (o ≡ Some x → p x ≡ true) → cond b (Some y) o ≡ Some x → p x ≡ true
+found_here : {X : Type 0} (p : X → Bool) (y x : X) (b : Bool) (o : Option X) → p y ≡ b → (o ≡ Some x → p x ≡ true)
+    → cond b (Some y) o ≡ Some x → p x ≡ true
 found_here p y x true o t rest e = ap p (sym (some_same y x e)) ∙ t
 found_here p y x false o t rest e = rest e
 
@@ -84,18 +88,21 @@ found_passes p [] x e = absurd (none-some x e)
 found_passes p (y ∷ ys) x e = found_here p y x (p y) (find p ys) refl (found_passes p ys x) e
 
 -- an element that one test finds fails a test that none passes
-other_here : {X : Type 0} (q : X → Bool) (y x : X) (b : Bool) (o : Option X) → q y ≡ false → (o ≡ Some x → q x ≡ false) → cond b (Some y) o ≡ Some x → q x ≡ false
+other_here : {X : Type 0} (q : X → Bool) (y x : X) (b : Bool) (o : Option X) → q y ≡ false → (o ≡ Some x → q x ≡ false)
+    → cond b (Some y) o ≡ Some x → q x ≡ false
 other_here q y x true o f rest e = ap q (sym (some_same y x e)) ∙ f
 other_here q y x false o f rest e = rest e
 
-pub other_fails : {X : Type 0} (p q : X → Bool) (xs : List X) (x : X) → list_any q xs ≡ false → find p xs ≡ Some x → q x ≡ false
+pub other_fails : {X : Type 0} (p q : X → Bool) (xs : List X) (x : X) → list_any q xs ≡ false → find p xs ≡ Some x
+    → q x ≡ false
 other_fails p q [] x h e = absurd (none-some x e)
 other_fails p q (y ∷ ys) x h e =
     let parts = or_parts (q y) (list_any q ys) h in
     other_here q y x (p y) (find p ys) parts.0 (other_fails p q ys x parts.1) e
 
 -- where none is found, none passes
-none_here : {X : Type 0} (y : X) (b : Bool) (o : Option X) (c : Bool) → (o ≡ None → c ≡ false) → cond b (Some y) o ≡ None → (b || c) ≡ false
+none_here : {X : Type 0} (y : X) (b : Bool) (o : Option X) (c : Bool) → (o ≡ None → c ≡ false)
+    → cond b (Some y) o ≡ None → (b || c) ≡ false
 none_here y true o c rest e = absurd (none-some y (sym e))
 none_here y false o c rest e = rest e
 
@@ -103,7 +110,8 @@ pub none_found : {X : Type 0} (p : X → Bool) (xs : List X) → find p xs ≡ N
 none_found p [] e = refl
 none_found p (y ∷ ys) e = none_here y (p y) (find p ys) (list_any p ys) (none_found p ys) e
 
-no_place_here : (b c : Bool) (o : Option ℕ) → (o ≡ None → c ≡ false) → cond b (Some 0) (option_map (λ i. i + 1) o) ≡ None → (b || c) ≡ false
+no_place_here : (b c : Bool) (o : Option ℕ) → (o ≡ None → c ≡ false)
+    → cond b (Some 0) (option_map (λ i. i + 1) o) ≡ None → (b || c) ≡ false
 no_place_here true c o rest e = absurd (none-some 0 (sym e))
 no_place_here false c None rest e = rest refl
 no_place_here false c (Some i) rest e = absurd (none-some (i + 1) (sym e))
@@ -111,16 +119,19 @@ no_place_here false c (Some i) rest e = absurd (none-some (i + 1) (sym e))
 -- where there is no place, none passes, and the other way round
 pub no_place : {X : Type 0} (p : X → Bool) (xs : List X) → position p xs ≡ None → list_any p xs ≡ false
 no_place p [] e = refl
-no_place p (y ∷ ys) e = no_place_here (p y) (list_any p ys) (position p ys) (no_place p ys) (sym (position_cons p y ys) ∙ e)
+no_place p (y ∷ ys) e = no_place_here (p y) (list_any p ys) (position p ys) (no_place p ys)
+    (sym (position_cons p y ys) ∙ e)
 
 pub none_has_place : {X : Type 0} (p : X → Bool) (xs : List X) → list_any p xs ≡ false → position p xs ≡ None
 none_has_place p [] h = refl
 none_has_place p (y ∷ ys) h =
     let parts = or_parts (p y) (list_any p ys) h in
-    position_cons p y ys ∙ ap (λ b. cond b (Some 0) (option_map (λ i. i + 1) (position p ys))) parts.0 ∙ ap (option_map (λ i. i + 1)) (none_has_place p ys parts.1)
+    position_cons p y ys ∙ ap (λ b. cond b (Some 0) (option_map (λ i. i + 1) (position p ys))) parts.0
+    ∙ ap (option_map (λ i. i + 1)) (none_has_place p ys parts.1)
 
 -- the element at the place passes
-pub place_passes : {X : Type 0} (p : X → Bool) (xs : List X) (i : ℕ) (x : X) → position p xs ≡ Some i → slice_get xs i ≡ Some x → p x ≡ true
+pub place_passes : {X : Type 0} (p : X → Bool) (xs : List X) (i : ℕ) (x : X) → position p xs ≡ Some i
+    → slice_get xs i ≡ Some x → p x ≡ true
 place_passes p xs i x at_i e = ap p (sym (get_or_from_slice_get xs i x x e)) ∙ (position-Some p xs i x at_i).1
 
 -- ---- options
@@ -135,7 +146,8 @@ map_none f (Some x) h = absurd (none-some (f x) (sym h))
 
 -- ---- properties of all elements
 
-pub all_parts : {X : Type 0} (P : X → Type 0) (xs ys : List X) → AllByRecursion P (xs ++ ys) → AllByRecursion P xs × AllByRecursion P ys
+pub all_parts : {X : Type 0} (P : X → Type 0) (xs ys : List X) → AllByRecursion P (xs ++ ys)
+    → AllByRecursion P xs × AllByRecursion P ys
 all_parts P [] ys h = (tt, h)
 all_parts P (x ∷ xs) ys h =
     let parts = all_parts P xs ys h.1 in

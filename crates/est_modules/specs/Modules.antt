@@ -60,7 +60,13 @@ relations_of ds = flat_map related_by ds
 
 -- a module of a tree
 abbrev pub module_program : ModuleTree → Program
-module_program m = record { name = m.name; interface = interface_of m.declarations; relations = relations_of m.declarations; body = statement_derived m.body }
+module_program m =
+    record {
+      name = m.name;
+      interface = interface_of m.declarations;
+      relations = relations_of m.declarations;
+      body = statement_derived m.body;
+    }
 
 -- the modules of a library, in the order of the text
 abbrev pub programs_of : LibraryTree → List Program
@@ -68,7 +74,14 @@ programs_of l = map module_program (l.first ∷ l.later)
 
 -- the module that a head of the code is
 abbrev pub program_of : Head → Program
-program_of h = record { name = h.name; interface = h.interface.items; relations = relations_of (map declaration_view h.declarations.now); body = statement_derived (statement_view h.body.now) }
+program_of h =
+    record {
+      name = h.name;
+      interface = h.interface.items;
+      relations = relations_of (map declaration_view h.declarations.now);
+      body =
+          statement_derived (statement_view h.body.now);
+    }
 
 -- the first module of a name, if one has it
 abbrev pub program_named : List Program → List ℕ → Option Program

@@ -4,7 +4,9 @@ use Rattle.std.specs.Prelude.{ℕ, List, [], ◌∷◌, ◌++◌, map, Option, N
 use Rattle.std.specs.Option.{option_or}
 use Rattle.est_syntax.specs.Tree.{NamesTree, RenamingTree, TestTree}
 use Rattle.est_modules.specs.Tests.{test_names}
-use Rattle.est_modules.specs.Derived.{Derived, missing, nothing, pause, halt, emit, sustain, exit, await, present, suspend, abort, weak_abort, repeat, repeat_each, every, trap, signal, run, seq, par}
+use Rattle.est_modules.specs.Derived.{Derived, missing, nothing, pause, halt, emit, sustain, exit, await, present}
+use Rattle.est_modules.specs.Derived.{suspend, abort, weak_abort, repeat, repeat_each, every, trap, signal, run, seq}
+use Rattle.est_modules.specs.Derived.{par}
 
 -- what a statement binds inside it
 pub data Binder : Type 0 where

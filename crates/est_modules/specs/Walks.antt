@@ -2,7 +2,9 @@
 -- clauses (this project's own form).
 use Rattle.est_syntax.specs.Tree.{TestTree, BranchesTree, then_only, else_only, both}
 use Rattle.std.specs.Prelude.{ℕ, List, [], ◌∷◌}
-use Rattle.est_modules.specs.Derived.{Derived, missing, nothing, pause, halt, emit, sustain, exit, await, present, suspend, abort, weak_abort, repeat, repeat_each, every, trap, signal, run, seq, par, statement_derived}
+use Rattle.est_modules.specs.Derived.{Derived, missing, nothing, pause, halt, emit, sustain, exit, await, present}
+use Rattle.est_modules.specs.Derived.{suspend, abort, weak_abort, repeat, repeat_each, every, trap, signal, run, seq}
+use Rattle.est_modules.specs.Derived.{par, statement_derived}
 use Rattle.est_modules.specs.Tests.{test_names}
 use Rattle.est_modules.specs.Occurrences.{Binder, signals, a_trap, Act, emits, tests, exits, binds, runs, Occurrence}
 

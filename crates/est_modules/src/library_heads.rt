@@ -1,7 +1,8 @@
 //! The modules of a library with their interfaces at hand.
 ghost use Rattle.std.specs.Prelude.{◌≡◌, ◌++◌, OnOk, IfOk, map};
 ghost use Rattle.est_syntax.specs.Views.{names_view, declaration_view, module_view, library_view};
-ghost use Rattle.est_modules.specs.Modules.{with_kind, declared_by, interface_of, program_of, module_program, programs_of};
+ghost use Rattle.est_modules.specs.Modules.{with_kind, declared_by, interface_of, program_of};
+ghost use Rattle.est_modules.specs.Modules.{module_program, programs_of};
 
 use crate::head::{Declared, Head, Kind};
 use est_syntax::tree::{Declaration, Library, Module, Names};

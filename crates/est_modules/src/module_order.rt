@@ -107,13 +107,13 @@ fn run_rows<'a>(alloc: Global, heads: &'a [Head<'a>]) -> Result<Vec<Vec<usize>>,
     Ok(rows)
 }
 
-/// The modules in an order in which each stands after all that it runs. Runs of modules that aren't there are passed
-/// over.
+/// The modules in an order in which each stands after all that it runs. Runs of modules that aren't
+/// there are passed over.
 ///
 /// # Errors
 ///
-/// `Recursive` with the place of the first module, in the order of the text, from which a chain of runs leads back to
-/// it, where there is one; or memory was refused.
+/// `Recursive` with the place of the first module, in the order of the text, from which a chain of
+/// runs leads back to it, where there is one; or memory was refused.
 pub fn order_heads<'a>(alloc: Global, heads: &'a [Head<'a>]) -> Result<Order, OrderFault>
     ensures order { IfOk result (λ order. IsOrderOf (map program_of heads.now) order) }
     ensures ok { OnOk result (NoneIsRecursive (run_rows (map program_of heads.now))) }

@@ -1,12 +1,14 @@
 //! The walk over the body of a module, in the order of the text.
 //!
-//! The functions call each other once for each unit that is open round a place, and the reader lets at most 128 be
-//! open at once (`est_syntax`, `MOST_OPEN_UNITS`), so that they are at most four times as deep. A run is no call.
+//! The functions call each other once for each unit that is open round a place, and the reader lets
+//! at most 128 be open at once (`est_syntax`, `MOST_OPEN_UNITS`), so that they are at most four
+//! times as deep. A run is no call.
 ghost use Rattle.std.specs.Prelude.{◌≡◌, [], OnOk};
 ghost use Rattle.std.specs.List.{fold};
 ghost use Rattle.est_syntax.specs.Views.{test_view, unit_view, branches_view};
 ghost use Rattle.est_syntax.specs.Views.{sequence_view, statement_view};
-ghost use Rattle.est_modules.specs.Derived.{unit_derived, branches_derived, sequence_derived, statement_derived};
+ghost use Rattle.est_modules.specs.Derived.{unit_derived, branches_derived, sequence_derived};
+ghost use Rattle.est_modules.specs.Derived.{statement_derived};
 ghost use Rattle.est_modules.specs.Occurrences.{occurrences};
 ghost use Rattle.est_modules.specs.NameTables.{IsTable};
 ghost use Rattle.est_modules.specs.OpenNames.{IsOpen};
@@ -176,8 +178,8 @@ fn walk_statement<V: Visitor>(
     Ok(())
 }
 
-/// Visits the places of the body of a module, in the order of the text. The names that the visitor keeps of modules are
-/// told as they are outermost, and followed into each `signal`.
+/// Visits the places of the body of a module, in the order of the text. The names that the visitor
+/// keeps of modules are told as they are outermost, and followed into each `signal`.
 ///
 /// # Errors
 ///

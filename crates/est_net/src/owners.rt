@@ -18,8 +18,8 @@ use est_kernel::statement::Statement;
 pub enum CellKind {
     /// Whether it is begun.
     Go,
-    /// Whether it gives this code: 0 if it ends, 1 if it pauses, and k + 2 if it exits the trap that
-    /// lies k traps further out.
+    /// Whether it gives this code: 0 if it ends, 1 if it pauses, and k + 2 if it exits the trap
+    /// that lies k traps further out.
     Code(usize),
     /// Whether its local signal is present.
     Status,
@@ -28,8 +28,8 @@ pub enum CellKind {
 /// A cell of a statement.
 #[derive(Clone, Copy, PartialEq, Eq, Debug)]
 pub struct StatementCell {
-    /// The statement's number: statements are counted from 0, each before its parts, in the order of
-    /// the text.
+    /// The statement's number: statements are counted from 0, each before its parts, in the order
+    /// of the text.
     pub statement: usize,
     /// 0 where the statement goes on or is begun in due course, and i where it is begun by the
     /// restart of the i-th loop round it, counted from the innermost outwards.

@@ -1,28 +1,23 @@
 -- What is known of the seats of workers that ended, and of the journals of a closed server.
-use Rattle.std.proofs.Common.{◌≡◌, ◌∙◌, ◌+◌, ◌<◌, ◌∷◌, [], List, Some, ℕ, length, sym, ap, subst, unwrap_or, slice_get}
-use Rattle.std.proofs.Common.{replicate, refl}
-use Rattle.std.proofs.lemmas.List.{length_push, length-replicate}
+use Rattle.std.proofs.Common.{◌≡◌, ◌∙◌, ◌<◌, [], List, Some, ℕ, Bool, length, sym, ap, subst, unwrap_or, slice_get}
+use Rattle.std.proofs.Common.{replicate}
+use Rattle.std.proofs.lemmas.List.{length-replicate}
+use Rattle.std.proofs.lemmas.List.Elements.{length_all_zip}
 use Rattle.std.proofs.lemmas.Option.{slice_get_within}
 use Rattle.rbac_policy.specs.declared.commands.Entry.{Entry}
 use Rattle.rbac_policy.specs.declared.objects.TheConstants.{SLOTS}
 use Rattle.rbac_admin.specs.PolicyLists.{IsPolicyList}
 use Rattle.reactor_core.specs.declared.entry.SlotEntry.{SlotEntry}
 use Rattle.access_core.specs.Journals.{IsLegal}
-use Rattle.worker_threads.specs.Turns.{AreBack, no_seat, next_seat}
+use Rattle.worker_threads.specs.Turns.{AreBack, TakesTurns}
 use Rattle.slot_table.specs.Closing.{AreLegal}
 use Rattle.audit_report.specs.Findings.{HaveNoFinding}
 
--- as many seats come back as there were
-pub as_many_back : {Seat : Type 0} (turn : Seat → Seat → Type 0) (before after : List Seat) → AreBack turn before after
-    → length after ≡ length before
-as_many_back turn [] [] no_seat = refl
-as_many_back turn _ _ (next_seat before after old new back turns) =
-    length_push after new ∙ ap (λ n. n + 1) (as_many_back turn before after back) ∙ sym (length_push before old)
-
 -- of n seats that were alike, n come back
-pub as_many : {Seat : Type 0} (turn : Seat → Seat → Type 0) (workers : ℕ) (seat : Seat) (after : List Seat)
-    → AreBack turn (replicate workers seat) after → length after ≡ workers
-as_many turn workers seat after back = as_many_back turn (replicate workers seat) after back
+pub as_many : {Seat : Type 0} (turn : Seat → Seat → Type 0) (turns : ℕ) (all : Bool) (workers : ℕ) (seat : Seat)
+    (after : List Seat) → AreBack turn turns all (replicate workers seat) after → length after ≡ workers
+as_many turn turns all workers seat after back =
+    sym (length_all_zip (λ old new. TakesTurns turn turns all old new) (replicate workers seat) after back)
     ∙ length-replicate workers seat
 
 -- in legal journals over a policy list an audit finds nothing

@@ -77,7 +77,8 @@ pub record IsNoOrder (words : List Text) (answer : Result ⊤ Fault) (written af
 abbrev pub Does : Order → (refused : Bool) → (ahead : Option (List ℕ)) → Result ⊤ Fault
     → (written after : Option (List ℕ)) → Type 0
 Does (Script log report) refused ahead answer written after = RunsScript refused report ahead answer written after
-Does (Serve service) refused ahead answer written after = ServesSocket service.workers answer written after
+Does (Serve service) refused ahead answer written after =
+    ServesSocket service.workers service.connections answer written after
 
 -- the command line spells an order, and it is carried out
 pub record DoesOrder (words : List Text) (refused : Bool) (ahead : Option (List ℕ)) (answer : Result ⊤ Fault)

@@ -1,5 +1,5 @@
 -- What serving the connections of a socket comes to (this project's own form).
-use Rattle.std.specs.Prelude.{◌≡◌, ℕ, List, ◌⊎◌, Option, Result, Err, ⊤, replicate}
+use Rattle.std.specs.Prelude.{◌≡◌, ℕ, ◌-◌, ◌^◌, List, ◌⊎◌, Option, Result, Err, ⊤, true, replicate, unwrap_or}
 use Rattle.std.specs.Io.KnownBytes.{Keeps}
 use Rattle.rbac_policy.specs.declared.commands.Entry.{Entry}
 use Rattle.reactor_core.specs.declared.entry.SlotEntry.{SlotEntry}
@@ -15,10 +15,14 @@ use Rattle.estserve.specs.declared.fault.Fault.{Fault}
 use Rattle.estserve.specs.declared.fault.Fault.TheVariants as fault
 use Rattle.estserve.specs.Reports.{Reports}
 
--- each of n workers served connections to their ends, one after another, at a new seat of its own; these are the seats
--- afterwards
-abbrev pub ServesAll : (workers : ℕ) → (seats : List SeatState) → Type 0
-ServesAll workers seats = AreBack ServesNext (replicate workers new_seat) seats
+-- how many connections each worker is to serve: as many as are asked for, or as can be counted
+abbrev pub quota_of : (connections : Option ℕ) → ℕ
+quota_of connections = unwrap_or connections (2 ^ 64 - 1)
+
+-- each of n workers served its connections to their ends, one after another, at a new seat of its own: exactly as many
+-- as are asked for. These are the seats afterwards
+abbrev pub ServesAll : (workers : ℕ) → (connections : Option ℕ) → (seats : List SeatState) → Type 0
+ServesAll workers connections seats = AreBack ServesNext (quota_of connections) true (replicate workers new_seat) seats
 
 -- the journals of a server that is closed with these seats. They are those of one run of the calls whose receipts the
 -- seats keep. One list of events has the journals, and what the seats keep, as its parts. What each seat keeps is in
@@ -45,15 +49,16 @@ pub record TellsMismatch (seats : List SeatState) (answer : Result ⊤ Fault)
   pub told : answer ≡ Err fault.Mismatch
   pub silent : Keeps written after
 
--- what follows the last of all connections, if no accept failed
+-- what follows the last of all connections
 abbrev pub ClosesSo : (seats : List SeatState) → Result ⊤ Fault → (written after : Option (List ℕ)) → Type 0
 ClosesSo seats answer written after = ReportsHistories seats answer written after
     ⊎ TellsMismatch seats answer written after
 
--- the connections of a socket are served to their ends, and the server is closed
-pub record ServesAndCloses (workers : ℕ) (answer : Result ⊤ Fault) (written after : Option (List ℕ)) : Type 0 where
+-- all connections that are asked for are served to their ends, and the server is closed
+pub record ServesAndCloses (workers : ℕ) (connections : Option ℕ) (answer : Result ⊤ Fault)
+    (written after : Option (List ℕ)) : Type 0 where
   pub seats : List SeatState
-  pub back : ServesAll workers seats
+  pub back : ServesAll workers connections seats
   pub closes : ClosesSo seats answer written after
 
 -- a fault of memory or of the socket, and nothing is written
@@ -63,7 +68,9 @@ pub record FailsToServe (answer : Result ⊤ Fault) (written after : Option (Lis
   pub named : given ≡ fault.Memory ⊎ given ≡ fault.Socket
   pub silent : Keeps written after
 
--- the connections of a socket are served and the server is closed; or memory was refused before, or the socket failed
-abbrev pub ServesSocket : (workers : ℕ) → Result ⊤ Fault → (written after : Option (List ℕ)) → Type 0
-ServesSocket workers answer written after = ServesAndCloses workers answer written after
+-- each worker serves as many connections of a socket as are asked for, and the server is closed; or memory was refused
+-- before, or the socket failed
+abbrev pub ServesSocket : (workers : ℕ) → (connections : Option ℕ) → Result ⊤ Fault
+    → (written after : Option (List ℕ)) → Type 0
+ServesSocket workers connections answer written after = ServesAndCloses workers connections answer written after
     ⊎ FailsToServe answer written after

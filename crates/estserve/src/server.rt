@@ -7,7 +7,7 @@ ghost use Rattle.estserve.specs.Serving.{ClosesSo, ServesSocket};
 
 use crate::fault::Fault;
 use crate::reports::write_report;
-use crate::socket::{Quota, Socket, SocketSource};
+use crate::socket::{Socket, SocketSource};
 use client_loop::gate::OpenGate;
 use client_loop::workers::run_workers;
 use command_line::order::{Service, WorkerCount};
@@ -47,19 +47,20 @@ fn close<B: BoardName, R: Wait, O: Write>(
     }
 }
 
-/// Serves the connections of a source over a new board of this name, at a seat for each worker.
-/// When all workers have ended, it closes the source's socket, and then the server, so that no
-/// client comes to a server that will not answer.
+/// Serves the connections of a source over a new board of this name, at a seat for each worker: to
+/// each as many as are asked for. When all workers have ended, it closes the source's socket, and
+/// then the server, so that no client comes to a server that will not answer.
 fn serve_source<B: BoardName + Send + Sync, R: Threads + Wait + Net + Files + Sync, O: Write>(
     rt: &R,
     alloc: Global,
     fresh: Fresh,
     workers: WorkerCount,
+    connections: Option<u64>,
     source: SocketSource<'_>,
     output: &mut MeteredWriter<O>,
 ) -> Result<(), Fault>
     requires { fresh.seen.book ≡ B.book }
-    ensures serves { ServesSocket workers result (O.contents output.old.device)
+    ensures serves { ServesSocket workers connections result (O.contents output.old.device)
         (O.contents output.new.device) }
     ensures failed { result ≡ Err fault.Write →
         has_failed output.old.faults output.new.faults ≡ true }
@@ -76,11 +77,11 @@ fn serve_source<B: BoardName + Send + Sync, R: Threads + Wait + Net + Files + Sy
         return Err(Fault::Memory);
     };
     let table = SlotTable::open(alloc, readers);
-    let served = run_workers(rt, alloc, &table, &board, seats, &source, &OpenGate);
-    let has_failed = source.has_failed();
+    let quota = connections.unwrap_or(u64::MAX);
+    let served = run_workers(rt, alloc, &table, &board, seats, &source, &OpenGate, quota);
     source.close(rt);
     let fault = match served {
-        Ok(seats) if !has_failed => return close(rt, alloc, board, table, seats, output),
+        Ok(back) if back.all_taken => return close(rt, alloc, board, table, back.seats, output),
         Ok(_) => Fault::Socket,
         Err(_) => Fault::Memory,
     };
@@ -90,8 +91,8 @@ fn serve_source<B: BoardName + Send + Sync, R: Threads + Wait + Net + Files + Sy
 
 /// Serves the connections that come to a socket; each worker serves one after another. It ends when
 /// all workers have ended: each after `connections` of them, if the service names a number, or when
-/// it can accept no more. Then it closes the socket and takes its file away. If no accept failed,
-/// it writes the report on the journals.
+/// it can accept no more. Then it closes the socket and takes its file away. If each worker served
+/// all of its connections, it writes the report on the journals.
 ///
 /// # Errors
 ///
@@ -105,15 +106,20 @@ pub fn serve<R: Threads + Wait + Net + Files + Sync, O: Write>(
     service: &Service<'_>,
     output: &mut MeteredWriter<O>,
 ) -> Result<(), Fault>
-    ensures serves { ServesSocket service.now.workers result (O.contents output.old.device)
-        (O.contents output.new.device) }
+    ensures serves { ServesSocket service.now.workers service.now.connections result
+        (O.contents output.old.device) (O.contents output.new.device) }
     ensures failed { result ≡ Err fault.Write →
         has_failed output.old.faults output.new.faults ≡ true }
 {
-    let workers = service.workers;
-    let Ok(quota) = Quota::new(alloc, workers.count(), service.connections) else {
-        return Err(Fault::Memory);
-    };
-    let source = SocketSource::new(Socket::bind(rt, service.path)?, quota);
-    serve_source::<Brand, R, O>(rt, alloc, Fresh::new(), workers, source, output)
+    let source = SocketSource::new(Socket::bind(rt, service.path)?);
+    let (workers, connections) = (service.workers, service.connections);
+    serve_source::<Brand, R, O>(
+        rt,
+        alloc,
+        Fresh::new(),
+        workers,
+        connections,
+        source,
+        output,
+    )
 }

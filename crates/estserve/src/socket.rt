@@ -4,13 +4,11 @@ ghost use Rattle.estserve.specs.declared.fault.Fault.TheVariants as fault;
 
 use crate::fault::Fault;
 use client_loop::source::{Connection, Source};
-use std::alloc::{AllocError, Global};
 use std::fs;
 use std::fs::Files;
 use std::net::Net;
 use std::os::unix::fs::MetadataExt;
 use std::os::unix::net::{UnixListener, UnixStream};
-use std::sync::atomic::{AtomicBool, AtomicU64, Ordering};
 
 /// Which file it is: its device, and its number there.
 #[derive(Clone, Copy, PartialEq, Eq)]
@@ -72,82 +70,21 @@ impl<'a> Socket<'a> {
     }
 }
 
-/// How many connections each worker accepts.
-#[derive(Drop)]
-pub enum Quota {
-    /// As many as come.
-    Unlimited,
-    /// This many more, for each worker by its number.
-    Left(Vec<AtomicU64>),
-}
-
-impl Quota {
-    /// n connections for each of these workers, or as many as come.
-    ///
-    /// # Errors
-    ///
-    /// Where memory was refused.
-    pub fn new(
-        alloc: Global,
-        workers: usize,
-        connections: Option<u64>,
-    ) -> Result<Quota, AllocError> {
-        let Some(connections) = connections else {
-            return Ok(Quota::Unlimited);
-        };
-        let mut left = Vec::with_capacity(alloc, workers)?;
-        for _ in 0..workers {
-            left.push(AtomicU64::new(connections))?;
-        }
-        Ok(Quota::Left(left))
-    }
-
-    /// Whether this worker may accept one more. That one is counted.
-    fn takes_one(&self, worker: usize) -> bool {
-        match self {
-            Quota::Unlimited => true,
-            Quota::Left(left) => match left.get(worker) {
-                Some(left) => takes_one_of(left),
-                None => false,
-            },
-        }
-    }
-}
-
-/// Takes one of what is left, if anything is.
-fn takes_one_of(left: &AtomicU64) -> bool {
-    left.fetch_update(Ordering::SeqCst, Ordering::SeqCst, |left| {
-        left.checked_sub(1)
-    })
-    .is_ok()
-}
-
 /// The connections that come to a socket. All workers accept at the one socket.
 #[derive(Drop)]
 pub struct SocketSource<'a> {
     socket: Socket<'a>,
-    quota: Quota,
-    failed: AtomicBool,
 }
 
 impl<'a> SocketSource<'a> {
-    /// The connections that come to this socket: for each worker, as many as the quota says.
-    pub fn new(socket: Socket<'a>, quota: Quota) -> SocketSource<'a> {
-        SocketSource {
-            socket,
-            quota,
-            failed: AtomicBool::new(false),
-        }
+    /// The connections that come to this socket.
+    pub fn new(socket: Socket<'a>) -> SocketSource<'a> {
+        SocketSource { socket }
     }
 
     /// Closes the socket: a client that comes then, or waits, is refused. Its file is taken away.
     pub fn close<R: Files>(self, rt: &R) {
         self.socket.close(rt);
-    }
-
-    /// Whether a connection could not be accepted.
-    pub fn has_failed(&self) -> bool {
-        self.failed.load(Ordering::SeqCst)
     }
 }
 
@@ -156,15 +93,9 @@ impl<'a> Source for SocketSource<'a> {
 
     type Writer = UnixStream;
 
-    fn accept(&self, worker: usize) -> Option<Connection<UnixStream, UnixStream>> {
+    fn accept(&self, _worker: usize) -> Option<Connection<UnixStream, UnixStream>> {
         for _ in 0..u64::MAX {
-            if !self.quota.takes_one(worker) {
-                return None;
-            }
-            let Ok((writer, _)) = self.socket.listener.accept() else {
-                self.failed.store(true, Ordering::SeqCst);
-                return None;
-            };
+            let (writer, _) = self.socket.listener.accept().ok()?;
             // A connection that can't be read as well ends alone.
             if let Ok(reader) = writer.try_clone() {
                 return Some(Connection { reader, writer });

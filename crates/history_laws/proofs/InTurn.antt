@@ -25,7 +25,7 @@ use Rattle.seat_receipts.specs.declared.receipt.Kept.{Kept}
 use Rattle.rbac_policy.specs.declared.sizes.TheConstants.{OPENING_ENTRIES}
 use Rattle.history_merge.specs.declared.order.Rank.{Rank}
 use Rattle.history_merge.specs.declared.order.Rank.TheVariants as rank
-use Rattle.history_merge.specs.Events.{Event, Publishes, Commands, of_policy, of_seat, of_slot}
+use Rattle.history_merge.specs.ToldCalls.{ToldCall, Publishes, Commands, of_policy, of_seat, of_slot}
 use Rattle.history_merge.specs.OneList.{Tell, Tells, HasParts, AreOfOneList}
 use Rattle.history_merge.specs.Order.{part_at, version_at, InOrder}
 use Rattle.history_laws.specs.CallsInTurn.{IsCallOf, AreOfOneRun}
@@ -54,14 +54,14 @@ module _ (policy : List Entry) (journals : List (List SlotEntry)) (lawful : IsPo
     (legal : (slot : ℕ) → slot < SLOTS → IsLegal policy slot (part_at journals slot))
     (sixteen : length journals ≡ SLOTS) where
   -- what is left of the slot's journal is told by what is left of the events
-  record Left (world : WorldState) (events : List Event) (slot : ℕ) : Type 0 where
+  record Left (world : WorldState) (events : List ToldCall) (slot : ℕ) : Type 0 where
     pub rest : List SlotEntry
     pub number : Option ℕ
     pub told : Tell (length (journal_at world slot)) number (of_slot slot events) rest
     pub whole : journal_at world slot ++ rest ≡ part_at journals slot
 
   -- the world stands where these events are left, the last one before them here
-  record Stands (world : WorldState) (last : Rank) (events : List Event) : Type 0 where
+  record Stands (world : WorldState) (last : Rank) (events : List ToldCall) : Type 0 where
     pub whole : world.entries ++ of_policy events ≡ policy
     pub opened : length opening_entries ≤ length world.entries
     pub left : (slot : ℕ) → Left world events slot
@@ -72,7 +72,7 @@ module _ (policy : List Entry) (journals : List (List SlotEntry)) (lawful : IsPo
     pub order : InOrder last events
 
   -- the moments that follow are the calls of these events, and leave the policy list and the journals
-  record Goes (world : WorldState) (events : List Event) : Type 0 where
+  record Goes (world : WorldState) (events : List ToldCall) : Type 0 where
     pub moments : List Moment
     pub follow : Follow world moments
     pub calls : AllZip IsCallOf events moments
@@ -87,7 +87,7 @@ module _ (policy : List Entry) (journals : List (List SlotEntry)) (lawful : IsPo
       ∙ take_at world.entries later (length world.entries) refl
 
   -- ---- a policy command comes next
-  module _ (world : WorldState) (last : Rank) (seat version : ℕ) (entry : Entry) (events : List Event)
+  module _ (world : WorldState) (last : Rank) (seat version : ℕ) (entry : Entry) (events : List ToldCall)
       (st : Stands world last (Publishes seat version entry ∷ events)) where
     may_follow : MayFollow world.entries entry
     may_follow =
@@ -129,7 +129,7 @@ module _ (policy : List Entry) (journals : List (List SlotEntry)) (lawful : IsPo
   -- ---- a command on a slot comes next
 
   -- the first entry that is left of its slot, which the receipt tells
-  record First (world : WorldState) (r : SlotReceipt) (events : List Event) : Type 0 where
+  record First (world : WorldState) (r : SlotReceipt) (events : List ToldCall) : Type 0 where
     pub entry : SlotEntry
     pub later : List SlotEntry
     pub place : r.place ≡ length (journal_at world r.slot) + 1
@@ -137,7 +137,7 @@ module _ (policy : List Entry) (journals : List (List SlotEntry)) (lawful : IsPo
     pub told : Tell (length (journal_at world r.slot) + 1) (Some r.number) (of_slot r.slot events) later
     pub whole : journal_at world r.slot ++ entry ∷ later ≡ part_at journals r.slot
 
-  first_of : (world : WorldState) (r : SlotReceipt) (events : List Event) (number : Option ℕ) (rest : List SlotEntry)
+  first_of : (world : WorldState) (r : SlotReceipt) (events : List ToldCall) (number : Option ℕ) (rest : List SlotEntry)
       → Tell (length (journal_at world r.slot)) number (r ∷ of_slot r.slot events) rest
       → journal_at world r.slot ++ rest ≡ part_at journals r.slot
       → First world r events
@@ -145,7 +145,7 @@ module _ (policy : List Entry) (journals : List (List SlotEntry)) (lawful : IsPo
   first_of world r events number (e ∷ later) told whole =
       record { entry = e; later = later; place = told.0; tells = told.1; told = told.3; whole = whole }
 
-  slot_within : (world : WorldState) (r : SlotReceipt) (events : List Event) → First world r events
+  slot_within : (world : WorldState) (r : SlotReceipt) (events : List ToldCall) → First world r events
       → Dec (length journals ≤ r.slot) → r.slot < SLOTS
   slot_within world r events f (yes past) =
       let none : length (journal_at world r.slot ++ f.entry ∷ f.later) ≡ 0 =
@@ -154,7 +154,7 @@ module _ (policy : List Entry) (journals : List (List SlotEntry)) (lawful : IsPo
       absurd (omega arith)
   slot_within world r events f (no inside) = omega arith
 
-  module _ (world : WorldState) (last : Rank) (seat : ℕ) (r : SlotReceipt) (events : List Event)
+  module _ (world : WorldState) (last : Rank) (seat : ℕ) (r : SlotReceipt) (events : List ToldCall)
       (st : Stands world last (Commands seat r ∷ events)) where
     first : First world r events
     first =
@@ -258,7 +258,7 @@ module _ (policy : List Entry) (journals : List (List SlotEntry)) (lawful : IsPo
       let none : l.rest ≡ [] = no_rest (length (journal_at world slot)) l.number l.rest l.told in
       sym (append-nil (journal_at world slot)) ∙ ap (λ rest. journal_at world slot ++ rest) (sym none) ∙ l.whole
 
-  goes : (events : List Event) (world : WorldState) (last : Rank) → Stands world last events → Goes world events
+  goes : (events : List ToldCall) (world : WorldState) (last : Rank) → Stands world last events → Goes world events
   goes [] world last st = record {
     moments = [];
     follow = tt;
@@ -294,7 +294,7 @@ module _ (policy : List Entry) (journals : List (List SlotEntry)) (lawful : IsPo
 
   -- ---- from the opening on
 
-  opening_left : (events : List Event) → ((slot : ℕ) → Tell 0 None (of_slot slot events) (part_at journals slot))
+  opening_left : (events : List ToldCall) → ((slot : ℕ) → Tell 0 None (of_slot slot events) (part_at journals slot))
       → (slot : ℕ)
       → Left opening_world events slot
   opening_left events told slot = record {
@@ -305,7 +305,7 @@ module _ (policy : List Entry) (journals : List (List SlotEntry)) (lawful : IsPo
     whole = ap (λ j. j ++ part_at journals slot) (opening_journal slot);
   }
 
-  opening_stands : (seats : List (List Kept)) (events : List Event) → length seats ≤ SEATS
+  opening_stands : (seats : List (List Kept)) (events : List ToldCall) → length seats ≤ SEATS
       → HasParts policy journals seats events
       → Stands opening_world (rank.Entry OPENING_ENTRIES) events
   opening_stands seats events few parts =

@@ -10,7 +10,7 @@ use Rattle.access_core.specs.declared.reply.Reply.TheVariants.{Unload as Unloade
 use Rattle.access_core.specs.Needs.{IsAccepted}
 use Rattle.access_events.specs.OneRun.{OneEnd}
 use Rattle.access_events.specs.Runs.{Moment, wants_memory}
-use Rattle.history_merge.specs.Events.{Event, Publishes, Commands}
+use Rattle.history_merge.specs.ToldCalls.{ToldCall, Publishes, Commands}
 use Rattle.history_laws.specs.CallsInTurn.{IsCallOf, AreOfWorld, CallsEndSo}
 
 -- an accepted reply is no want of memory
@@ -27,11 +27,11 @@ ample (Shown instant signals version) accepted = refl
 ample (Audited entries instants version) accepted = refl
 ample (Check allowed) accepted = refl
 
-accepted_call : (event : Event) (m : Moment) → IsCallOf event m → IsAccepted m.reply
+accepted_call : (event : ToldCall) (m : Moment) → IsCallOf event m → IsAccepted m.reply
 accepted_call (Publishes seat version entry) m call = call.accepted
 accepted_call (Commands seat r) m call = call.accepted
 
-all_ample : (events : List Event) (run : List Moment) → AllZip IsCallOf events run → (place : ℕ) (reply : Reply)
+all_ample : (events : List ToldCall) (run : List Moment) → AllZip IsCallOf events run → (place : ℕ) (reply : Reply)
     → slice_get (map (λ (m : Moment). m.reply) run) place ≡ Some reply → wants_memory reply ≡ false
 all_ample [] [] calls place reply there = cc
 all_ample [] (m ∷ run) calls place reply there = absurd calls

@@ -18,7 +18,7 @@ use Rattle.seat_receipts.specs.declared.receipt.Asked.{Asked}
 use Rattle.seat_receipts.specs.declared.receipt.Asked.TheVariants as asked
 use Rattle.seat_receipts.specs.declared.receipt.SlotReceipt.{SlotReceipt}
 use Rattle.seat_receipts.specs.declared.receipt.Kept.{Kept}
-use Rattle.history_merge.specs.Events.{Event, Publishes, Commands}
+use Rattle.history_merge.specs.ToldCalls.{ToldCall, Publishes, Commands}
 use Rattle.history_merge.specs.OneList.{HasParts}
 
 -- what a receipt keeps of the command, of a load neither name nor text; a look and an audit have no receipt
@@ -55,7 +55,7 @@ pub record IsSlotCall (seat : ℕ) (r : SlotReceipt) (m : Moment) : Type 0 where
   pub place : length (journal_at m.after r.slot) ≡ r.place
 
 -- the moment is the call of which the event tells
-abbrev pub IsCallOf : Event → Moment → Type 0
+abbrev pub IsCallOf : ToldCall → Moment → Type 0
 IsCallOf (Publishes seat version entry) = IsPolicyCall seat version entry
 IsCallOf (Commands seat r) = IsSlotCall seat r
 
@@ -66,7 +66,7 @@ pub record AreOfWorld (policy : List Entry) (journals : List (List SlotEntry)) (
 
 -- the run is that of the events, one call for each and in their order, and it leaves this policy list and these
 -- journals
-pub record IsRunOf (policy : List Entry) (journals : List (List SlotEntry)) (events : List Event) (run : List Moment)
+pub record IsRunOf (policy : List Entry) (journals : List (List SlotEntry)) (events : List ToldCall) (run : List Moment)
     : Type 0 where
   pub is : IsRun run
   pub calls : AllZip IsCallOf events run
@@ -77,7 +77,7 @@ pub record IsRunOf (policy : List Entry) (journals : List (List SlotEntry)) (eve
 -- each is accepted
 pub record AreOfOneRun (policy : List Entry) (journals : List (List SlotEntry))
     (seats : List (List Kept)) : Type 0 where
-  pub events : List Event
+  pub events : List ToldCall
   pub parts : HasParts policy journals seats events
   pub run : List Moment
   pub ran : IsRunOf policy journals events run

@@ -15,7 +15,7 @@ use Rattle.seat_receipts.specs.declared.receipts.TheConstants.{SEATS}
 use Rattle.rbac_policy.specs.declared.sizes.TheConstants.{OPENING_ENTRIES}
 use Rattle.history_merge.specs.declared.order.Rank.TheVariants as rank
 use Rattle.history_merge.specs.declared.merge.Taken.{Taken}
-use Rattle.history_merge.specs.Events.{Event, Publishes, Commands, of_seat, of_policy, of_slot}
+use Rattle.history_merge.specs.ToldCalls.{ToldCall, Publishes, Commands, of_seat, of_policy, of_slot}
 use Rattle.history_merge.specs.Order.{part_at}
 use Rattle.history_merge.specs.OneList.{AreOfOneList}
 use Rattle.history_merge.specs.Mismatches.{kept_of_slot, kept_of_policy, CountDiffers}
@@ -139,12 +139,12 @@ flat_none f (x ∷ seats) e h =
     omega (arith, length-append (f x) (flat_map f seats), ap length first)
 
 -- the seat of the first event, and what it keeps besides
-pub record FirstSeat (seats : List (List Kept)) (seat : ℕ) (kept : Kept) (es : List Event) : Type 0 where
+pub record FirstSeat (seats : List (List Kept)) (seat : ℕ) (kept : Kept) (es : List ToldCall) : Type 0 where
   pub inside : seat < length seats
   pub here : kept ∷ of_seat seat es ≡ part_at seats seat
   pub others : (s : ℕ) → of_seat s es ≡ part_at (set seats seat (of_seat seat es)) s
 
-first_seat : (seats : List (List Kept)) (seat : ℕ) (kept : Kept) (es : List Event) → Dec (length seats ≤ seat)
+first_seat : (seats : List (List Kept)) (seat : ℕ) (kept : Kept) (es : List ToldCall) → Dec (length seats ≤ seat)
     → ((s : ℕ) → (if seat == s then kept ∷ of_seat s es else of_seat s es) ≡ part_at seats s)
     → FirstSeat seats seat kept es
 first_seat seats seat kept es (yes past) h =
@@ -164,7 +164,7 @@ first_seat seats seat kept es (no few) h =
     other s (no apart) = (rw (ne_eqb seat s apart) at (h s)) ∙ sym (at_set_other seats seat s (of_seat seat es) apart)
 
 -- as many receipts of a slot as events
-pub slot_counted : (k : ℕ) (events : List Event) (seats : List (List Kept))
+pub slot_counted : (k : ℕ) (events : List ToldCall) (seats : List (List Kept))
     → ((s : ℕ) → of_seat s events ≡ part_at seats s) → length (flat_map (kept_of_slot k) seats)
     ≡ length (of_slot k events)
 slot_counted k [] seats h = flat_none (kept_of_slot k) seats refl h
@@ -202,7 +202,8 @@ slot_counted k (Commands seat r ∷ es) seats h =
         ≡ length (kept_of_slot k (of_seat seat es)) = rw (ne_eqb r.slot k other) at e in omega arith)
 
 -- as many policy receipts as policy events
-pub policy_counted : (events : List Event) (seats : List (List Kept)) → ((s : ℕ) → of_seat s events ≡ part_at seats s)
+pub policy_counted : (events : List ToldCall) (seats : List (List Kept))
+    → ((s : ℕ) → of_seat s events ≡ part_at seats s)
     → length (flat_map kept_of_policy seats) ≡ length (of_policy events)
 policy_counted [] seats h = flat_none kept_of_policy seats refl h
 policy_counted (Publishes seat version entry ∷ es) seats h =

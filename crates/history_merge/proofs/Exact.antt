@@ -10,7 +10,7 @@ use Rattle.seat_receipts.specs.declared.receipt.SlotReceipt.{SlotReceipt}
 use Rattle.seat_receipts.specs.declared.receipt.Kept.TheVariants.{Slot}
 use Rattle.history_merge.specs.declared.order.Rank.{Rank}
 use Rattle.history_merge.specs.declared.order.Rank.TheVariants as rank
-use Rattle.history_merge.specs.Events.{Event, Publishes, Commands, kept_of, of_policy}
+use Rattle.history_merge.specs.ToldCalls.{ToldCall, Publishes, Commands, kept_of, of_policy}
 use Rattle.history_merge.specs.Order.{rank_of, version_at, Precedes, IsOver, InOrder}
 use Rattle.history_merge.specs.OneList.{Tell, Tells}
 use Rattle.history_merge.specs.Mismatches.{IsThere}
@@ -21,12 +21,12 @@ drop_get zero (y ∷ xs) x h = ap (λ z. z ∷ xs) (cc (h))
 drop_get (suc n) (y ∷ xs) x h = let e : suc n + 1 ≡ suc (n + 1) = omega arith in rw e (drop_get n xs x h)
 
 -- each receipt precedes the next one
-abbrev pub Sorted : Rank → List Event → Type 0
+abbrev pub Sorted : Rank → List ToldCall → Type 0
 Sorted last [] = Unit {0}
 Sorted last (e ∷ es) = Precedes last (rank_of (kept_of e)) × Sorted (rank_of (kept_of e)) es
 
 -- each receipt is there
-abbrev pub AreThere : List Entry → List (List SlotEntry) → List Event → Type 0
+abbrev pub AreThere : List Entry → List (List SlotEntry) → List ToldCall → Type 0
 AreThere policy journals [] = Unit {0}
 AreThere policy journals (e ∷ es) = IsThere policy journals (kept_of e) × AreThere policy journals es
 
@@ -72,7 +72,7 @@ rises_to_command : (last : Rank) (version number slot : ℕ) → Precedes last (
 rises_to_command (rank.Entry v) version number slot f = f
 rises_to_command (rank.Command v n s) version number slot f = grind arith
 
-entries_fit : (policy : List Entry) (journals : List (List SlotEntry)) (last : Rank) (es : List Event)
+entries_fit : (policy : List Entry) (journals : List (List SlotEntry)) (last : Rank) (es : List ToldCall)
     → version_at last ≤ length policy → Sorted last es → AreThere policy journals es
     → version_at last + length (of_policy es) ≤ length policy
 entries_fit policy journals last [] h s t = omega arith
@@ -90,12 +90,12 @@ entries_fit policy journals last (Commands seat r ∷ es) h s t =
     entries_fit policy journals (rank_of (Slot r)) es high s.1 t.1 in
     omega arith
 
-pub record Ordered (policy : List Entry) (last : Rank) (es : List Event) : Type 0 where
+pub record Ordered (policy : List Entry) (last : Rank) (es : List ToldCall) : Type 0 where
   pub published : of_policy es ≡ drop (version_at last) policy
   pub order : InOrder last es
 
 -- as many policy receipts as entries: each has the next version, and each slot command comes in its version
-pub are_ordered : (policy : List Entry) (journals : List (List SlotEntry)) (last : Rank) (es : List Event)
+pub are_ordered : (policy : List Entry) (journals : List (List SlotEntry)) (last : Rank) (es : List ToldCall)
     → version_at last + length (of_policy es) ≡ length policy → Sorted last es → AreThere policy journals es
     → Ordered policy last es
 are_ordered policy journals last [] n s t =

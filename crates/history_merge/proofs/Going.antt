@@ -16,7 +16,7 @@ use Rattle.rbac_policy.specs.declared.sizes.TheConstants.{OPENING_ENTRIES}
 use Rattle.history_merge.specs.declared.order.Rank.{Rank}
 use Rattle.history_merge.specs.declared.order.Rank.TheVariants as rank
 use Rattle.history_merge.specs.declared.merge.Taken.{Taken}
-use Rattle.history_merge.specs.Events.{Event, Publishes, Commands, of_seat, of_policy, of_slot}
+use Rattle.history_merge.specs.ToldCalls.{ToldCall, Publishes, Commands, of_seat, of_policy, of_slot}
 use Rattle.history_merge.specs.Order.{part_at, rank_of, Precedes, IsOver, Rises}
 use Rattle.history_merge.specs.OneList.{Tells}
 use Rattle.history_merge.specs.Mismatches.{IsThere, IsBelow, Clash, Clashes, IsFault}
@@ -33,7 +33,7 @@ pub record Sixteen (t : Taken) : Type 0 where
 
 -- the events are those of the receipts that are left
 pub record Rest (policy : List Entry) (journals : List (List SlotEntry)) (seats : List (List Kept)) (t : Taken)
-    (events : List Event) : Type 0 where
+    (events : List ToldCall) : Type 0 where
   pub kept : (s : ℕ) → of_seat s events ≡ drop (slice_index t.read s) (part_at seats s)
   pub sorted : Sorted t.last events
   pub there : AreThere policy journals events
@@ -41,8 +41,8 @@ pub record Rest (policy : List Entry) (journals : List (List SlotEntry)) (seats 
 
 -- all events, of which these are left
 pub record Whole (policy : List Entry) (journals : List (List SlotEntry)) (seats : List (List Kept)) (t : Taken)
-    (events : List Event) : Type 0 where
-  pub all : List Event
+    (events : List ToldCall) : Type 0 where
+  pub all : List ToldCall
   pub kept : (s : ℕ) → of_seat s all ≡ part_at seats s
   pub sorted : Sorted (rank.Entry OPENING_ENTRIES) all
   pub there : AreThere policy journals all
@@ -77,18 +77,18 @@ pub record LastTaken (seats : List (List Kept)) (t : Taken) : Type 0 where
 pub record State (policy : List Entry) (journals : List (List SlotEntry)) (seats : List (List Kept))
     (t : Taken) : Type 0 where
   pub six : Sixteen t
-  pub leads : (events : List Event) → Rest policy journals seats t events → Whole policy journals seats t events
+  pub leads : (events : List ToldCall) → Rest policy journals seats t events → Whole policy journals seats t events
   pub last_in : (t.last ≡ rank.Entry OPENING_ENTRIES) ⊎ LastTaken seats t
   pub slots : (k : ℕ) → LastIn seats t k
   pub low : (k : ℕ) → slice_index t.counts k ≤ slice_index t.places k
   pub room : HasRoom t
 
 -- the event of a seat's receipt
-abbrev pub event_of : ℕ → Kept → Event
+abbrev pub event_of : ℕ → Kept → ToldCall
 event_of seat (Admin version entry) = Publishes seat version entry
 event_of seat (Slot r) = Commands seat r
 
-of_seat_event : (seat s : ℕ) (kept : Kept) (es : List Event)
+of_seat_event : (seat s : ℕ) (kept : Kept) (es : List ToldCall)
     → of_seat s (event_of seat kept ∷ es) ≡ (if seat == s then kept ∷ of_seat s es else of_seat s es)
 of_seat_event seat s (Admin version entry) es = refl
 of_seat_event seat s (Slot r) es = refl
@@ -112,7 +112,8 @@ seat_goes seats read seat s kept rest (no other) inside next h =
     (h ∙ ap (λ k. drop k (part_at seats s))
     (get_or-set_other read seat s (slice_index read seat + 1) 0 (λ e. other (sym e))))
 
-kept_goes : (seats : List (List Kept)) (read : List ℕ) (seat s : ℕ) (kept : Kept) (es : List Event) → seat < length read
+kept_goes : (seats : List (List Kept)) (read : List ℕ) (seat s : ℕ) (kept : Kept) (es : List ToldCall)
+    → seat < length read
     → slice_get (part_at seats seat) (slice_index read seat) ≡ Some kept
     → of_seat s es ≡ drop (slice_index (read_on read seat) s) (part_at seats s)
     → of_seat s (event_of seat kept ∷ es) ≡ drop (slice_index read s) (part_at seats s)
@@ -165,7 +166,7 @@ count_goes counts k r rest (no other) inside =
     rw (ne_eqb r.slot k other) (ap (λ n. n + length rest) (sym there))
 
 leads_on : (policy : List Entry) (journals : List (List SlotEntry)) (seats : List (List Kept)) (seat : ℕ) (kept : Kept)
-    (old : Taken) (events : List Event) → State policy journals seats old → seat < SEATS
+    (old : Taken) (events : List ToldCall) → State policy journals seats old → seat < SEATS
     → head seats old.read seat ≡ Some kept → IsThere policy journals kept → Precedes old.last (rank_of kept)
     → IsLined old kept
     → Rest policy journals seats (taken_after old seat kept) events

@@ -12,7 +12,7 @@ use Rattle.seat_receipts.specs.declared.receipt.Kept.TheVariants.{Admin, Slot}
 use Rattle.rbac_policy.specs.declared.sizes.TheConstants.{OPENING_ENTRIES}
 use Rattle.history_merge.specs.declared.order.Rank.{Rank}
 use Rattle.history_merge.specs.declared.order.Rank.TheVariants as rank
-use Rattle.history_merge.specs.Events.{Event, Publishes, Commands, of_seat, of_policy, of_slot}
+use Rattle.history_merge.specs.ToldCalls.{ToldCall, Publishes, Commands, of_seat, of_policy, of_slot}
 use Rattle.history_merge.specs.Order.{part_at, rank_of, version_at, InOrder}
 use Rattle.history_merge.specs.OneList.{Tells, Tell, HasParts, AreOfOneList}
 use Rattle.history_merge.specs.Mismatches.{IsThere}
@@ -23,19 +23,20 @@ abbrev pub add : {B : Type 0} → Option B → List B → List B
 add None xs = xs
 add (Some x) xs = x ∷ xs
 
-abbrev pub part : {B : Type 0} → (Event → Option B) → List Event → List B
+abbrev pub part : {B : Type 0} → (ToldCall → Option B) → List ToldCall → List B
 part f [] = []
 part f (e ∷ es) = add (f e) (part f es)
 
 -- an item of the part is of one event, which has as many before it
-pub record Of {B : Type 0} (f : Event → Option B) (es : List Event) (n : ℕ) (b : B) : Type 0 where
+pub record Of {B : Type 0} (f : ToldCall → Option B) (es : List ToldCall) (n : ℕ) (b : B) : Type 0 where
   pub j : ℕ
-  pub e : Event
+  pub e : ToldCall
   pub here : slice_get es j ≡ Some e
   pub is : f e ≡ Some b
   pub before : n ≡ length (part f (take j es))
 
-pub of_event : {B : Type 0} (f : Event → Option B) (es : List Event) (n : ℕ) (b : B) → slice_get (part f es) n ≡ Some b
+pub of_event : {B : Type 0} (f : ToldCall → Option B) (es : List ToldCall) (n : ℕ) (b : B)
+    → slice_get (part f es) n ≡ Some b
     → Of f es n b
 of_event f [] n b h = absurd cc
 of_event {B} f (x ∷ es) n b h = by (λ m k. of_event f es m b k) (f x) refl n h
@@ -60,7 +61,7 @@ of_event {B} f (x ∷ es) n b h = by (λ m k. of_event f es m b k) (f x) refl n 
           ∙ ap (λ y. length (add y (part f (take o.j es)))) (sym is);
     }
 
-pub in_part : {B : Type 0} (f : Event → Option B) (es : List Event) (j : ℕ) (e : Event) (b : B)
+pub in_part : {B : Type 0} (f : ToldCall → Option B) (es : List ToldCall) (j : ℕ) (e : ToldCall) (b : B)
     → slice_get es j ≡ Some e → f e ≡ Some b → slice_get (part f es) (length (part f (take j es))) ≡ Some b
 in_part f [] j e b h is = absurd cc
 in_part f (x ∷ es) zero e b h is =
@@ -76,7 +77,7 @@ in_part {B} f (x ∷ es) (suc j) e b h is = by (in_part f es j e b h is) (f x) r
         (sym q) rest
 
 -- events of the part with as many before them are one
-pub one_event : {B : Type 0} (f : Event → Option B) (es : List Event) (i j : ℕ) (d e : Event) (b c : B)
+pub one_event : {B : Type 0} (f : ToldCall → Option B) (es : List ToldCall) (i j : ℕ) (d e : ToldCall) (b c : B)
     → slice_get es i ≡ Some d → slice_get es j ≡ Some e → f d ≡ Some b → f e ≡ Some c
     → length (part f (take i es)) ≡ length (part f (take j es)) → i ≡ j
 one_event f [] i j d e b c h k p q n = absurd cc
@@ -100,15 +101,15 @@ abbrev pub if_so : {B : Type 0} → Bool → B → Option B
 if_so true b = Some b
 if_so false b = None
 
-abbrev pub seat_of : ℕ → Event → Option Kept
+abbrev pub seat_of : ℕ → ToldCall → Option Kept
 seat_of s (Publishes seat version entry) = if_so (seat == s) (Admin version entry)
 seat_of s (Commands seat r) = if_so (seat == s) (Slot r)
 
-abbrev pub slot_of : ℕ → Event → Option SlotReceipt
+abbrev pub slot_of : ℕ → ToldCall → Option SlotReceipt
 slot_of k (Publishes seat version entry) = None
 slot_of k (Commands seat r) = if_so (r.slot == k) r
 
-abbrev pub entry_of : Event → Option Entry
+abbrev pub entry_of : ToldCall → Option Entry
 entry_of (Publishes seat version entry) = Some entry
 entry_of (Commands seat r) = None
 
@@ -116,20 +117,20 @@ add_if : {B : Type 0} (t : Bool) (b : B) (xs : List B) → (if t then b ∷ xs e
 add_if true b xs = refl
 add_if false b xs = refl
 
-seat_part : (s : ℕ) (es : List Event) → of_seat s es ≡ part (seat_of s) es
+seat_part : (s : ℕ) (es : List ToldCall) → of_seat s es ≡ part (seat_of s) es
 seat_part s [] = refl
 seat_part s (Publishes seat version entry ∷ es) = ap (λ ks. if seat == s then Admin version entry ∷ ks else ks)
     (seat_part s es) ∙ add_if (seat == s) (Admin version entry) (part (seat_of s) es)
 seat_part s (Commands seat r ∷ es) = ap (λ ks. if seat == s then Slot r ∷ ks else ks) (seat_part s es)
     ∙ add_if (seat == s) (Slot r) (part (seat_of s) es)
 
-slot_part : (k : ℕ) (es : List Event) → of_slot k es ≡ part (slot_of k) es
+slot_part : (k : ℕ) (es : List ToldCall) → of_slot k es ≡ part (slot_of k) es
 slot_part k [] = refl
 slot_part k (Publishes seat version entry ∷ es) = slot_part k es
 slot_part k (Commands seat r ∷ es) = ap (λ ks. if r.slot == k then r ∷ ks else ks) (slot_part k es)
     ∙ add_if (r.slot == k) r (part (slot_of k) es)
 
-entry_part : (es : List Event) → of_policy es ≡ part entry_of es
+entry_part : (es : List ToldCall) → of_policy es ≡ part entry_of es
 entry_part [] = refl
 entry_part (Publishes seat version entry ∷ es) = ap (λ xs. entry ∷ xs) (entry_part es)
 entry_part (Commands seat r ∷ es) = entry_part es
@@ -160,24 +161,24 @@ told_at place number [] (d ∷ es) i e t h = absurd t
 told_at place number (q ∷ rs) (d ∷ es) zero e t h = (q, refl)
 told_at place number (q ∷ rs) (d ∷ es) (suc i) e t h = told_at (place + 1) (Some q.number) rs es i e t.3 h
 
-of_seat_event : (seats : List (List Kept)) (es : List Event) → ((s : ℕ) → of_seat s es ≡ part_at seats s)
+of_seat_event : (seats : List (List Kept)) (es : List ToldCall) → ((s : ℕ) → of_seat s es ≡ part_at seats s)
     → (s n : ℕ) (kept : Kept) → slice_get (part_at seats s) n ≡ Some kept → Of (seat_of s) es n kept
 of_seat_event seats es h s n kept k = of_event (seat_of s) es n kept
     (subst (λ ks. slice_get ks n ≡ Some kept) (sym (h s) ∙ seat_part s es) k)
 
 -- the event of a slot receipt
-slot_event : (s : ℕ) (e : Event) (r : SlotReceipt) → seat_of s e ≡ Some (Slot r) → e ≡ Commands s r
+slot_event : (s : ℕ) (e : ToldCall) (r : SlotReceipt) → seat_of s e ≡ Some (Slot r) → e ≡ Commands s r
 slot_event s (Publishes seat version entry) r h =
     (let i = if_so-is seat s (Admin version entry) (Slot r) h in absurd (let d = i.1 in cc))
 slot_event s (Commands seat q) r h = (let i = if_so-is seat s (Slot q) (Slot r) h in let a = i.0 in let b = i.1 in cc)
 
-policy_event : (s : ℕ) (e : Event) (v : ℕ) (d : Entry) → seat_of s e ≡ Some (Admin v d) → e ≡ Publishes s v d
+policy_event : (s : ℕ) (e : ToldCall) (v : ℕ) (d : Entry) → seat_of s e ≡ Some (Admin v d) → e ≡ Publishes s v d
 policy_event s (Publishes seat version entry) v d h =
     (let i = if_so-is seat s (Admin version entry) (Admin v d) h in let a = i.0 in let b = i.1 in cc)
 policy_event s (Commands seat q) v d h = (let i = if_so-is seat s (Slot q) (Admin v d) h in absurd (let e = i.1 in cc))
 
 -- each slot command that a slot's part tells is of one event, and so of one receipt
-commands_once : (journals : List (List SlotEntry)) (seats : List (List Kept)) (es : List Event)
+commands_once : (journals : List (List SlotEntry)) (seats : List (List Kept)) (es : List ToldCall)
     → ((s : ℕ) → of_seat s es ≡ part_at seats s) → ((k : ℕ) → Tell 0 None (of_slot k es) (part_at journals k))
     → (k i : ℕ) (e : SlotEntry) → slice_get (part_at journals k) i ≡ Some e → ExactlyOne seats (IsOfPlace k (i + 1))
 commands_once journals seats es kept told k i e h =
@@ -215,7 +216,7 @@ commands_once journals seats es kept told k i e h =
               ∙ ap (λ x. length (part (seat_of x) (take j es))) seats_same),
         )
 
-    by : (r : SlotReceipt) → r.place ≡ i + 1 → (j : ℕ) (x : Event) → slice_get es j ≡ Some x → slot_of k x ≡ Some r
+    by : (r : SlotReceipt) → r.place ≡ i + 1 → (j : ℕ) (x : ToldCall) → slice_get es j ≡ Some x → slot_of k x ≡ Some r
         → i ≡ length (part (slot_of k) (take j es)) → ExactlyOne seats (IsOfPlace k (i + 1))
     by r place j (Publishes seat version entry) here is before = absurd cc
     by r place j (Commands seat q) here is before =
@@ -233,7 +234,7 @@ commands_once journals seats es kept told k i e h =
         }
 
 -- the version of a policy event is the number of those before it
-event_version : (last : Rank) (es : List Event) (j s v : ℕ) (d : Entry) → InOrder last es
+event_version : (last : Rank) (es : List ToldCall) (j s v : ℕ) (d : Entry) → InOrder last es
     → slice_get es j ≡ Some (Publishes s v d) → v ≡ version_at last + length (part entry_of (take j es)) + 1
 event_version last [] j s v d o h = absurd cc
 event_version last (Publishes seat w entry ∷ es) zero s v d o h = (let e : w ≡ v = cc (h) in let n = o.0 in omega arith)
@@ -243,7 +244,7 @@ event_version last (Publishes seat w entry ∷ es) (suc j) s v d o h =
 event_version last (Commands seat r ∷ es) (suc j) s v d o h =
     (let e = event_version (rank_of (Slot r)) es j s v d o.2 h in let n = o.0 in omega arith)
 
-entries_once : (policy : List Entry) (seats : List (List Kept)) (es : List Event)
+entries_once : (policy : List Entry) (seats : List (List Kept)) (es : List ToldCall)
     → ((s : ℕ) → of_seat s es ≡ part_at seats s) → of_policy es ≡ drop OPENING_ENTRIES policy
     → InOrder (rank.Entry OPENING_ENTRIES) es → (i : ℕ) (e : Entry) → slice_get (drop OPENING_ENTRIES policy) i ≡ Some e
     → ExactlyOne seats (IsOfVersion (OPENING_ENTRIES + i + 1))
@@ -274,7 +275,7 @@ entries_once policy seats es kept published order i e h =
               ∙ ap (λ x. length (part (seat_of x) (take j es))) seats_same),
         )
 
-    by : (j : ℕ) (x : Event) → slice_get es j ≡ Some x → entry_of x ≡ Some e → i ≡ length (part entry_of (take j es))
+    by : (j : ℕ) (x : ToldCall) → slice_get es j ≡ Some x → entry_of x ≡ Some e → i ≡ length (part entry_of (take j es))
         → ExactlyOne seats (IsOfVersion (OPENING_ENTRIES + i + 1))
     by j (Commands seat r) here is before = absurd cc
     by j (Publishes seat v d) here is before =
@@ -308,7 +309,7 @@ is_slot journals k i e (yes past) sixteen h =
 is_slot journals k i e (no few) sixteen h = omega arith
 
 -- the version of a slot command is that of the last policy event before it
-command_version : (last : Rank) (es : List Event) (j s : ℕ) (r : SlotReceipt) → InOrder last es
+command_version : (last : Rank) (es : List ToldCall) (j s : ℕ) (r : SlotReceipt) → InOrder last es
     → slice_get es j ≡ Some (Commands s r) → (version_at last ≤ r.version)
     × (r.version ≤ version_at last + length (of_policy es))
 command_version last [] j s r o h = absurd cc
@@ -328,7 +329,7 @@ drop_length zero xs h = omega arith
 drop_length (suc n) [] h = absurd (omega arith)
 drop_length (suc n) (x ∷ xs) h = (let e = drop_length n xs (omega arith) in omega arith)
 
-is_there : (policy : List Entry) (journals : List (List SlotEntry)) (seats : List (List Kept)) (es : List Event)
+is_there : (policy : List Entry) (journals : List (List SlotEntry)) (seats : List (List Kept)) (es : List ToldCall)
     → OPENING_ENTRIES ≤ length policy → length journals ≡ SLOTS → HasParts policy journals seats es
     → (s n : ℕ) (kept : Kept) → slice_get (part_at seats s) n ≡ Some kept → IsThere policy journals kept
 is_there policy journals seats es opened sixteen m s n (Slot r) h =

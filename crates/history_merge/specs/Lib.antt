@@ -1,4 +1,4 @@
-pub mod Events
+pub mod ToldCalls
 pub mod Order
 pub mod OneList
 pub mod Mismatches

@@ -12,7 +12,7 @@ use Rattle.seat_receipts.specs.declared.receipt.Kept.{Kept}
 use Rattle.rbac_policy.specs.declared.sizes.TheConstants.{OPENING_ENTRIES}
 use Rattle.history_merge.specs.declared.order.Rank.TheVariants as rank
 use Rattle.history_merge.specs.Order.{part_at, IsOver, InOrder}
-use Rattle.history_merge.specs.Events.{Event, of_seat, of_policy, of_slot}
+use Rattle.history_merge.specs.ToldCalls.{ToldCall, of_seat, of_policy, of_slot}
 
 -- what the action was asked for by
 abbrev pub asked_of : Action → Asked
@@ -40,7 +40,7 @@ Tell place number (r ∷ rs) (e ∷ es) =
 -- ones, the receipts of each slot's commands tell its journal place by place, and those of each seat are what the seat
 -- keeps
 pub record HasParts (policy : List Entry) (journals : List (List SlotEntry)) (seats : List (List Kept))
-    (events : List Event) : Type 0 where
+    (events : List ToldCall) : Type 0 where
   pub published : of_policy events ≡ drop OPENING_ENTRIES policy
   pub told : (slot : ℕ) → Tell 0 None (of_slot slot events) (part_at journals slot)
   pub kept : (seat : ℕ) → of_seat seat events ≡ part_at seats seat
@@ -51,4 +51,4 @@ pub record HasParts (policy : List Entry) (journals : List (List SlotEntry)) (se
 -- receipt is that of one entry
 abbrev pub AreOfOneList : (policy : List Entry) → (journals : List (List SlotEntry)) → (seats : List (List Kept))
     → Type 0
-AreOfOneList policy journals seats = (events : List Event) × HasParts policy journals seats events
+AreOfOneList policy journals seats = (events : List ToldCall) × HasParts policy journals seats events

@@ -4,7 +4,7 @@ use Rattle.seat_receipts.specs.declared.receipt.Kept.{Kept}
 use Rattle.seat_receipts.specs.declared.receipt.Kept.TheVariants.{Admin, Slot}
 use Rattle.history_merge.specs.declared.order.Rank.{Rank}
 use Rattle.history_merge.specs.declared.order.Rank.TheVariants as rank
-use Rattle.history_merge.specs.Events.{Event, kept_of}
+use Rattle.history_merge.specs.ToldCalls.{ToldCall, kept_of}
 
 module _ {A : Type 0} where
   -- the list of this number; a number that none has is that of an empty one
@@ -34,7 +34,7 @@ Continues version (Admin v entry) = v ≡ version + 1
 Continues version (Slot r) = r.version ≡ version
 
 -- from here on each event comes after the one before it, and its version follows on that one's
-abbrev pub InOrder : Rank → List Event → Type 0
+abbrev pub InOrder : Rank → List ToldCall → Type 0
 InOrder last [] = Unit {0}
 InOrder last (e ∷ es) =
     Continues (version_at last) (kept_of e) × Precedes last (rank_of (kept_of e)) × InOrder (rank_of (kept_of e)) es

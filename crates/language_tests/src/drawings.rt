@@ -81,11 +81,13 @@ const FAULTS: [(&str, &str); 5] = [
         "  present I end\n            ^\n",
     ),
     (
-        "module ABRO:\n  input A, B, R;\n  output O;\n  loop\n    [ await A || await B ]\n    emit O\n  each R\nend module\n",
+        "module ABRO:\n  input A, B, R;\n  output O;\n  loop\n    [ await A \
+        || await B ]\n    emit O\n  each R\nend module\n",
         "    emit O\n    ^\n",
     ),
     (
-        "module ABRO:\n  input A, B, R;\n  output O;\n  loop\n    [ await A || await B ];\n    emit O\n  each\nend module\n",
+        "module ABRO:\n  input A, B, R;\n  output O;\n  loop\n    [ await A \
+        || await B ];\n    emit O\n  each\nend module\n",
         "end module\n^\n",
     ),
     (

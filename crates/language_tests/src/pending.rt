@@ -74,7 +74,8 @@ fn relations(rt: &impl Abort, alloc: Global, interface: &Interface, text: &str) 
 const OFFERS: [(&str, &str); 4] = [
     (
         "A # B",
-        "A: Ok; X: UnknownSignal; O: NotInput; A: AlreadyOffered; B: Excluded by 1 A; C: Ok; ready: Ok; \
+        "A: Ok; X: UnknownSignal; O: NotInput; A: AlreadyOffered; B: Excluded by 1 A; C: Ok; \
+        ready: Ok; \
          inputs: 101; clear: Ok; B: Ok; inputs: 10",
     ),
     (

@@ -223,7 +223,8 @@ const TESTS: [(&str, &str); 6] = [
     ),
     (
         "weak abort emit O when (S) and O",
-        "trap [[emit O; exit 0] || loop [pause; present (S and O) then exit 0 else nothing end] end] end",
+        "trap [[emit O; exit 0] || loop [pause; present (S and O) then exit 0 else nothing end] \
+        end] end",
     ),
     (
         "every S or not O do emit O end",
@@ -289,7 +290,8 @@ const FAULTS: [(&str, &str); 3] = [
     ("loop present S then pause end end", "InstantLoop"),
     (
         "signal S1, S2, S3, S4, S5, S6, S7, S8, S9, S10, S11, S12, S13, S14, S15, S16, S17, \
-        S18, S19, S20, S21, S22, S23, S24, S25, S26, S27, S28, S29, S30, S31, S32, S33 in pause end",
+        S18, S19, S20, S21, S22, S23, S24, S25, S26, S27, S28, S29, S30, S31, S32, \
+        S33 in pause end",
         "TooLarge(Locals)",
     ),
 ];

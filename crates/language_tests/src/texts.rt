@@ -21,7 +21,8 @@ enum Answer {
 
 /// The keywords of the language.
 const KEYWORDS: &str =
-    "module end input output inputoutput relation nothing pause halt emit sustain present then else \
+    "module end input output inputoutput relation nothing pause halt emit sustain present then \
+    else \
     suspend when immediate loop each every do await abort weak trap in exit signal run and or not";
 
 /// The text of a module around a body.

@@ -11,14 +11,17 @@ use std::process::Abort;
 /// Texts, and the values of their tokens.
 const VALUES: [(&str, &str); 3] = [
     (
-        "module end input output inputoutput relation nothing pause halt emit sustain present then else suspend when \
+        "module end input output inputoutput relation nothing pause halt emit sustain present then \
+        else suspend when \
          immediate loop each every do await abort weak trap in exit signal run and or not",
-        "Module End Input Output Inputoutput Relation Nothing Pause Halt Emit Sustain Present Then Else Suspend When \
+        "Module End Input Output Inputoutput Relation Nothing Pause Halt Emit Sustain Present Then \
+        Else Suspend When \
          Immediate Loop Each Every Do Await Abort Weak Trap In Exit Signal Run And Or Not",
     ),
     (
         ":;,/[]()||#=>",
-        "Colon Semicolon Comma Slash OpenBracket CloseBracket OpenParenthesis CloseParenthesis Parallel Hash Implies",
+        "Colon Semicolon Comma Slash OpenBracket CloseBracket OpenParenthesis CloseParenthesis \
+        Parallel Hash Implies",
     ),
     (
         "run Run\n\truns=>end1 %x\nend",

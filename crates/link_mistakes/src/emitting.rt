@@ -17,7 +17,8 @@ use est_syntax::tree::Renaming;
 use est_text::identifier::Identifier;
 use std::alloc::{AllocError, Global};
 
-/// What a module emits of the signals that its callers see, where the table says what those that it runs emit.
+/// What a module emits of the signals that its callers see, where the table says what those that it
+/// runs emit.
 ///
 /// # Errors
 ///

@@ -2,7 +2,8 @@
 ghost use Rattle.std.specs.Prelude.{◌≡◌, [], map, option_map, IfOk};
 ghost use Rattle.est_checks.specs.Duplicates.{first_duplicate};
 ghost use Rattle.est_checks.specs.Emissions.{emitted_of, refused_at};
-ghost use Rattle.est_checks.specs.LinkFaults.{lawless_number, fault_before_order, fault_behind_order};
+ghost use Rattle.est_checks.specs.LinkFaults.{lawless_number, fault_before_order};
+ghost use Rattle.est_checks.specs.LinkFaults.{fault_behind_order};
 ghost use Rattle.est_modules.specs.Modules.{program_of, first_in_bodies};
 ghost use Rattle.est_modules.specs.NameTables.{IsTable};
 ghost use Rattle.est_modules.specs.Occurrences.{first_of, occurrences};
@@ -39,7 +40,8 @@ pub fn first_duplicate<'a>(
     duplicates::first_duplicate(alloc, heads)
 }
 
-/// The first right name of a renaming that is no interface signal of the module that is run, or stands on the right twice.
+/// The first right name of a renaming that is no interface signal of the module that is run, or
+/// stands on the right twice.
 ///
 /// # Errors
 ///
@@ -55,7 +57,8 @@ pub fn first_bad_renaming<'a>(
     first_in_bodies(alloc, &names, &[], &BadRename { heads: &*heads }, &*heads)
 }
 
-/// The check for names that aren't visible where they are used. It is asked of the places in one module.
+/// The check for names that aren't visible where they are used. It is asked of the places in one
+/// module.
 #[derive(Clone, Copy)]
 pub struct Unknown<'a> {
     /// The modules of the library.
@@ -128,7 +131,8 @@ pub fn first_unknown<'a>(
     Ok(None)
 }
 
-/// The first input, or `tick`, that a module of a library emits. The table says what each module emits.
+/// The first input, or `tick`, that a module of a library emits. The table says what each module
+/// emits.
 ///
 /// # Errors
 ///
@@ -178,7 +182,8 @@ pub fn fault_before_order<'a>(
     }
 }
 
-/// The first fault of the checks that come after the order of the modules. The table says what each module emits.
+/// The first fault of the checks that come after the order of the modules. The table says what each
+/// module emits.
 ///
 /// # Errors
 ///

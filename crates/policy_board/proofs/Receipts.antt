@@ -9,7 +9,7 @@ use Rattle.rbac_admin.specs.declared.refusals.Refusal.{Refusal as PolicyRefusal}
 use Rattle.rbac_admin.specs.PolicyLists.{Begins}
 use Rattle.rbac_admin.specs.Room.{list_full}
 use Rattle.policy_board.specs.SeatState.{SeatState}
-use Rattle.policy_board.specs.PolicyCommands.{AdminStep, IsPublished, IsRefused, SeatAfter, admin_receipt, seat_after}
+use Rattle.policy_board.specs.PolicyCommands.{BoardStep, IsPublished, IsRefused, SeatAfter, admin_receipt, seat_after}
 use Rattle.policy_board.specs.Inner.Keeping.{KeepsAnswer}
 use Rattle.seat_receipts.specs.declared.receipt.Kept.{Kept}
 use Rattle.policy_board.specs.declared.refusal.Refusal.{Refusal}
@@ -49,10 +49,10 @@ module _ {B : Type 0} where
   -- the receipt of an accepted command has the list after it, which begins with the list before it
   pub receipt_tells : (before : List Entry) (session : Option ℕ) (command : AdminCommand)
       (answer : Result (Receipt B) Refusal) (after : List Entry) (receipt : Receipt B)
-      → AdminStep before session command answer after → answer ≡ Ok receipt → Tells before receipt after
+      → BoardStep before session command answer after → answer ≡ Ok receipt → Tells before receipt after
   receipt_tells before session command answer after receipt step is =
-      let step' : AdminStep before session command (Ok receipt) after =
-      subst (λ a. AdminStep before session command a after) is step in
+      let step' : BoardStep before session command (Ok receipt) after =
+      subst (λ a. BoardStep before session command a after) is step in
       replied_tells before receipt after step'.answer step'.replied
 
 -- a seat that knows a list, keeps an answer's receipt, and then knows the longer list that the answer leaves, is as

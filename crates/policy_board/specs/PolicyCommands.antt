@@ -40,9 +40,9 @@ module _ {B : Type 0} where
 
   -- what the policy step answers on the list: its refusal, which leaves the list; or its entry, which is published,
   -- unless the list is full or memory is refused, which leave the list too
-  abbrev pub AdminStep : (before : List Entry) → Option ℕ → AdminCommand → (answer : Result (Receipt B) Refusal)
+  abbrev pub BoardStep : (before : List Entry) → Option ℕ → AdminCommand → (answer : Result (Receipt B) Refusal)
       → (after : List Entry) → Type 0
-  AdminStep before session command answer after =
+  BoardStep before session command answer after =
       StepsOnList list_refusals before session command (λ refusal. IsRefused refusal before answer after)
       (λ entry. IsPublished entry before answer after)
 

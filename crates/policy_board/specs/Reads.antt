@@ -43,5 +43,6 @@ pub record HasAsked (Fact : List Entry → Type 0) (old : SeatState) (said : Boo
   pub answered : IsTrue said ↔ Fact list
 
 -- the answer to what is asked of the policy: for a list that the seat has read, or a refusal
-abbrev pub Asks : (List Entry → Type 0) → SeatState → Result Bool Refusal → SeatState → Type 0
-Asks Fact old answer new = MatchResult answer (λ said. HasAsked Fact old said new) (λ refusal. IsUnread old refusal new)
+abbrev pub AnswersFor : (List Entry → Type 0) → SeatState → Result Bool Refusal → SeatState → Type 0
+AnswersFor Fact old answer new = MatchResult answer (λ said. HasAsked Fact old said new)
+    (λ refusal. IsUnread old refusal new)

@@ -3,8 +3,8 @@ ghost use Rattle.std.specs.Prelude.{◌≡◌, ◌<◌, List, length, MatchResul
 ghost use Rattle.rbac_policy.specs.declared.commands.Entry.{Entry};
 ghost use Rattle.rbac_policy.specs.Facts.{May};
 ghost use Rattle.rbac_admin.specs.PolicyLists.{Begins, IsPolicyList};
-ghost use Rattle.policy_board.specs.PolicyCommands.{AdminStep, SeatAfter};
-ghost use Rattle.policy_board.specs.Reads.{Asks};
+ghost use Rattle.policy_board.specs.PolicyCommands.{BoardStep, SeatAfter};
+ghost use Rattle.policy_board.specs.Reads.{AnswersFor};
 ghost use Rattle.policy_board.specs.Receipts.{HasRoom, IsCounted};
 ghost use Rattle.seat_receipts.specs.declared.mismatch.TheConstants.{POLICY_LIST};
 ghost use Rattle.seat_receipts.specs.declared.mismatch.Mismatch.TheVariants.{Count};
@@ -55,7 +55,7 @@ impl<B: BoardName> Board<B> {
     ) -> Result<Receipt<B>, Refusal>
         ensures { (before : List Entry) × (after : List Entry)
             × IsPolicyList before × Begins seat.old.known before
-            × AdminStep before session command result after
+            × BoardStep before session command result after
             × SeatAfter seat.old result after seat.new }
     {
         let mut desk = self.desk.lock(rt);
@@ -90,7 +90,7 @@ impl<B: BoardName> Board<B> {
         operation: Operation,
         object: &Object,
     ) -> Result<bool, Refusal>
-        ensures { Asks (λ entries. May entries session operation object.now) seat.old result
+        ensures { AnswersFor (λ entries. May entries session operation object.now) seat.old result
             seat.new }
     {
         seat.check(session, operation, object)

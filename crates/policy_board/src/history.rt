@@ -7,10 +7,11 @@ ghost use Rattle.policy_board.specs.Inner.Book.{head_of};
 
 use logbook::{Gain, Offer, Plain, Play, Rule, Seen, Start, Word};
 use rbac_policy::commands::Entry;
+use rbac_policy::sizes::OPENING_ENTRIES;
 use std::marker::{Brand, Model, PhantomData};
 
 /// How many entries a policy opens with.
-const OPENING: u64 = 4;
+const OPENING: u64 = OPENING_ENTRIES as u64;
 
 /// The rule of the list.
 pub struct Law;

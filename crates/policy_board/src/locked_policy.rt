@@ -5,7 +5,7 @@ ghost use Rattle.rbac_policy.specs.declared.commands.Entry.{Entry};
 ghost use Rattle.rbac_policy.specs.StandsFor.{StandsFor};
 ghost use Rattle.refusal_rules.specs.Rules.{accept, MayRefuse, ◌▸◌, Answers};
 ghost use Rattle.rbac_admin.specs.PolicyLists.{Begins, IsAccepted, IsPolicyList};
-ghost use Rattle.policy_board.specs.PolicyCommands.{AdminStep, IsPublished, IsRefused, SeatAfter};
+ghost use Rattle.policy_board.specs.PolicyCommands.{BoardStep, IsPublished, IsRefused, SeatAfter};
 ghost use Rattle.policy_board.specs.PolicyCommands.{session_made};
 ghost use Rattle.policy_board.specs.Inner.Keeping.{KeepsAnswer};
 ghost use Rattle.seat_receipts.specs.declared.mismatch.TheConstants.{POLICY_LIST};
@@ -134,7 +134,7 @@ impl<B: BoardName> LockedPolicy<B> {
         session: Option<SessionId>,
         command: AdminCommand,
     ) -> Result<Receipt<B>, Refusal>
-        ensures step { AdminStep self.old session command result self.new }
+        ensures step { BoardStep self.old session command result self.new }
         ensures seat { KeepsAnswer seat.old result self.new seat.new }
     {
         let policy = self.publisher.as_ref().unwrap().policy();
@@ -159,7 +159,7 @@ impl<B: BoardName> LockedPolicy<B> {
     ) -> Result<Receipt<B>, Refusal>
         ensures known { Begins seat.old.known self.old }
         ensures list { IsPolicyList self.old }
-        ensures step { AdminStep self.old session command result self.new }
+        ensures step { BoardStep self.old session command result self.new }
         ensures seat { SeatAfter seat.old result self.new seat.new }
     {
         let publisher = self.publisher.as_ref().unwrap();

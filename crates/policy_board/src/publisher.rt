@@ -56,7 +56,8 @@ fn append<B: BoardName, R: Wait>(
     unreachable!()
 }
 
-// Adds the entry to the list. No other thread adds one, so the first turn does it.
+// Adds the entry to the board's list, whose entries exist in the proofs alone: what runs raises the
+// list's length by one. No other thread does so meanwhile; so the first turn does it.
 fn add_entry<B: BoardName, R: Wait>(
     rt: &R,
     head: &Head<B>,
@@ -144,9 +145,10 @@ impl<B: BoardName> Publisher<B> {
         SlotReader::new(&self.writer, opening)
     }
 
-    /// Waits until the published list is seen to be whole; then the other front begins it. Entries
-    /// are published when they are added, and no other thread adds any meanwhile, so the first turn
-    /// sees that.
+    /// Asks whether the published list is the whole list of the board, until it is; then what
+    /// `known` has seen is a beginning of it. The first turn says yes, since each entry is
+    /// published as soon as it is added, and no other thread adds any. The proof knows it by this
+    /// question alone.
     pub fn wait_whole<R: Wait>(&self, rt: &R, known: &Front<B>)
         ensures { Begins known.now self.now }
     {

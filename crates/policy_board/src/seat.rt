@@ -3,7 +3,7 @@ ghost use Rattle.std.specs.Prelude.{◌≡◌, ◌⊎◌, ◌≤◌, max, length
 ghost use Rattle.rbac_policy.specs.Facts.{IsLive, May};
 ghost use Rattle.rbac_policy.specs.Opening.{opening_entries};
 ghost use Rattle.rbac_admin.specs.PolicyLists.{Begins, IsPolicyList};
-ghost use Rattle.policy_board.specs.Reads.{Asks};
+ghost use Rattle.policy_board.specs.Reads.{AnswersFor};
 ghost use Rattle.policy_board.specs.Inner.Reading.{IsRead, IsNotRead};
 ghost use Rattle.policy_board.specs.PolicyCommands.{seat_after};
 ghost use Rattle.policy_board.specs.Receipts.{HasRoom, seat_keeping};
@@ -244,7 +244,7 @@ impl<B: BoardName> Seat<B> {
         operation: Operation,
         object: &Object,
     ) -> Result<bool, Refusal>
-        ensures { Asks (λ entries. May entries session operation object.now) self.old result
+        ensures { AnswersFor (λ entries. May entries session operation object.now) self.old result
             self.new }
     {
         let reader = self.reader.take().unwrap();
@@ -267,7 +267,7 @@ impl<B: BoardName> Seat<B> {
     ///
     /// As those of `Board::check_access`.
     pub fn lives(&mut self, session: SessionId) -> Result<bool, Refusal>
-        ensures { Asks (λ entries. IsLive entries session) self.old result self.new }
+        ensures { AnswersFor (λ entries. IsLive entries session) self.old result self.new }
     {
         let reader = self.reader.take().unwrap();
         match read_newer(reader, &mut self.known, &mut self.seen) {

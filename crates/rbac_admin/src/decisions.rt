@@ -19,8 +19,8 @@ use crate::rules::{
 use rbac_policy::commands::{AdminCommand, Entry, SessionId};
 use rbac_policy::policy::Policy;
 
-/// The session that the command's entry names: the one that gives it, which lives; a login has
-/// none.
+/// The session that the command's entry names: the living session that gives it, and none for a
+/// login. Refuses where that session does not live.
 fn find_giver(
     policy: &Policy,
     session: Option<SessionId>,
@@ -40,7 +40,7 @@ fn find_giver(
     }
 }
 
-/// The session that gives the command may administer the policy, where that is asked.
+/// Refuses an administrative command whose session may not administer the policy.
 fn check_right(policy: &Policy, entry: &Entry) -> Result<(), Refusal>
     ensures { (entries : List Entry) → StandsFor policy.now entries → IsGiven entries entry.now
         → Checks (right_rules entries entry.now.session entry.now.command) result }
@@ -51,7 +51,7 @@ fn check_right(policy: &Policy, entry: &Entry) -> Result<(), Refusal>
     }
 }
 
-/// What the command makes is new, and what else it names is there.
+/// Refuses a command that makes what is there already, or that names what is not there.
 fn check_names(policy: &Policy, command: &AdminCommand) -> Result<(), Refusal>
     ensures { (entries : List Entry) → StandsFor policy.now entries
         → Checks (name_rules entries command.now) result }
@@ -88,7 +88,8 @@ fn check_names(policy: &Policy, command: &AdminCommand) -> Result<(), Refusal>
     }
 }
 
-/// What the command, which this session gives, asks of what it names.
+/// Refuses a command whose own conditions don't hold, as an assignment that is there already, or
+/// an edge that closes a circle.
 fn check_conditions(policy: &Policy, entry: &Entry) -> Result<(), Refusal>
     ensures { (entries : List Entry) → StandsFor policy.now entries
         → IsGiven entries entry.now
@@ -135,7 +136,7 @@ fn check_conditions(policy: &Policy, entry: &Entry) -> Result<(), Refusal>
     }
 }
 
-/// No session violates a separation set once the command, which this session gives, is accepted.
+/// Refuses a command after which a session would violate a separation set.
 fn check_separation(policy: &Policy, entry: &Entry) -> Result<(), Refusal>
     ensures { (entries : List Entry) → StandsFor policy.now entries
         → IsGiven entries entry.now
@@ -168,7 +169,7 @@ fn check_separation(policy: &Policy, entry: &Entry) -> Result<(), Refusal>
     }
 }
 
-/// There is room in the table in which the command makes something.
+/// Refuses a command for whose new row its table has no room.
 fn check_tables(policy: &Policy, command: &AdminCommand) -> Result<(), Refusal>
     ensures { (entries : List Entry) → StandsFor policy.now entries
         → Checks (table_rules entries command.now) result }

@@ -1,5 +1,6 @@
 -- The places of sets that are made of others.
-use Rattle.std.proofs.Common.{◌≡◌, ℕ, zero, suc, ◌≤◌, ◌<◌, ◌/◌, ◌%◌, ◌^◌, ◌⊎◌, ◌↔◌, inl, inr, arith, sym, ◌∙◌, subst, refl}
+use Rattle.std.proofs.Common.{◌≡◌, ℕ, zero, suc, ◌≤◌, ◌<◌, ◌/◌, ◌%◌, ◌^◌, ◌⊎◌, ◌↔◌, inl, inr, arith, sym, ◌∙◌, subst}
+use Rattle.std.proofs.Common.{refl}
 use Rattle.std.specs.Int.{bit_at}
 use Rattle.std.specs.Int.Bits.{bit_or, bit_xor}
 use Rattle.std.proofs.lemmas.Nat.{or_lt, xor_lt}

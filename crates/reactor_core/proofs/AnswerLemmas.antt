@@ -19,7 +19,7 @@ use Rattle.reactor_core.specs.Answers.{LoadAnswer}
 use Rattle.reactor_core.specs.Converting.{all_converted}
 use Rattle.reactor_core.specs.Faults.{refusal_of_pending}
 use Rattle.reactor_core.specs.Instants.{SettledInstant, AddsInstant, CommitAnswer, OpenAnswer}
-use Rattle.reactor_core.specs.Meaning.{Running, Runs, pending_of, entry}
+use Rattle.reactor_core.specs.Meaning.{Running, RunsAfter, pending_of, entry}
 use Rattle.reactor_core.specs.Standing.{pending_inputs, JoinsAs, RefusesName, RefusesInstant}
 use Rattle.reactor_core.proofs.Converting.{convert}
 use Rattle.reactor_core.proofs.Joining.{no_err, no_ok, same_err}
@@ -40,7 +40,7 @@ pub entry_passes : {Refused : Refusal → Type 0} {Accepted : Type 0} (journal :
     → Answers (entry_rules journal) Refused Accepted
 entry_passes journal room h = pass room (pass (record {}) h)
 
-module _ (journal : List SlotEntry) (m : Module) (r : Running) (runs : Runs journal r)
+module _ (journal : List SlotEntry) (m : Module) (r : Running) (runs : RunsAfter journal r)
     (is : pending_of r ≡ pending_inputs m r.pending) where
   -- what is answered to an offer, and the journal afterwards
   abbrev Told : Result (Unit {0}) Refusal → List SlotEntry → Refusal → Type 0

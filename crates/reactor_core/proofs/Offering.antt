@@ -12,7 +12,8 @@ use Rattle.reactor_core.specs.declared.entry.Stamp.{Stamp}
 use Rattle.reactor_core.specs.declared.entry.Action.{Action}
 use Rattle.reactor_core.specs.declared.entry.Action.TheVariants.{Load, Offer, Discard, Step, Unload}
 use Rattle.reactor_core.specs.declared.entry.SlotEntry.{SlotEntry}
-use Rattle.reactor_core.specs.Meaning.{entry, after_all, offers_after, offers_of, with_signal, mask_of, Running, Runs}
+use Rattle.reactor_core.specs.Meaning.{entry, after_all, offers_after, offers_of, with_signal, mask_of, Running}
+use Rattle.reactor_core.specs.Meaning.{RunsAfter}
 use Rattle.reactor_core.specs.Instants.{AddsInstant}
 use Rattle.reactor_core.specs.Offers.{KeepsOffers, IsOffered, IsOfferedAt, TakesOffers}
 use Rattle.reactor_core.proofs.Steps.{no_bits, with_bits}
@@ -167,7 +168,7 @@ in_mask interface (n ∷ names) place name signal (inr among) =
 
 -- ---- the law
 
-pub pending_is_offered : (journal : List SlotEntry) (r : Running) (place : ℕ) → Runs journal r
+pub pending_is_offered : (journal : List SlotEntry) (r : Running) (place : ℕ) → RunsAfter journal r
     → (bits r.pending place ≡ true) ↔ IsOfferedAt journal r.interface place
 pending_is_offered journal r place runs = (
   λ on.

@@ -18,7 +18,7 @@ use Rattle.reactor_core.specs.declared.entry.Action.TheVariants.{Load, Offer, Di
 use Rattle.reactor_core.specs.declared.entry.SlotEntry.{SlotEntry}
 use Rattle.reactor_core.specs.Loading.{GivenModule}
 use Rattle.reactor_core.specs.Reacting.{ReactsWith}
-use Rattle.reactor_core.specs.Meaning.{entry, instant, ModuleOf, Running, Runs, Leaves, loaded, offered, discarded}
+use Rattle.reactor_core.specs.Meaning.{entry, instant, ModuleOf, Running, RunsAfter, Leaves, loaded, offered, discarded}
 use Rattle.reactor_core.specs.Meaning.{stepped, is_loaded, mask_of, offers_of, pending_of}
 use Rattle.reactor_core.specs.Instants.{IsOutcome, HasNoOutcome, LacksImplied, KeepsRelations}
 
@@ -48,7 +48,8 @@ abbrev module_of : (r : Running) → Term → GivenModule
 module_of r term = record { interface = r.interface; relations = r.relations; term = term }
 
 -- one module runs at most
-pub same_running : OneModule → (journal : List SlotEntry) (r s : Running) → Runs journal r → Runs journal s → r ≡ s
+pub same_running : OneModule → (journal : List SlotEntry) (r s : Running) → RunsAfter journal r → RunsAfter journal s
+    → r ≡ s
 same_running modules journal r s one other =
     let load : one.load ≡ other.load = same_Some one.load other.load (sym one.last ∙ other.last) in
     let is : ModuleOf other.load (module_of r one.term) =
@@ -62,7 +63,7 @@ same_running modules journal r s one other =
     (one.past ∙ sym other.past)
 
 -- what runs is loaded
-pub is_loaded_where : (journal : List SlotEntry) (r : Running) → Runs journal r → is_loaded journal ≡ true
+pub is_loaded_where : (journal : List SlotEntry) (r : Running) → RunsAfter journal r → is_loaded journal ≡ true
 is_loaded_where journal r runs = ap is_some runs.last
 
 -- two reactions of what runs emit the same signals and leave the same term
@@ -73,7 +74,8 @@ same_reaction r s t u next rest a b runs terms one other =
     let same : ReactsWith r.interface t r.pending b rest =
     subst (λ (m : Running). ReactsWith m.interface t m.pending b rest) (sym runs)
     (subst (λ (v : Term). ReactsWith s.interface v s.pending b rest) (sym terms) other) in
-    let g = one_reaction (judged_signals r.interface (bits r.pending)) (bits r.pending) t (bits a) next (bits b) rest one same in
+    let g = one_reaction (judged_signals r.interface (bits r.pending)) (bits r.pending) t (bits a) next
+    (bits b) rest one same in
     ((λ n. ap (λ (f : ℕ → Bool). f n) g.shown), g.next)
 
 -- a step of the term that is left leaves this one
@@ -81,7 +83,7 @@ record StepLeaves (before : List SlotEntry) (inputs : ℕ) (next : Term) : Type 
   term : Term
   leaves : Leaves before term
   r : Running
-  running : Runs before r
+  running : RunsAfter before r
   outputs : ℕ
   reacts : ReactsWith r.interface term r.pending outputs next
 
@@ -150,7 +152,7 @@ one_term modules _ _ u (stepped before term k r running outputs next reacts stam
     let terms : term ≡ x.term = one_term modules before term x.term k
     (subst (λ (b : List SlotEntry). Leaves b x.term) (sym s.0) x.leaves) in
     let runs : r ≡ x.r = same_running modules before r x.r running
-    (subst (λ (b : List SlotEntry). Runs b x.r) (sym s.0) x.running) in
+    (subst (λ (b : List SlotEntry). RunsAfter b x.r) (sym s.0) x.running) in
     (same_reaction r x.r term x.term next u outputs x.outputs runs terms reacts x.reacts).1
 
 -- the next instant has one outcome at most

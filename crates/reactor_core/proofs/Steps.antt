@@ -26,7 +26,7 @@ use Rattle.reactor_core.specs.declared.loaded.Module.{Module}
 use Rattle.reactor_core.specs.declared.refusal.Refusal.TheVariants.{Module as OfModule}
 use Rattle.reactor_core.specs.declared.refusal.ModuleRefusal.TheVariants.{NoInstant}
 use Rattle.reactor_core.specs.Meaning.{entry, instant, after_all, load_after, instants_after, offers_after, offers_of}
-use Rattle.reactor_core.specs.Meaning.{with_signal, mask_of, ModuleOf, Running, Runs, Leaves, loaded, offered}
+use Rattle.reactor_core.specs.Meaning.{with_signal, mask_of, ModuleOf, Running, RunsAfter, Leaves, loaded, offered}
 use Rattle.reactor_core.specs.Meaning.{discarded, stepped, is_loaded}
 use Rattle.reactor_core.specs.Standing.{IsRunning, IsNext, AreKept, JoinsAs, given_by, pending_inputs}
 use Rattle.reactor_core.specs.Instants.{IsOutcome, HasNoOutcome, AddsInstant}
@@ -74,7 +74,7 @@ running m pending instants =
 
 module _ {journal : List SlotEntry} {m : Module} {state : State} {pending : ℕ} {instants : List PastInstant} where
   -- the module of a reactor's parts runs
-  pub runs_here : (i : IsRunning journal m state pending instants) → Runs journal (running m pending instants)
+  pub runs_here : (i : IsRunning journal m state pending instants) → RunsAfter journal (running m pending instants)
   runs_here i = record {
     load = i.load;
     last = i.last;

@@ -16,7 +16,7 @@ use Rattle.reactor_core.specs.declared.reactor.Shown.{Shown}
 use Rattle.reactor_core.specs.Converting.{all_converted}
 use Rattle.reactor_core.specs.Faults.{refusal_of_pending}
 use Rattle.reactor_core.specs.Loading.{GivenModule, Gives, IsLoadFault}
-use Rattle.reactor_core.specs.Meaning.{entry, instants_of, Running, Runs, pending_of}
+use Rattle.reactor_core.specs.Meaning.{entry, instants_of, Running, RunsAfter, pending_of}
 
 -- the journal may take another entry
 abbrev pub HasRoom : List SlotEntry → Type 0
@@ -45,7 +45,7 @@ offer_rules journal r name = all_converted refusal_of_pending (pending_rules (pe
 pub record OfferAnswer (before : List SlotEntry) (stamp : Stamp) (name : List ℕ) (answer : Result (Unit {0}) Refusal)
     (after : List SlotEntry) : Type 0 where
   pub running : Running
-  pub runs : Runs before running
+  pub runs : RunsAfter before running
   pub given : Answers (offer_rules before running name)
       (λ refusal. (answer ≡ Err refusal) × (after ≡ before))
       ((answer ≡ Ok (record {})) × (after ≡ before ++ entry stamp (Offer name) ∷ []))

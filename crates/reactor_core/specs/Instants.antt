@@ -13,14 +13,14 @@ use Rattle.reactor_core.specs.declared.entry.SlotEntry.{SlotEntry}
 use Rattle.reactor_core.specs.declared.refusal.Refusal.{Refusal}
 use Rattle.reactor_core.specs.Faults.{implied}
 use Rattle.reactor_core.specs.Reacting.{ReactsWith, IsStuck}
-use Rattle.reactor_core.specs.Meaning.{entry, instant, Running, Runs, Leaves, pending_of}
+use Rattle.reactor_core.specs.Meaning.{entry, instant, Running, RunsAfter, Leaves, pending_of}
 use Rattle.reactor_core.specs.Answers.{HasRoom, entry_rules}
 
 -- the outcome of the next instant after these entries: the constructive reaction of the term that is left to the
 -- pending inputs emits these outputs and leaves this term
 pub record IsOutcome (journal : List SlotEntry) (outputs : ℕ) (next : Term) : Type 0 where
   pub running : Running
-  pub runs : Runs journal running
+  pub runs : RunsAfter journal running
   pub term : Term
   pub leaves : Leaves journal term
   pub reacts : ReactsWith running.interface term running.pending outputs next
@@ -29,7 +29,7 @@ pub record IsOutcome (journal : List SlotEntry) (outputs : ℕ) (next : Term) : 
 -- pending inputs, and exactly these outputs stay undecided
 pub record HasNoOutcome (journal : List SlotEntry) (undecided : ℕ) : Type 0 where
   pub running : Running
-  pub runs : Runs journal running
+  pub runs : RunsAfter journal running
   pub term : Term
   pub leaves : Leaves journal term
   pub stuck : IsStuck running.interface term running.pending undecided
@@ -53,13 +53,13 @@ pub record AddsInstant (before : List SlotEntry) (outputs : ℕ) (next : Term) (
 -- hold of them
 pub record LacksImplied (journal : List SlotEntry) (number : ℕ) (missing : List ℕ) : Type 0 where
   pub running : Running
-  pub runs : Runs journal running
+  pub runs : RunsAfter journal running
   pub first : IsFirstImplied (pending_of running) number missing
 
 -- each relation holds of the pending inputs
 pub record KeepsRelations (journal : List SlotEntry) : Type 0 where
   pub running : Running
-  pub runs : Runs journal running
+  pub runs : RunsAfter journal running
   pub lawful : AreLawful running.relations (bits running.pending)
 
 -- refuses where the pending inputs lack an implied one, with the refusal of the relation's number and the signal's

@@ -94,7 +94,7 @@ pending_of r = record { interface = r.interface; relations = r.relations; mask =
 
 -- this is what runs after these entries: the module of the last load, with what was offered and the instants since
 -- then. There is one such at most
-pub record Runs (journal : List SlotEntry) (r : Running) : Type 0 where
+pub record RunsAfter (journal : List SlotEntry) (r : Running) : Type 0 where
   pub load : LoadEntry
   pub last : last_load journal ≡ Some load
   pub term : Term
@@ -112,6 +112,6 @@ pub data Leaves : List SlotEntry → Term → Type 0 where
       → (stamp : Stamp) → (name : List ℕ) → Leaves (before ++ entry stamp (Offer name) ∷ []) term
   discarded : (before : List SlotEntry) → (term : Term) → Leaves before term
       → (stamp : Stamp) → Leaves (before ++ entry stamp Discard ∷ []) term
-  stepped : (before : List SlotEntry) → (term : Term) → Leaves before term → (r : Running) → Runs before r
+  stepped : (before : List SlotEntry) → (term : Term) → Leaves before term → (r : Running) → RunsAfter before r
       → (outputs : ℕ) → (next : Term) → ReactsWith r.interface term r.pending outputs next
       → (stamp : Stamp) → Leaves (before ++ entry stamp (Step (instant r.pending outputs)) ∷ []) next

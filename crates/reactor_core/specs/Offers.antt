@@ -8,7 +8,7 @@ use Rattle.reactor_core.specs.declared.entry.Action.{Action}
 use Rattle.reactor_core.specs.declared.entry.Action.TheVariants.{Offer, Step}
 use Rattle.reactor_core.specs.declared.entry.SlotEntry.{SlotEntry}
 use Rattle.est_relations.specs.Offers.{place_of}
-use Rattle.reactor_core.specs.Meaning.{entry, instant, Running, Runs}
+use Rattle.reactor_core.specs.Meaning.{entry, instant, Running, RunsAfter}
 
 -- the action takes no offer away: it is an offer itself, and no load, discard, step or unload
 abbrev pub KeepsOffers : Action → Type 0
@@ -32,7 +32,7 @@ pub record IsOfferedAt (journal : List SlotEntry) (interface : List Declaration)
 -- the step's entry is added, and its inputs are exactly the signals that are offered
 pub record TakesOffers (before : List SlotEntry) (stamp : Stamp) (outputs : ℕ) (after : List SlotEntry) : Type 0 where
   pub running : Running
-  pub runs : Runs before running
+  pub runs : RunsAfter before running
   pub inputs : ℕ
   pub added : after ≡ before ++ entry stamp (Step (instant inputs outputs)) ∷ []
   pub exactly : (place : ℕ) → (bits inputs place ≡ true) ↔ IsOfferedAt before running.interface place

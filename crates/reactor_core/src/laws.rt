@@ -10,7 +10,7 @@ ghost use Rattle.reactor_core.specs.declared.refusal.ModuleRefusal.{ModuleRefusa
 ghost use Rattle.reactor_core.specs.declared.refusal.Refusal.{Refusal};
 ghost use Rattle.reactor_core.specs.declared.refusal.Refusal.TheVariants.{Memory};
 ghost use Rattle.reactor_core.specs.Loading.{GivenModule, Gives, IsLoadFault};
-ghost use Rattle.reactor_core.specs.Meaning.{ModuleOf, Running, Runs, Leaves};
+ghost use Rattle.reactor_core.specs.Meaning.{ModuleOf, Running, RunsAfter, Leaves};
 ghost use Rattle.reactor_core.specs.Instants.{IsOutcome, HasNoOutcome, AddsInstant, LacksImplied};
 ghost use Rattle.reactor_core.specs.Instants.{KeepsRelations};
 ghost use Rattle.reactor_core.specs.Offers.{IsOfferedAt, TakesOffers};
@@ -47,7 +47,8 @@ pub fn one_load()
 /// After a journal one module runs at most, with one mask of pending inputs and one list of
 /// instants.
 pub fn one_running()
-    ensures { (journal : List SlotEntry) (r s : Running) → Runs journal r → Runs journal s → r ≡ s }
+    ensures { (journal : List SlotEntry) (r s : Running) → RunsAfter journal r → RunsAfter journal s
+        → r ≡ s }
 {
     one_module();
 }
@@ -91,7 +92,7 @@ pub fn ready_or_lacking()
 /// A signal is pending exactly when an offer of it was accepted and no load, discard, step or
 /// unload since; and those are the inputs of the next step.
 pub fn inputs_are_offered()
-    ensures pending { (journal : List SlotEntry) (r : Running) (place : ℕ) → Runs journal r
+    ensures pending { (journal : List SlotEntry) (r : Running) (place : ℕ) → RunsAfter journal r
         → (bits r.pending place ≡ true) ↔ IsOfferedAt journal r.interface place }
     ensures taken { (before : List SlotEntry) (outputs : ℕ) (next : Term) (stamp : Stamp)
         (after : List SlotEntry)

@@ -5,7 +5,7 @@ ghost use Rattle.est_kernel.specs.Bits.{bits};
 ghost use Rattle.est_kernel.specs.Interfaces.{offerable};
 ghost use Rattle.est_meaning.specs.Knowledge.{IsIn};
 ghost use Rattle.est_text.specs.Identifiers.{is_identifier};
-ghost use Rattle.reactor_core.specs.Meaning.{Running, Runs, ModuleOf, is_loaded, instants_of};
+ghost use Rattle.reactor_core.specs.Meaning.{Running, RunsAfter, ModuleOf, is_loaded, instants_of};
 ghost use Rattle.reactor_core.specs.Meaning.{entry};
 ghost use Rattle.reactor_core.specs.Loading.{IsLoadFault};
 ghost use Rattle.reactor_core.specs.Standing.{given_by};
@@ -99,7 +99,7 @@ fn read_load(alloc: Global, main: &str, text: &str) -> Result<(Load, Module, Mod
 impl Reactor {
     /// The interface of the module that runs.
     pub fn interface(&self) -> &Interface
-        ensures { (r : Running) × Runs self.now r × (result.now ≡ r.interface) }
+        ensures { (r : Running) × RunsAfter self.now r × (result.now ≡ r.interface) }
     {
         self.parts.loaded.kernel.interface()
     }
@@ -145,8 +145,8 @@ impl Reactor {
     /// The inputs that are offered and not yet taken by a step, as a mask over the interface in the
     /// order of declaration.
     pub fn pending(&self) -> u64
-        ensures mask { (r : Running) × Runs self.now r × (result ≡ r.pending) }
-        ensures inputs { (r : Running) × Runs self.now r
+        ensures mask { (r : Running) × RunsAfter self.now r × (result ≡ r.pending) }
+        ensures inputs { (r : Running) × RunsAfter self.now r
             × IsIn (bits result) (offerable r.interface) }
     {
         self.parts.pending

@@ -7,8 +7,9 @@
 //! this reader had seen and all that the caller's seat knew, and that is no shorter than the seat's
 //! seen number; else it is refused as Behind. Whenever a lock is free its journal is legal over the
 //! list that its reader has seen. A reply that tells a place leaves its receipt with the seat
-//! (`receipts`). When the server is closed (`closing`), its journals are given out where one list
-//! of events has them and the receipts of all seats as its parts. No clause says that a wait ends.
+//! (`receipts`). When the server is closed (`closing`), its journals are given out only if they
+//! and the receipts of all seats are the parts of one list of events. No clause says that a wait
+//! ends.
 #![tactic(auto)]
 
 pub mod closing;

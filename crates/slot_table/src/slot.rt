@@ -105,7 +105,7 @@ fn read_and_decide<B: BoardName, const NUMBER: u8, R: Wait>(
 }
 
 impl<B: BoardName, const NUMBER: u8> LockedSlot<B, NUMBER> {
-    /// An empty slot, whose reader has seen what it has.
+    /// An empty slot with this reader.
     pub fn new(alloc: Global, reader: SlotReader<B>) -> LockedSlot<B, NUMBER>
         requires { NUMBER < SLOTS }
         ensures { result ≡ record { list = reader; journal = [] } }
@@ -145,8 +145,8 @@ impl<B: BoardName, const NUMBER: u8> LockedSlot<B, NUMBER> {
         reply
     }
 
-    /// Hands the reader back to the board, and gives the journal. It is legal over the policy list,
-    /// or the reader has seen more of that.
+    /// Hands the reader back to the board, and gives the journal. The journal is legal over the
+    /// policy list, unless the reader has seen more entries than that list has.
     pub fn end(self, board: &mut Closed<B>) -> (Journal, Result<(), Mismatch>)
         ensures journal { result.0 ≡ self.journal }
         ensures seen { IsLegal self.list NUMBER self.journal }

@@ -1,5 +1,6 @@
 -- What becomes of the seats of workers that take turns (this project's own form).
-use Rattle.std.specs.Prelude.{◌≡◌, List, [], ◌∷◌, ◌++◌}
+use Rattle.std.specs.Prelude.{◌≡◌, ℕ, ◌+◌, ◌≤◌, List, Bool, true}
+use Rattle.std.specs.List.{AllZip}
 use Rattle.worker_threads.specs.declared.workers.Turn.{Turn}
 use Rattle.worker_threads.specs.declared.workers.Turn.TheVariants.{Taken, Over}
 
@@ -8,13 +9,25 @@ abbrev pub IsTurn : {Seat : Type 0} → (turn : Seat → Seat → Type 0) → (b
 IsTurn turn before (Taken after) = turn before after
 IsTurn turn before (Over after) = after ≡ before
 
--- any number of turns, each from where the one before it left the seat
-pub data Turns {Seat : Type 0} (turn : Seat → Seat → Type 0) : (before after : Seat) → Type 0 where
-  none_yet : (seat : Seat) → Turns turn seat seat
-  one_more : (before now after : Seat) → Turns turn before now → turn now after → Turns turn before after
+-- n turns, each from where the one before it left the seat
+pub data Turns {Seat : Type 0} (turn : Seat → Seat → Type 0) : (count : ℕ) → (before after : Seat) → Type 0 where
+  none_yet : (seat : Seat) → Turns turn 0 seat seat
+  one_more : (count : ℕ) (before now after : Seat) → Turns turn count before now → turn now after
+      → Turns turn (count + 1) before after
 
--- every seat comes back, in order: each after any number of turns of the seat that was at its place
-pub data AreBack {Seat : Type 0} (turn : Seat → Seat → Type 0) : (before after : List Seat) → Type 0 where
-  no_seat : AreBack turn [] []
-  next_seat : (before after : List Seat) (old new : Seat) → AreBack turn before after → Turns turn old new
-      → AreBack turn (before ++ old ∷ []) (after ++ new ∷ [])
+-- any number of turns
+abbrev pub SomeTurns : {Seat : Type 0} → (turn : Seat → Seat → Type 0) → (before after : Seat) → Type 0
+SomeTurns turn before after = (count : ℕ) × Turns turn count before after
+
+-- a worker took no more turns than it was to take; and exactly as many, where all were taken
+pub record TakesTurns {Seat : Type 0} (turn : Seat → Seat → Type 0) (turns : ℕ) (all : Bool)
+    (before after : Seat) : Type 0 where
+  pub count : ℕ
+  pub taken : Turns turn count before after
+  pub most : count ≤ turns
+  pub exactly : all ≡ true → count ≡ turns
+
+-- every seat comes back, in order, after the turns that its worker took
+abbrev pub AreBack : {Seat : Type 0} → (turn : Seat → Seat → Type 0) → (turns : ℕ) → (all : Bool)
+    → (before after : List Seat) → Type 0
+AreBack turn turns all before after = AllZip (λ old new. TakesTurns turn turns all old new) before after

@@ -10,4 +10,5 @@ use Rattle.est_checks.specs.declared.module_emissions.Sent.{Sent}
 
 -- the names are those of the table, and what is kept of each module is what it emits
 abbrev pub Keeps : Sent → NameTable → List Kept → Type 0
-Keeps v t ks = (t ≡ v.names.now) × (ks ≡ v.kept.now) × AreKept t (sent_by (map program_of v.heads.now) (emitted_of v.table.now)) ks
+Keeps v t ks = (t ≡ v.names.now) × (ks ≡ v.kept.now) × AreKept t
+    (sent_by (map program_of v.heads.now) (emitted_of v.table.now)) ks

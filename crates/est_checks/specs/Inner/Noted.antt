@@ -1,5 +1,6 @@
 -- What has been noted of what a module emits (this project's own form).
-use Rattle.std.specs.Prelude.{ℕ, List, Bool, true, false, not, ◌&&◌, ◌||◌, Option, Some, None, if◌then◌else◌, fold, slice_set, slice_index_or, nat_lt, length}
+use Rattle.std.specs.Prelude.{ℕ, List, Bool, true, false, not, ◌&&◌, ◌||◌, Option, Some, None, if◌then◌else◌, fold}
+use Rattle.std.specs.Prelude.{slice_set, slice_index_or, nat_lt, length}
 use Rattle.std.specs.List.{list_any, find}
 use Rattle.std.specs.Str.{bytes_eq}
 use Rattle.est_syntax.specs.Tree.{RenamingTree}
@@ -35,7 +36,8 @@ is_noted t k s = in_row k.row (number_in t s) || k.others s
 
 -- the row after a look at a number whose name goes, or doesn't
 abbrev pub row_with : List Bool → ℕ → Bool → List Bool
-row_with row i goes = if (nat_lt i (length row) && not (slice_index_or row i false)) && goes then slice_set row i true else row
+row_with row i goes = if (nat_lt i (length row) && not (slice_index_or row i false))
+    && goes then slice_set row i true else row
 
 -- the row after a run, by the numbers of its names
 abbrev pub row_by_numbers : List RenamingTree → OpenNames → List Bool → List ℕ → List Bool
@@ -56,7 +58,10 @@ row_by_names t bs rs row names = fold (λ r n. row_at r (number_in t n) (goes bs
 
 -- a run emits the name as the caller's name of a signal that it renames
 abbrev pub sends_renamed : (List ℕ → List ℕ → Bool) → Program → List RenamingTree → List ℕ → Bool
-sends_renamed emitted q rs s = list_any (λ (r : RenamingTree). (is_declared q.interface r.inner && emitted q.name r.inner) && bytes_eq (renamed rs r.inner) s) rs
+sends_renamed emitted q rs s =
+    list_any
+    (λ (r : RenamingTree). (is_declared q.interface r.inner && emitted q.name r.inner)
+    && bytes_eq (renamed rs r.inner) s) rs
 
 -- what is kept of the module of a name
 abbrev pub kept_named : List Kept → List ℕ → Option Kept
@@ -65,20 +70,26 @@ kept_named ks m = find (λ (k : Kept). bytes_eq k.module_name m) ks
 -- the names of a run are noted: in the row, where what the module emits is kept
 abbrev pub noted_names : NameTable → List Binder → List RenamingTree → List (List ℕ) → Noted → Option Kept → Noted
 noted_names t bs rs names k (Some kept) = record { row = row_by_names t bs rs k.row names; others = k.others }
-noted_names t bs rs names k None = record { row = k.row; others = λ s. k.others s || (goes bs rs s && stands_in names s) }
+noted_names t bs rs names k None =
+    record { row = k.row; others = λ s. k.others s || (goes bs rs s && stands_in names s) }
 
 -- the caller's names of signals that the run renames are noted
 abbrev pub noted_renamed : (List ℕ → List ℕ → Bool) → List Binder → List RenamingTree → Program → Noted → Noted
-noted_renamed emitted bs rs q k = record { row = k.row; others = λ s. k.others s || (not (is_local bs s) && sends_renamed emitted q rs s) }
+noted_renamed emitted bs rs q k =
+    record { row = k.row; others = λ s. k.others s || (not (is_local bs s) && sends_renamed emitted q rs s) }
 
 -- what is noted after a run, where these names are kept
-abbrev pub noted_run : List Program → (List ℕ → List ℕ → Bool) → NameTable → List Kept → Noted → List Binder → List RenamingTree → Option Program → Noted
+abbrev pub noted_run : List Program → (List ℕ → List ℕ → Bool) → NameTable → List Kept → Noted → List Binder
+    → List RenamingTree → Option Program → Noted
 noted_run ps emitted t ks k bs rs None = k
-noted_run ps emitted t ks k bs rs (Some q) = noted_renamed emitted bs rs q (noted_names t bs rs (sent_by ps emitted q.name) k (kept_named ks q.name))
+noted_run ps emitted t ks k bs rs (Some q) = noted_renamed emitted bs rs q
+    (noted_names t bs rs (sent_by ps emitted q.name) k (kept_named ks q.name))
 
 -- what is noted after an act
-abbrev pub noted_act : List Program → (List ℕ → List ℕ → Bool) → NameTable → List Kept → Noted → List Binder → Act → Noted
-noted_act ps emitted t ks k bs (emits n) = record { row = k.row; others = λ s. k.others s || (not (is_local bs s) && bytes_eq n s) }
+abbrev pub noted_act : List Program → (List ℕ → List ℕ → Bool) → NameTable → List Kept → Noted → List Binder → Act
+    → Noted
+noted_act ps emitted t ks k bs (emits n) =
+    record { row = k.row; others = λ s. k.others s || (not (is_local bs s) && bytes_eq n s) }
 noted_act ps emitted t ks k bs (tests s) = k
 noted_act ps emitted t ks k bs (exits n) = k
 noted_act ps emitted t ks k bs (binds ns) = k

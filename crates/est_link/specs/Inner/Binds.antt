@@ -9,4 +9,5 @@ use Rattle.est_link.specs.declared.bindings.Binding.{Binding}
 
 -- those of a value of the code
 abbrev pub binding_of : Binding → List Query
-binding_of b = interface_bound (program_of b.home.now) (binders_of b.scope.now) (map renaming_view b.renamings.now) b.interface.now
+binding_of b = interface_bound (program_of b.home.now) (binders_of b.scope.now)
+    (map renaming_view b.renamings.now) b.interface.now

@@ -12,8 +12,10 @@ IsClosed ps set = (runner run : ℕ) → Contains set runner → IsRun (run_rows
 
 -- the set has, with each module from this place in an order on, those that it runs
 abbrev pub IsClosedFrom : List Program → (order : List ℕ) → ℕ → List ℕ → Type 0
-IsClosedFrom ps order n set = (i : ℕ) → n ≤ i → i < length order → Contains set (slice_index order i) → (run : ℕ) → IsRun (run_rows ps) (slice_index order i) run → Contains set run
+IsClosedFrom ps order n set = (i : ℕ) → n ≤ i → i < length order → Contains set (slice_index order i) → (run : ℕ)
+    → IsRun (run_rows ps) (slice_index order i) run → Contains set run
 
 -- the names have those of the set's modules among the first so many of an order
 abbrev pub HasFront : List Program → List ℕ → (order : List ℕ) → ℕ → List (List ℕ) → Type 0
-HasFront ps set order n names = (i : ℕ) → i < n → Contains set (slice_index order i) → (p : Program) → slice_get ps (slice_index order i) ≡ Some p → is_listed names p.name ≡ true
+HasFront ps set order n names = (i : ℕ) → i < n → Contains set (slice_index order i) → (p : Program)
+    → slice_get ps (slice_index order i) ≡ Some p → is_listed names p.name ≡ true

@@ -35,4 +35,5 @@ pub record IsMade (ps : List Program) (es : List Linked) (e : Linked) : Type 0 w
 -- a table whose bodies were made one after another
 pub data AreMade (ps : List Program) : List Linked → Type 0 where
   none : AreMade ps []
-  next : {all : List Linked} (es : List Linked) (e : Linked) → all ≡ es ++ e ∷ [] → AreMade ps es → IsMade ps es e → AreMade ps all
+  next : {all : List Linked} (es : List Linked) (e : Linked) → all ≡ es ++ e ∷ [] → AreMade ps es → IsMade ps es e
+      → AreMade ps all

@@ -1,5 +1,7 @@
--- Sets of places, as a list that has for each place whether it is in the set, and the search for what a module leads to.
-use Rattle.std.specs.Prelude.{◌≡◌, ℕ, ◌<◌, ◌⊎◌, ◌↔◌, ◌&&◌, Bool, true, false, not, List, [], ◌∷◌, ◌++◌, if◌then◌else◌, length, map, slice_index_or, slice_set, nat_lt, ◌+◌, fold, count_by, Contains, All}
+-- Sets of places, as a list that has for each place whether it is in the set, and the search for what a module leads
+-- to.
+use Rattle.std.specs.Prelude.{◌≡◌, ℕ, ◌<◌, ◌⊎◌, ◌↔◌, ◌&&◌, Bool, true, false, not, List, [], ◌∷◌, ◌++◌, if◌then◌else◌}
+use Rattle.std.specs.Prelude.{length, map, slice_index_or, slice_set, nat_lt, ◌+◌, fold, count_by, Contains, All}
 use Rattle.std.specs.List.{range_with_len}
 use Rattle.est_modules.specs.RunRows.{IsRun, Leads}
 use Rattle.est_modules.specs.declared.place_order.Ranked.{Ranked}
@@ -17,7 +19,8 @@ pub record IsReach (rows : List (List ℕ)) (place : ℕ) (set : List Bool) : Ty
   pub each : length set ≡ length rows
   pub exact : (to : ℕ) → IsIn set to ↔ Leads rows place to
 
--- what the search has: the places that it has seen, and of these (and of the first) those that wait for their runs to be followed
+-- what the search has: the places that it has seen, and of these (and of the first) those that wait for their runs to
+-- be followed
 pub record Search : Type 0 where
   pub seen : List Bool
   pub waiting : List ℕ

@@ -24,20 +24,24 @@ enum Act {
 const LAST_ACTS: [(&str, Act); 7] = [
     // a local signal that is nearer than the interface
     (
-        "module M: output S; signal S in run P end end module module P: output S; emit S end module",
+        "module M: output S; signal S in run P end end module module P: output S; \
+        emit S end module",
         Act::Emits(BoundSignal::Inner(0)),
     ),
     (
-        "module M: output S; signal A, B in signal T in run P end end; run P end module module P: output S; emit S end module",
+        "module M: output S; signal A, B in signal T in run P end end; run P end module \
+        module P: output S; emit S end module",
         Act::Emits(BoundSignal::Outer(0)),
     ),
     // a renaming, and a local signal of the module that is run
     (
-        "module M: output A, B, S; run P [signal B/S] end module module P: output S; emit S end module",
+        "module M: output A, B, S; run P [signal B/S] end module module P: output S; \
+        emit S end module",
         Act::Emits(BoundSignal::Outer(1)),
     ),
     (
-        "module M: signal A, B in run P [signal B/S] end end module module P: output S; signal T in emit T end end module",
+        "module M: signal A, B in run P [signal B/S] end end module module P: output S; \
+        signal T in emit T end end module",
         Act::Emits(BoundSignal::Inner(2)),
     ),
     // runs in modules that are run

@@ -94,12 +94,14 @@ const BEHIND_ORDER: [(&str, Kind, &str); 23] = [
         "Z",
     ),
     (
-        "module M: output A, B; run N [signal A/Y, B/Z, A/Y] end module module N: input Y; nothing end module",
+        "module M: output A, B; run N [signal A/Y, B/Z, A/Y] end module module N: input Y; \
+        nothing end module",
         Kind::Rename,
         "Y",
     ),
     (
-        "module M: output A, B; run N [signal A/Y, B/Z] end module module N: input Y; nothing end module",
+        "module M: output A, B; run N [signal A/Y, B/Z] end module module N: input Y; \
+        nothing end module",
         Kind::Rename,
         "Z",
     ),
@@ -152,17 +154,20 @@ const BEHIND_ORDER: [(&str, Kind, &str); 23] = [
     ),
     // a left name; then the interface names of the module in their order, of which one is renamed
     (
-        "module M: output B; run N [signal X/B] end module module N: output A, B; nothing end module",
+        "module M: output B; run N [signal X/B] end module module N: output A, B; \
+        nothing end module",
         Kind::Unknown,
         "X",
     ),
     (
-        "module M: output X; run N [signal X/B] end module module N: output A, B, C; nothing end module",
+        "module M: output X; run N [signal X/B] end module module N: output A, B, C; \
+        nothing end module",
         Kind::Unknown,
         "A",
     ),
     (
-        "module M: output A; signal B in run N end; run N end module module N: output A, B; nothing end module",
+        "module M: output A; signal B in run N end; run N end module module N: output A, B; \
+        nothing end module",
         Kind::Unknown,
         "B",
     ),
@@ -184,7 +189,8 @@ const BEHIND_ORDER: [(&str, Kind, &str); 23] = [
         "A",
     ),
     (
-        "module M: input I; output O; run N [signal O/B, I/A] end module module N: output B, A; emit A end module",
+        "module M: input I; output O; run N [signal O/B, I/A] end module module N: output B, A; \
+        emit A end module",
         Kind::Emit,
         "I",
     ),
@@ -205,12 +211,15 @@ const BEHIND_ORDER: [(&str, Kind, &str); 23] = [
 /// emitted may be one.
 const PASSED: [&str; 6] = [
     "module M: input I; signal I in emit I end end module",
-    "module M: input I; output A; run N [signal I/B] end module module N: output B, A; emit A end module",
+    "module M: input I; output A; run N [signal I/B] end module module N: output B, A; \
+    emit A end module",
     "module M: input I; signal A in run N end end module module N: output A; emit A end module",
     "module M: input A; trap A in exit A end; await immediate tick end module",
-    "module M: output A; signal B in trap T in signal C in run N end; run P end end; signal C, B, A in run N end end module \
+    "module M: output A; signal B in trap T in signal C in run N end; run P end end; signal C, B, \
+    A in run N end end module \
      module N: input C, A, B; nothing end module module P: output B; nothing end module",
-    "module M: input A, B; relation A # A, A => B; run N end module module N: relation X => Y; nothing end module",
+    "module M: input A, B; relation A # A, A => B; run N end module module N: relation X => Y; \
+    nothing end module",
 ];
 
 /// The number of the first lawless relation of M.
@@ -228,7 +237,8 @@ const LAWLESS: [(&str, usize); 4] = [
         2,
     ),
     (
-        "module N: relation X => Y; nothing end module module M: input A; relation A # X; nothing end module",
+        "module N: relation X => Y; nothing end module module M: input A; relation A # X; \
+        nothing end module",
         1,
     ),
 ];

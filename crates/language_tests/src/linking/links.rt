@@ -62,26 +62,30 @@ const FIRST_FAULTS: [(&str, Kind, &str); 20] = [
     // emissions through modules that stand after those that run them, and in one that main doesn't
     // run
     (
-        "module M: input I; run N [signal I/A] end module module N: output A; run P [signal A/B] end module \
+        "module M: input I; run N [signal I/A] end module module N: output A; \
+        run P [signal A/B] end module \
          module P: output B; emit B end module",
         Kind::Emit,
         "I",
     ),
     (
-        "module M: nothing end module module N: input A; run P [signal A/B] end module module P: output B; sustain B end module",
+        "module M: nothing end module module N: input A; run P [signal A/B] end module \
+        module P: output B; sustain B end module",
         Kind::Emit,
         "A",
     ),
     // an input that a module emits which was run before, inside a `signal` that hides it or with a
     // renaming
     (
-        "module M: input A; run P end module module P: output A; signal A in run N end; run N end module \
+        "module M: input A; run P end module module P: output A; signal A in run N end; run N end \
+        module \
          module N: output A; emit A end module",
         Kind::Emit,
         "A",
     ),
     (
-        "module M: input A; output B; run P end module module P: output A, B; run N [signal B/A]; run N end module \
+        "module M: input A; output B; run P end module module P: output A, B; run N [signal B/A]; \
+        run N end module \
          module N: output A; emit A end module",
         Kind::Emit,
         "A",
@@ -100,12 +104,14 @@ const FIRST_FAULTS: [(&str, Kind, &str); 20] = [
     ),
     // of two renamings of one signal the first is at fault, before one that names no signal
     (
-        "module M: output A, B; run N [signal A/Y, B/Z, B/Y] end module module N: output Y; nothing end module",
+        "module M: output A, B; run N [signal A/Y, B/Z, B/Y] end module module N: output Y; \
+        nothing end module",
         Kind::Rename,
         "Y",
     ),
     (
-        "module M: output A, B; run N [signal A/X, B/Z, B/X] end module module N: output X, Y; nothing end module",
+        "module M: output A, B; run N [signal A/X, B/Z, B/X] end module module N: output X, Y; \
+        nothing end module",
         Kind::Rename,
         "X",
     ),
@@ -145,7 +151,8 @@ const LAWLESS: [(&str, usize); 4] = [
         2,
     ),
     (
-        "module N: input A; relation A # X; nothing end module module M: input I; relation I => I; relation tick # I; run N [signal I/A] end module",
+        "module N: input A; relation A # X; nothing end module module M: input I; relation I => I; \
+        relation tick # I; run N [signal I/A] end module",
         2,
     ),
 ];
@@ -161,14 +168,17 @@ const LINKED: [(&str, usize, usize); 5] = [
     ),
     // a module that main doesn't run is no part of it
     (
-        "module M: input I; output O; await I; emit O end module module N: input A, B, C; relation A => X; nothing end module",
+        "module M: input I; output O; await I; emit O end module module N: input A, B, C; \
+        relation A => X; nothing end module",
         2,
         0,
     ),
     // `tick` is an ordinary name of modules and of traps, and a signal that each module sees
     (
-        "module M: output O; run tick; trap tick in run N [signal tick/A, O/B] || exit tick end end module \
-         module tick: pause end module module N: input A; output B; await immediate A; emit B end module",
+        "module M: output O; run tick; trap tick in run N [signal tick/A, O/B] \
+        || exit tick end end module \
+         module tick: pause end module module N: input A; output B; await immediate A; \
+         emit B end module",
         1,
         0,
     ),

@@ -69,7 +69,8 @@ fn renamings(alloc: Global) -> Result<String, Fail> {
     let mine = listed(alloc, "B", 63)?;
     let runs = renamed_run(alloc)?.repeat(alloc, 120)?;
     Ok(format!(in alloc;
-        "module N:input {theirs};nothing end module module M:input A64,{mine};{runs}nothing end module"
+        "module N:input {theirs};nothing end module module M:input A64,{mine};{runs}nothing end \
+        module"
     )?)
 }
 
@@ -85,7 +86,8 @@ fn runs_inside(alloc: Global, names: u32, runs: usize) -> Result<String, Fail> {
     let names = listed(alloc, "A", names)?;
     let runs = "run N;".repeat(alloc, runs)?;
     Ok(format!(in alloc;
-        "module M:signal {names} in {runs}halt end end module module N:output {names};halt end module"
+        "module M:signal {names} in {runs}halt end end module \
+        module N:output {names};halt end module"
     )?)
 }
 

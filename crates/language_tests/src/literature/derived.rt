@@ -57,11 +57,13 @@ const PAIRS: [(&str, &str); 27] = [
     ),
     (
         "weak abort emit O; pause; emit P when B; emit O",
-        "trap T in [emit O; pause; emit P; exit T || loop pause; present B then exit T end end] end; emit O",
+        "trap T in [emit O; pause; emit P; exit T || loop pause; \
+        present B then exit T end end] end; emit O",
     ),
     (
         "weak abort sustain O when immediate A; emit P",
-        "trap T in [loop emit O; pause end; exit T || loop present A then exit T end; pause end] end; emit P",
+        "trap T in [loop emit O; pause end; exit T || loop present A then exit T end; \
+        pause end] end; emit P",
     ),
     (
         "loop emit O; pause; emit P each A",
@@ -94,28 +96,34 @@ const PAIRS: [(&str, &str); 27] = [
     ),
     (
         "loop present A then emit O end; present B else emit P end; pause end",
-        "loop present A then emit O else nothing end; present B then nothing else emit P end; pause end",
+        "loop present A then emit O else nothing end; present B then nothing else emit P end; \
+        pause end",
     ),
     (
-        "signal S, T in loop present A then emit S end; pause end || loop present S then emit T end; pause end \
+        "signal S, T in loop present A then emit S end; pause end \
+        || loop present S then emit T end; pause end \
          || loop present T then emit O else emit P end; pause end end",
-        "signal S in signal T in loop present A then emit S end; pause end || loop present S then emit T end; pause end \
+        "signal S in signal T in loop present A then emit S end; pause end \
+        || loop present S then emit T end; pause end \
          || loop present T then emit O else emit P end; pause end end end",
     ),
     // exits that leave an abort, a weak abort and a loop, past the traps that these stand for
     (
         "trap T in abort pause; exit T when A; emit O end; emit P",
-        "trap T in trap U in [suspend pause; exit T when A; exit U || loop pause; present A then exit U end end] end; \
+        "trap T in trap U in [suspend pause; exit T when A; exit U || loop pause; \
+        present A then exit U end end] end; \
          emit O end; emit P",
     ),
     (
-        "trap T in weak abort trap V in pause; present B then exit T else exit V end end when A; emit O end; emit P",
+        "trap T in weak abort trap V in pause; present B then exit T else exit V end end when A; \
+        emit O end; emit P",
         "trap T in trap U in [trap V in pause; present B then exit T else exit V end end; exit U \
          || loop pause; present A then exit U end end] end; emit O end; emit P",
     ),
     (
         "trap T in loop emit O; pause; present B then exit T end each A end; emit P",
-        "trap T in loop trap U in [suspend emit O; pause; present B then exit T end; loop pause end when A; exit U \
+        "trap T in loop trap U in [suspend emit O; pause; present B then exit T end; \
+        loop pause end when A; exit U \
          || loop pause; present A then exit U end end] end end end; emit P",
     ),
     // modules that are run
@@ -135,7 +143,8 @@ const PAIRS: [(&str, &str); 27] = [
     ),
     (
         "abort present P then emit O end; pause; present O then emit P end when B; emit P",
-        "trap T in [suspend present P then emit O end; pause; present O then emit P end when B; exit T \
+        "trap T in [suspend present P then emit O end; pause; present O then emit P end when B; \
+        exit T \
          || loop pause; present B then exit T end end] end; emit P",
     ),
 ];
@@ -167,7 +176,8 @@ const TESTS: [(&str, &str); 18] = [
     ),
     (
         "weak abort sustain O when immediate not A; emit P",
-        "trap T in [loop emit O; pause end; exit T || loop present not A then exit T end; pause end] end; emit P",
+        "trap T in [loop emit O; pause end; exit T || loop present not A then exit T end; \
+        pause end] end; emit P",
     ),
     (
         "loop emit O; pause; emit P each A or not B",
@@ -188,7 +198,8 @@ const TESTS: [(&str, &str); 18] = [
     ),
     (
         "suspend loop emit O; pause; emit P; pause end when immediate A and not B; emit O",
-        "suspend [present A and not B then pause end; loop emit O; pause; emit P; pause end] when A and not B; emit O",
+        "suspend [present A and not B then pause end; loop emit O; pause; emit P; \
+        pause end] when A and not B; emit O",
     ),
     // De Morgan's laws, of inputs, and of a signal that is asked before it is known
     (

@@ -22,7 +22,8 @@ struct Program {
 const WAITING: [Program; 8] = [
     // ABRO: O once A and B have come, anew after each R
     Program {
-        text: "module M: input A, B, R; output O; loop [await A || await B]; emit O each R end module",
+        text: "module M: input A, B, R; output O; loop [await A || await B]; \
+        emit O each R end module",
         instants: &[
             ("", Ok("")),
             ("A", Ok("")),
@@ -40,7 +41,8 @@ const WAITING: [Program; 8] = [
     // ABCRO, of modules that wait
     Program {
         text: "module M: input A, B, C, R; output O; \
-            loop [run W [signal A/S] || run W [signal B/S] || run W [signal C/S]]; emit O each R end module \
+            loop [run W [signal A/S] || run W [signal B/S] || run W [signal C/S]]; \
+            emit O each R end module \
             module W: input S; await S end module",
         instants: &[
             ("A B C", Ok("")),
@@ -61,7 +63,8 @@ const WAITING: [Program; 8] = [
     // an edge: A that wasn't there in the instant before
     Program {
         text: "module M: input A; output O; \
-            loop await A; emit O; trap T in loop pause; present A else exit T end end end end end module",
+            loop await A; emit O; trap T in loop pause; present A else exit T end end end end end \
+            module",
         instants: &[
             ("A", Ok("")),
             ("A", Ok("O")),
@@ -90,7 +93,8 @@ const WAITING: [Program; 8] = [
     // a mouse: one click or two before Top
     Program {
         text: "module M: input Click, Top; output Single, Double; \
-            loop await Click; trap T in abort await Top; emit Single; exit T when Click; emit Double end end end module",
+            loop await Click; trap T in abort await Top; emit Single; exit T when Click; \
+            emit Double end end end module",
         instants: &[
             ("", Ok("")),
             ("Click", Ok("")),
@@ -104,8 +108,10 @@ const WAITING: [Program; 8] = [
     },
     // a belt alarm: from End5 to End10 after the key, unless the belt is put on or the key is taken
     Program {
-        text: "module M: input KeyOn, KeyOff, BeltOn, End5, End10; output Start, Alarm; every KeyOn do \
-            abort abort emit Start; await End5; abort sustain Alarm when End10 when BeltOn when KeyOff end end module",
+        text: "module M: input KeyOn, KeyOff, BeltOn, End5, End10; output Start, Alarm; \
+        every KeyOn do \
+            abort abort emit Start; await End5; abort sustain Alarm when End10 when BeltOn when \
+            KeyOff end end module",
         instants: &[
             ("", Ok("")),
             ("KeyOn", Ok("Start")),
@@ -127,7 +133,8 @@ const WAITING: [Program; 8] = [
     // its own bit
     Program {
         text: "module M: input Send, Ack0, Ack1, Timer; output Frame0, Frame1, Ready; \
-            loop run Half [signal Ack0/Ack, Frame0/Frame]; run Half [signal Ack1/Ack, Frame1/Frame] end end module \
+            loop run Half [signal Ack0/Ack, Frame0/Frame]; run Half [signal Ack1/Ack, \
+            Frame1/Frame] end end module \
             module Half: input Send, Ack, Timer; output Frame, Ready; \
             await Send; abort loop emit Frame each Timer when Ack; emit Ready end module",
         instants: &[
@@ -154,7 +161,8 @@ const LEAVING: [Program; 6] = [
     // a runner: each Morning, turns of walking until Second, running until Lap, and a jump
     Program {
         text: "module M: input Morning, Second, Lap; output Walk, Run, Jump; every Morning do \
-            loop weak abort sustain Walk when Second; weak abort sustain Run when Lap; emit Jump end end end module",
+            loop weak abort sustain Walk when Second; weak abort sustain Run when Lap; \
+            emit Jump end end end module",
         instants: &[
             ("", Ok("")),
             ("Second", Ok("")),
@@ -170,11 +178,15 @@ const LEAVING: [Program; 6] = [
     },
     // a reflex game's control part: wait for Ready, then for Delay, then for Stop
     Program {
-        text: "module M: input Coin, Ready, Stop, Delay, Limit; output On, Go, Display, Bell, Tilt, Over; \
+        text: "module M: input Coin, Ready, Stop, Delay, Limit; output On, Go, Display, Bell, \
+        Tilt, Over; \
             every Coin do emit On; trap End in trap Error in \
-            trap Start in every Stop do emit Bell end || await Ready; exit Start || await Limit; exit Error end; \
-            trap Lit in await Delay; exit Lit || await Stop; exit Error || every Ready do emit Bell end end; emit Go; \
-            trap Done in await Stop; emit Display; exit Done || await Limit; exit Error || every Ready do emit Bell end end; \
+            trap Start in every Stop do emit Bell end || await Ready; exit Start || await Limit; \
+            exit Error end; \
+            trap Lit in await Delay; exit Lit || await Stop; exit Error \
+            || every Ready do emit Bell end end; emit Go; \
+            trap Done in await Stop; emit Display; exit Done || await Limit; exit Error \
+            || every Ready do emit Bell end end; \
             emit Over; exit End end; emit Tilt; emit Over end end end module",
         instants: &[
             ("", Ok("")),
@@ -198,7 +210,8 @@ const LEAVING: [Program; 6] = [
     },
     // held up as long as Hold is there
     Program {
-        text: "module M: input Hold; output O, P; suspend loop emit O; pause; emit P; pause end when Hold end module",
+        text: "module M: input Hold; output O, P; suspend loop emit O; pause; emit P; \
+        pause end when Hold end module",
         instants: &[
             ("Hold", Ok("O")),
             ("Hold", Ok("")),
@@ -245,7 +258,8 @@ const LEAVING: [Program; 6] = [
     },
     // of two exits in one instant the outer one counts
     Program {
-        text: "module M: output O, P; trap T in trap U in [exit T || exit U] end; emit O end; emit P end module",
+        text: "module M: output O, P; trap T in trap U in [exit T || exit U] end; emit O end; \
+        emit P end module",
         instants: &[("", Ok("P")), ("", Ok(""))],
     },
 ];
@@ -256,7 +270,8 @@ const CIRCUITS: [Program; 7] = [
     // a signal that is left is not the one that is declared anew
     Program {
         text: "module M: output O, P; \
-            loop signal S in present S then emit O else emit P end; pause; emit S end end end module",
+            loop signal S in present S then emit O else emit P end; pause; \
+            emit S end end end module",
         instants: &[("", Ok("P")), ("", Ok("P")), ("", Ok("P"))],
     },
     // both are asked in one instant, the one that is left and the new one
@@ -269,7 +284,8 @@ const CIRCUITS: [Program; 7] = [
     Program {
         text: "module M: input T; output Low, High; signal C, D in \
             run Bit [signal Low/Q] || run Bit [signal C/T, High/Q, D/C] end end module \
-            module Bit: input T; output Q, C; loop await T; abort sustain Q when T; emit C end end module",
+            module Bit: input T; output Q, C; loop await T; abort sustain Q when T; \
+            emit C end end module",
         instants: &[
             ("", Ok("")),
             ("T", Ok("Low")),
@@ -287,10 +303,14 @@ const CIRCUITS: [Program; 7] = [
     Program {
         text: "module M: input R0, R1, R2, R3, R4, R5; \
             output K0, K1, K2, K3, K4, K5, N0, N1, N2, N3, N4, N5, T0, T1, T2, T3, T4, T5; \
-            run Cell [signal R0/R, T0/T, N0/C, K0/K, N1/N] || run Cell [signal R1/R, T1/T, N1/C, K1/K, N2/N] \
-            || run Cell [signal R2/R, T2/T, N2/C, K2/K, N3/N] || run Cell [signal R3/R, T3/T, N3/C, K3/K, N4/N] \
-            || run Cell [signal R4/R, T4/T, N4/C, K4/K, N5/N] || run Cell [signal R5/R, T5/T, N5/C, K5/K, N0/N] \
-            || loop emit T0; pause; emit T1; pause; emit T2; pause; emit T3; pause; emit T4; pause; emit T5; pause end \
+            run Cell [signal R0/R, T0/T, N0/C, K0/K, N1/N] || run Cell [signal R1/R, T1/T, N1/C, \
+            K1/K, N2/N] \
+            || run Cell [signal R2/R, T2/T, N2/C, K2/K, N3/N] || run Cell [signal R3/R, T3/T, \
+            N3/C, K3/K, N4/N] \
+            || run Cell [signal R4/R, T4/T, N4/C, K4/K, N5/N] || run Cell [signal R5/R, T5/T, \
+            N5/C, K5/K, N0/N] \
+            || loop emit T0; pause; emit T1; pause; emit T2; pause; emit T3; pause; emit T4; \
+            pause; emit T5; pause end \
             end module \
             module Cell: input R, T, C; output K, N; loop signal G in \
             [present T then emit G end || present C then emit G end \
@@ -307,7 +327,8 @@ const CIRCUITS: [Program; 7] = [
     },
     // a signal that would be emitted where it isn't there
     Program {
-        text: "module M: input I; output O, P; await I; present O else emit O end; emit P end module",
+        text: "module M: input I; output O, P; await I; present O else emit O end; \
+        emit P end module",
         instants: &[("I", Ok("")), ("", Ok("")), ("I", Err("O P")), ("", Ok(""))],
     },
     // a signal that is emitted in both cases, but only once it is asked
@@ -317,8 +338,10 @@ const CIRCUITS: [Program; 7] = [
     },
     // each of two signals waits for the other; with I the ring is open
     Program {
-        text: "module M: input I; output O, P; loop present I then emit P else present P then emit O end end; pause end \
-            || loop present I then present P then emit O end else present O then emit P end end; pause end end module",
+        text: "module M: input I; output O, P; loop present I then emit P else present P then emit \
+        O end end; pause end \
+            || loop present I then present P then emit O end else present O then emit P end end; \
+            pause end end module",
         instants: &[("I", Ok("O P")), ("", Err("O P")), ("I", Ok("O P"))],
     },
 ];
@@ -327,7 +350,8 @@ const CIRCUITS: [Program; 7] = [
 const EXPRESSIONS: [Program; 9] = [
     // O is asked only where A isn't there
     Program {
-        text: "module M: input A; output O, P; present [A or O] then emit P else emit O end end module",
+        text: "module M: input A; output O, P; present [A or O] then emit P else emit O end end \
+        module",
         instants: &[("", Err("O P")), ("A", Ok("P"))],
     },
     // what is so in both cases is not known before O is
@@ -349,13 +373,15 @@ const EXPRESSIONS: [Program; 9] = [
     // what is offered is there before anything is emitted, and another inputoutput is not known
     // before
     Program {
-        text: "module M: inputoutput B; output O; loop present B then emit O else emit B end; pause end end module",
+        text: "module M: inputoutput B; output O; loop present B then emit O else emit B end; \
+        pause end end module",
         instants: &[("B", Ok("O")), ("", Err("B O")), ("B", Ok("O"))],
     },
     // `and` binds tighter than `or`, and `not` tighter than both
     Program {
         text: "module M: input A, B, C; output O, P, Q; loop present A or B and C then emit O end; \
-            present (A or B) and C then emit P end; present not A and B then emit Q end; pause end end module",
+            present (A or B) and C then emit P end; present not A and B then emit Q end; \
+            pause end end module",
         instants: &[
             ("A", Ok("O")),
             ("A C", Ok("O P")),
@@ -368,7 +394,8 @@ const EXPRESSIONS: [Program; 9] = [
     // each name of a test is bound where its module is run
     Program {
         text: "module M: input B, A; output O, P; run N [signal A/X, B/Y] end module \
-            module N: input X, Y; output O, P; loop present (X and not Y) or (Y and not X) then emit O end; \
+            module N: input X, Y; output O, P; loop present (X and not Y) or (Y and not X) then \
+            emit O end; \
             present not X and Y then emit P end; pause end end module",
         instants: &[
             ("", Ok("")),
@@ -379,12 +406,14 @@ const EXPRESSIONS: [Program; 9] = [
     },
     // `and` is absent where one side is, and `or` present where one side is, whatever the other is
     Program {
-        text: "module M: input A; output O, P; present [A and O] else emit P end; present [P or O] then emit O end end module",
+        text: "module M: input A; output O, P; present [A and O] else emit P end; \
+        present [P or O] then emit O end end module",
         instants: &[("", Ok("O P"))],
     },
     // an inputoutput that nobody offers or emits is absent
     Program {
-        text: "module M: inputoutput B; output O; loop present not B then emit O end; pause end end module",
+        text: "module M: inputoutput B; output O; loop present not B then emit O end; \
+        pause end end module",
         instants: &[("", Ok("O")), ("B", Ok(""))],
     },
 ];

@@ -62,11 +62,13 @@ const EXAMPLES: [(&str, &str); 18] = [
     ),
     // a circle in the text that is in no instant: with I, and without
     (
-        "present I then [emit O; present O then emit P end] else [emit P; present P then emit O end] end",
+        "present I then [emit O; present O then emit P end] else [emit P; \
+        present P then emit O end] end",
         "I > O P; >; >; >",
     ),
     (
-        "present I then [emit O; present O then emit P end] else [emit P; present P then emit O end] end",
+        "present I then [emit O; present O then emit P end] else [emit P; \
+        present P then emit O end] end",
         "> O P; >; >; >",
     ),
     (

@@ -24,7 +24,8 @@ const BODIES: [&str; 27] = [
     "suspend pause; when S; abort pause; when S; weak abort pause; when S;",
     "loop pause; end; loop pause; each S; every S do pause; end;",
     "trap T in pause; end; signal A in pause; end; [pause;];",
-    "suspend pause when immediate S; abort pause when immediate S; weak abort pause when immediate S",
+    "suspend pause when immediate S; abort pause when immediate S; \
+    weak abort pause when immediate S",
     "every immediate S do pause end",
     "signal A, B, C in emit A end",
     "run P",
@@ -146,7 +147,8 @@ fn last_words_are_kept(rt: HostRuntime) {
 /// run the module and its renamings are told.
 const SKETCHES: [(&str, &str); 3] = [
     (
-        "module M: input I, J; relation A # B # C; pause; halt; nothing; || nothing || pause; nothing end module \
+        "module M: input I, J; relation A # B # C; pause; halt; nothing; || nothing || pause; \
+        nothing end module \
          module N: relation A # B; halt end module",
         "M with 2: pause; halt; nothing; || nothing || pause; nothing | N with 1: halt",
     ),

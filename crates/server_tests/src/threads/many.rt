@@ -130,7 +130,8 @@ fn run_over<B: BoardName + Send + Sync, T: Lends<SlotTable<B>> + Sync, R: Thread
     workers: Vec<Worker<B>>,
 ) -> Result<Vec<Worker<B>>, AllocError> {
     let service = Service { board, table };
-    run_each(rt, alloc, &service, workers)
+    let back = run_each(rt, alloc, &service, workers, u64::MAX)?;
+    Ok(back.seats)
 }
 
 /// Root logs in at the last of the seats, and a module runs in each slot. Root's worker is the

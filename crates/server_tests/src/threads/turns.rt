@@ -36,12 +36,26 @@ fn workers_share_the_turns(rt: HostRuntime) -> Result<(), Fail> {
         begun: AtomicU64::new(0),
     };
     let seats = vec![in rt.alloc(); 0, 1000, 2000, 3000]?;
-    let back = run_each(&rt, rt.alloc(), &rounds, seats)?;
-    let starts = back.iter().map(|seat| *seat / 1000);
+    let back = run_each(&rt, rt.alloc(), &rounds, seats, u64::MAX)?;
+    assert!(&rt; !back.all_taken);
+    let starts = back.seats.iter().map(|seat| *seat / 1000);
     assert!(&rt; starts.eq([0, 1, 2, 3]));
     let taken = back
+        .seats
         .iter()
         .fold(0u64, |all, seat| all.saturating_add(*seat % 1000));
     assert_eq!(&rt; taken, TURNS);
+    Ok(())
+}
+
+#[test]
+fn each_worker_takes_its_turns(rt: HostRuntime) -> Result<(), Fail> {
+    let rounds = Rounds {
+        begun: AtomicU64::new(0),
+    };
+    let seats = vec![in rt.alloc(); 0, 1000, 2000, 3000]?;
+    let back = run_each(&rt, rt.alloc(), &rounds, seats, TURNS / 4)?;
+    assert!(&rt; back.all_taken);
+    assert!(&rt; back.seats.iter().copied().eq([25, 1025, 2025, 3025]));
     Ok(())
 }

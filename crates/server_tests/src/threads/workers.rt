@@ -72,12 +72,14 @@ fn serve_two<B: BoardName + Send + Sync, R: Threads + Wait + Abort + Clock + Syn
     let clients = [Client::new(ON_SLOT_0), Client::new(ON_SLOT_1)];
     let source = Clients { clients: &clients };
     let gate = Meeting::new(rt);
-    let back = run_workers(rt, alloc, &table, &board, seats, &source, &gate)
+    let back = run_workers(rt, alloc, &table, &board, seats, &source, &gate, 1)
         .ok()
         .expect(rt, "room for two workers");
     assert!(rt; gate.is_met());
-    assert_eq!(rt; back.len(), 2);
-    for seat in &back {
+    assert!(rt; back.all_taken);
+    let seats = back.seats;
+    assert_eq!(rt; seats.len(), 2);
+    for seat in &seats {
         assert!(rt; seat.seen() >= LEAST_SEEN);
         assert_eq!(rt; seat.kept().len(), RECEIPTS);
     }
@@ -85,7 +87,7 @@ fn serve_two<B: BoardName + Send + Sync, R: Threads + Wait + Abort + Clock + Syn
         assert_eq!(rt; client.counts(), (LINES, 0));
     }
     table
-        .close(rt, alloc, board, back)
+        .close(rt, alloc, board, seats)
         .ok()
         .expect(rt, "histories")
 }

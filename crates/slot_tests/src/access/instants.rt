@@ -54,8 +54,8 @@ fn an_excluded_input_is_refused(rt: HostRuntime) {
     );
 }
 
-/// An inputoutput that a step emits excludes nothing: neither in that step nor in an offer after it. One
-/// that is offered does.
+/// An inputoutput that a step emits excludes nothing: neither in that step nor in an offer after
+/// it. One that is offered does.
 #[test]
 fn an_emitted_inputoutput_excludes_nothing(rt: HostRuntime) {
     follow(
@@ -63,7 +63,8 @@ fn an_emitted_inputoutput_excludes_nothing(rt: HostRuntime) {
         rt.alloc(),
         &[
             (
-                "load module M: input A; inputoutput B; relation A # B; loop emit B; pause end end module",
+                "load module M: input A; inputoutput B; relation A # B; loop emit B; \
+                pause end end module",
                 "done",
             ),
             ("step", "done"),

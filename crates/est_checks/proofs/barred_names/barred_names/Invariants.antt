@@ -6,4 +6,5 @@ use Rattle.est_checks.specs.Emissions.{emitted_of}
 use Rattle.est_checks.proofs.barred_names.barred_names.Given as goal
 
 abbrev pub invariant-loop-declared : goal.invariant-loop-declared
-invariant-loop-declared l = l.barred.items ≡ filter (λ n. (has l.inputs n || is_tick n) && emitted_of l.table l.name n) (map (λ (d : Declared). d.name) (take l.declared-index l.interface))
+invariant-loop-declared l = l.barred.items ≡ filter (λ n. (has l.inputs n || is_tick n) && emitted_of l.table l.name n)
+    (map (λ (d : Declared). d.name) (take l.declared-index l.interface))

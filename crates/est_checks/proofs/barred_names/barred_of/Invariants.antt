@@ -7,4 +7,5 @@ use Rattle.est_checks.specs.Emissions.{emitted_of}
 use Rattle.est_checks.proofs.barred_names.barred_of.Given as goal
 
 abbrev pub invariant-loop-place : goal.invariant-loop-place
-invariant-loop-place l = AreKept l.numbers (barred_by (map program_of l.heads) (emitted_of l.table) (has l.inputs)) l.kept.items
+invariant-loop-place l = AreKept l.numbers (barred_by (map program_of l.heads) (emitted_of l.table) (has l.inputs))
+    l.kept.items

@@ -7,4 +7,5 @@ use Rattle.est_checks.proofs.duplicates.first_duplicate.Given as goal
 abbrev pub invariant-loop-index : goal.invariant-loop-index
 invariant-loop-index l =
     let name = λ (h : Head). h.name in
-    duplicate_after [] (map program_of l.heads) ≡ duplicate_after (map name (take l.index l.heads)) (map program_of (drop l.index l.heads))
+    duplicate_after [] (map program_of l.heads) ≡ duplicate_after (map name (take l.index l.heads))
+    (map program_of (drop l.index l.heads))

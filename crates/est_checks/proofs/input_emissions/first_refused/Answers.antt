@@ -13,8 +13,10 @@ returns-in-Some c =
     let i = c.loop-home.home-index in
     let f = refused_at (map program_of hs) (emitted_of c.args.table.now) in
     let rest = first_in_bodies f (map program_of (drop (suc i) hs)) in
-    let here = ap (λ (h : Head). first_of (f (program_of h)) (occurrences [] (program_of h).body)) (sym c.home-item.is) ∙ sym c.in_ok-name.ensures ∙ c.in-Some.is in
-    sym (c.loop-home.invariant ∙ next_home f hs i c.home-item.result c.loop-home-test.true ∙ ap (λ o. option_or o rest) here)
+    let here = ap (λ (h : Head). first_of (f (program_of h)) (occurrences [] (program_of h).body)) (sym c.home-item.is)
+    ∙ sym c.in_ok-name.ensures ∙ c.in-Some.is in
+    sym (c.loop-home.invariant ∙ next_home f hs i c.home-item.result c.loop-home-test.true
+    ∙ ap (λ o. option_or o rest) here)
 
 pub loop-home-preserved : goal.loop-home-preserved
 loop-home-preserved c =
@@ -22,6 +24,8 @@ loop-home-preserved c =
     let i = c.loop-home.home-index in
     let f = refused_at (map program_of hs) (emitted_of c.args.table.now) in
     let rest = first_in_bodies f (map program_of (drop (suc i) hs)) in
-    let here = ap (λ (h : Head). first_of (f (program_of h)) (occurrences [] (program_of h).body)) (sym c.home-item.is) ∙ sym c.in_ok-name.ensures ∙ c.in_default.is in
+    let here = ap (λ (h : Head). first_of (f (program_of h)) (occurrences [] (program_of h).body)) (sym c.home-item.is)
+    ∙ sym c.in_ok-name.ensures ∙ c.in_default.is in
     let next : suc i ≡ i + 1 = omega arith in
-    c.loop-home.invariant ∙ next_home f hs i c.home-item.result c.loop-home-test.true ∙ ap (λ o. option_or o rest) here ∙ ap (λ (k : ℕ). first_in_bodies f (map program_of (drop k hs))) next
+    c.loop-home.invariant ∙ next_home f hs i c.home-item.result c.loop-home-test.true ∙ ap (λ o. option_or o rest) here
+    ∙ ap (λ (k : ℕ). first_in_bodies f (map program_of (drop k hs))) next

@@ -8,7 +8,8 @@ use Rattle.est_checks.proofs.input_emissions.refused_in_run.Goals as goal
 pub returns-in-Some : goal.returns-in-Some
 returns-in-Some c =
     c.refused_of.ensures
-    ∙ ap (refused_in_run (emitted_of c.args.check.now.table.now) (program_of c.args.check.now.home.now) (binders_of c.args.scope.now) (map renaming_view c.args.renamings.now) c.args.name.now) c.in-Some.ensures
+    ∙ ap (refused_in_run (emitted_of c.args.check.now.table.now) (program_of c.args.check.now.home.now)
+    (binders_of c.args.scope.now) (map renaming_view c.args.renamings.now) c.args.name.now) c.in-Some.ensures
 
 pub refused_of-requires-clause-named : goal.refused_of-requires-clause-named
 refused_of-requires-clause-named c = sym c.in-Some.ensures

@@ -11,4 +11,5 @@ returns-in-Some c =
     let em = emitted_of c.args.check.now.table.now in
     let p = program_of c.args.check.now.home.now in
     let rs = map renaming_view c.args.renamings.now in
-    signal_found em p (binders_of c.args.scope.now) rs c.args.name.now (program_of c.args.run.now) c.in-Some.declared.now (cc c.in-Some.ensures) c.callers_name.ensures
+    signal_found em p (binders_of c.args.scope.now) rs c.args.name.now
+    (program_of c.args.run.now) c.in-Some.declared.now (cc c.in-Some.ensures) c.callers_name.ensures

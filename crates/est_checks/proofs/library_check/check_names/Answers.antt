@@ -20,4 +20,6 @@ returns c =
     let main = c.args.main.now in
     let em = emitted_of c.in_ok-table.table.items in
     let by = ap (λ es. fault_behind_order ps main (emitted_of es)) c.deref.ensures.value in
-    finds_by (ByLimits ps main) (ByNames ps main) (names_next ps main em c.in_ok-table.ensures (sym c.in-None.is ∙ c.in_ok-fault.ensures ∙ by)) c.check_limits.result c.check_limits.ensures
+    finds_by (ByLimits ps main) (ByNames ps main)
+    (names_next ps main em c.in_ok-table.ensures (sym c.in-None.is ∙ c.in_ok-fault.ensures ∙ by))
+    c.check_limits.result c.check_limits.ensures

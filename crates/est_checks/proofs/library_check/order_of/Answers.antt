@@ -13,4 +13,8 @@ returns-in-Err-Recursive-clause-err c =
     let ps = map program_of c.args.heads.now in
     let first = subst (IsFaultOf (run_rows ps)) c.in-Err-Recursive.field-0-is c.in-Err-Recursive.ensures.err in
     let at = program_at ps c.in-Err-Recursive.place (omega (arith, first.there, length-map ps (places_run ps))) in
-    inr (record { place = c.in-Err-Recursive.place; first = first; is = ap RecursiveRun (c.name_at.ensures at.0 at.1 ∙ name_there ps c.in-Err-Recursive.place at.0 at.1) })
+    inr (record {
+      place = c.in-Err-Recursive.place;
+      first = first;
+      is = ap RecursiveRun (c.name_at.ensures at.0 at.1 ∙ name_there ps c.in-Err-Recursive.place at.0 at.1);
+    })

@@ -5,4 +5,5 @@ use Rattle.est_checks.specs.Inner.Noted.{in_row}
 use Rattle.est_checks.proofs.module_emissions.add_numbered.Given as goal
 
 abbrev pub invariant-loop-number : goal.invariant-loop-number
-invariant-loop-number l = (s : List ℕ) → stands_in l.names.items s ≡ (in_row (take l.number l.row) (number_in l.table s) || stands_in l.fn.names.items s)
+invariant-loop-number l = (s : List ℕ) → stands_in l.names.items s
+    ≡ (in_row (take l.number l.row) (number_in l.table s) || stands_in l.fn.names.items s)

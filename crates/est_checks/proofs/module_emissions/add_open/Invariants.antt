@@ -6,4 +6,6 @@ use Rattle.est_checks.specs.Inner.Noted.{goes}
 use Rattle.est_checks.proofs.module_emissions.add_open.Given as goal
 
 abbrev pub invariant-loop-name : goal.invariant-loop-name
-invariant-loop-name l = (s : List ℕ) → stands_in l.seen.items s ≡ (stands_in l.fn.seen.items s || (goes (binders_of l.scope) (map renaming_view l.renamings) s && stands_in (take l.name-index l.names) s))
+invariant-loop-name l = (s : List ℕ) → stands_in l.seen.items s
+    ≡ (stands_in l.fn.seen.items s
+    || (goes (binders_of l.scope) (map renaming_view l.renamings) s && stands_in (take l.name-index l.names) s))

@@ -25,4 +25,5 @@ returns c = λ s.
     ∙ ap (λ r. in_row r (number_in t s) || stands_in c.walk_body.new.seen.others.items s) c.deref-3.ensures.value
     ∙ ap (λ (k : Noted). is_noted t k s) c.in_ok-walk_body.ensures
     ∙ noted_along ps em t ks first os s c.requires are (room_at_first t c.in_ok-vec.field-0.items c.requires row)
-    ∙ ap (λ b. b || list_any (emits_here ps em s) os) (noted_nothing t c.in_ok-vec.field-0.items c.new.result.items s _ row c.new.ensures.items)
+    ∙ ap (λ b. b || list_any (emits_here ps em s) os)
+    (noted_nothing t c.in_ok-vec.field-0.items c.new.result.items s _ row c.new.ensures.items)

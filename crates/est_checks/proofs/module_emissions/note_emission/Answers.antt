@@ -7,4 +7,6 @@ use Rattle.est_checks.proofs.module_emissions.note_emission.Goals as goal
 
 pub returns : goal.returns
 returns c = λ ps em t ks.
-    same_noted _ (noted_after ps em t ks (noted_of c.args.seen.now) (record { act = emits c.args.signal.now; round = binders_of c.args.scope.now })) refl c.in_ok-add_outer.ensures
+    same_noted _
+    (noted_after ps em t ks (noted_of c.args.seen.now)
+    (record { act = emits c.args.signal.now; round = binders_of c.args.scope.now })) refl c.in_ok-add_outer.ensures

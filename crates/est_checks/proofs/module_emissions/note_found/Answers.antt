@@ -22,11 +22,15 @@ returns c =
     let bs = binders_of c.args.scope.now in
     let rs = map renaming_view c.args.renamings.now in
     let q = program_of c.args.run.now in
-    let next = noted_names sent.names.now bs rs (sent_by (map program_of sent.heads.now) em q.name) (noted_of c.args.seen.now) (kept_named sent.kept.now q.name) in
+    let next = noted_names sent.names.now bs rs (sent_by (map program_of sent.heads.now) em q.name)
+    (noted_of c.args.seen.now) (kept_named sent.kept.now q.name) in
     same_noted _ (noted_renamed em bs rs q next)
     (ap (λ (k : Noted). k.row) c.in_ok-note_names.ensures)
     (λ s.
-    let sends = λ (r : RenamingTree). (is_declared q.interface r.inner && em q.name r.inner) && bytes_eq (renamed rs r.inner) s in
+    let sends = λ (r : RenamingTree). (is_declared q.interface r.inner && em q.name r.inner)
+    && bytes_eq (renamed rs r.inner) s in
     c.in_ok-add_renamed.ensures s
-    ∙ ap (λ (k : Noted). k.others s || (not (is_local bs s) && list_any (λ (r : Renaming). sends (renaming_view r)) c.args.renamings.now)) c.in_ok-note_names.ensures
+    ∙ ap (λ (k : Noted). k.others s
+    || (not (is_local bs s) && list_any (λ (r : Renaming). sends (renaming_view r)) c.args.renamings.now))
+    c.in_ok-note_names.ensures
     ∙ ap (λ b. next.others s || (not (is_local bs s) && b)) (sym (any_map sends renaming_view c.args.renamings.now)))

@@ -25,7 +25,8 @@ returns-in-Some c =
     let kept = c.in-Some.emitted.now in
     let at = sym c.in-Some.ensures in
     let are = kept_found o.table.now base m o.modules.now kept c.requires.0.2 at in
-    let row = c.note_numbers.ensures ∙ ap (row_by_numbers rs o k.row) c.deref.ensures.value ∙ numbers_names o bs rs k.row names kept.numbers.items c.requires.1 c.requires.2 are in
+    let row = c.note_numbers.ensures ∙ ap (row_by_numbers rs o k.row) c.deref.ensures.value
+    ∙ numbers_names o bs rs k.row names kept.numbers.items c.requires.1 c.requires.2 are in
     same_noted _ (noted_names o.table.now bs rs names k (Some kept)) row (λ s. refl)
     ∙ ap (noted_names o.table.now bs rs names k) (sym at)
     ∙ ap (λ (ks : List Kept). noted_names o.table.now bs rs names k (kept_named ks m)) c.requires.0.1
@@ -46,6 +47,7 @@ returns-in_ok-add_open-in-None c =
     (ap (λ q. (noted_names sent.names.now bs rs names k q).row) (sym at))
     (λ s.
     c.in_ok-add_open-in-None.ensures s
-    ∙ ap (λ xs. k.others s || (goes bs rs s && stands_in xs s)) (c.deref-in-None.ensures.value ∙ c.in_ok-names-in-None.ensures)
+    ∙ ap (λ xs. k.others s || (goes bs rs s && stands_in xs s))
+    (c.deref-in-None.ensures.value ∙ c.in_ok-names-in-None.ensures)
     ∙ ap (λ q. (noted_names sent.names.now bs rs names k q).others s) (sym at))
     ∙ ap (λ (ks : List Kept). noted_names sent.names.now bs rs names k (kept_named ks m)) c.requires.0.1

@@ -12,7 +12,9 @@ returns-in-Some c =
     let ps = map program_of sent.heads.now in
     let em = emitted_of sent.table.now in
     let k = noted_of c.args.seen.now in
-    subst (λ q. OnOk c.note_found.result (noted_of c.note_found.new.seen ≡ noted_run ps em sent.names.now sent.kept.now k (binders_of c.args.scope.now) (map renaming_view c.args.renamings.now) q)) c.in-Some.ensures c.note_found.ensures
+    subst (λ q. OnOk c.note_found.result
+    (noted_of c.note_found.new.seen ≡ noted_run ps em sent.names.now sent.kept.now k (binders_of c.args.scope.now)
+    (map renaming_view c.args.renamings.now) q)) c.in-Some.ensures c.note_found.ensures
 
 pub returns-in-None : goal.returns-in-None
 returns-in-None c =
@@ -20,4 +22,5 @@ returns-in-None c =
     let ps = map program_of sent.heads.now in
     let em = emitted_of sent.table.now in
     let k = noted_of c.args.seen.now in
-    ap (noted_run ps em sent.names.now sent.kept.now k (binders_of c.args.scope.now) (map renaming_view c.args.renamings.now)) c.in-None.ensures
+    ap (noted_run ps em sent.names.now sent.kept.now k (binders_of c.args.scope.now)
+    (map renaming_view c.args.renamings.now)) c.in-None.ensures

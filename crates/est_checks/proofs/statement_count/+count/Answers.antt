@@ -12,7 +12,9 @@ count_sequence-returns t c =
     let here = unit_counted (numbers_of c.args.numbers.now) in
     let first = here (out-Sequence s).first.value in
     c.loop-unit.invariant.done
-    ∙ ap (so_far TOO_MANY here first) (take_all c.loop-unit.unit-index c.deref-unit-items.result.now c.loop-unit-test.false ∙ c.deref-unit-items.ensures.value)
+    ∙ ap (so_far TOO_MANY here first)
+    (take_all c.loop-unit.unit-index c.deref-unit-items.result.now c.loop-unit-test.false
+    ∙ c.deref-unit-items.ensures.value)
     ∙ whole_count TOO_MANY here first (out-Sequence s).later.items
     ∙ ap (min TOO_MANY) (sym (sequence_whole (numbers_of c.args.numbers.now) s))
 
@@ -22,6 +24,8 @@ count_statement-returns t c =
     let here = sequence_counted (numbers_of c.args.numbers.now) in
     let first = here (out-Statement s).first.value in
     c.loop-sequence.invariant.done
-    ∙ ap (so_far TOO_MANY here first) (take_all c.loop-sequence.sequence-index c.deref-sequence-items.result.now c.loop-sequence-test.false ∙ c.deref-sequence-items.ensures.value)
+    ∙ ap (so_far TOO_MANY here first)
+    (take_all c.loop-sequence.sequence-index c.deref-sequence-items.result.now c.loop-sequence-test.false
+    ∙ c.deref-sequence-items.ensures.value)
     ∙ whole_count TOO_MANY here first (out-Statement s).later.items
     ∙ ap (min TOO_MANY) (sym (statement_whole (numbers_of c.args.numbers.now) s))

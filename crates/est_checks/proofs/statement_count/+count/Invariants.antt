@@ -8,9 +8,17 @@ use Rattle.est_checks.proofs.statement_count.+count.Given as goal
 abbrev pub invariant-count_sequence-loop-unit : goal.invariant-count_sequence-loop-unit
 invariant-count_sequence-loop-unit l =
     let here = unit_counted (numbers_of l.numbers) in
-    record { within : l.count ≤ TOO_MANY; done : l.count ≡ so_far TOO_MANY here (here (out-Sequence l.sequence).first.value) (take l.unit-index l.unit-items) }
+    record {
+      within : l.count ≤ TOO_MANY;
+      done : l.count ≡ so_far TOO_MANY here
+          (here (out-Sequence l.sequence).first.value) (take l.unit-index l.unit-items);
+    }
 
 abbrev pub invariant-count_statement-loop-sequence : goal.invariant-count_statement-loop-sequence
 invariant-count_statement-loop-sequence l =
     let here = sequence_counted (numbers_of l.numbers) in
-    record { within : l.count ≤ TOO_MANY; done : l.count ≡ so_far TOO_MANY here (here (out-Statement l.statement).first.value) (take l.sequence-index l.sequence-items) }
+    record {
+      within : l.count ≤ TOO_MANY;
+      done : l.count ≡ so_far TOO_MANY here
+          (here (out-Statement l.statement).first.value) (take l.sequence-index l.sequence-items);
+    }

@@ -19,6 +19,7 @@ returns-in-Some c =
     let base = unseen_by (map program_of c.args.heads.now) known in
     let m = c.args.name.now in
     let o = c.args.kept.now in
-    c.first_left.ensures (base m) bs c.requires.outside.1 c.requires.outside.2 (kept_found o.table.now base m o.modules.now c.in-Some.left.now c.requires.outside.0 (sym c.in-Some.ensures))
+    c.first_left.ensures (base m) bs c.requires.outside.1 c.requires.outside.2
+    (kept_found o.table.now base m o.modules.now c.in-Some.left.now c.requires.outside.0 (sym c.in-Some.ensures))
     ∙ ap (λ q. find (λ n. not (is_renamed rs n)) (open_at bs (unseen_in known q))) c.requires.named
     ∙ sym (first_unbound p bs rs (program_of c.args.run.now).interface)

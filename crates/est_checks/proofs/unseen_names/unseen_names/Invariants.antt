@@ -5,4 +5,5 @@ use Rattle.est_modules.specs.declared.head.Declared.{Declared}
 use Rattle.est_checks.proofs.unseen_names.unseen_names.Given as goal
 
 abbrev pub invariant-loop-declared : goal.invariant-loop-declared
-invariant-loop-declared l = l.left.items ≡ filter (λ n. not (has l.names n || is_tick n)) (map (λ (d : Declared). d.name) (take l.declared-index l.interface))
+invariant-loop-declared l = l.left.items ≡ filter (λ n. not (has l.names n || is_tick n))
+    (map (λ (d : Declared). d.name) (take l.declared-index l.interface))

@@ -22,8 +22,11 @@ loop-name-preserved c =
     let es = c.loop-name.bodies.items in
     let e : Linked = record { name = c.name-item.result; body = c.in_ok-body.body } in
     let at_i = c.name-item.is ∙ get_or_default names i c.name-item.result [] c.loop-name-test.true in
-    let built = c.in_ok-body.ensures ∙ ap (λ bs. body_linked ps (bodies_of bs) (program_named ps e.name)) c.deref.ensures.value in
+    let built = c.in_ok-body.ensures ∙ ap (λ bs. body_linked ps (bodies_of bs) (program_named ps e.name))
+    c.deref.ensures.value in
     record {
-      made = next es e c.in_ok-push.ensures.items c.loop-name.invariant.made (next_made ps names i es e c.requires c.loop-name-test.true at_i c.loop-name.invariant.named built);
-      named = ap (map (λ (e : Linked). e.name)) c.in_ok-push.ensures.items ∙ named_more names i es e c.loop-name-test.true c.name-item.is c.loop-name.invariant.named;
+      made = next es e c.in_ok-push.ensures.items c.loop-name.invariant.made
+          (next_made ps names i es e c.requires c.loop-name-test.true at_i c.loop-name.invariant.named built);
+      named = ap (map (λ (e : Linked). e.name)) c.in_ok-push.ensures.items
+          ∙ named_more names i es e c.loop-name-test.true c.name-item.is c.loop-name.invariant.named;
     }

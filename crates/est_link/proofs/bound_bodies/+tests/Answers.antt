@@ -25,9 +25,12 @@ bind_joined-returns t c =
     ∙ c.deref-test-items.ensures.value) in
     let P : Query → Type 0 = λ x. IfOk c.joined.result (λ j. query_view j ≡ x) in
     subst P
-    (ap (λ (q : Query). joined k q (queries_of (query_view c.in_ok-second.second) (map query_view c.loop-test.later.items))) first
-    ∙ ap (λ (q : Query). joined k (test_bound qs l o.first.value) (queries_of q (map query_view c.loop-test.later.items))) second
-    ∙ ap (λ (rs : List Query). joined k (test_bound qs l o.first.value) (queries_of (test_bound qs l o.second.value) rs)) later
+    (ap (λ (q : Query). joined k q
+    (queries_of (query_view c.in_ok-second.second) (map query_view c.loop-test.later.items))) first
+    ∙ ap (λ (q : Query). joined k (test_bound qs l o.first.value)
+    (queries_of q (map query_view c.loop-test.later.items))) second
+    ∙ ap (λ (rs : List Query). joined k (test_bound qs l o.first.value)
+    (queries_of (test_bound qs l o.second.value) rs)) later
     ∙ ap (joined k (test_bound qs l o.first.value)) (sym (listed_bound qs l (query_view o.second.value) o.later.items))
     ∙ sym (ap (λ (j : Joint). joined k (bound_query qs l j.first) (bound_queries qs l j.later)) (operands_seen o)))
     c.joined.ensures

@@ -21,9 +21,12 @@ flat_sequence-returns t c =
     let none : c.loop-left.left ≡ 0 = omega arith in
     let e : body_of c.in_ok-flat-2.flat ≡ here (out-Sequence q).first.value = cc c.in_ok-flat-2.ensures in
     let d : option_map body_of c.loop-left.rest ≡ chained seq here (out-Sequence q).later.items =
-    c.loop-left.invariant.done ∙ ap (λ i. chained seq here (drop i c.as_slice-units.result.now)) none ∙ ap (chained seq here) c.as_slice-units.ensures.value in
+    c.loop-left.invariant.done ∙ ap (λ i. chained seq here (drop i c.as_slice-units.result.now)) none
+    ∙ ap (chained seq here) c.as_slice-units.ensures.value in
     let P : FlatTerm → Type 0 = λ x. IfOk c.then-2.result (λ f. body_of f ≡ x) in
-    subst P (ap (λ x. joined_by seq x (option_map body_of c.loop-left.rest)) e ∙ ap (joined_by seq (here (out-Sequence q).first.value)) d ∙ sym (sequence_whole ps bodies p bs q)) c.then-2.ensures
+    subst P (ap (λ x. joined_by seq x (option_map body_of c.loop-left.rest)) e
+    ∙ ap (joined_by seq (here (out-Sequence q).first.value)) d ∙ sym (sequence_whole ps bodies p bs q))
+    c.then-2.ensures
 
 pub flat_statement-returns : goal.flat_statement-returns
 flat_statement-returns t c =
@@ -37,6 +40,9 @@ flat_statement-returns t c =
     let none : c.loop-left.left ≡ 0 = omega arith in
     let e : body_of c.in_ok-flat-2.flat ≡ here (out-Statement q).first.value = cc c.in_ok-flat-2.ensures in
     let d : option_map body_of c.loop-left.rest ≡ chained par here (out-Statement q).later.items =
-    c.loop-left.invariant.done ∙ ap (λ i. chained par here (drop i c.as_slice-sequences.result.now)) none ∙ ap (chained par here) c.as_slice-sequences.ensures.value in
+    c.loop-left.invariant.done ∙ ap (λ i. chained par here (drop i c.as_slice-sequences.result.now)) none
+    ∙ ap (chained par here) c.as_slice-sequences.ensures.value in
     let P : FlatTerm → Type 0 = λ x. IfOk c.beside-2.result (λ f. body_of f ≡ x) in
-    subst P (ap (λ x. joined_by par x (option_map body_of c.loop-left.rest)) e ∙ ap (joined_by par (here (out-Statement q).first.value)) d ∙ sym (statement_whole ps bodies p bs q)) c.beside-2.ensures
+    subst P (ap (λ x. joined_by par x (option_map body_of c.loop-left.rest)) e
+    ∙ ap (joined_by par (here (out-Statement q).first.value)) d ∙ sym (statement_whole ps bodies p bs q))
+    c.beside-2.ensures

@@ -12,7 +12,10 @@ abbrev pub invariant-flat_sequence-loop-left : goal.invariant-flat_sequence-loop
 invariant-flat_sequence-loop-left l =
     record {
       within : l.left ≤ length l.units;
-      done : option_map body_of l.rest ≡ chained seq (unit_linked (map program_of l.at.linker.now.heads.now) (bodies_of l.at.linker.now.bodies.now) (program_of l.at.linker.now.home.now) (binders_of l.at.scope.now)) (drop l.left l.units);
+      done : option_map body_of l.rest
+          ≡ chained seq
+          (unit_linked (map program_of l.at.linker.now.heads.now) (bodies_of l.at.linker.now.bodies.now)
+          (program_of l.at.linker.now.home.now) (binders_of l.at.scope.now)) (drop l.left l.units);
     }
 
 abbrev pub decreases-flat_sequence-loop-left : goal.decreases-flat_sequence-loop-left
@@ -22,7 +25,10 @@ abbrev pub invariant-flat_statement-loop-left : goal.invariant-flat_statement-lo
 invariant-flat_statement-loop-left l =
     record {
       within : l.left ≤ length l.sequences;
-      done : option_map body_of l.rest ≡ chained par (sequence_linked (map program_of l.at.linker.now.heads.now) (bodies_of l.at.linker.now.bodies.now) (program_of l.at.linker.now.home.now) (binders_of l.at.scope.now)) (drop l.left l.sequences);
+      done : option_map body_of l.rest
+          ≡ chained par
+          (sequence_linked (map program_of l.at.linker.now.heads.now) (bodies_of l.at.linker.now.bodies.now)
+          (program_of l.at.linker.now.home.now) (binders_of l.at.scope.now)) (drop l.left l.sequences);
     }
 
 abbrev pub decreases-flat_statement-loop-left : goal.decreases-flat_statement-loop-left

@@ -9,4 +9,5 @@ pub returns-clause-linked : goal.returns-clause-linked
 returns-clause-linked c = made_linked
 
 pub returns-clause-bound : goal.returns-clause-bound
-returns-clause-bound c = λ ps em es made names main p here found. main_bound em p 0 0 (bodies_of es main) (subst (λ o. IsSound em o (bodies_of es main)) found (made_sound ps em es made names main here))
+returns-clause-bound c = λ ps em es made names main p here found. main_bound em p 0 0 (bodies_of es main)
+    (subst (λ o. IsSound em o (bodies_of es main)) found (made_sound ps em es made names main here))

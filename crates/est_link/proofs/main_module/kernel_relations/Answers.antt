@@ -16,9 +16,13 @@ loop-relation-preserved c =
     let item = c.relation-item.result in
     let r = c.in_ok-kernel_relation.field-0 in
     let front = map (λ (r : Bor Relation). relation_view r.now) (take k rs) in
-    let one = one_related ds front made (relation_view item.now) r c.loop-relation.invariant.made c.in_ok-kernel_relation.ensures in
-    let grown = ap (λ (x : Bor Relation). front ++ relation_view x.now ∷ []) c.relation-item.is ∙ more (λ (r : Bor Relation). relation_view r.now) rs k (k + 1) item c.loop-relation-test.true (omega arith) in
+    let one = one_related ds front made (relation_view item.now) r c.loop-relation.invariant.made
+    c.in_ok-kernel_relation.ensures in
+    let grown = ap (λ (x : Bor Relation). front ++ relation_view x.now ∷ []) c.relation-item.is
+    ∙ more (λ (r : Bor Relation). relation_view r.now) rs k (k + 1) item c.loop-relation-test.true (omega arith) in
     record {
-      made = subst (λ ts. AreRelations ds ts c.push.new.self) grown (subst (AreRelations ds (front ++ relation_view item.now ∷ [])) (sym c.in_ok-push.ensures.ok) one);
-      count = ap length c.in_ok-push.ensures.ok ∙ length-append made (r ∷ []) ∙ ap (λ n. n + 1) c.loop-relation.invariant.count;
+      made = subst (λ ts. AreRelations ds ts c.push.new.self) grown
+          (subst (AreRelations ds (front ++ relation_view item.now ∷ [])) (sym c.in_ok-push.ensures.ok) one);
+      count = ap length c.in_ok-push.ensures.ok ∙ length-append made (r ∷ [])
+          ∙ ap (λ n. n + 1) c.loop-relation.invariant.count;
     }

@@ -11,7 +11,12 @@ use Rattle.est_link.proofs.needed.names_along.Goals as goal
 
 pub name_at-requires : goal.name_at-requires
 name_at-requires c =
-    omega (arith, order_within (map program_of c.args.heads.now) c.args.order.now c.loop-place.place-index c.requires.order c.loop-place-test.true, length-map c.args.heads.now program_of)
+    omega (
+      arith,
+      order_within (map program_of c.args.heads.now) c.args.order.now c.loop-place.place-index
+          c.requires.order c.loop-place-test.true,
+      length-map c.args.heads.now program_of,
+    )
 
 pub loop-place-preserved : goal.loop-place-preserved
 loop-place-preserved c =
@@ -25,15 +30,22 @@ loop-place-preserved c =
     elim c.if-is_in.branch [
       | then-is_in+in_ok-push w ↦
           let has : Contains set (slice_index order k) = c.is_in.ensures.0 w.if-is_in.true in
-          let grown = ap (λ v. v.items) w.names-is ∙ w.in_ok-push.ensures.items ∙ ap (λ n. names ++ n ∷ []) (w.name_at.ensures at.0 at.1) in
+          let grown = ap (λ v. v.items) w.names-is ∙ w.in_ok-push.ensures.items
+          ∙ ap (λ n. names ++ n ∷ []) (w.name_at.ensures at.0 at.1) in
           record {
-            bottom_up = subst (AreBottomUp ps) (sym grown) (next_name ps order set names k at.0 c.requires.order c.requires.closed c.requires.distinct c.requires.there c.loop-place.invariant.bottom_up c.loop-place.invariant.front lt has at.1);
-            front = subst (HasFront ps set order (k + 1)) (sym grown) (next_front ps order set names k at.0 c.loop-place.invariant.front at.1);
+            bottom_up =
+                subst (AreBottomUp ps) (sym grown)
+                (next_name ps order set names k at.0 c.requires.order c.requires.closed c.requires.distinct
+                c.requires.there c.loop-place.invariant.bottom_up c.loop-place.invariant.front lt has at.1);
+            front = subst (HasFront ps set order (k + 1)) (sym grown)
+                (next_front ps order set names k at.0 c.loop-place.invariant.front at.1);
           }
       | else-is_in w ↦
           let same = ap (λ v. v.items) w.names-is in
           record {
             bottom_up = subst (AreBottomUp ps) (sym same) c.loop-place.invariant.bottom_up;
-            front = subst (HasFront ps set order (k + 1)) (sym same) (front_past ps order set names k c.loop-place.invariant.front (λ has. false≢true (sym w.if-is_in.false ∙ c.is_in.ensures.1 has)));
+            front = subst (HasFront ps set order (k + 1)) (sym same)
+                (front_past ps order set names k c.loop-place.invariant.front
+                (λ has. false≢true (sym w.if-is_in.false ∙ c.is_in.ensures.1 has)));
           }
     ]

@@ -25,13 +25,15 @@ begin_suspend-returns t c = λ q a.
 pub begin_seq-returns : goal.begin_seq-returns
 begin_seq-returns t c = λ a b.
     seq_begun c.args.at a c.args.p.now b c.args.q.now c.args.gate _ _ c.args.env.now _ _ _ _ _ _ _ _ _ _
-    c.learn-go.ensures.learns c.learn-go.ensures.known c.ends-later.ensures c.told-inside.ensures c.begin-first.ensures c.begin-second.ensures
+    c.learn-go.ensures.learns c.learn-go.ensures.known c.ends-later.ensures c.told-inside.ensures c.begin-first.ensures
+    c.begin-second.ensures
     c.followed-own.ensures c.leave.ensures
 
 pub begin_par-returns : goal.begin_par-returns
 begin_par-returns t c = λ a b.
     par_begun c.args.at a c.args.p.now b c.args.q.now c.args.gate _ c.args.env.now _ _ _ _ _ _ _ _ _ _
-    c.learn-go.ensures.learns c.learn-go.ensures.known c.told-inside.ensures c.begin-first.ensures c.begin-second.ensures
+    c.learn-go.ensures.learns c.learn-go.ensures.known c.told-inside.ensures c.begin-first.ensures
+    c.begin-second.ensures
     c.beside-own.ensures c.leave.ensures
 
 pub begin_trap-returns : goal.begin_trap-returns

@@ -37,7 +37,8 @@ pub resume_par-returns : goal.resume_par-returns
 resume_par-returns t c = λ a b.
     par_resumed c.args.at a c.args.p.now b c.args.q.now c.args.pauses.now c.args.run _ _ _ c.args.env.now
     _ _ _ _ _ _ _ _ _ _ _ _ c.has_live-first_on.ensures c.has_live-second_on.ensures c.learn-go.ensures.learns
-    c.learn-go.ensures.known c.part-first.ensures c.told-inside.ensures c.part-second.ensures c.side-left.ensures c.side-right.ensures
+    c.learn-go.ensures.known c.part-first.ensures c.told-inside.ensures c.part-second.ensures c.side-left.ensures
+    c.side-right.ensures
     c.beside-own.ensures c.leave.ensures
 
 pub resume_suspend-returns : goal.resume_suspend-returns
@@ -49,7 +50,8 @@ resume_suspend-returns t c = λ q a asks.
 pub resume_loop-returns : goal.resume_loop-returns
 resume_loop-returns t c = λ a.
     loop_resumed c.args.at a c.args.p.now c.args.pauses.now c.args.run _ c.args.env.now _ _ _ _ _ _ _ _ _ _
-    c.learn.ensures.learns c.ends-later.ensures c.resume-first.ensures c.told-inside.ensures c.begin-again.ensures c.followed-own.ensures
+    c.learn.ensures.learns c.ends-later.ensures c.resume-first.ensures c.told-inside.ensures c.begin-again.ensures
+    c.followed-own.ensures
     c.leave.ensures
 
 pub resume_trap-returns : goal.resume_trap-returns

@@ -10,5 +10,6 @@ returns c =
     let first = module_program (module_view c.args.library.now.first) in
     let items = c.deref-later-items.result.now in
     c.loop-later.invariant
-    ∙ ap (λ ms. first ∷ map (λ m. module_program (module_view m)) ms) (take_all c.loop-later.later-index items c.loop-later-test.false ∙ c.deref-later-items.ensures.value)
+    ∙ ap (λ ms. first ∷ map (λ m. module_program (module_view m)) ms)
+    (take_all c.loop-later.later-index items c.loop-later-test.false ∙ c.deref-later-items.ensures.value)
     ∙ sym (ap (λ ms. first ∷ ms) (map_map module_program module_view c.args.library.now.later.items))

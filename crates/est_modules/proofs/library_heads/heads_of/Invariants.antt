@@ -4,4 +4,5 @@ use Rattle.est_modules.specs.Modules.{program_of, module_program}
 use Rattle.est_modules.proofs.library_heads.heads_of.Given as goal
 
 abbrev pub invariant-loop-later : goal.invariant-loop-later
-invariant-loop-later l = map program_of l.heads.items ≡ module_program (module_view l.library.first) ∷ map (λ m. module_program (module_view m)) (take l.later-index l.later-items)
+invariant-loop-later l = map program_of l.heads.items ≡ module_program (module_view l.library.first)
+    ∷ map (λ m. module_program (module_view m)) (take l.later-index l.later-items)

@@ -4,4 +4,5 @@ use Rattle.est_modules.specs.Modules.{interface_of}
 use Rattle.est_modules.proofs.library_heads.interface_of.Given as goal
 
 abbrev pub invariant-loop-declaration : goal.invariant-loop-declaration
-invariant-loop-declaration l = l.interface.items ≡ interface_of (map declaration_view (take l.declaration-index l.declarations))
+invariant-loop-declaration l = l.interface.items ≡ interface_of
+    (map declaration_view (take l.declaration-index l.declarations))

@@ -9,4 +9,6 @@ use Rattle.est_modules.proofs.module_order.run_rows.Goals as goal
 pub returns : goal.returns
 returns c =
     let ps = map program_of c.args.heads.now in
-    c.loop-home.invariant ∙ ap (map (λ (h : Head). places_run ps (program_of h))) (take_all c.loop-home.home-index c.args.heads.now c.loop-home-test.false) ∙ sym (map-map (places_run ps) program_of c.args.heads.now)
+    c.loop-home.invariant ∙ ap (map (λ (h : Head). places_run ps (program_of h)))
+    (take_all c.loop-home.home-index c.args.heads.now c.loop-home-test.false)
+    ∙ sym (map-map (places_run ps) program_of c.args.heads.now)

@@ -13,4 +13,5 @@ loop-name-preserved c = λ f tells s i at.
 
 pub returns : goal.returns
 returns c = λ f tells.
-    subst (λ (ns : List (List ℕ)). Tells c.args.table.now (λ s. f s || stands_in ns s) c.loop-name.hidden) (take_all c.loop-name.name-index c.args.names.now c.loop-name-test.false) (c.loop-name.invariant f tells)
+    subst (λ (ns : List (List ℕ)). Tells c.args.table.now (λ s. f s || stands_in ns s) c.loop-name.hidden)
+    (take_all c.loop-name.name-index c.args.names.now c.loop-name-test.false) (c.loop-name.invariant f tells)

@@ -5,4 +5,5 @@ use Rattle.est_modules.proofs.place_order.sort_by_rank.Goals as goal
 
 pub returns-clause-sorted : goal.returns-clause-sorted
 returns-clause-sorted c =
-    IsNonDecreasingBy-from_sort_by_key (λ (m : Ranked). m.rank) _ c.in_ok-sort_by_key.ensures.sorted (λ a r q k. search rules)
+    IsNonDecreasingBy-from_sort_by_key (λ (m : Ranked). m.rank) _ c.in_ok-sort_by_key.ensures.sorted
+    (λ a r q k. search rules)

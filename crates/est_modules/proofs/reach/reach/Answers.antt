@@ -1,8 +1,10 @@
-use Rattle.std.proofs.Common.{◌≡◌, ℕ, Bool, false, List, [], ◌∷◌, Vec, Global, length, replicate, ap₂, subst, sym, arith, rules}
+use Rattle.std.proofs.Common.{◌≡◌, ℕ, Bool, false, List, [], ◌∷◌, Vec, Global, length, replicate, ap₂, subst, sym}
+use Rattle.std.proofs.Common.{arith, rules}
 use Rattle.std.proofs.lemmas.List.{length-map}
 use Rattle.est_modules.specs.RunRows.{rows_of}
 use Rattle.est_modules.specs.Inner.Reached.{Search, IsSearching}
-use Rattle.est_modules.proofs.SearchLemmas.{search_begins, search_step, search_ends, step_is_less, next_is_there, no_items}
+use Rattle.est_modules.proofs.SearchLemmas.{search_begins, search_step, search_ends, step_is_less, next_is_there}
+use Rattle.est_modules.proofs.SearchLemmas.{no_items}
 use Rattle.est_modules.proofs.reach.reach.Goals as goal
 
 pub row_of-requires : goal.row_of-requires
@@ -38,4 +40,5 @@ pub returns : goal.returns
 returns c =
     let none : length c.loop-next.waiting.items ≡ 0 = search (rules, c.in_default.ensures.cases) in
     search_ends (rows_of c.args.runs.now) c.args.place
-    (record { seen = c.loop-next.seen.items; waiting = c.loop-next.waiting.items }) (no_items _ none) c.loop-next.invariant
+    (record { seen = c.loop-next.seen.items; waiting = c.loop-next.waiting.items })
+    (no_items _ none) c.loop-next.invariant

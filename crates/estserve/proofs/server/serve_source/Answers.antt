@@ -4,16 +4,20 @@ use Rattle.seat_receipts.specs.declared.receipts.TheConstants.{SEATS}
 use Rattle.policy_board.specs.SeatState.{new_seat}
 use Rattle.worker_threads.specs.Turns.{AreBack}
 use Rattle.client_loop.specs.Workers.{ServesNext}
+use Rattle.estserve.specs.Serving.{quota_of}
 use Rattle.estserve.proofs.Closing.{as_many}
 use Rattle.estserve.proofs.server.serve_source.Goals.{in-Ok-2, in-Err}
 use Rattle.estserve.proofs.server.serve_source.Goals as goal
 
 pub close-requires-in-Ok-served : goal.close-requires-in-Ok-served
 close-requires-in-Ok-served g c =
-    let back : AreBack ServesNext (replicate c.args.workers new_seat) c.in-Ok-served.seats.items
+    let all = c.in-Ok-served.back.all_taken in
+    let back : AreBack ServesNext (quota_of c.args.connections) all (replicate c.args.workers new_seat)
+    c.in-Ok-served.back.seats.items
     = search rules in
-    let few : length c.in-Ok-served.seats.items ≤ SEATS
-    = rw (as_many ServesNext c.args.workers new_seat c.in-Ok-served.seats.items back)
+    let few : length c.in-Ok-served.back.seats.items ≤ SEATS
+    = rw (as_many ServesNext (quota_of c.args.connections) all c.args.workers new_seat c.in-Ok-served.back.seats.items
+        back)
     (subst (λ n. n ≤ SEATS) c.count.ensures.count c.count.ensures.few) in
     search (rules, few)
 

@@ -2,4 +2,4 @@ use Rattle.worker_threads.specs.Turns.{none_yet}
 use Rattle.worker_threads.proofs.workers.begin.Goals as goal
 
 pub returns-else-deref : goal.returns-else-deref
-returns-else-deref g c = none_yet _
+returns-else-deref g c = (0, none_yet _)

@@ -1,10 +1,9 @@
 use Rattle.std.proofs.Common.{rules}
-use Rattle.worker_threads.specs.Turns.{no_seat}
 use Rattle.worker_threads.proofs.BackLemmas.{back_more}
 use Rattle.worker_threads.proofs.workers.join_each.Goals as goal
 
 pub loop-thread-init : goal.loop-thread-init
-loop-thread-init g c = record { back = rw c.requires.room.0 no_seat; room = search rules }
+loop-thread-init g c = record { back = rw c.requires.room.0 tt; room = search rules }
 
 pub loop-thread-preserved : goal.loop-thread-preserved
 loop-thread-preserved g c = record {

@@ -12,5 +12,6 @@ returns-in_ok-push c =
     grown_table t _ s c.requires (sym c.number.ensures ∙ c.in-None.is) c.in_ok-push.ensures.items (λ u.
     let key : Bor (List ℕ) = record c.as_bytes.result { now = u } in
     c.in_ok-insert.ensures.updates.0 key
-    ∙ ap (λ b. cond b (Some c.len-number.result) (number_in t u)) (is_eq-slice_cmp c.as_bytes.result.now u ∙ ap (λ x. bytes_eq x u) c.as_bytes.ensures)
+    ∙ ap (λ b. cond b (Some c.len-number.result) (number_in t u))
+    (is_eq-slice_cmp c.as_bytes.result.now u ∙ ap (λ x. bytes_eq x u) c.as_bytes.ensures)
     ∙ ap (λ n. cond (bytes_eq s u) (Some n) (number_in t u)) c.len-number.ensures)

@@ -11,6 +11,7 @@ returns c = λ members begun.
     let tokens : c.end_object.new.self.tokens ≡ (begin_object ∷ member_tokens members) ++ end_object ∷ [] =
     ended.ok ∙ ap (λ (l : List Token). l ++ end_object ∷ []) (c.self.view_is ∙ begun) in
     let nothing : c.end_object.new.self.before ≡ [] = ended.room.0 ∙ c.self.invariant in
-    let text = c.into_inner-line.ensures.items ∙ ap (λ (before : List ℕ). before ++ print c.end_object.new.self.tokens) nothing
+    let text = c.into_inner-line.ensures.items ∙ ap (λ (before : List ℕ). before ++ print c.end_object.new.self.tokens)
+    nothing
     ∙ ap print tokens in
     c.in_ok-push.ensures.items ∙ ap (λ (bytes : List ℕ). bytes ++ 10 ∷ []) text ∙ line_is members
