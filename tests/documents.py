@@ -97,8 +97,10 @@ def code_of_tests():
 
 def missing_tests():
     """A line for each test, table or file that docs/EXAMPLES.md names in a row, and that isn't there."""
-    table = (ROOT / "docs/EXAMPLES.md").read_text().partition("\n## ")[0]
+    table = (ROOT / "docs/EXAMPLES.md").read_text().partition("\n## Which test shows what\n")[2]
     rows = re.findall(r"^\| .* \| ([^|]+) \|$", table, re.MULTILINE)
+    if not rows:
+        return ["docs/EXAMPLES.md has no table of tests"]
     named = {name for row in rows for name in re.findall(r"`(\w+)`", row)}
     code = code_of_tests()
     defined = set(re.findall(r"\b(?:fn|const|def|class) (\w+)", code))
