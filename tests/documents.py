@@ -5,7 +5,8 @@ The lists of docs/generated are those that scripts/reading_list.py and scripts/w
 body says why it is wrong; README.md has at most 100 lines; each crate stands in docs/ARCHITECTURE.md, and crates.txt
 has its storeys and its order; each function of the walk there stands in its file; each script of examples/scripts has
 its answers and its row in examples/README.md, and the opening one is the stored run; each test that docs/EXAMPLES.md
-names is written; each link to a file leads to one, and each quoted block stands in its file.
+names is written; each link to a file leads to one, and each quoted block stands in its file; and no line of code,
+definition or proof is too wide.
 Ends with status 1 after naming what differs.
 """
 
@@ -21,6 +22,7 @@ import wrong_bodies  # noqa: E402
 
 
 README_LINES = 100  # at most
+WIDTHS = {".rt": 100, ".antt": 120}  # characters of a line, at most
 
 
 def differing_tables():
@@ -131,9 +133,29 @@ def broken_links(document):
     ]
 
 
+def is_attribute(line):
+    """Whether the line is an attribute, which may be of any width: `rt fmt` puts each on one line."""
+    return line.lstrip().startswith("#[") and line.endswith("]")
+
+
+def wide_lines():
+    """A line for each line of code, definition or proof that is wider than it may be."""
+    files = [*ROOT.glob("crates/*/src/**/*.rt"), *ROOT.glob("crates/*/[sp]*/**/*.antt")]
+    lines = [
+        (file.relative_to(ROOT), number, line)
+        for file in sorted(files)
+        for number, line in enumerate(file.read_text().split("\n"), 1)
+    ]
+    return [
+        f"{file}:{number}: {len(line)} characters, and at most {WIDTHS[file.suffix]} in {file.suffix}"
+        for file, number, line in lines
+        if len(line) > WIDTHS[file.suffix] and not is_attribute(line)
+    ]
+
+
 def main():
     faults = differing_tables() + missing_sentences() + missing_functions() + faulty_examples()
-    faults += long_readme() + missing_crates("docs/ARCHITECTURE.md") + shuffled_crates() + missing_tests()
+    faults += long_readme() + missing_crates("docs/ARCHITECTURE.md") + shuffled_crates() + missing_tests() + wide_lines()
     for document in [*ROOT.glob("*.md"), *ROOT.glob("docs/**/*.md"), *ROOT.glob("examples/*.md")]:
         faults += broken_links(document) + stale_quotes(document)
     print("\n".join(faults) if faults else "documents: in step with the repository")
