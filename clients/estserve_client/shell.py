@@ -250,7 +250,7 @@ class Shell(cmd.Cmd):
         self.set_prompt("")
 
     def do_dsd(self, line: str) -> None:
-        """dsd NAME COUNT ROLE..: a separation set: no session may have COUNT or more of these"""
+        """dsd NAME COUNT ROLE..: keeps roles apart: no session may have COUNT or more of them"""
         name, count, *roles = line.split() if len(line.split()) > 2 else ("", "0")
         if not roles:
             raise Usage("expected: NAME COUNT ROLE..")
