@@ -5,7 +5,7 @@ The lists of docs/generated are those that scripts/reading_list.py and scripts/w
 body says why it is wrong; README.md has at most 100 lines; each crate stands in docs/ARCHITECTURE.md, and crates.txt
 has its storeys and its order; each function of the walk there stands in its file; each script of examples/scripts has
 its answers and its row in examples/README.md, and the opening one is the stored run; each test that docs/EXAMPLES.md
-names is written; each link to a file leads to one, and each quoted block stands in its file; and no line of code,
+names is written; each link leads to a file and a heading, and each quoted block stands in its file; and no line of code,
 definition or proof is too wide.
 Ends with status 1 after naming what differs.
 """
@@ -133,6 +133,23 @@ def broken_links(document):
     ]
 
 
+def anchors(document):
+    """The names by which links lead to the document's headings."""
+    headings = re.findall(r"^#+ (.+)$", document.read_text(), re.MULTILINE)
+    return {re.sub(r"[^\w\- ]", "", heading.lower()).replace(" ", "-") for heading in headings}
+
+
+def broken_anchors(document):
+    """A line for each link of the document that leads to no heading of a document."""
+    targets = re.findall(r"\]\(([^)#:\s]*)#([^)\s]+)\)", document.read_text())
+    files = [(document.parent / target if target else document, anchor) for target, anchor in targets]
+    return [
+        f"{document.relative_to(ROOT)}: no heading {anchor} in {file.name}"
+        for file, anchor in files
+        if file.suffix == ".md" and file.exists() and anchor not in anchors(file)
+    ]
+
+
 def is_attribute(line):
     """Whether the line is an attribute, which may be of any width: `rt fmt` puts each on one line."""
     return line.lstrip().startswith("#[") and line.endswith("]")
@@ -157,7 +174,7 @@ def main():
     faults = differing_tables() + missing_sentences() + missing_functions() + faulty_examples()
     faults += long_readme() + missing_crates("docs/ARCHITECTURE.md") + shuffled_crates() + missing_tests() + wide_lines()
     for document in [*ROOT.glob("*.md"), *ROOT.glob("docs/**/*.md"), *ROOT.glob("examples/*.md")]:
-        faults += broken_links(document) + stale_quotes(document)
+        faults += broken_links(document) + broken_anchors(document) + stale_quotes(document)
     print("\n".join(faults) if faults else "documents: in step with the repository")
     return 1 if faults else 0
 
