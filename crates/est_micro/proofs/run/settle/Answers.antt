@@ -18,7 +18,7 @@ loop-before-init c =
     (bits c.in_doubt-doubt.result.can.signals.interface) z c.exchange-env.new.table.cells.items c.exchange-env.result)
     c.clear.ensures
     c.exchange-env.ensures in
-    round_made k c.args.state.now (bits c.args.inputs) _ _ _ _ _ _ _
+    round_made _ k c.args.state.now (bits c.args.inputs) _ _ _ _ _ _ _
     (start_ready k c.args.state.now (bits c.args.inputs) _ _ n _ _ k.closed c.requires.size
     c.in_doubt-doubt.ensures.sure
     c.in_doubt-doubt.ensures.possible h (length-replicate n Unknown))
@@ -26,13 +26,13 @@ loop-before-init c =
 
 pub loop-before-preserved : goal.loop-before-preserved
 loop-before-preserved c =
-    round_made c.args.kernel.now c.args.state.now (bits c.args.inputs) _ _ _ _ _ _ _ c.loop-before.invariant.ready
+    round_made _ c.args.kernel.now c.args.state.now (bits c.args.inputs) _ _ _ _ _ _ _ c.loop-before.invariant.ready
     c.round-found-in-loop-before.ensures
     (let counted = c.loop-before.invariant.counted in omega arith) c.decided-now-in-loop-before.ensures
 
 pub loop-before-smaller : goal.loop-before-smaller
 loop-before-smaller c =
-    let m = round_made c.args.kernel.now c.args.state.now (bits c.args.inputs) _ _ c.loop-before.table.cells.items _ _
+    let m = round_made _ c.args.kernel.now c.args.state.now (bits c.args.inputs) _ _ c.loop-before.table.cells.items _ _
     c.loop-before.now _ c.loop-before.invariant.ready
     c.round-found-in-loop-before.ensures
     (let counted = c.loop-before.invariant.counted in omega arith) c.decided-now-in-loop-before.ensures in
