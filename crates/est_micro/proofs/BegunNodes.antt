@@ -458,6 +458,10 @@ within_next old m0 m1 s at gate e r j b h m =
     let o = b.past in
     omega arith
 
+pub within_back : (k a n m : ℕ) (old m0 : List Status) → k ≡ a + n → a + n + m ≤ length old → length m0 ≡ length old
+    → k + m ≤ length m0
+within_back k a n m old m0 e h l = omega arith
+
 pub within_local : (a k : ℕ) (old m0 m1 : List Status) (s : Statement) (at : Place) (gate : Status) (e : Known)
     (r : Found)
     → a + 4 + k ≤ length old → length m0 ≡ length old → IsBegun s at gate e m0 m1 r → a + 3 < length m1

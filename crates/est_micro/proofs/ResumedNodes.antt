@@ -33,7 +33,8 @@ use Rattle.est_micro.specs.declared.cells.Place.{Place}
 use Rattle.est_micro.proofs.Frames.{scoped}
 use Rattle.est_micro.proofs.Nodes.{one_swept, two_swept, two_swept_back, node_is_swept, ends_found, is_backwards}
 use Rattle.est_micro.proofs.Nodes.{is_forwards}
-use Rattle.est_micro.proofs.BegunNodes.{widen, nothing_changes, paired, part_at, trapped_at, IsTrapped, IsHidden, local_swept}
+use Rattle.est_micro.proofs.BegunNodes.{widen, nothing_changes, paired, part_at, trapped_at, IsTrapped, IsHidden}
+use Rattle.est_micro.proofs.BegunNodes.{local_swept}
 use Rattle.est_micro.proofs.BegunNodes.{hidden_found, inside_is}
 
 flip : {A : Type 0} (b : Bool) (x y : A) → cond (not b) x y ≡ cond b y x

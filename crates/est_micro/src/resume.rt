@@ -326,7 +326,7 @@ fn resume_par_back(
         ..at
     };
     let later = Place {
-        cell: past(place.cell, at.main, p, at.traps),
+        cell: past(place.cell, true, p, at.traps),
         ..at
     };
     let second = part(table, later, q, pauses, second_on, go, run, env);

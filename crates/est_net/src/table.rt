@@ -1,6 +1,6 @@
 //! Cells, each open or decided.
 
-ghost use Rattle.std.specs.Prelude.{◌≡◌, ◌<◌, ◌≤◌, ◌+◌, true, length, set, slice_get, Some};
+ghost use Rattle.std.specs.Prelude.{◌≡◌, ◌<◌, ◌≤◌, ◌+◌, ◌&&◌, true, length, set, slice_get, Some};
 ghost use Rattle.std.specs.Prelude.{option_map, replicate};
 ghost use Rattle.est_cells.specs.Tables.{is_sure};
 ghost use Rattle.est_net.specs.Cells.{AreFalse, Learns, NoneTrue, cell_at, decided, known_as};
@@ -77,18 +77,26 @@ fn is_true(status: Status) -> bool
     }
 }
 
-/// Whether no cell of a range is true.
+/// Whether both hold.
+#[inline(always)]
+fn both(a: bool, b: bool) -> bool
+    ensures { result ≡ (a && b) }
+{
+    a && b
+}
+
+/// Whether no cell of a range is true. It looks at all of them, since without a way out of the
+/// loop the compiler looks at many at once.
 fn has_no_true(cells: &[Status], from: usize, past: usize) -> bool
     requires range { from ≤ past }
     requires within { past ≤ length cells.now }
     ensures { result ≡ true → NoneTrue from past cells.now }
 {
+    let mut none = true;
     for cell in from..past {
-        if is_true(read(cells, cell)) {
-            return false;
-        }
+        none = both(none, !is_true(read(cells, cell)));
     }
-    true
+    none
 }
 
 /// Decides the open cells of a range, in which none is true, to be false.

@@ -6,7 +6,7 @@ use Rattle.est_rounds.specs.Views.{env_of}
 use Rattle.est_micro.proofs.BegunNodes.{present_begun, seq_begun, par_begun, par_begun_back}
 use Rattle.est_micro.proofs.BegunNodes.{suspend_begun, trap_begun, again_begun}
 use Rattle.est_micro.proofs.BegunNodes.{loop_begun, local_begun, within_one, within_two, within_next, within_local}
-use Rattle.est_micro.proofs.BegunNodes.{within_told}
+use Rattle.est_micro.proofs.BegunNodes.{within_back, within_told}
 use Rattle.est_micro.proofs.IdleSheets.{idle_begun}
 use Rattle.est_micro.proofs.begin.+begin.Goals as goal
 
@@ -129,6 +129,38 @@ begin_par-begin-second-requires t c = (
       within_next c.args.table.now.cells.items _ _ _ _ _ _ _ _ c.begin-first.ensures c.requires.within
           c.learn-go.ensures.learns.size,
       c.requires.second_traps,
+    ),
+  ),
+)
+
+pub begin_par_back-leave-requires-clause-within : goal.begin_par_back-leave-requires-clause-within
+begin_par_back-leave-requires-clause-within t c =
+    within_two _ _ _ c.args.table.now.cells.items _ _ _ _ _ _ _ _ _ _ _ _ _ c.requires.within
+    c.learn-go.ensures.learns.size c.begin-second.ensures
+    c.begin-first.ensures
+
+pub begin_par_back-begin-second-requires : goal.begin_par_back-begin-second-requires
+begin_par_back-begin-second-requires t c = (
+  search (rules, the_lemmas),
+  (
+    c.requires.fits.1,
+    (
+      within_back _ _ _ _ c.args.table.now.cells.items _ c.past.ensures c.requires.within
+          c.learn-go.ensures.learns.size,
+      c.requires.second_traps,
+    ),
+  ),
+)
+
+pub begin_par_back-begin-first-requires : goal.begin_par_back-begin-first-requires
+begin_par_back-begin-first-requires t c = (
+  search (rules, the_lemmas),
+  (
+    c.requires.fits.0,
+    (
+      within_one _ _ c.args.table.now.cells.items _ _ _ _ _ _ _ c.requires.within c.learn-go.ensures.learns.size
+          c.begin-second.ensures,
+      c.requires.first_traps,
     ),
   ),
 )
