@@ -37,7 +37,8 @@ fn sweep(
     requires fits { FitsMasks root.now }
     requires traps { 0 + trap_depth (term_of root.now) ≤ 62 }
     requires within { outputs + sheet_size true root.now 0 ≤ length table.old.cells.items }
-    ensures { IsSwept true root.now outputs 0 (sheet_swept direction root.now state.now (env_of env.now))
+    ensures { IsSwept true root.now outputs 0
+        (sheet_swept direction root.now state.now (env_of env.now))
         table.old.cells.items
         table.new.cells.items result }
 {
@@ -67,7 +68,8 @@ fn round(
     requires state { IsState kernel.now.root state.now }
     requires outputs { outputs ≡ output_count kernel.now.interface }
     requires size { length table.old.cells.items ≡ cell_count kernel.now }
-    ensures { IsRound direction kernel.now.interface (bits inputs) kernel.now.root state.now env.old env.new
+    ensures { IsRound direction kernel.now.interface
+        (bits inputs) kernel.now.root state.now env.old env.new
         table.old.cells.items table.new.cells.items result }
 {
     let found = sweep(table, kernel.root(), outputs, state, env, direction);
