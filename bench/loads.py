@@ -238,7 +238,7 @@ def texts():
 
 def told(answer):
     """The answer, with the name that is told in it."""
-    match = re.match(r"(\w+)\(Identifier \{ bytes: \[([0-9, ]+)\], count: (\d+) \}\)$", answer)
+    match = re.match(r"(\w+)\((?:Some\()?Identifier \{ bytes: \[([0-9, ]+)\], count: (\d+) \}\)+$", answer)
     if not match:
         return answer
     letters = [chr(int(byte)) for byte in match.group(2).split(",")]

@@ -1,6 +1,7 @@
 -- The first fault of a library, in the order of its checks (this project's own form).
-use Rattle.std.specs.Prelude.{ℕ, List, Bool, Option, Some, None, option_map}
+use Rattle.std.specs.Prelude.{ℕ, List, Bool, if◌then◌else◌, Option, Some, None, option_map}
 use Rattle.std.specs.Option.{option_or}
+use Rattle.est_text.specs.Identifiers.{is_identifier}
 use Rattle.est_modules.specs.Modules.{Program, program_named, first_in_bodies}
 use Rattle.est_checks.specs.Duplicates.{first_duplicate}
 use Rattle.est_checks.specs.MissingModules.{first_missing}
@@ -12,17 +13,23 @@ use Rattle.est_checks.specs.declared.fault.LinkFault.{LinkFault}
 use Rattle.est_checks.specs.declared.fault.LinkFault.TheVariants.{DuplicateName, UnknownModule, BadRename, UnknownName}
 use Rattle.est_checks.specs.declared.fault.LinkFault.TheVariants.{EmitInput, Semantics}
 
+-- the fault of a module that is asked for and isn't there, which tells its name; where the name of the main module is no
+-- identifier, as no module has such a name, it tells none
+abbrev pub missing_fault : List Program → List ℕ → Option LinkFault
+missing_fault ps main =
+    if is_identifier main then option_map (λ (m : List ℕ). UnknownModule (Some m)) (first_missing ps main)
+    else Some (UnknownModule None)
+
 -- the first of the checks that come before the order of the modules: names declared twice, modules that aren't there
 abbrev pub fault_before_order : List Program → List ℕ → Option LinkFault
-fault_before_order ps main = option_or (option_map DuplicateName (first_duplicate ps))
-    (option_map UnknownModule (first_missing ps main))
+fault_before_order ps main = option_or (option_map DuplicateName (first_duplicate ps)) (missing_fault ps main)
 
 -- the number of the first lawless relation of the main module
 abbrev pub lawless_number : Option Program → Option ℕ
 lawless_number None = None
 lawless_number (Some p) = first_lawless p
 
--- the first of the checks that come behind it: renamings, names, emissions, relations of the main module
+-- the first of the checks that come after it: renamings, names, emissions, relations of the main module
 abbrev pub fault_behind_order : List Program → List ℕ → (List ℕ → List ℕ → Bool) → Option LinkFault
 fault_behind_order ps main emitted =
     option_or (option_map BadRename (first_in_bodies (bad_renaming_at ps) ps))
