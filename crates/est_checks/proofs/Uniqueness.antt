@@ -15,7 +15,7 @@ use Rattle.est_checks.specs.Emissions.{refused_act, refused_in_run}
 use Rattle.est_checks.specs.FirstFaults.{Else, ByLimits, ByNames, ByRuns, IsFirstFault, IsFirstRecursion, recursive_run}
 use Rattle.est_checks.specs.FirstFaults.{limit_passed_by}
 use Rattle.est_text.specs.Identifiers.{is_identifier}
-use Rattle.est_checks.specs.LinkFaults.{fault_before_order, fault_behind_order, lawless_number, missing_fault}
+use Rattle.est_checks.specs.LinkFaults.{fault_before_order, fault_behind_order, lawless_number}
 use Rattle.est_checks.specs.Duplicates.{first_duplicate}
 use Rattle.est_modules.specs.Modules.{Program, program_named, first_in_bodies}
 use Rattle.est_modules.specs.Occurrences.{Binder, Act, emits, tests, exits, binds, runs, Occurrence, occurrences}
@@ -23,7 +23,7 @@ use Rattle.est_modules.specs.Occurrences.{first_of}
 use Rattle.est_modules.specs.ModuleOrders.{run_rows}
 use Rattle.est_modules.specs.Renamings.{renamed}
 use Rattle.est_checks.specs.BadRenamings.{bad_renaming_at}
-use Rattle.est_checks.specs.MissingModules.{first_missing, missing_at}
+use Rattle.est_checks.specs.MissingModules.{first_missing, missing_at, unknown_module}
 use Rattle.est_checks.specs.UnknownNames.{unknown_at}
 use Rattle.est_checks.specs.declared.fault.LinkFault.{LinkFault}
 use Rattle.est_checks.specs.declared.fault.LinkFault.TheVariants.{DuplicateName, UnknownModule, BadRename, UnknownName}
@@ -169,16 +169,21 @@ by_runs ps main there a b h k =
     there a b)
 
 told_none : (named : Bool) (o : Option (List ℕ))
-    → (if named then option_map (λ (m : List ℕ). UnknownModule (Some m)) o else Some (UnknownModule None)) ≡ None
-    → (named ≡ true) × (o ≡ None)
-told_none true o e = (refl, map_none (λ (m : List ℕ). UnknownModule (Some m)) o e)
+    → (if named then option_map Some o else Some None) ≡ None → (named ≡ true) × (o ≡ None)
+told_none true o e = (refl, map_none Some o e)
 told_none false o e = cc
+
+-- where none is told, the name of main is an identifier, and no module is missing
+pub none_unknown : (ps : List Program) (main : List ℕ) → unknown_module ps main ≡ None
+    → (is_identifier main ≡ true) × (first_missing ps main ≡ None)
+none_unknown ps main h = told_none (is_identifier main) (first_missing ps main) h
 
 before_none : (ps : List Program) (main : List ℕ) → fault_before_order ps main ≡ None
     → (is_identifier main ≡ true) × (first_missing ps main ≡ None)
 before_none ps main h =
-    told_none (is_identifier main) (first_missing ps main)
-    (or_none_parts (option_map DuplicateName (first_duplicate ps)) (missing_fault ps main) h).1
+    none_unknown ps main (map_none UnknownModule (unknown_module ps main)
+    (or_none_parts (option_map DuplicateName (first_duplicate ps)) (option_map UnknownModule (unknown_module ps main))
+    h).1)
 
 -- where none is missing before the order, main and each module that is run are there
 pub all_there : (ps : List Program) (main : List ℕ) → fault_before_order ps main ≡ None → first_missing ps main ≡ None

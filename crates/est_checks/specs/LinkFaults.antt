@@ -1,10 +1,9 @@
 -- The first fault of a library, in the order of its checks (this project's own form).
-use Rattle.std.specs.Prelude.{ℕ, List, Bool, if◌then◌else◌, Option, Some, None, option_map}
+use Rattle.std.specs.Prelude.{ℕ, List, Bool, Option, Some, None, option_map}
 use Rattle.std.specs.Option.{option_or}
-use Rattle.est_text.specs.Identifiers.{is_identifier}
 use Rattle.est_modules.specs.Modules.{Program, program_named, first_in_bodies}
 use Rattle.est_checks.specs.Duplicates.{first_duplicate}
-use Rattle.est_checks.specs.MissingModules.{first_missing}
+use Rattle.est_checks.specs.MissingModules.{unknown_module}
 use Rattle.est_checks.specs.BadRenamings.{bad_renaming_at}
 use Rattle.est_checks.specs.UnknownNames.{unknown_at}
 use Rattle.est_checks.specs.Emissions.{first_refused}
@@ -13,16 +12,10 @@ use Rattle.est_checks.specs.declared.fault.LinkFault.{LinkFault}
 use Rattle.est_checks.specs.declared.fault.LinkFault.TheVariants.{DuplicateName, UnknownModule, BadRename, UnknownName}
 use Rattle.est_checks.specs.declared.fault.LinkFault.TheVariants.{EmitInput, Semantics}
 
--- the fault of a module that is asked for and isn't there, which tells its name; where the name of the main module is no
--- identifier, as no module has such a name, it tells none
-abbrev pub missing_fault : List Program → List ℕ → Option LinkFault
-missing_fault ps main =
-    if is_identifier main then option_map (λ (m : List ℕ). UnknownModule (Some m)) (first_missing ps main)
-    else Some (UnknownModule None)
-
 -- the first of the checks that come before the order of the modules: names declared twice, modules that aren't there
 abbrev pub fault_before_order : List Program → List ℕ → Option LinkFault
-fault_before_order ps main = option_or (option_map DuplicateName (first_duplicate ps)) (missing_fault ps main)
+fault_before_order ps main = option_or (option_map DuplicateName (first_duplicate ps))
+    (option_map UnknownModule (unknown_module ps main))
 
 -- the number of the first lawless relation of the main module
 abbrev pub lawless_number : Option Program → Option ℕ
