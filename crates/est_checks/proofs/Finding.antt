@@ -11,7 +11,7 @@ use Rattle.est_checks.specs.Inner.Recursion.{IsOrderFault}
 use Rattle.est_checks.specs.LinkFaults.{fault_before_order, fault_behind_order}
 use Rattle.est_modules.specs.Modules.{Program}
 use Rattle.est_modules.specs.ModuleOrders.{run_rows}
-use Rattle.est_checks.specs.MissingModules.{first_missing}
+use Rattle.est_checks.specs.MissingModules.{unknown_module}
 use Rattle.est_checks.specs.declared.fault.LinkFault.{LinkFault}
 use Rattle.est_checks.specs.declared.fault.LinkFault.TheVariants.{DuplicateName, UnknownModule, Memory}
 use Rattle.est_modules.proofs.Testing.{map_none, or_none_parts}
@@ -73,5 +73,5 @@ first_next ps main e found h = found_next (fault_before_order ps main) (ByRuns p
 -- no name is declared twice
 pub none_twice : (ps : List Program) (main : List ℕ) → None ≡ fault_before_order ps main → first_duplicate ps ≡ None
 none_twice ps main e = map_none DuplicateName (first_duplicate ps)
-    (or_none_parts (option_map DuplicateName (first_duplicate ps)) (option_map UnknownModule (first_missing ps main))
+    (or_none_parts (option_map DuplicateName (first_duplicate ps)) (option_map UnknownModule (unknown_module ps main))
     (sym e)).0

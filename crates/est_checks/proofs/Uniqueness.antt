@@ -1,9 +1,10 @@
 -- A library has one first fault, or none.
 use mathlib.Core.Path.{fun_ext}
-use Rattle.std.proofs.Common.{◌≡◌, ℕ, inl, inr, List, [], Bool, ◌&&◌, Option, Some, None, option_map, Contains, refl}
+use Rattle.std.proofs.Common.{◌≡◌, ℕ, inl, inr, List, [], Bool, true, false, ◌&&◌, Option, Some, None, option_map, Contains, refl}
 use Rattle.std.proofs.Common.{ap, sym, ◌∙◌, subst, arith}
 use Rattle.std.proofs.lemmas.Bool.{cases_lt}
-use Rattle.std.proofs.lemmas.Option.{slice_get-get_or}
+use Rattle.std.specs.Prelude.{if◌then◌else◌}
+use Rattle.std.proofs.lemmas.Option.{slice_get-get_or, none-some}
 use Rattle.std.specs.List.{find, slice_get}
 use Rattle.std.specs.Option.{option_or}
 use Rattle.std.specs.Str.{bytes_eq}
@@ -13,6 +14,7 @@ use Rattle.est_checks.specs.Emissions.{AreEmissions, emits_here, first_refused, 
 use Rattle.est_checks.specs.Emissions.{refused_act, refused_in_run}
 use Rattle.est_checks.specs.FirstFaults.{Else, ByLimits, ByNames, ByRuns, IsFirstFault, IsFirstRecursion, recursive_run}
 use Rattle.est_checks.specs.FirstFaults.{limit_passed_by}
+use Rattle.est_text.specs.Identifiers.{is_identifier}
 use Rattle.est_checks.specs.LinkFaults.{fault_before_order, fault_behind_order, lawless_number}
 use Rattle.est_checks.specs.Duplicates.{first_duplicate}
 use Rattle.est_modules.specs.Modules.{Program, program_named, first_in_bodies}
@@ -21,7 +23,7 @@ use Rattle.est_modules.specs.Occurrences.{first_of}
 use Rattle.est_modules.specs.ModuleOrders.{run_rows}
 use Rattle.est_modules.specs.Renamings.{renamed}
 use Rattle.est_checks.specs.BadRenamings.{bad_renaming_at}
-use Rattle.est_checks.specs.MissingModules.{first_missing, missing_at}
+use Rattle.est_checks.specs.MissingModules.{first_missing, missing_at, unknown_module}
 use Rattle.est_checks.specs.UnknownNames.{unknown_at}
 use Rattle.est_checks.specs.declared.fault.LinkFault.{LinkFault}
 use Rattle.est_checks.specs.declared.fault.LinkFault.TheVariants.{DuplicateName, UnknownModule, BadRename, UnknownName}
@@ -95,7 +97,7 @@ same_refused : (ps : List Program) (f g : List ℕ → List ℕ → Bool)
     → ((m : List ℕ) (q : Program) → program_named ps m ≡ Some q → (s : List ℕ) → f m s ≡ g m s)
     → first_refused ps f ≡ first_refused ps g
 same_refused ps f g h = ap (λ (k : Program → Occurrence → Option (List ℕ)). first_in_bodies k ps)
-    (fun_ext (λ p. fun_ext (λ o. same_act ps f g h p o.round o.act)))
+    (fun_ext (λ p. fun_ext (λ o. same_act ps f g h p o.around o.act)))
 
 same_behind : (ps : List Program) (main : List ℕ) (f g : List ℕ → List ℕ → Bool) → NoneIsRecursive (run_rows ps)
     → AreEmissions ps f → AreEmissions ps g → fault_behind_order ps main f ≡ fault_behind_order ps main g
@@ -166,11 +168,33 @@ by_runs ps main there a b h k =
     (λ e. by_names ps main (subst (IsFirstRecursion (run_rows ps)) (map_none (recursive_run ps) h.place e) h.first)
     there a b)
 
+told_none : (named : Bool) (o : Option (List ℕ))
+    → (if named then option_map Some o else Some None) ≡ None → (named ≡ true) × (o ≡ None)
+told_none true o e = (refl, map_none Some o e)
+told_none false o e = cc
+
+-- where none is told, the name of main is an identifier, and no module is missing
+pub none_unknown : (ps : List Program) (main : List ℕ) → unknown_module ps main ≡ None
+    → (is_identifier main ≡ true) × (first_missing ps main ≡ None)
+none_unknown ps main h = told_none (is_identifier main) (first_missing ps main) h
+
+before_none : (ps : List Program) (main : List ℕ) → fault_before_order ps main ≡ None
+    → (is_identifier main ≡ true) × (first_missing ps main ≡ None)
+before_none ps main h =
+    none_unknown ps main (map_none UnknownModule (unknown_module ps main)
+    (or_none_parts (option_map DuplicateName (first_duplicate ps)) (option_map UnknownModule (unknown_module ps main))
+    h).1)
+
 -- where none is missing before the order, main and each module that is run are there
 pub all_there : (ps : List Program) (main : List ℕ) → fault_before_order ps main ≡ None → first_missing ps main ≡ None
-all_there ps main h = map_none UnknownModule (first_missing ps main)
-    (or_none_parts (option_map DuplicateName (first_duplicate ps))
-    (option_map UnknownModule (first_missing ps main)) h).1
+all_there ps main h = (before_none ps main h).1
+
+-- and the name of main is an identifier
+pub main_identifier : (ps : List Program) (main : List ℕ) → IsFirstFault ps main None → is_identifier main ≡ true
+main_identifier ps main h = (before_none ps main (none_else (fault_before_order ps main) (ByRuns ps main) h)).0 where
+  none_else : (o : Option LinkFault) (next : Option LinkFault → Type 0) → Else o next None → o ≡ None
+  none_else None next h = refl
+  none_else (Some fault) next h = absurd (none-some fault h)
 
 -- a library has one first fault, or none
 pub one_first_fault : (ps : List Program) (main : List ℕ) → (a b : Option LinkFault) → IsFirstFault ps main a

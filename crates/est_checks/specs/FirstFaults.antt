@@ -30,7 +30,7 @@ IsFirstRecursion rows (Some place) = IsFirstRecursive rows place
 abbrev pub recursive_run : List Program → ℕ → LinkFault
 recursive_run ps place = RecursiveRun (get_or (map (λ (p : Program). p.name) ps) place [])
 
--- the first limit that a main module of so many signals, relations and statements passes
+-- the first limit that a main module with these numbers of signals, relations and statements passes
 abbrev pub limit_passed : (signals relations statements : ℕ) → Option Limit
 limit_passed signals relations statements =
     if nat_lt MOST_SIGNALS signals then Some Signals else (

@@ -25,9 +25,11 @@ use Rattle.est_checks.specs.UnknownNames.{unknown_at}
 use Rattle.est_checks.specs.declared.fault.Limit.{Limit}
 use Rattle.est_checks.specs.declared.fault.Limit.TheVariants.{Signals, Relations, Statements}
 use Rattle.est_checks.specs.declared.fault.LinkFault.{LinkFault}
-use Rattle.est_checks.specs.declared.fault.LinkFault.TheVariants.{DuplicateName, UnknownModule, BadRename, UnknownName}
+use Rattle.est_checks.specs.declared.fault.LinkFault.TheVariants.{BadRename, UnknownName}
 use Rattle.est_checks.specs.declared.fault.LinkFault.TheVariants.{EmitInput, Semantics, TooLarge}
 use Rattle.est_modules.specs.declared.head.Declared.{Declared}
+use Rattle.est_checks.proofs.Finding.{none_twice}
+use Rattle.est_checks.proofs.Uniqueness.{all_there}
 use Rattle.est_link.proofs.Distinct.{kept_name}
 use Rattle.est_modules.proofs.Standing.{first_none, found_place}
 use Rattle.est_link.proofs.Taking.{no_main}
@@ -143,10 +145,7 @@ by_runs ps main distinct there h =
 pub is_checked : (ps : List Program) (main : List ℕ) → IsFirstFault ps main None → IsChecked ps main
 is_checked ps main h =
     let parts = else_none (fault_before_order ps main) (ByRuns ps main) h in
-    let none = or_none_parts (option_map DuplicateName (first_duplicate ps))
-    (option_map UnknownModule (first_missing ps main)) parts.0 in
-    by_runs ps main (map_none DuplicateName (first_duplicate ps) none.0)
-    (map_none UnknownModule (first_missing ps main) none.1) parts.1
+    by_runs ps main (none_twice ps main (sym parts.0)) (all_there ps main parts.0) parts.1
 
 -- the main module of such a library is there
 pub main_stands : (ps : List Program) (main : List ℕ) → IsFirstFault ps main None → program_named ps main ≡ None → ⊥

@@ -62,8 +62,8 @@ runs_among P bs (every d p) h =
 runs_among P bs (trap t p) h = runs_among P (a_trap t ∷ bs) p h
 runs_among P bs (signal ns p) h = runs_among P (signals ns ∷ bs) p
     (λ o x. h o (Contains-append_right (_ ∷ []) (occurrences (signals ns ∷ bs) p) o x))
-runs_among P bs (run m rs) h = h (record { act = runs m rs; round = bs })
-    (Contains-push [] (record { act = runs m rs; round = bs })) m refl
+runs_among P bs (run m rs) h = h (record { act = runs m rs; around = bs })
+    (Contains-push [] (record { act = runs m rs; around = bs })) m refl
 runs_among P bs (seq p q) h = (
   runs_among P bs p (λ o x. h o (Contains-append_left (occurrences bs p) (occurrences bs q) o x)),
   runs_among P bs q (λ o x. h o (Contains-append_right (occurrences bs p) (occurrences bs q) o x)),

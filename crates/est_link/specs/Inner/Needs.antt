@@ -15,7 +15,7 @@ abbrev pub IsClosedFrom : List Program → (order : List ℕ) → ℕ → List �
 IsClosedFrom ps order n set = (i : ℕ) → n ≤ i → i < length order → Contains set (slice_index order i) → (run : ℕ)
     → IsRun (run_rows ps) (slice_index order i) run → Contains set run
 
--- the names have those of the set's modules among the first so many of an order
+-- the names have those of the set's modules among the first n of an order
 abbrev pub HasFront : List Program → List ℕ → (order : List ℕ) → ℕ → List (List ℕ) → Type 0
 HasFront ps set order n names = (i : ℕ) → i < n → Contains set (slice_index order i) → (p : Program)
     → slice_get ps (slice_index order i) ≡ Some p → is_listed names p.name ≡ true
