@@ -1,31 +1,28 @@
 -- A library has one first fault, or none.
 use mathlib.Core.Path.{fun_ext}
-use Rattle.std.proofs.Common.{◌≡◌, ℕ, inl, inr, List, [], Bool, ◌&&◌, Option, Some, None, option_map, Contains, refl}
-use Rattle.std.proofs.Common.{ap, sym, ◌∙◌, subst, arith}
+use Rattle.std.proofs.Common.{◌≡◌, ℕ, inl, inr, List, [], map, get_or, Bool, ◌&&◌, Option, Some, None, option_map}
+use Rattle.std.proofs.Common.{Contains, refl, ap, sym, ◌∙◌, subst, arith}
 use Rattle.std.proofs.lemmas.Bool.{cases_lt}
-use Rattle.std.proofs.lemmas.Option.{slice_get-get_or}
+use Rattle.std.proofs.lemmas.Option.{none-some, slice_get-get_or}
 use Rattle.std.specs.List.{find, slice_get}
-use Rattle.std.specs.Option.{option_or}
 use Rattle.std.specs.Str.{bytes_eq}
+use Rattle.refusal_rules.specs.Rules.{Rules, accept, ◌▸◌}
 use Rattle.est_syntax.specs.Tree.{RenamingTree}
 use Rattle.est_checks.specs.Counting.{AreCounts}
 use Rattle.est_checks.specs.Emissions.{AreEmissions, emits_here, first_refused, is_refused, is_refused_in_run}
 use Rattle.est_checks.specs.Emissions.{refused_act, refused_in_run}
-use Rattle.est_checks.specs.FirstFaults.{Else, ByLimits, ByNames, ByRuns, IsFirstFault, IsFirstRecursion, recursive_run}
+use Rattle.est_checks.specs.FirstFaults.{Check, IsFirstFault, IsFirstOf, IsFirstRecursion, IsFirstRefused, IsLimitPassed}
 use Rattle.est_checks.specs.FirstFaults.{limit_passed_by}
-use Rattle.est_checks.specs.LinkFaults.{fault_before_order, fault_behind_order, lawless_number}
-use Rattle.est_checks.specs.Duplicates.{first_duplicate}
 use Rattle.est_modules.specs.Modules.{Program, program_named, first_in_bodies}
 use Rattle.est_modules.specs.Occurrences.{Binder, Act, emits, tests, exits, binds, runs, Occurrence, occurrences}
 use Rattle.est_modules.specs.Occurrences.{first_of}
 use Rattle.est_modules.specs.ModuleOrders.{run_rows}
 use Rattle.est_modules.specs.Renamings.{renamed}
-use Rattle.est_checks.specs.BadRenamings.{bad_renaming_at}
 use Rattle.est_checks.specs.MissingModules.{first_missing, missing_at}
-use Rattle.est_checks.specs.UnknownNames.{unknown_at}
+use Rattle.est_checks.specs.declared.fault.Limit.{Limit}
 use Rattle.est_checks.specs.declared.fault.LinkFault.{LinkFault}
-use Rattle.est_checks.specs.declared.fault.LinkFault.TheVariants.{DuplicateName, UnknownModule, BadRename, UnknownName}
-use Rattle.est_checks.specs.declared.fault.LinkFault.TheVariants.{EmitInput, Semantics, TooLarge}
+use Rattle.est_checks.specs.declared.fault.LinkFault.TheVariants.{DuplicateName, UnknownModule, RecursiveRun, BadRename}
+use Rattle.est_checks.specs.declared.fault.LinkFault.TheVariants.{UnknownName, EmitInput, Semantics, TooLarge}
 use Rattle.est_modules.specs.declared.head.Declared.{Declared}
 use Rattle.est_checks.proofs.Filling.{counted_same}
 use Rattle.est_modules.proofs.Descending.{by_modules}
@@ -34,22 +31,26 @@ use Rattle.est_checks.proofs.RunsThere.{run_is_there}
 use Rattle.est_modules.proofs.Ordering.{IsRunOf}
 use Rattle.est_checks.proofs.Sending.{same_any, same_here}
 use Rattle.est_checks.proofs.RunsThere.{none_missing}
-use Rattle.est_modules.proofs.Testing.{map_none, or_none_parts, same_bytes, found_passes}
+use Rattle.est_modules.proofs.Testing.{some_same, same_bytes, found_passes}
 use Rattle.est_modules.specs.PlaceOrders.{NoneIsRecursive}
 
 -- ---- recursion
 
-one_recursion : (rows : List (List ℕ)) (a b : Option ℕ) → IsFirstRecursion rows a → IsFirstRecursion rows b → a ≡ b
-one_recursion rows None None h k = refl
-one_recursion rows None (Some j) h k = absurd (h j k.recursive)
-one_recursion rows (Some i) None h k = absurd (k i h.recursive)
-one_recursion rows (Some i) (Some j) h k = elim (cases_lt i j) [
-  | inl before ↦ absurd (k.first i before h.recursive)
-  | inr behind ↦ (elim (cases_lt j i) [
-    | inl later ↦ absurd (h.first j later k.recursive)
-    | inr same ↦ ap Some (omega (arith, behind, same))
-  ])
-]
+one_recursion : (ps : List Program) (a b : Option (List ℕ)) → IsFirstRecursion ps a → IsFirstRecursion ps b → a ≡ b
+one_recursion ps None None h k = refl
+one_recursion ps None (Some n) h k = absurd (h k.place k.first.recursive)
+one_recursion ps (Some m) None h k = absurd (k h.place h.first.recursive)
+one_recursion ps (Some m) (Some n) h k =
+    let names = map (λ (p : Program). p.name) ps in
+    elim (cases_lt h.place k.place) [
+      | inl before ↦ absurd (k.first.first h.place before h.first.recursive)
+      | inr behind ↦ (elim (cases_lt k.place h.place) [
+        | inl later ↦ absurd (h.first.first k.place later k.first.recursive)
+        | inr there ↦
+            let place : h.place ≡ k.place = omega (arith, behind, there) in
+            ap Some (h.is ∙ ap (λ i. get_or names i []) place ∙ sym k.is)
+      ])
+    ]
 
 -- ---- emissions
 
@@ -97,13 +98,12 @@ same_refused : (ps : List Program) (f g : List ℕ → List ℕ → Bool)
 same_refused ps f g h = ap (λ (k : Program → Occurrence → Option (List ℕ)). first_in_bodies k ps)
     (fun_ext (λ p. fun_ext (λ o. same_act ps f g h p o.round o.act)))
 
-same_behind : (ps : List Program) (main : List ℕ) (f g : List ℕ → List ℕ → Bool) → NoneIsRecursive (run_rows ps)
-    → AreEmissions ps f → AreEmissions ps g → fault_behind_order ps main f ≡ fault_behind_order ps main g
-same_behind ps main f g none f_is g_is =
-    ap (λ (r : Option (List ℕ)). option_or (option_map BadRename (first_in_bodies (bad_renaming_at ps) ps))
-    (option_or (option_map UnknownName (first_in_bodies (unknown_at ps) ps))
-    (option_or (option_map EmitInput r) (option_map Semantics (lawless_number (program_named ps main))))))
-    (same_refused ps f g (one_emission ps f g none f_is g_is))
+one_refused : (ps : List Program) → NoneIsRecursive (run_rows ps) → (x y : Option (List ℕ)) → IsFirstRefused ps x
+    → IsFirstRefused ps y → x ≡ y
+one_refused ps none x y h k =
+    sym h.is
+    ∙ same_refused ps h.emitted k.emitted (one_emission ps h.emitted k.emitted none h.emissions k.emissions)
+    ∙ k.is
 
 -- ---- numbers of statements
 
@@ -135,46 +135,44 @@ same_limits ps main f g none there f_is g_is None found = refl
 same_limits ps main f g none there f_is g_is (Some p) found =
     ap (limit_passed_by (Some p)) (one_count ps f g none there f_is g_is main p found)
 
+one_limit : (ps : List Program) (main : List ℕ) → NoneIsRecursive (run_rows ps) → first_missing ps main ≡ None
+    → (x y : Option Limit) → IsLimitPassed ps main x → IsLimitPassed ps main y → x ≡ y
+one_limit ps main none there x y h k =
+    sym h.is
+    ∙ same_limits ps main h.counts k.counts none (none_missing ps main there) h.are k.are (program_named ps main) refl
+    ∙ k.is
+
 -- ---- one check after another
 
-one_else : (o : Option LinkFault) (next after : Option LinkFault → Type 0) (a b : Option LinkFault) → Else o next a
-    → Else o after b → (o ≡ None → next a → after b → a ≡ b) → a ≡ b
-one_else None next after a b h k rest = rest refl h k
-one_else (Some fault) next after a b h k rest = h ∙ sym k
+-- what a test finds is one
+same : {Found : Type 0} {o : Option Found} (x y : Option Found) → o ≡ x → o ≡ y → x ≡ y
+same x y h k = sym h ∙ k
 
-by_limits : (ps : List Program) (main : List ℕ) → NoneIsRecursive (run_rows ps) → first_missing ps main ≡ None
-    → (a b : Option LinkFault) → ByLimits ps main a → ByLimits ps main b → a ≡ b
-by_limits ps main none there a b h k =
-    h.is ∙ ap (option_map TooLarge)
-    (same_limits ps main h.counts k.counts none (none_missing ps main there) h.are k.are
-    (program_named ps main) refl) ∙ sym k.is
-
-by_names : (ps : List Program) (main : List ℕ) → NoneIsRecursive (run_rows ps) → first_missing ps main ≡ None
-    → (a b : Option LinkFault) → ByNames ps main a → ByNames ps main b → a ≡ b
-by_names ps main none there a b h k =
-    one_else (fault_behind_order ps main h.emitted) (ByLimits ps main) (ByLimits ps main) a b h.is
-    (subst (λ o. Else o (ByLimits ps main) b) (same_behind ps main k.emitted h.emitted none k.emissions h.emissions)
-    k.is)
-    (λ e. by_limits ps main none there a b)
-
-by_runs : (ps : List Program) (main : List ℕ) → first_missing ps main ≡ None → (a b : Option LinkFault)
-    → ByRuns ps main a → ByRuns ps main b → a ≡ b
-by_runs ps main there a b h k =
-    let same = one_recursion (run_rows ps) k.place h.place k.first h.first in
-    one_else (option_map (recursive_run ps) h.place) (ByNames ps main) (ByNames ps main) a b h.is
-    (subst (λ o. Else (option_map (recursive_run ps) o) (ByNames ps main) b) same k.is)
-    (λ e. by_names ps main (subst (IsFirstRecursion (run_rows ps)) (map_none (recursive_run ps) h.place e) h.first)
-    there a b)
-
--- where none is missing before the order, main and each module that is run are there
-pub all_there : (ps : List Program) (main : List ℕ) → fault_before_order ps main ≡ None → first_missing ps main ≡ None
-all_there ps main h = map_none UnknownModule (first_missing ps main)
-    (or_none_parts (option_map DuplicateName (first_duplicate ps))
-    (option_map UnknownModule (first_missing ps main)) h).1
+-- where a check finds one thing, and those after it have one first fault, there is one
+one_check : {Found : Type 0} (fault : Found → LinkFault) (Is : Option Found → Type 0)
+    → ((x y : Option Found) → Is x → Is y → x ≡ y) → (later : Rules LinkFault) (a b : Option LinkFault)
+    → (Is None → IsFirstOf later a → IsFirstOf later b → a ≡ b)
+    → IsFirstOf (Check fault Is ▸ later) a → IsFirstOf (Check fault Is ▸ later) b → a ≡ b
+one_check fault Is one later a b next (inl x) (inl y) =
+    let found : x.given.0 ≡ y.given.0 = some_same x.given.0 y.given.0
+    (one (Some x.given.0) (Some y.given.0) x.given.2 y.given.2) in
+    x.answered ∙ ap Some (x.given.1 ∙ ap fault found ∙ sym y.given.1) ∙ sym y.answered
+one_check fault Is one later a b next (inl x) (inr y) =
+    absurd (none-some x.given.0 (one None (Some x.given.0) y.passed x.given.2))
+one_check fault Is one later a b next (inr x) (inl y) =
+    absurd (none-some y.given.0 (one None (Some y.given.0) x.passed y.given.2))
+one_check fault Is one later a b next (inr x) (inr y) = next x.passed x.next y.next
 
 -- a library has one first fault, or none
 pub one_first_fault : (ps : List Program) (main : List ℕ) → (a b : Option LinkFault) → IsFirstFault ps main a
     → IsFirstFault ps main b → a ≡ b
-one_first_fault ps main a b h k =
-    one_else (fault_before_order ps main) (ByRuns ps main) (ByRuns ps main) a b h k
-    (λ e. by_runs ps main (all_there ps main e) a b)
+one_first_fault ps main a b =
+    one_check DuplicateName _ same _ a b
+    (λ distinct. one_check UnknownModule _ same _ a b
+    (λ there. one_check RecursiveRun (IsFirstRecursion ps) (one_recursion ps) _ a b
+    (λ none. one_check BadRename _ same _ a b
+    (λ renamed. one_check UnknownName _ same _ a b
+    (λ known. one_check EmitInput (IsFirstRefused ps) (one_refused ps none) _ a b
+    (λ accepted. one_check Semantics _ same _ a b
+    (λ lawful. one_check TooLarge (IsLimitPassed ps main) (one_limit ps main none there) accept a b
+    (λ within h k. h ∙ sym k))))))))

@@ -1,5 +1,5 @@
 -- A library of which no check has a fault is linked to one flat module.
-use Rattle.std.proofs.Common.{◌≡◌, ℕ, ◌<◌, List, [], ◌∷◌, length, true, Some, None, option_map, refl, ap, sym, ◌∙◌}
+use Rattle.std.proofs.Common.{◌≡◌, ℕ, ◌<◌, List, [], ◌∷◌, length, true, Some, None, refl, ap, sym, ◌∙◌}
 use Rattle.std.proofs.Common.{subst}
 use Rattle.std.specs.Coded.{le_prop}
 use Rattle.est_kernel.specs.declared.interface.TheConstants.{MOST_SIGNALS}
@@ -10,21 +10,20 @@ use Rattle.est_link.specs.Alike.{AreAlike}
 use Rattle.est_link.specs.Bodies.{AllRuns, IsLinked}
 use Rattle.est_modules.specs.Derived as derived
 use Rattle.est_modules.specs.Derived.{Derived}
-use Rattle.est_checks.specs.FirstFaults.{ByNames, ByRuns, IsFirstFault, IsFirstRecursion, recursive_run}
+use Rattle.est_checks.specs.FirstFaults.{IsFirstFault}
 use Rattle.est_link.specs.FlatModules.{IsFlatOf}
-use Rattle.est_checks.specs.LinkFaults.{fault_before_order}
 use Rattle.est_link.specs.Linking.{linked, bound, asked_at, interface_bound, interface_run, locals_round}
 use Rattle.est_link.specs.MainModule.{IsRelation, AreRelations, declarations_of}
 use Rattle.est_modules.specs.Modules.{Program, program_named, first_in_bodies}
 use Rattle.est_modules.specs.Occurrences.{Binder, signals, a_trap}
 use Rattle.est_modules.specs.ModuleOrders.{run_rows}
 use Rattle.est_checks.specs.MissingModules.{missing_at}
-use Rattle.est_link.proofs.Checking.{else_none}
+use Rattle.est_checks.proofs.Finding.{all_pass}
 use Rattle.est_modules.proofs.Descending.{by_modules}
 use Rattle.est_link.proofs.Needing.{runs_among}
 use Rattle.est_checks.proofs.RunsThere.{none_missing}
-use Rattle.est_modules.proofs.Testing.{some_same, map_none}
-use Rattle.est_checks.proofs.Uniqueness.{all_there, runs_are_there}
+use Rattle.est_modules.proofs.Testing.{some_same}
+use Rattle.est_checks.proofs.Uniqueness.{runs_are_there}
 use Rattle.est_reduce.specs.Bodies.{Body, suspend, abort, weak_abort, present, repeat, repeat_each, every, trap, signal}
 use Rattle.est_reduce.specs.Bodies.{seq, par}
 use Rattle.est_reduce.specs.declared.flat.Flat.{Flat}
@@ -124,22 +123,15 @@ one_relations ds (t ∷ ts) [] b h k = absurd h
 
 -- ---- the whole module
 
--- where no check has a fault, no module is recursive
-none_recursive : (ps : List Program) (main : List ℕ) → (h : ByRuns ps main None) → NoneIsRecursive (run_rows ps)
-none_recursive ps main h =
-    let runs = else_none (option_map (recursive_run ps) h.place) (ByNames ps main) h.is in
-    subst (IsFirstRecursion (run_rows ps)) (map_none (recursive_run ps) h.place runs.0) h.first
-
 pub one_flat : (ps : List Program) (main : List ℕ) → IsFirstFault ps main None → (a b : Flat) → IsFlatOf ps main a
     → IsFlatOf ps main b → AreAlike a b
 one_flat ps main sound a b h k =
-    let before = else_none (fault_before_order ps main) (ByRuns ps main) sound in
+    let all = all_pass ps main sound in
     let same : h.home ≡ k.home = some_same h.home k.home (sym h.there ∙ k.there) in
     let its : AreRelations (declarations_of k.home) k.home.relations a.relations =
     subst (λ (p : Program). AreRelations (declarations_of p) p.relations a.relations) same h.relations in
     record {
       interface = h.interface ∙ ap declarations_of same ∙ sym k.interface;
       relations = one_relations (declarations_of k.home) k.home.relations a.relations b.relations its k.relations;
-      body = one_body ps main _ _ k.home (none_recursive ps main before.1)
-          (none_missing ps main (all_there ps main before.0)) k.there h.body k.body;
+      body = one_body ps main _ _ k.home all.1.1.0 (none_missing ps main all.1.0) k.there h.body k.body;
     }
