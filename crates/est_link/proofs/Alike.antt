@@ -6,12 +6,11 @@ use Rattle.est_kernel.specs.declared.interface.TheConstants.{MOST_SIGNALS}
 use Rattle.est_kernel.specs.declared.interface.Declaration.{Declaration}
 use Rattle.est_kernel.specs.declared.statement.InterfaceSignal.{InterfaceSignal}
 use Rattle.est_syntax.specs.Tree.{RelationTree, excludes, implies}
-use Rattle.est_link.specs.Alike.{AreAlike}
 use Rattle.est_link.specs.Bodies.{AllRuns, IsLinked}
 use Rattle.est_modules.specs.Derived as derived
 use Rattle.est_modules.specs.Derived.{Derived}
 use Rattle.est_checks.specs.FirstFaults.{IsFirstFault}
-use Rattle.est_link.specs.FlatModules.{IsFlatOf}
+use Rattle.est_link.specs.FlatModules.{FlatModule, IsFlatOf}
 use Rattle.est_link.specs.Linking.{linked, bound, asked_at, interface_bound, interface_run, locals_round}
 use Rattle.est_link.specs.MainModule.{IsRelation, AreRelations, declarations_of}
 use Rattle.est_modules.specs.Modules.{Program, program_named, first_in_bodies}
@@ -26,7 +25,6 @@ use Rattle.est_modules.proofs.Testing.{some_same}
 use Rattle.est_checks.proofs.Uniqueness.{runs_are_there}
 use Rattle.est_reduce.specs.Bodies.{Body, suspend, abort, weak_abort, present, repeat, repeat_each, every, trap, signal}
 use Rattle.est_reduce.specs.Bodies.{seq, par}
-use Rattle.est_reduce.specs.declared.flat.Flat.{Flat}
 use Rattle.est_relations.specs.declared.relations.Relation.{Relation}
 use Rattle.est_relations.specs.declared.relations.Relation.TheVariants.{Exclusion, Implication}
 use Rattle.est_modules.specs.PlaceOrders.{NoneIsRecursive}
@@ -123,15 +121,24 @@ one_relations ds (t ∷ ts) [] b h k = absurd h
 
 -- ---- the whole module
 
-pub one_flat : (ps : List Program) (main : List ℕ) → IsFirstFault ps main None → (a b : Flat) → IsFlatOf ps main a
-    → IsFlatOf ps main b → AreAlike a b
+-- flat modules of the same parts are the same
+same_parts : (a b : FlatModule) → a.interface ≡ b.interface → a.relations ≡ b.relations → a.body ≡ b.body → a ≡ b
+same_parts a b interface relations body =
+    ap (λ (i : List Declaration). let x : FlatModule = record { interface = i; relations = a.relations; body = a.body }
+    in x) interface
+    ∙ ap (λ (r : List Relation). let x : FlatModule = record
+    { interface = b.interface; relations = r; body = a.body } in x) relations
+    ∙ ap (λ (p : Body). let x : FlatModule = record
+    { interface = b.interface; relations = b.relations; body = p } in x) body
+
+pub one_flat : (ps : List Program) (main : List ℕ) → IsFirstFault ps main None → (a b : FlatModule)
+    → IsFlatOf ps main a → IsFlatOf ps main b → a ≡ b
 one_flat ps main sound a b h k =
     let all = all_pass ps main sound in
     let same : h.home ≡ k.home = some_same h.home k.home (sym h.there ∙ k.there) in
     let its : AreRelations (declarations_of k.home) k.home.relations a.relations =
     subst (λ (p : Program). AreRelations (declarations_of p) p.relations a.relations) same h.relations in
-    record {
-      interface = h.interface ∙ ap declarations_of same ∙ sym k.interface;
-      relations = one_relations (declarations_of k.home) k.home.relations a.relations b.relations its k.relations;
-      body = one_body ps main _ _ k.home all.1.1.0 (none_missing ps main all.1.0) k.there h.body k.body;
-    }
+    same_parts a b
+    (h.interface ∙ ap declarations_of same ∙ sym k.interface)
+    (one_relations (declarations_of k.home) k.home.relations a.relations b.relations its k.relations)
+    (one_body ps main a.body b.body k.home all.1.1.0 (none_missing ps main all.1.0) k.there h.body k.body)

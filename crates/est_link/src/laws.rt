@@ -1,13 +1,12 @@
 //! Laws of linking, over every library.
 ghost use Rattle.std.specs.Prelude.{◌≡◌, ◌⊎◌, ℕ, List, Bool, Some, None, Ok, Err, true};
-ghost use Rattle.est_link.specs.Alike.{AreAlike};
 ghost use Rattle.est_link.specs.Bodies.{IsLinked, HasSoundNames};
 ghost use Rattle.est_link.specs.MainModule.{declarations_of};
 ghost use Rattle.est_link.specs.Inner.Tables.{AreMade, has_body, bodies_of};
 ghost use Rattle.est_modules.specs.Modules.{Program, program_named};
 ghost use Rattle.est_link.specs.declared.flatten.Linked.{Linked};
 ghost use Rattle.est_checks.specs.FirstFaults.{IsFirstFault};
-ghost use Rattle.est_link.specs.FlatModules.{IsFlatOf, IsLinkOf};
+ghost use Rattle.est_link.specs.FlatModules.{FlatModule, IsFlatOf, IsLinkOf, flat_of};
 ghost use Rattle.est_checks.specs.declared.fault.LinkFault.{LinkFault};
 ghost use Rattle.est_checks.specs.declared.fault.LinkFault.TheVariants.{Memory};
 ghost use Rattle.est_reduce.specs.Bound.{IsBound};
@@ -27,15 +26,16 @@ fn tables_are_linked()
 
 /// A library of which no check has a fault has one flat main module.
 pub fn one_flat()
-    ensures { (ps : List Program) (main : List ℕ) → IsFirstFault ps main None → (a b : Flat)
-        → IsFlatOf ps main a → IsFlatOf ps main b → AreAlike a b }
+    ensures { (ps : List Program) (main : List ℕ) → IsFirstFault ps main None
+        → (a b : FlatModule) → IsFlatOf ps main a → IsFlatOf ps main b → a ≡ b }
 {}
 
 /// Linking has one answer: one flat module or one fault, and never both. Want of memory, which no
 /// definition foresees, can come at any time.
 pub fn one_link()
     ensures flat { (library : LibraryTree) (main : List ℕ) (a b : Flat)
-        → IsLinkOf library main (Ok a) → IsLinkOf library main (Ok b) → AreAlike a b }
+        → IsLinkOf library main (Ok a) → IsLinkOf library main (Ok b)
+        → flat_of a ≡ flat_of b }
     ensures fault { (library : LibraryTree) (main : List ℕ) (a b : LinkFault)
         → IsLinkOf library main (Err a) → IsLinkOf library main (Err b)
         → (a ≡ b) ⊎ (a ≡ Memory) ⊎ (b ≡ Memory) }
