@@ -84,7 +84,8 @@ names ps main em are r found e told next =
 pub names_here : (ps : List Program) (main : List ℕ) (em : List ℕ → List ℕ → Bool) (fault : LinkFault)
     → AreEmissions ps em → Some fault ≡ fault_behind_order ps main em → IsFirstOf (name_checks ps main) (Some fault)
 names_here ps main em fault are e =
-    names ps main em are (Some fault) (Some fault) (sym e) (λ f same. same) (λ none. absurd (none-some fault (sym none)))
+    names ps main em are (Some fault) (Some fault) (sym e) (λ f same. same)
+    (λ none. absurd (none-some fault (sym none)))
 
 -- they find none, and the limits are asked
 pub names_next : (ps : List Program) (main : List ℕ) (em : List ℕ → List ℕ → Bool) → AreEmissions ps em

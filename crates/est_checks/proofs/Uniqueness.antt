@@ -11,8 +11,8 @@ use Rattle.est_syntax.specs.Tree.{RenamingTree}
 use Rattle.est_checks.specs.Counting.{AreCounts}
 use Rattle.est_checks.specs.Emissions.{AreEmissions, emits_here, first_refused, is_refused, is_refused_in_run}
 use Rattle.est_checks.specs.Emissions.{refused_act, refused_in_run}
-use Rattle.est_checks.specs.FirstFaults.{Check, IsFirstFault, IsFirstOf, IsFirstRecursion, IsFirstRefused, IsLimitPassed}
-use Rattle.est_checks.specs.FirstFaults.{limit_passed_by}
+use Rattle.est_checks.specs.FirstFaults.{Check, IsFirstFault, IsFirstOf, IsFirstRecursion, IsFirstRefused}
+use Rattle.est_checks.specs.FirstFaults.{IsLimitPassed, limit_passed_by}
 use Rattle.est_modules.specs.Modules.{Program, program_named, first_in_bodies}
 use Rattle.est_modules.specs.Occurrences.{Binder, Act, emits, tests, exits, binds, runs, Occurrence, occurrences}
 use Rattle.est_modules.specs.Occurrences.{first_of}

@@ -34,7 +34,7 @@ abbrev pub IsFirstRecursion : List Program → Option (List ℕ) → Type 0
 IsFirstRecursion ps None = NoneIsRecursive (run_rows ps)
 IsFirstRecursion ps (Some m) = IsRecursiveName ps m
 
--- the first name in a library of an input or of `tick` that is emitted, by what each module emits, or that there is none
+-- the name of the first input, or `tick`, that is emitted, by what each module emits; or that there is none
 pub record IsFirstRefused (ps : List Program) (name : Option (List ℕ)) : Type 0 where
   pub emitted : List ℕ → List ℕ → Bool
   pub emissions : AreEmissions ps emitted

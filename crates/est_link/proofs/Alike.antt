@@ -11,7 +11,7 @@ use Rattle.est_modules.specs.Derived as derived
 use Rattle.est_modules.specs.Derived.{Derived}
 use Rattle.est_checks.specs.FirstFaults.{IsFirstFault}
 use Rattle.est_link.specs.FlatModules.{FlatModule, IsFlatOf}
-use Rattle.est_link.specs.Linking.{linked, bound, asked_at, interface_bound, interface_run, locals_round}
+use Rattle.est_link.specs.Linking.{linked, body_in_run, asked_at, interface_bound, interface_run, locals_round}
 use Rattle.est_link.specs.MainModule.{IsRelation, AreRelations, declarations_of}
 use Rattle.est_modules.specs.Modules.{Program, program_named, first_in_bodies}
 use Rattle.est_modules.specs.Occurrences.{Binder, signals, a_trap}
@@ -64,7 +64,7 @@ linked_same ps f g P Q p bs (derived.trap t q) h k e = ap trap (linked_same ps f
 linked_same ps f g P Q p bs (derived.signal ns q) h k e =
     ap (signal (length (ns.first ∷ ns.later))) (linked_same ps f g P Q p (signals ns ∷ bs) q h k e)
 linked_same ps f g P Q p bs (derived.run m rs) h k e = ap
-    (bound (interface_bound p bs rs (interface_run (program_named ps m))) (locals_round bs)) (e h k)
+    (body_in_run (interface_bound p bs rs (interface_run (program_named ps m))) (locals_round bs)) (e h k)
 linked_same ps f g P Q p bs (derived.seq q r) h k e = same_pair seq (linked ps f p bs q) (linked ps f p bs r)
     (linked ps g p bs q) (linked ps g p bs r) (linked_same ps f g P Q p bs q h.0 k.0 e.0)
     (linked_same ps f g P Q p bs r h.1 k.1 e.1)

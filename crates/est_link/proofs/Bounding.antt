@@ -8,7 +8,8 @@ use Rattle.est_modules.specs.Derived.{Derived}
 use Rattle.est_link.specs.Bodies.{MayEmit, IsBody, IsSent, AllRuns, HasSoundNames}
 use Rattle.est_checks.specs.Emissions.{refused_at, is_refused, emits_by}
 use Rattle.est_link.specs.Inner.Tables.{AreMade, none, next, IsMade, has_body, bodies_of, body_linked}
-use Rattle.est_link.specs.Linking.{linked, bound, interface_bound, interface_run, locals_round, signal_at, emitted}
+use Rattle.est_link.specs.Linking.{linked, body_in_run, interface_bound, interface_run, locals_round, signal_at}
+use Rattle.est_link.specs.Linking.{emitted}
 use Rattle.est_modules.specs.Modules.{Program, program_named}
 use Rattle.est_modules.specs.Occurrences.{Binder, signals, a_trap, emits, runs, Occurrence, tested, occurrences}
 use Rattle.est_modules.specs.Occurrences.{first_of}
@@ -101,15 +102,15 @@ run_bound : (ps : List Program) (em : List ℕ → List ℕ → Bool) (p : Progr
     (rs : List RenamingTree) (o : Option Program) (f : Body) → program_named ps m ≡ o
     → IsFine ps em p (record { act = runs m rs; round = bs }) → IsSound em o f
     → IsBody (length p.interface) (IsSent em p) (traps_round bs) (locals_round bs)
-    (bound (interface_bound p bs rs (interface_run o)) (locals_round bs) f)
+    (body_in_run (interface_bound p bs rs (interface_run o)) (locals_round bs) f)
 run_bound ps em p bs m rs None f found fine sound =
     subst (λ x. IsBody (length p.interface) (IsSent em p) (traps_round bs) (locals_round bs)
-    (bound (interface_bound p bs rs []) (locals_round bs) x)) (sym sound) tt
+    (body_in_run (interface_bound p bs rs []) (locals_round bs) x)) (sym sound) tt
 run_bound ps em p bs m rs (Some q) f found fine sound =
     let e : locals_round bs + 0 ≡ locals_round bs = omega arith in
     let none : 0 + traps_round bs ≡ traps_round bs = omega arith in
     subst (λ l. IsBody (length p.interface) (IsSent em p) (traps_round bs) l
-    (bound (interface_bound p bs rs q.interface) (locals_round bs) f)) e
+    (body_in_run (interface_bound p bs rs q.interface) (locals_round bs) f)) e
     (bound_body (length q.interface) (IsSent em q) (length p.interface) (IsSent em p) (locals_round bs)
     (interface_bound p bs rs q.interface) (run_bindings ps em p bs m rs q found fine) (traps_round bs) 0 f
     (subst (λ t. IsBody (length q.interface) (IsSent em q) t 0 f) none

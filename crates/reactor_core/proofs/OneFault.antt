@@ -212,7 +212,8 @@ module _ (cuts : CutsAreOne) (faults : CutFaultsAreOne) (links : LinksAreOne) wh
       absurd (links_or_none main text gives.flat gives.links l s f h)
   given_or_fault main text m _ gives (in_reduction flat link f h) =
       reduced f
-      (subst (λ (m : FlatModule). IsFaultOf m.body f) (same_flat cuts links main text flat gives.flat link gives.links) h)
+      (subst (λ (m : FlatModule). IsFaultOf m.body f)
+      (same_flat cuts links main text flat gives.flat link gives.links) h)
     where
       reduced : (f : ReduceFault) → IsFaultOf gives.flat.body f → refusal_of_reduce f ≡ Memory
       reduced (reduce.TooLarge limit) h = let e = ap limit_passed gives.begins in
