@@ -1,7 +1,7 @@
 -- Faults that checks find, one check after another.
-use Rattle.std.proofs.Common.{◌≡◌, ℕ, ◌⊎◌, inl, inr, List, [], map, get_or, Bool, Option, Some, None, option_map}
-use Rattle.std.proofs.Common.{Result, Ok, Err, refl, ap, sym, ◌∙◌}
-use Rattle.std.proofs.lemmas.List.{get_or-map}
+use Rattle.std.proofs.Common.{◌≡◌, ℕ, ◌<◌, ◌⊎◌, inl, inr, List, [], length, map, get_or, Bool, Option, Some, None}
+use Rattle.std.proofs.Common.{option_map, Result, Ok, Err, refl, ap, sym, ◌∙◌, arith}
+use Rattle.std.proofs.lemmas.List.{get_or-map, length-map}
 use Rattle.std.proofs.lemmas.Option.{none-some, slice_get_within, get_or_from_slice_get}
 use Rattle.std.specs.List.{slice_get}
 use Rattle.std.specs.Option.{option_or}
@@ -10,18 +10,20 @@ use Rattle.refusal_rules.proofs.RuleLemmas.{refuse, pass, all_passed}
 use Rattle.est_checks.specs.BadRenamings.{bad_renaming_at}
 use Rattle.est_checks.specs.Duplicates.{first_duplicate}
 use Rattle.est_checks.specs.Emissions.{AreEmissions, first_refused}
-use Rattle.est_checks.specs.FirstFaults.{Check, Finds, IsFirstFault, IsFirstOf, IsFirstRecursion, IsFirstRefused}
+use Rattle.est_checks.specs.FirstFaults.{Check, Finds, IsFirstFault, IsFirstOf, IsFirstRefused}
 use Rattle.est_checks.specs.FirstFaults.{IsLimitPassed, checks, limit_passed_by}
 use Rattle.est_checks.specs.Inner.Recursion.{IsOrderFault}
 use Rattle.est_checks.specs.Inner.Stages.{IsLimitFault, limit_checks, name_checks, run_checks}
 use Rattle.est_checks.specs.LinkFaults.{fault_before_order, fault_behind_order, lawless_number}
 use Rattle.est_modules.specs.Modules.{Program, program_named, first_in_bodies}
-use Rattle.est_modules.specs.ModuleOrders.{run_rows}
+use Rattle.est_modules.specs.ModuleOrders.{places_run, run_rows}
 use Rattle.est_checks.specs.MissingModules.{first_missing}
 use Rattle.est_checks.specs.UnknownNames.{unknown_at}
 use Rattle.est_checks.specs.declared.fault.LinkFault.{LinkFault}
 use Rattle.est_checks.specs.declared.fault.LinkFault.TheVariants.{DuplicateName, UnknownModule, RecursiveRun, BadRename}
 use Rattle.est_checks.specs.declared.fault.LinkFault.TheVariants.{UnknownName, EmitInput, Semantics, TooLarge, Memory}
+use Rattle.est_checks.proofs.Chains.{first_itself, none_itself}
+use Rattle.est_modules.proofs.Standing.{program_at}
 use Rattle.est_modules.proofs.Testing.{map_none, or_none_parts}
 use Rattle.est_modules.specs.PlaceOrders.{NoneIsRecursive}
 
@@ -95,16 +97,19 @@ names_next ps main em are e found h =
     names ps main em are None found (sym e) (λ f some. absurd (none-some f some)) (λ none. limits ps main found h)
 
 -- a recursive module is found
-pub runs_here : (ps : List Program) (main : List ℕ) (fault : LinkFault) → IsOrderFault ps fault
-    → (fault ≡ Memory) ⊎ IsFirstOf (run_checks ps main) (Some fault)
-runs_here ps main fault (inl memory) = inl memory
-runs_here ps main fault (inr r) =
-    inr (refuse fault (_, r.is, record { place = r.place; first = r.first; is = refl }) refl)
+pub runs_here : (ps : List Program) (main : List ℕ) (fault : LinkFault) → first_duplicate ps ≡ None
+    → IsOrderFault ps fault → (fault ≡ Memory) ⊎ IsFirstOf (run_checks ps main) (Some fault)
+runs_here ps main fault distinct (inl memory) = inl memory
+runs_here ps main fault distinct (inr r) =
+    let within : r.place < length ps = omega (arith, r.first.there, length-map ps (places_run ps)) in
+    let at = program_at ps r.place within in
+    inr (refuse fault (at.0.name, r.is ∙ ap RecursiveRun (sym (name_there ps r.place at.0 at.1)),
+    first_itself ps distinct r.place r.first at.0 at.1) refl)
 
 -- no module is recursive, and names are asked
 pub runs_next : (ps : List Program) (main : List ℕ) → NoneIsRecursive (run_rows ps) → (found : Option LinkFault)
     → IsFirstOf (name_checks ps main) found → IsFirstOf (run_checks ps main) found
-runs_next ps main none found h = pass none h
+runs_next ps main none found h = pass (none_itself ps none) h
 
 first : (ps : List Program) (main : List ℕ) (r found : Option LinkFault) → fault_before_order ps main ≡ r
     → ((f : LinkFault) → r ≡ Some f → found ≡ Some f) → (r ≡ None → IsFirstOf (run_checks ps main) found)

@@ -1,6 +1,6 @@
 -- A library has one first fault, or none.
 use mathlib.Core.Path.{fun_ext}
-use Rattle.std.proofs.Common.{◌≡◌, ℕ, inl, inr, List, [], map, get_or, Bool, ◌&&◌, Option, Some, None, option_map}
+use Rattle.std.proofs.Common.{◌≡◌, ℕ, inl, inr, List, [], Bool, ◌&&◌, Option, Some, None, option_map}
 use Rattle.std.proofs.Common.{Contains, refl, ap, sym, ◌∙◌, subst, arith}
 use Rattle.std.proofs.lemmas.Bool.{cases_lt}
 use Rattle.std.proofs.lemmas.Option.{none-some, slice_get-get_or}
@@ -11,19 +11,21 @@ use Rattle.est_syntax.specs.Tree.{RenamingTree}
 use Rattle.est_checks.specs.Counting.{AreCounts}
 use Rattle.est_checks.specs.Emissions.{AreEmissions, emits_here, first_refused, is_refused, is_refused_in_run}
 use Rattle.est_checks.specs.Emissions.{refused_act, refused_in_run}
-use Rattle.est_checks.specs.FirstFaults.{Check, IsFirstFault, IsFirstOf, IsFirstRecursion, IsFirstRefused}
-use Rattle.est_checks.specs.FirstFaults.{IsLimitPassed, limit_passed_by}
+use Rattle.est_checks.specs.FirstFaults.{Check, IsFirstFault, IsFirstOf, IsFirstRefused, IsLimitPassed}
+use Rattle.est_checks.specs.FirstFaults.{limit_passed_by}
 use Rattle.est_modules.specs.Modules.{Program, program_named, first_in_bodies}
 use Rattle.est_modules.specs.Occurrences.{Binder, Act, emits, tests, exits, binds, runs, Occurrence, occurrences}
 use Rattle.est_modules.specs.Occurrences.{first_of}
 use Rattle.est_modules.specs.ModuleOrders.{run_rows}
 use Rattle.est_modules.specs.Renamings.{renamed}
 use Rattle.est_checks.specs.MissingModules.{first_missing, missing_at}
+use Rattle.est_checks.specs.RecursiveRuns.{IsFirstRecursion, RunsItself}
 use Rattle.est_checks.specs.declared.fault.Limit.{Limit}
 use Rattle.est_checks.specs.declared.fault.LinkFault.{LinkFault}
 use Rattle.est_checks.specs.declared.fault.LinkFault.TheVariants.{DuplicateName, UnknownModule, RecursiveRun, BadRename}
 use Rattle.est_checks.specs.declared.fault.LinkFault.TheVariants.{UnknownName, EmitInput, Semantics, TooLarge}
 use Rattle.est_modules.specs.declared.head.Declared.{Declared}
+use Rattle.est_checks.proofs.Chains.{none_placed}
 use Rattle.est_checks.proofs.Filling.{counted_same}
 use Rattle.est_modules.proofs.Descending.{by_modules}
 use Rattle.est_modules.proofs.Standing.{first_none, found_place}
@@ -38,19 +40,18 @@ use Rattle.est_modules.specs.PlaceOrders.{NoneIsRecursive}
 
 one_recursion : (ps : List Program) (a b : Option (List ℕ)) → IsFirstRecursion ps a → IsFirstRecursion ps b → a ≡ b
 one_recursion ps None None h k = refl
-one_recursion ps None (Some n) h k = absurd (h k.place k.first.recursive)
-one_recursion ps (Some m) None h k = absurd (k h.place h.first.recursive)
-one_recursion ps (Some m) (Some n) h k =
-    let names = map (λ (p : Program). p.name) ps in
-    elim (cases_lt h.place k.place) [
-      | inl before ↦ absurd (k.first.first h.place before h.first.recursive)
-      | inr behind ↦ (elim (cases_lt k.place h.place) [
-        | inl later ↦ absurd (h.first.first k.place later k.first.recursive)
-        | inr there ↦
-            let place : h.place ≡ k.place = omega (arith, behind, there) in
-            ap Some (h.is ∙ ap (λ i. get_or names i []) place ∙ sym k.is)
-      ])
-    ]
+one_recursion ps None (Some n) h k = absurd (h n k.recursive)
+one_recursion ps (Some m) None h k = absurd (k m h.recursive)
+one_recursion ps (Some m) (Some n) h k = elim (cases_lt h.place k.place) [
+  | inl before ↦ absurd (k.first h.place h.home before h.there (subst (RunsItself ps) (sym h.name) h.recursive))
+  | inr behind ↦ (elim (cases_lt k.place h.place) [
+    | inl later ↦ absurd (h.first k.place k.home later k.there (subst (RunsItself ps) (sym k.name) k.recursive))
+    | inr there ↦
+        let place : h.place ≡ k.place = omega (arith, behind, there) in
+        let home : h.home ≡ k.home = some_same h.home k.home (sym h.there ∙ ap (slice_get ps) place ∙ k.there) in
+        ap Some (sym h.name ∙ ap (λ (p : Program). p.name) home ∙ k.name)
+  ])
+]
 
 -- ---- emissions
 
@@ -172,7 +173,8 @@ one_first_fault ps main a b =
     (λ there. one_check RecursiveRun (IsFirstRecursion ps) (one_recursion ps) _ a b
     (λ none. one_check BadRename _ same _ a b
     (λ renamed. one_check UnknownName _ same _ a b
-    (λ known. one_check EmitInput (IsFirstRefused ps) (one_refused ps none) _ a b
+    (λ known. one_check EmitInput (IsFirstRefused ps) (one_refused ps (none_placed ps distinct none)) _ a b
     (λ accepted. one_check Semantics _ same _ a b
-    (λ lawful. one_check TooLarge (IsLimitPassed ps main) (one_limit ps main none there) accept a b
+    (λ lawful. one_check TooLarge (IsLimitPassed ps main) (one_limit ps main (none_placed ps distinct none) there) accept
+    a b
     (λ within h k. h ∙ sym k))))))))

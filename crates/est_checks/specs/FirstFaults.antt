@@ -1,6 +1,6 @@
 -- The first fault of a library: its checks in their order, and the answer by them (this project's own form).
-use Rattle.std.specs.Prelude.{◌≡◌, ℕ, nat_lt, Bool, List, [], length, map, get_or, if◌then◌else◌, Option, Some, None}
-use Rattle.std.specs.Prelude.{Result, Ok, Err, ◌⊎◌}
+use Rattle.std.specs.Prelude.{◌≡◌, ℕ, nat_lt, Bool, List, length, if◌then◌else◌, Option, Some, None, Result}
+use Rattle.std.specs.Prelude.{Ok, Err, ◌⊎◌}
 use Rattle.refusal_rules.specs.Rules.{Rule, Rules, accept, ◌▸◌, Answers}
 use Rattle.est_checks.specs.BadRenamings.{bad_renaming_at}
 use Rattle.est_checks.specs.Counting.{AreCounts}
@@ -8,9 +8,9 @@ use Rattle.est_checks.specs.Duplicates.{first_duplicate}
 use Rattle.est_checks.specs.Emissions.{AreEmissions, first_refused}
 use Rattle.est_checks.specs.LinkFaults.{lawless_number}
 use Rattle.est_checks.specs.MissingModules.{first_missing}
+use Rattle.est_checks.specs.RecursiveRuns.{IsFirstRecursion}
 use Rattle.est_checks.specs.UnknownNames.{unknown_at}
 use Rattle.est_modules.specs.Modules.{Program, program_named, first_in_bodies}
-use Rattle.est_modules.specs.ModuleOrders.{run_rows}
 use Rattle.est_kernel.specs.declared.limits.TheConstants.{MOST_STATEMENTS}
 use Rattle.est_checks.specs.declared.fault.Limit.{Limit}
 use Rattle.est_checks.specs.declared.fault.Limit.TheVariants.{Signals, Relations, Statements}
@@ -19,20 +19,8 @@ use Rattle.est_checks.specs.declared.fault.LinkFault.TheVariants.{DuplicateName,
 use Rattle.est_checks.specs.declared.fault.LinkFault.TheVariants.{UnknownName, EmitInput, Semantics, TooLarge, Memory}
 use Rattle.est_kernel.specs.declared.interface.TheConstants.{MOST_SIGNALS}
 use Rattle.est_relations.specs.declared.relations.TheConstants.{MOST_RELATIONS}
-use Rattle.est_modules.specs.PlaceOrders.{NoneIsRecursive, IsFirstRecursive}
 
 -- ---- what checks find
-
--- the name is that of the first module from which a chain of runs leads back to it
-pub record IsRecursiveName (ps : List Program) (m : List ℕ) : Type 0 where
-  pub place : ℕ
-  pub first : IsFirstRecursive (run_rows ps) place
-  pub is : m ≡ get_or (map (λ (p : Program). p.name) ps) place []
-
--- that name, or that there is none
-abbrev pub IsFirstRecursion : List Program → Option (List ℕ) → Type 0
-IsFirstRecursion ps None = NoneIsRecursive (run_rows ps)
-IsFirstRecursion ps (Some m) = IsRecursiveName ps m
 
 -- the name of the first input, or `tick`, that is emitted, by what each module emits; or that there is none
 pub record IsFirstRefused (ps : List Program) (name : Option (List ℕ)) : Type 0 where

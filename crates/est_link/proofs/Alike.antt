@@ -17,6 +17,7 @@ use Rattle.est_modules.specs.Modules.{Program, program_named, first_in_bodies}
 use Rattle.est_modules.specs.Occurrences.{Binder, signals, a_trap}
 use Rattle.est_modules.specs.ModuleOrders.{run_rows}
 use Rattle.est_checks.specs.MissingModules.{missing_at}
+use Rattle.est_checks.proofs.Chains.{none_placed}
 use Rattle.est_checks.proofs.Finding.{all_pass}
 use Rattle.est_modules.proofs.Descending.{by_modules}
 use Rattle.est_link.proofs.Needing.{runs_among}
@@ -141,4 +142,5 @@ one_flat ps main sound a b h k =
     same_parts a b
     (h.interface ∙ ap declarations_of same ∙ sym k.interface)
     (one_relations (declarations_of k.home) k.home.relations a.relations b.relations its k.relations)
-    (one_body ps main a.body b.body k.home all.1.1.0 (none_missing ps main all.1.0) k.there h.body k.body)
+    (one_body ps main a.body b.body k.home (none_placed ps all.0 all.1.1.0) (none_missing ps main all.1.0) k.there h.body
+    k.body)

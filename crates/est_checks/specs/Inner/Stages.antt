@@ -3,8 +3,9 @@ use Rattle.std.specs.Prelude.{◌≡◌, ℕ, List, Option, option_map}
 use Rattle.refusal_rules.specs.Rules.{Rules, accept, ◌▸◌}
 use Rattle.est_checks.specs.BadRenamings.{bad_renaming_at}
 use Rattle.est_checks.specs.Counting.{AreCounts}
-use Rattle.est_checks.specs.FirstFaults.{Check, IsFirstRecursion, IsFirstRefused, IsLimitPassed, limit_passed_by}
+use Rattle.est_checks.specs.FirstFaults.{Check, IsFirstRefused, IsLimitPassed, limit_passed_by}
 use Rattle.est_checks.specs.LinkFaults.{lawless_number}
+use Rattle.est_checks.specs.RecursiveRuns.{IsFirstRecursion}
 use Rattle.est_checks.specs.UnknownNames.{unknown_at}
 use Rattle.est_modules.specs.Modules.{Program, program_named, first_in_bodies}
 use Rattle.est_checks.specs.declared.fault.LinkFault.{LinkFault}

@@ -8,5 +8,5 @@ pub returns-in_err-order-clause-found : goal.returns-in_err-order-clause-found
 returns-in_err-order-clause-found c =
     let p = err_from_is_err_and c.from_residual.result c.from_residual.ensures.1 in
     rw (p.1, p.2)
-    (runs_here (map program_of c.args.heads.now) c.args.main.now c.in_err-order.field-0.0
+    (runs_here (map program_of c.args.heads.now) c.args.main.now c.in_err-order.field-0.0 c.requires
     c.in_err-order.ensures.err)
