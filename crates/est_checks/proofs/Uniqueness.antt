@@ -175,6 +175,6 @@ one_first_fault ps main a b =
     (λ renamed. one_check UnknownName _ same _ a b
     (λ known. one_check EmitInput (IsFirstRefused ps) (one_refused ps (none_placed ps distinct none)) _ a b
     (λ accepted. one_check Semantics _ same _ a b
-    (λ lawful. one_check TooLarge (IsLimitPassed ps main) (one_limit ps main (none_placed ps distinct none) there) accept
-    a b
+    (λ lawful. one_check TooLarge (IsLimitPassed ps main)
+    (one_limit ps main (none_placed ps distinct none) there) accept a b
     (λ within h k. h ∙ sym k))))))))

@@ -5,7 +5,9 @@ use Rattle.std.proofs.lemmas.Bool.{false≢true}
 use Rattle.std.specs.List.{list_any, AllByRecursion}
 use Rattle.est_modules.specs.Derived as derived
 use Rattle.est_modules.specs.Derived.{Derived}
-use Rattle.est_link.specs.Bodies.{MayEmit, IsBody, IsSent, AllRuns, HasSoundNames}
+use Rattle.est_checks.specs.RecursiveRuns.{HasRun}
+use Rattle.est_link.specs.Bodies.{MayEmit, IsBody, IsSent, HasSoundNames}
+use Rattle.est_link.specs.Inner.AllRuns.{AllRuns}
 use Rattle.est_checks.specs.Emissions.{refused_at, is_refused, emits_by}
 use Rattle.est_link.specs.Inner.Tables.{AreMade, none, next, IsMade, has_body, bodies_of, body_linked}
 use Rattle.est_link.specs.Linking.{linked, body_in_run, interface_bound, interface_run, locals_round, signal_at}
@@ -23,7 +25,7 @@ use Rattle.est_link.proofs.Made.{kept, new_last, last_body, old_or_last}
 use Rattle.est_link.proofs.Naming.{IsFine, test_at, traps_round, trap_within, sent_at, run_bindings}
 use Rattle.est_modules.proofs.Testing.{or_left, or_right, and_both, not_true, same_bytes, equal_bytes, or_none_parts}
 use Rattle.est_modules.proofs.Testing.{all_parts}
-use Rattle.est_link.proofs.RunModules.{more_runs}
+use Rattle.est_link.proofs.RunModules.{from_runs}
 use Rattle.est_reduce.specs.Bodies.{Body, nothing, pause, halt, emit, sustain, exit, await, present, suspend, abort}
 use Rattle.est_reduce.specs.Bodies.{weak_abort, repeat, repeat_each, every, trap, signal, seq, par}
 
@@ -197,8 +199,8 @@ last_sound ps em es e m names before absent is made =
     ∙ ap (λ n. body_linked ps (bodies_of es) (program_named ps n)) same in
     subst (IsSound em (program_named ps m)) (sym body)
     (sound_linked ps em (bodies_of es) m (program_named ps m) refl names
-    (λ p found. more_runs (λ n. has_body es n ≡ true) (λ n. IsSound em (program_named ps n) (bodies_of es n)) before
-    p.body (made.ready p (ap (program_named ps) same ∙ found))))
+    (λ p found. from_runs ps (λ n. IsSound em (program_named ps n) (bodies_of es n)) m p found
+    (λ n run. before n (made.ready n (subst (λ k. HasRun ps k n) (sym same) run)))))
 
 -- each name of each body of a table is bound
 pub made_sound : (ps : List Program) (em : List ℕ → List ℕ → Bool) (es : List Linked) → AreMade ps es

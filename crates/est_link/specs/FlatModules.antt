@@ -1,7 +1,7 @@
 -- What a library is linked to: the flat main module, or the first fault (this project's own form).
 use Rattle.std.specs.Prelude.{◌≡◌, ℕ, List, Some, Result, IfOk}
 use Rattle.est_kernel.specs.declared.interface.Declaration.{Declaration}
-use Rattle.est_link.specs.Bodies.{IsLinked}
+use Rattle.est_link.specs.Linking.{IsLinked}
 use Rattle.est_link.specs.MainModule.{declarations_of, AreRelations}
 use Rattle.est_modules.specs.Modules.{Program, program_named, programs_of}
 use Rattle.est_checks.specs.declared.fault.LinkFault.{LinkFault}

@@ -5,6 +5,7 @@ use Rattle.std.specs.Prelude.{◌≡◌, ℕ, ◌+◌, List, [], ◌∷◌, leng
 use Rattle.std.specs.List.{position}
 use Rattle.std.specs.Str.{bytes_eq}
 use Rattle.est_syntax.specs.Tree.{RenamingTree, TestTree}
+use Rattle.est_checks.specs.RecursiveRuns.{HasRun}
 use Rattle.est_link.specs.Asking.{test_asked}
 use Rattle.est_kernel.specs.Term.{Name, outer, inner, Query, tick, of, negated, joined, Queries, last, more}
 use Rattle.est_modules.specs.Derived as derived
@@ -138,7 +139,8 @@ linked ps bodies p bs (derived.run m rs) =
 linked ps bodies p bs (derived.seq q r) = seq (linked ps bodies p bs q) (linked ps bodies p bs r)
 linked ps bodies p bs (derived.par q r) = par (linked ps bodies p bs q) (linked ps bodies p bs r)
 
--- the module m has the flat body that its text and the flat bodies of the modules that it runs give
-abbrev pub IsLinking : List Program → (List ℕ → Body) → List ℕ → Type 0
-IsLinking ps bodies m =
-    (p : Program) → program_named ps m ≡ Some p → bodies m ≡ linked ps bodies p [] p.body
+-- a module has this flat body: its text gives it, where each module that it has a run of has its flat body
+pub data IsLinked (ps : List Program) : List ℕ → Body → Type 0 where
+  links : {m : List ℕ} {body : Body} (home : Program) (bodies : List ℕ → Body) → program_named ps m ≡ Some home
+      → ((n : List ℕ) → HasRun ps m n → IsLinked ps n (bodies n)) → body ≡ linked ps bodies home [] home.body
+      → IsLinked ps m body

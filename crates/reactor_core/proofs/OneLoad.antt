@@ -1,9 +1,7 @@
 -- A text and the name of its main module give one module at most, or have one first fault.
 use Rattle.std.proofs.Common.{◌≡◌, ◌∙◌, ℕ, List, ap, sym, subst}
-use Rattle.std.specs.Prelude.{None}
 use Rattle.est_kernel.specs.Term.{Term}
 use Rattle.est_kernel.specs.declared.interface.Declaration.{Declaration}
-use Rattle.est_checks.specs.FirstFaults.{IsFirstFault}
 use Rattle.est_link.specs.FlatModules.{FlatModule, IsFlatOf}
 use Rattle.est_modules.specs.Modules.{Program, programs_of}
 use Rattle.est_reduce.specs.Reductions.{kernel_term}
@@ -20,10 +18,10 @@ abbrev pub CutsAreOne : Type 0
 CutsAreOne = (text : List ℕ) (tokens others : List Located) → AreTokens text tokens → AreTokens text others
     → tokens ≡ others
 
--- a library without a fault is linked to one flat module (a law of est_link)
+-- a library is linked to one flat module (a law of est_link)
 abbrev pub LinksAreOne : Type 0
-LinksAreOne = (ps : List Program) (main : List ℕ) → IsFirstFault ps main None → (a b : FlatModule)
-    → IsFlatOf ps main a → IsFlatOf ps main b → a ≡ b
+LinksAreOne = (ps : List Program) (main : List ℕ) → (a b : FlatModule) → IsFlatOf ps main a → IsFlatOf ps main b
+    → a ≡ b
 
 -- modules of the same parts are the same
 same_parts : (m n : GivenModule) → m.interface ≡ n.interface → m.relations ≡ n.relations → m.term ≡ n.term → m ≡ n
@@ -49,7 +47,7 @@ module _ (cuts : CutsAreOne) where
     same_flat main text f g one other =
         let library : other.library ≡ one.library = same_library text other.library one.library other.spells
         one.spells in
-        links (programs_of one.library) main one.sound f g one.is
+        links (programs_of one.library) main f g one.is
         (subst (λ (l : LibraryTree). IsFlatOf (programs_of l) main g) library other.is)
 
     -- and give one module
