@@ -5,7 +5,7 @@ use Rattle.std.proofs.lemmas.List.{get_or-map, length-map}
 use Rattle.std.proofs.lemmas.Option.{none-some, slice_get_within, get_or_from_slice_get}
 use Rattle.std.specs.List.{slice_get}
 use Rattle.std.specs.Option.{option_or}
-use Rattle.refusal_rules.specs.Rules.{Rules, AllPass, accept, ◌▸◌}
+use Rattle.refusal_rules.specs.Rules.{AllPass, Refuses, Passes}
 use Rattle.refusal_rules.proofs.RuleLemmas.{refuse, pass, all_passed}
 use Rattle.est_checks.specs.BadRenamings.{bad_renaming_at}
 use Rattle.est_checks.specs.Duplicates.{first_duplicate}
@@ -45,19 +45,19 @@ finds_by P Q more (Err fault) (inr h) = inr (more (Some fault) h)
 
 -- a check's fault is found, or what is found by those after it
 step : {Found : Type 0} (fault : Found → LinkFault) (Is : Option Found → Type 0) (o : Option Found) → Is o
-    → (later : Rules LinkFault) (more r found : Option LinkFault) → option_or (option_map fault o) more ≡ r
-    → ((f : LinkFault) → r ≡ Some f → found ≡ Some f) → (more ≡ r → IsFirstOf later found)
-    → IsFirstOf (Check fault Is ▸ later) found
-step fault Is None is later more r found e told next = pass is (next e)
-step fault Is (Some x) is later more r found e told next = refuse (fault x) (x, refl, is) (told (fault x) (sym e))
+    → {Next : Type 0} (more r found : Option LinkFault) → option_or (option_map fault o) more ≡ r
+    → ((f : LinkFault) → r ≡ Some f → found ≡ Some f) → (more ≡ r → Next)
+    → Refuses (Check fault Is) (λ f. found ≡ Some f) ⊎ Passes (Check fault Is) Next
+step fault Is None is more r found e told next = pass is (next e)
+step fault Is (Some x) is more r found e told next = refuse (fault x) (x, refl, is) (told (fault x) (sym e))
 
 -- the same of the last of the checks that are answered together
 last : {Found : Type 0} (fault : Found → LinkFault) (Is : Option Found → Type 0) (o : Option Found) → Is o
-    → (later : Rules LinkFault) (r found : Option LinkFault) → option_map fault o ≡ r
-    → ((f : LinkFault) → r ≡ Some f → found ≡ Some f) → (r ≡ None → IsFirstOf later found)
-    → IsFirstOf (Check fault Is ▸ later) found
-last fault Is None is later r found e told next = pass is (next (sym e))
-last fault Is (Some x) is later r found e told next = refuse (fault x) (x, refl, is) (told (fault x) (sym e))
+    → {Next : Type 0} (r found : Option LinkFault) → option_map fault o ≡ r
+    → ((f : LinkFault) → r ≡ Some f → found ≡ Some f) → (r ≡ None → Next)
+    → Refuses (Check fault Is) (λ f. found ≡ Some f) ⊎ Passes (Check fault Is) Next
+last fault Is None is r found e told next = pass is (next (sym e))
+last fault Is (Some x) is r found e told next = refuse (fault x) (x, refl, is) (told (fault x) (sym e))
 
 -- ---- the stages
 
@@ -66,7 +66,7 @@ pub limits : (ps : List Program) (main : List ℕ) (found : Option LinkFault) �
     → IsFirstOf (limit_checks ps main) found
 limits ps main found h =
     last TooLarge (IsLimitPassed ps main) (limit_passed_by (program_named ps main) (h.counts main))
-    (record { counts = h.counts; are = h.are; is = refl }) accept found found (sym h.is) (λ f e. e) (λ e. e)
+    (record { counts = h.counts; are = h.are; is = refl }) found found (sym h.is) (λ f e. e) (λ e. e)
 
 names : (ps : List Program) (main : List ℕ) (em : List ℕ → List ℕ → Bool) → AreEmissions ps em
     → (r found : Option LinkFault) → fault_behind_order ps main em ≡ r
@@ -74,13 +74,13 @@ names : (ps : List Program) (main : List ℕ) (em : List ℕ → List ℕ → Bo
     → IsFirstOf (name_checks ps main) found
 names ps main em are r found e told next =
     step BadRename (λ name. first_in_bodies (bad_renaming_at ps) ps ≡ name) (first_in_bodies (bad_renaming_at ps) ps)
-    refl _ _ r found e told
+    refl _ r found e told
     (λ e. step UnknownName (λ name. first_in_bodies (unknown_at ps) ps ≡ name) (first_in_bodies (unknown_at ps) ps)
-    refl _ _ r found e told
+    refl _ r found e told
     (λ e. step EmitInput (IsFirstRefused ps) (first_refused ps em)
-    (record { emitted = em; emissions = are; is = refl }) _ _ r found e told
+    (record { emitted = em; emissions = are; is = refl }) _ r found e told
     (λ e. last Semantics (λ number. lawless_number (program_named ps main) ≡ number)
-    (lawless_number (program_named ps main)) refl _ r found e told next)))
+    (lawless_number (program_named ps main)) refl r found e told next)))
 
 -- the checks behind the order find a fault
 pub names_here : (ps : List Program) (main : List ℕ) (em : List ℕ → List ℕ → Bool) (fault : LinkFault)
@@ -115,8 +115,8 @@ first : (ps : List Program) (main : List ℕ) (r found : Option LinkFault) → f
     → ((f : LinkFault) → r ≡ Some f → found ≡ Some f) → (r ≡ None → IsFirstOf (run_checks ps main) found)
     → IsFirstFault ps main found
 first ps main r found e told next =
-    step DuplicateName (λ name. first_duplicate ps ≡ name) (first_duplicate ps) refl _ _ r found e told
-    (λ e. last UnknownModule (λ name. first_missing ps main ≡ name) (first_missing ps main) refl _ r found e told next)
+    step DuplicateName (λ name. first_duplicate ps ≡ name) (first_duplicate ps) refl _ r found e told
+    (λ e. last UnknownModule (λ name. first_missing ps main ≡ name) (first_missing ps main) refl r found e told next)
 
 -- the checks before the order find a fault
 pub first_here : (ps : List Program) (main : List ℕ) (fault : LinkFault) → Some fault ≡ fault_before_order ps main

@@ -1,17 +1,19 @@
 -- A library has one first fault, or none.
 use mathlib.Core.Path.{fun_ext}
-use Rattle.std.proofs.Common.{◌≡◌, ℕ, inl, inr, List, [], Bool, ◌&&◌, Option, Some, None, option_map}
+use Rattle.std.proofs.Common.{◌≡◌, ℕ, ◌⊎◌, inl, inr, List, [], Bool, ◌&&◌, Option, Some, None, option_map}
 use Rattle.std.proofs.Common.{Contains, refl, ap, sym, ◌∙◌, subst, arith}
 use Rattle.std.proofs.lemmas.Bool.{cases_lt}
 use Rattle.std.proofs.lemmas.Option.{none-some, slice_get-get_or}
 use Rattle.std.specs.List.{find, slice_get}
 use Rattle.std.specs.Str.{bytes_eq}
-use Rattle.refusal_rules.specs.Rules.{Rules, accept, ◌▸◌}
+use Rattle.refusal_rules.specs.Rules.{Refuses, Passes}
 use Rattle.est_syntax.specs.Tree.{RenamingTree}
+use Rattle.est_checks.specs.BadRenamings.{bad_renaming_at}
 use Rattle.est_checks.specs.Counting.{AreCounts}
+use Rattle.est_checks.specs.Duplicates.{first_duplicate}
 use Rattle.est_checks.specs.Emissions.{AreEmissions, emits_here, first_refused, is_refused, is_refused_in_run}
 use Rattle.est_checks.specs.Emissions.{refused_act, refused_in_run}
-use Rattle.est_checks.specs.FirstFaults.{Check, IsFirstFault, IsFirstOf, IsFirstRefused, IsLimitPassed}
+use Rattle.est_checks.specs.FirstFaults.{Check, IsFirstFault, IsFirstRefused, IsLimitPassed}
 use Rattle.est_checks.specs.FirstFaults.{limit_passed_by}
 use Rattle.est_modules.specs.Modules.{Program, program_named, first_in_bodies}
 use Rattle.est_modules.specs.Occurrences.{Binder, Act, emits, tests, exits, binds, runs, Occurrence, occurrences}
@@ -19,6 +21,8 @@ use Rattle.est_modules.specs.Occurrences.{first_of}
 use Rattle.est_modules.specs.ModuleOrders.{run_rows}
 use Rattle.est_modules.specs.Renamings.{renamed}
 use Rattle.est_checks.specs.MissingModules.{first_missing, missing_at}
+use Rattle.est_checks.specs.LinkFaults.{lawless_number}
+use Rattle.est_checks.specs.UnknownNames.{unknown_at}
 use Rattle.est_checks.specs.RecursiveRuns.{IsFirstRecursion, RunsItself}
 use Rattle.est_checks.specs.declared.fault.Limit.{Limit}
 use Rattle.est_checks.specs.declared.fault.LinkFault.{LinkFault}
@@ -145,36 +149,41 @@ one_limit ps main none there x y h k =
 
 -- ---- one check after another
 
--- what a test finds is one
-same : {Found : Type 0} {o : Option Found} (x y : Option Found) → o ≡ x → o ≡ y → x ≡ y
-same x y h k = sym h ∙ k
-
 -- where a check finds one thing, and those after it have one first fault, there is one
 one_check : {Found : Type 0} (fault : Found → LinkFault) (Is : Option Found → Type 0)
-    → ((x y : Option Found) → Is x → Is y → x ≡ y) → (later : Rules LinkFault) (a b : Option LinkFault)
-    → (Is None → IsFirstOf later a → IsFirstOf later b → a ≡ b)
-    → IsFirstOf (Check fault Is ▸ later) a → IsFirstOf (Check fault Is ▸ later) b → a ≡ b
-one_check fault Is one later a b next (inl x) (inl y) =
+    → ((x y : Option Found) → Is x → Is y → x ≡ y) → {Next After : Type 0} (a b : Option LinkFault)
+    → (Is None → Next → After → a ≡ b)
+    → Refuses (Check fault Is) (λ f. a ≡ Some f) ⊎ Passes (Check fault Is) Next
+    → Refuses (Check fault Is) (λ f. b ≡ Some f) ⊎ Passes (Check fault Is) After → a ≡ b
+one_check fault Is one a b next (inl x) (inl y) =
     let found : x.given.0 ≡ y.given.0 = some_same x.given.0 y.given.0
     (one (Some x.given.0) (Some y.given.0) x.given.2 y.given.2) in
     x.answered ∙ ap Some (x.given.1 ∙ ap fault found ∙ sym y.given.1) ∙ sym y.answered
-one_check fault Is one later a b next (inl x) (inr y) =
+one_check fault Is one a b next (inl x) (inr y) =
     absurd (none-some x.given.0 (one None (Some x.given.0) y.passed x.given.2))
-one_check fault Is one later a b next (inr x) (inl y) =
+one_check fault Is one a b next (inr x) (inl y) =
     absurd (none-some y.given.0 (one None (Some y.given.0) x.passed y.given.2))
-one_check fault Is one later a b next (inr x) (inr y) = next x.passed x.next y.next
+one_check fault Is one a b next (inr x) (inr y) = next x.passed x.next y.next
+
+-- the same of a check that finds what a function answers
+one_test : {Found : Type 0} (fault : Found → LinkFault) (o : Option Found) {Next After : Type 0}
+    (a b : Option LinkFault) → (o ≡ None → Next → After → a ≡ b)
+    → Refuses (Check fault (λ found. o ≡ found)) (λ f. a ≡ Some f) ⊎ Passes (Check fault (λ found. o ≡ found)) Next
+    → Refuses (Check fault (λ found. o ≡ found)) (λ f. b ≡ Some f) ⊎ Passes (Check fault (λ found. o ≡ found)) After
+    → a ≡ b
+one_test fault o a b next = one_check fault (λ found. o ≡ found) (λ x y h k. sym h ∙ k) a b next
 
 -- a library has one first fault, or none
 pub one_first_fault : (ps : List Program) (main : List ℕ) → (a b : Option LinkFault) → IsFirstFault ps main a
     → IsFirstFault ps main b → a ≡ b
 one_first_fault ps main a b =
-    one_check DuplicateName _ same _ a b
-    (λ distinct. one_check UnknownModule _ same _ a b
-    (λ there. one_check RecursiveRun (IsFirstRecursion ps) (one_recursion ps) _ a b
-    (λ none. one_check BadRename _ same _ a b
-    (λ renamed. one_check UnknownName _ same _ a b
-    (λ known. one_check EmitInput (IsFirstRefused ps) (one_refused ps (none_placed ps distinct none)) _ a b
-    (λ accepted. one_check Semantics _ same _ a b
+    one_test DuplicateName (first_duplicate ps) a b
+    (λ distinct. one_test UnknownModule (first_missing ps main) a b
+    (λ there. one_check RecursiveRun (IsFirstRecursion ps) (one_recursion ps) a b
+    (λ none. one_test BadRename (first_in_bodies (bad_renaming_at ps) ps) a b
+    (λ renamed. one_test UnknownName (first_in_bodies (unknown_at ps) ps) a b
+    (λ known. one_check EmitInput (IsFirstRefused ps) (one_refused ps (none_placed ps distinct none)) a b
+    (λ accepted. one_test Semantics (lawless_number (program_named ps main)) a b
     (λ lawful. one_check TooLarge (IsLimitPassed ps main)
-    (one_limit ps main (none_placed ps distinct none) there) accept a b
+    (one_limit ps main (none_placed ps distinct none) there) a b
     (λ within h k. h ∙ sym k))))))))
