@@ -71,7 +71,7 @@ only_one : (o : Option ℕ) (j : ℕ) → Contains (option_to_list o) j → o �
 only_one None j h = absurd (omega (arith, h.1))
 only_one (Some i) j h = elim (Contains-push_cases [] i j h) [
   | inl none ↦ absurd (omega (arith, none.1))
-  | inr same ↦ ap Some (sym same)
+  | inr same ↦ ap Some same
 ]
 
 -- the act that a place is noted for
