@@ -35,7 +35,7 @@ placed : (ps : List Program) (m n : List ℕ) (i j : ℕ) → HasRun ps m n → 
 placed ps m n i j run at to =
     let here = found_place (λ (p : Program). bytes_eq p.name m) ps run.home run.there in
     subst (λ k. IsRun (run_rows ps) k j) (some_same here.0 i (sym here.1 ∙ at))
-    (run_is_run ps here.0 j run.home (record { act = runs n run.renamings; round = run.round }) n here.2 run.stands
+    (run_is_run ps here.0 j run.home (record { act = runs n run.renamings; around = run.around }) n here.2 run.stands
     refl to)
 
 -- so a chain of runs leads from place to place
@@ -99,8 +99,8 @@ named ps distinct i j is p q at to =
       home = p;
       there = first_of_name [] ps distinct i p at;
       renamings = noted.1;
-      round = one.0.round;
-      stands = subst (λ (a : Act). Contains (occurrences [] p.body) (record { act = a; round = one.0.round }))
+      around = one.0.around;
+      stands = subst (λ (a : Act). Contains (occurrences [] p.body) (record { act = a; around = one.0.around }))
           (noted.2 ∙ ap (λ n. runs n noted.1) (sym name)) one.1;
     }
 

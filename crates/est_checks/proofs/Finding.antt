@@ -17,7 +17,7 @@ use Rattle.est_checks.specs.Inner.Stages.{IsLimitFault, limit_checks, name_check
 use Rattle.est_checks.specs.LinkFaults.{fault_before_order, fault_behind_order, lawless_number}
 use Rattle.est_modules.specs.Modules.{Program, program_named, first_in_bodies}
 use Rattle.est_modules.specs.ModuleOrders.{places_run, run_rows}
-use Rattle.est_checks.specs.MissingModules.{first_missing}
+use Rattle.est_checks.specs.MissingModules.{unknown_module}
 use Rattle.est_checks.specs.UnknownNames.{unknown_at}
 use Rattle.est_checks.specs.declared.fault.LinkFault.{LinkFault}
 use Rattle.est_checks.specs.declared.fault.LinkFault.TheVariants.{DuplicateName, UnknownModule, RecursiveRun, BadRename}
@@ -116,7 +116,7 @@ first : (ps : List Program) (main : List ℕ) (r found : Option LinkFault) → f
     → IsFirstFault ps main found
 first ps main r found e told next =
     step DuplicateName (λ name. first_duplicate ps ≡ name) (first_duplicate ps) refl _ r found e told
-    (λ e. last UnknownModule (λ name. first_missing ps main ≡ name) (first_missing ps main) refl r found e told next)
+    (λ e. last UnknownModule (λ name. unknown_module ps main ≡ name) (unknown_module ps main) refl r found e told next)
 
 -- the checks before the order find a fault
 pub first_here : (ps : List Program) (main : List ℕ) (fault : LinkFault) → Some fault ≡ fault_before_order ps main
@@ -140,5 +140,5 @@ all_pass ps main h =
 -- no name is declared twice
 pub none_twice : (ps : List Program) (main : List ℕ) → None ≡ fault_before_order ps main → first_duplicate ps ≡ None
 none_twice ps main e = map_none DuplicateName (first_duplicate ps)
-    (or_none_parts (option_map DuplicateName (first_duplicate ps)) (option_map UnknownModule (first_missing ps main))
+    (or_none_parts (option_map DuplicateName (first_duplicate ps)) (option_map UnknownModule (unknown_module ps main))
     (sym e)).0

@@ -7,7 +7,7 @@ use Rattle.est_checks.specs.Counting.{AreCounts}
 use Rattle.est_checks.specs.Duplicates.{first_duplicate}
 use Rattle.est_checks.specs.Emissions.{AreEmissions, first_refused}
 use Rattle.est_checks.specs.LinkFaults.{lawless_number}
-use Rattle.est_checks.specs.MissingModules.{first_missing}
+use Rattle.est_checks.specs.MissingModules.{unknown_module}
 use Rattle.est_checks.specs.RecursiveRuns.{IsFirstRecursion}
 use Rattle.est_checks.specs.UnknownNames.{unknown_at}
 use Rattle.est_modules.specs.Modules.{Program, program_named, first_in_bodies}
@@ -28,7 +28,7 @@ pub record IsFirstRefused (ps : List Program) (name : Option (List ℕ)) : Type 
   pub emissions : AreEmissions ps emitted
   pub is : first_refused ps emitted ≡ name
 
--- the first limit that a main module of so many signals, relations and statements passes
+-- the first limit that a main module with these numbers of signals, relations and statements passes
 abbrev pub limit_passed : (signals relations statements : ℕ) → Option Limit
 limit_passed signals relations statements =
     if nat_lt MOST_SIGNALS signals then Some Signals else (
@@ -59,7 +59,7 @@ Check {Found = Found} fault Finding = record {
 abbrev pub checks : List Program → (main : List ℕ) → Rules LinkFault
 checks ps main =
     Check DuplicateName (λ name. first_duplicate ps ≡ name)
-    ▸ Check UnknownModule (λ name. first_missing ps main ≡ name)
+    ▸ Check UnknownModule (λ name. unknown_module ps main ≡ name)
     ▸ Check RecursiveRun (IsFirstRecursion ps)
     ▸ Check BadRename (λ name. first_in_bodies (bad_renaming_at ps) ps ≡ name)
     ▸ Check UnknownName (λ name. first_in_bodies (unknown_at ps) ps ≡ name)

@@ -10,8 +10,8 @@ pub record HasRun (ps : List Program) (m n : List ℕ) : Type 0 where
   pub home : Program
   pub there : program_named ps m ≡ Some home
   pub renamings : List RenamingTree
-  pub round : List Binder
-  pub stands : Contains (occurrences [] home.body) (record { act = runs n renamings; round = round })
+  pub around : List Binder
+  pub stands : Contains (occurrences [] home.body) (record { act = runs n renamings; around = around })
 
 -- a chain of one or more runs leads from the first module to the second
 pub data LeadsTo (ps : List Program) : List ℕ → List ℕ → Type 0 where

@@ -11,7 +11,7 @@ ghost use Rattle.est_modules.specs.PlaceOrders.{NoneIsRecursive};
 use crate::fault::LinkFault;
 use crate::limits::check_limits;
 use crate::module_emissions::emissions_along;
-use crate::round_order::{fault_before_order, fault_behind_order};
+use crate::round_order::{check_before_order, fault_behind_order};
 use est_modules::head::Head;
 use est_modules::module_order::{name_at, order_heads};
 use est_modules::name_table::numbered;
@@ -67,8 +67,8 @@ fn check_runs<'a>(
     Ok(order)
 }
 
-/// All checks of a library in their order: the order of its modules, each after those that it runs,
-/// exactly where no check has a fault.
+/// All checks of a library in their order: the name of its main module, and the order of its
+/// modules, each after those that it runs, exactly where no check has a fault.
 ///
 /// # Errors
 ///
@@ -76,13 +76,13 @@ fn check_runs<'a>(
 pub fn check_library<'a>(
     alloc: Global,
     heads: &'a [Head<'a>],
-    main: &Identifier,
-) -> Result<Order, LinkFault>
-    ensures order { IfOk result (λ order. IsOrderOf (map program_of heads.now) order) }
+    main: &str,
+) -> Result<(Identifier, Order), LinkFault>
+    ensures name { IfOk result (λ checked. checked.0 ≡ main.now) }
+    ensures order { IfOk result (λ checked. IsOrderOf (map program_of heads.now) checked.1) }
     ensures found { Finds (IsFirstFault (map program_of heads.now) main.now) result }
 {
-    match fault_before_order(alloc, &*heads, main)? {
-        Some(fault) => Err(fault),
-        None => check_runs(alloc, &*heads, main),
-    }
+    let main = check_before_order(alloc, &*heads, main)?;
+    let order = check_runs(alloc, &*heads, &main)?;
+    Ok((main, order))
 }

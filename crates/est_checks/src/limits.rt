@@ -16,8 +16,8 @@ use est_relations::relations::MOST_RELATIONS;
 use est_text::identifier::Identifier;
 use std::alloc::{AllocError, Global};
 
-/// The first limit that a main module of so many signals, relations and statements passes; it has
-/// too many statements where there is no number of them.
+/// The first limit that a main module with these numbers of signals, relations and statements
+/// passes; it has too many statements where there is no number of them.
 fn limit_passed(signals: usize, relations: usize, statements: Option<u16>) -> Option<Limit>
     ensures { (whole : ℕ) → IsWithinLimit whole statements
         → result ≡ limit_passed signals relations whole }

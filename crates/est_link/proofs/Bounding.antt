@@ -62,20 +62,20 @@ emission_here local sent others h e = or_left (not local && sent) others
 
 pub all_fine : (ps : List Program) (em : List ℕ → List ℕ → Bool) (p : Program) (os : List Occurrence)
     → first_of (unknown_at ps p) os ≡ None → first_of (refused_at ps em p) os ≡ None
-    → ((s : List ℕ) → list_any (λ (o : Occurrence). not (is_local o.round s) && emits_by ps em s o.act) os ≡ true
+    → ((s : List ℕ) → list_any (λ (o : Occurrence). not (is_local o.around s) && emits_by ps em s o.act) os ≡ true
     → em p.name s ≡ true) → AllByRecursion (IsFine ps em p) os
 all_fine ps em p [] known accepted sent = tt
 all_fine ps em p (o ∷ os) known accepted sent =
     let unknown = or_none_parts (unknown_at ps p o) (first_of (unknown_at ps p) os) known in
     let refused = or_none_parts (refused_at ps em p o) (first_of (refused_at ps em p) os) accepted in
-    let later = λ (s : List ℕ). list_any (λ (o : Occurrence). not (is_local o.round s) && emits_by ps em s o.act) os in (
+    let later = λ (s : List ℕ). list_any (λ (o : Occurrence). not (is_local o.around s) && emits_by ps em s o.act) os in (
       record {
         known = unknown.0;
         accepted = refused.0;
-        sent = λ s h e. sent s (emission_here (is_local o.round s) (emits_by ps em s o.act) (later s) h e);
+        sent = λ s h e. sent s (emission_here (is_local o.around s) (emits_by ps em s o.act) (later s) h e);
       },
       all_fine ps em p os unknown.1 refused.1
-          (λ s h. sent s (or_right (not (is_local o.round s) && emits_by ps em s o.act) (later s) h)),
+          (λ s h. sent s (or_right (not (is_local o.around s) && emits_by ps em s o.act) (later s) h)),
     )
 
 -- ---- a statement
@@ -90,7 +90,7 @@ accepted_name true s h = cc
 accepted_name false s h = refl
 
 fine_emission : (ps : List Program) (em : List ℕ → List ℕ → Bool) (p : Program) (bs : List Binder) (s : List ℕ)
-    → IsFine ps em p (record { act = emits s; round = bs })
+    → IsFine ps em p (record { act = emits s; around = bs })
     → MayEmit (length p.interface) (IsSent em p) (locals_round bs) (emitted (signal_at p bs s))
 fine_emission ps em p bs s fine = sent_at em p bs s (known_name (is_visible p bs s) s fine.known)
     (accepted_name (is_refused p bs s) s fine.accepted) (λ h. fine.sent s h (equal_bytes s))
@@ -102,7 +102,7 @@ IsSound em (Some q) f = IsBody (length q.interface) (IsSent em q) 0 0 f
 
 run_bound : (ps : List Program) (em : List ℕ → List ℕ → Bool) (p : Program) (bs : List Binder) (m : List ℕ)
     (rs : List RenamingTree) (o : Option Program) (f : Body) → program_named ps m ≡ o
-    → IsFine ps em p (record { act = runs m rs; round = bs }) → IsSound em o f
+    → IsFine ps em p (record { act = runs m rs; around = bs }) → IsSound em o f
     → IsBody (length p.interface) (IsSent em p) (traps_round bs) (locals_round bs)
     (body_in_run (interface_bound p bs rs (interface_run o)) (locals_round bs) f)
 run_bound ps em p bs m rs None f found fine sound =

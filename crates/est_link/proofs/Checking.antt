@@ -22,6 +22,7 @@ use Rattle.est_checks.specs.declared.fault.Limit.{Limit}
 use Rattle.est_checks.specs.declared.fault.Limit.TheVariants.{Signals, Relations, Statements}
 use Rattle.est_modules.specs.declared.head.Declared.{Declared}
 use Rattle.est_checks.proofs.Finding.{all_pass}
+use Rattle.est_checks.proofs.Uniqueness.{all_there}
 use Rattle.est_link.proofs.Distinct.{kept_name}
 use Rattle.est_modules.proofs.Standing.{first_none, found_place}
 use Rattle.est_link.proofs.Taking.{no_main}
@@ -99,7 +100,7 @@ is_checked ps main h =
     let distinct = (all_pass ps main h).0 in
     record {
       distinct = distinct;
-      there = (all_pass ps main h).1.0;
+      there = all_there ps main h;
       emitted = refused.emitted;
       names = sound_names ps refused.emitted refused.emissions from_order.1.1.0 refused.is;
       home = sound_main ps main (limit.counts main) distinct from_emissions.1.0 limit.is;

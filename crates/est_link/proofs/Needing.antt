@@ -109,7 +109,7 @@ next_ready : (ps : List Program) (order set : List ℕ) (names : List (List ℕ)
     → program_named ps p.name ≡ Some p → (n : List ℕ) → HasRun ps p.name n → is_listed names n ≡ true
 next_ready ps order set names k p up closed there front lt has at named n run =
     let home : run.home ≡ p = some_same run.home p (sym run.there ∙ named) in
-    let place : Occurrence = record { act = runs n run.renamings; round = run.round } in
+    let place : Occurrence = record { act = runs n run.renamings; around = run.around } in
     run_listed ps order set names k p up closed there front lt has at place
     (subst (λ (q : Program). Contains (occurrences [] q.body) place) home run.stands) n refl
 

@@ -48,8 +48,8 @@ runs_among P bs (every d p) h =
 runs_among P bs (trap t p) h = runs_among P (a_trap t ∷ bs) p h
 runs_among P bs (signal ns p) h = runs_among P (signals ns ∷ bs) p
     (λ o x. h o (Contains-append_right (_ ∷ []) (occurrences (signals ns ∷ bs) p) o x))
-runs_among P bs (run m rs) h = h (record { act = runs m rs; round = bs })
-    (Contains-push [] (record { act = runs m rs; round = bs })) m refl
+runs_among P bs (run m rs) h = h (record { act = runs m rs; around = bs })
+    (Contains-push [] (record { act = runs m rs; around = bs })) m refl
 runs_among P bs (seq p q) h = (
   runs_among P bs p (λ o x. h o (Contains-append_left (occurrences bs p) (occurrences bs q) o x)),
   runs_among P bs q (λ o x. h o (Contains-append_right (occurrences bs p) (occurrences bs q) o x)),
@@ -63,7 +63,7 @@ runs_among P bs (par p q) h = (
 
 -- an act that is a run of a module
 run_acted : (ps : List Program) (m : List ℕ) (p : Program) → program_named ps m ≡ Some p → (act : Act)
-    (bs : List Binder) → Contains (occurrences [] p.body) (record { act = act; round = bs }) → (n : List ℕ)
+    (bs : List Binder) → Contains (occurrences [] p.body) (record { act = act; around = bs }) → (n : List ℕ)
     → IsRunOf act n → HasRun ps m n
 run_acted ps m p found (emits s) bs stands n is_run = absurd is_run
 run_acted ps m p found (tests s) bs stands n is_run = absurd is_run
@@ -73,8 +73,8 @@ run_acted ps m p found (runs k rs) bs stands n is_run = record {
   home = p;
   there = found;
   renamings = rs;
-  round = bs;
-  stands = subst (λ (x : List ℕ). Contains (occurrences [] p.body) (record { act = runs x rs; round = bs })) is_run
+  around = bs;
+  stands = subst (λ (x : List ℕ). Contains (occurrences [] p.body) (record { act = runs x rs; around = bs })) is_run
       stands;
 }
 
@@ -82,13 +82,13 @@ run_acted ps m p found (runs k rs) bs stands n is_run = record {
 pub from_runs : (ps : List Program) (P : List ℕ → Type 0) (m : List ℕ) (p : Program) → program_named ps m ≡ Some p
     → ((n : List ℕ) → HasRun ps m n → P n) → AllRuns P p.body
 from_runs ps P m p found each = runs_among P [] p.body
-    (λ o stands n is_run. each n (run_acted ps m p found o.act o.round stands n is_run))
+    (λ o stands n is_run. each n (run_acted ps m p found o.act o.around stands n is_run))
 
 -- each is there, where none is missing
 pub run_there : (ps : List Program) → first_in_bodies (missing_at ps) ps ≡ None → (m n : List ℕ) → HasRun ps m n
     → (q : Program) × (program_named ps n ≡ Some q)
 run_there ps there m n run =
-    runs_are_there ps m run.home there run.there (record { act = runs n run.renamings; round = run.round }) run.stands n
+    runs_are_there ps m run.home there run.there (record { act = runs n run.renamings; around = run.around }) run.stands n
     refl
 
 -- ---- what a statement is linked to

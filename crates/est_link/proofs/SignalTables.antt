@@ -1,6 +1,6 @@
 -- Tables of signals by their names.
-use Rattle.std.proofs.Common.{◌≡◌, ℕ, zero, suc, ◌<◌, List, [], ◌∷◌, ◌++◌, length, map, take, get_or, Bool}
-use Rattle.std.proofs.Common.{true, false, cond, ◌||◌, if◌then◌else◌, Option, Some, None, option_map, Bor}
+use Rattle.std.proofs.Common.{◌≡◌, ℕ, ◌<◌, List, [], ◌∷◌, ◌++◌, length, map, take, get_or, Bool}
+use Rattle.std.proofs.Common.{false, cond, if◌then◌else◌, Option, Some, None, option_map, Bor}
 use Rattle.std.proofs.Common.{◌≤◌, ◌+◌, unwrap_or, refl, ap, sym, subst, ◌∙◌, arith}
 use Rattle.std.proofs.lemmas.List.{length-append, length-map, length-take-le}
 use Rattle.std.specs.Cmp.Lexicographic.{nat_list_eq_equiv}

@@ -96,7 +96,7 @@ fn bind_wait(binding: &Binding<'_>, wait: &Wait) -> Result<Wait, AllocError>
 }
 
 /// A flat body whose interface signals stand for those that the `run` binds, inside the local
-/// signals round the `run`.
+/// signals around the `run`.
 #[cycle(bind)]
 pub fn bind_body(run: &Binding<'_>, flat: &Body) -> Result<Body, AllocError>
     ensures { IfOk result (λ f. body_of f ≡ body_in_run (binding_of run.now) run.now.locals

@@ -1,7 +1,7 @@
 //! The flat body of a module, from its text and the flat bodies of the modules that it runs.
 //!
-//! The functions call each other once for each unit that is open, of which the reader lets at most
-//! 128 be so at once. A run is no call: its module was made flat before.
+//! Recursion is at most one call for each open unit, and at most 128 units are open. A `run` is no
+//! call: its module was made flat before.
 ghost use Rattle.std.specs.Prelude.{◌≡◌, IfOk, map, option_map};
 ghost use Rattle.std.specs.List.{find};
 ghost use Rattle.std.specs.Str.{bytes_eq};
@@ -103,7 +103,7 @@ fn run(
 pub struct Place<'a> {
     /// The modules, and the module.
     pub linker: &'a Linker<'a>,
-    /// The binders round the place.
+    /// The binders around the place.
     pub scope: &'a Scope<'a>,
 }
 

@@ -24,13 +24,23 @@ use est_text::identifier::Identifier;
 use std::alloc::{AllocError, Global};
 
 /// Input, output or both.
-pub fn kernel_kind(kind: Kind) -> KernelKind
+fn kernel_kind(kind: Kind) -> KernelKind
     ensures { result ≡ kernel_kind kind }
 {
     match kind {
         Kind::Input => KernelKind::Input,
         Kind::Output => KernelKind::Output,
         Kind::InputOutput => KernelKind::InputOutput,
+    }
+}
+
+/// A signal of an interface, as the kernel has it.
+pub fn declaration_of(signal: &Declared) -> Declaration
+    ensures { result ≡ declaration_of signal.now }
+{
+    Declaration {
+        name: signal.name,
+        kind: kernel_kind(signal.kind),
     }
 }
 
@@ -42,10 +52,7 @@ pub fn kernel_interface(alloc: Global, declared: &[Declared]) -> Result<Interfac
 {
     let mut interface = Interface::new(alloc);
     for signal in declared {
-        interface.declare(Declaration {
-            name: signal.name,
-            kind: kernel_kind(signal.kind),
-        })?;
+        interface.declare(declaration_of(signal))?;
     }
     Ok(interface)
 }

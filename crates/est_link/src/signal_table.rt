@@ -4,7 +4,7 @@ ghost use Rattle.est_kernel.specs.declared.interface.TheConstants.{MOST_SIGNALS}
 ghost use Rattle.est_link.specs.MainModule.{declaration_of, member_place};
 ghost use Rattle.est_checks.specs.Duplicates.{redeclared};
 
-use crate::main_module::kernel_kind;
+use crate::main_module::declaration_of;
 use est_kernel::interface::Declaration;
 use est_kernel::statement::InterfaceSignal;
 use est_modules::head::Declared;
@@ -43,11 +43,7 @@ impl<'a> SignalTable<'a> {
     {
         let mut signals = IndexMap::new(alloc);
         for signal in declared {
-            let kind = kernel_kind(signal.kind);
-            let declaration = Declaration {
-                name: signal.name,
-                kind,
-            };
+            let declaration = declaration_of(signal);
             let name: &'a [u8] = signal.name.as_bytes();
             match signals.insert(name, declaration) {
                 Ok(_none) => {}

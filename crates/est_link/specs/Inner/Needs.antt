@@ -25,7 +25,7 @@ abbrev pub AreBottomUp : List Program → List (List ℕ) → Type 0
 AreBottomUp ps names = (i : ℕ) → i < length names → (n : List ℕ) → HasRun ps (get_or names i []) n
     → is_listed (take i names) n ≡ true
 
--- the names have those of the set's modules among the first so many of an order
+-- the names have those of the set's modules among the first n of an order
 abbrev pub HasFront : List Program → List ℕ → (order : List ℕ) → ℕ → List (List ℕ) → Type 0
 HasFront ps set order n names = (i : ℕ) → i < n → Contains set (slice_index order i) → (p : Program)
     → slice_get ps (slice_index order i) ≡ Some p → is_listed names p.name ≡ true
