@@ -111,6 +111,13 @@ pub runs_next : (ps : List Program) (main : List ℕ) → NoneIsRecursive (run_r
     → IsFirstOf (name_checks ps main) found → IsFirstOf (run_checks ps main) found
 runs_next ps main none found h = pass (none_itself ps none) h
 
+-- what names or limits find is found
+pub runs_found : (ps : List Program) (main : List ℕ) → NoneIsRecursive (run_rows ps) → (fault : LinkFault)
+    → (fault ≡ Memory) ⊎ IsFirstOf (name_checks ps main) (Some fault)
+    → (fault ≡ Memory) ⊎ IsFirstOf (run_checks ps main) (Some fault)
+runs_found ps main none fault (inl memory) = inl memory
+runs_found ps main none fault (inr h) = inr (runs_next ps main none (Some fault) h)
+
 first : (ps : List Program) (main : List ℕ) (r found : Option LinkFault) → fault_before_order ps main ≡ r
     → ((f : LinkFault) → r ≡ Some f → found ≡ Some f) → (r ≡ None → IsFirstOf (run_checks ps main) found)
     → IsFirstFault ps main found
@@ -123,6 +130,12 @@ pub first_here : (ps : List Program) (main : List ℕ) (fault : LinkFault) → S
     → IsFirstFault ps main (Some fault)
 first_here ps main fault e =
     first ps main (Some fault) (Some fault) (sym e) (λ f same. same) (λ none. absurd (none-some fault (sym none)))
+
+-- the same, unless memory was refused
+pub first_found : (ps : List Program) (main : List ℕ) (fault : LinkFault)
+    → (fault ≡ Memory) ⊎ (Some fault ≡ fault_before_order ps main) → (fault ≡ Memory) ⊎ IsFirstFault ps main (Some fault)
+first_found ps main fault (inl memory) = inl memory
+first_found ps main fault (inr e) = inr (first_here ps main fault e)
 
 -- they find none, and the order is asked
 pub first_next : (ps : List Program) (main : List ℕ) → None ≡ fault_before_order ps main → (found : Option LinkFault)
