@@ -38,11 +38,7 @@ fn flat_module<'a>(
 }
 
 /// The flat main module of modules, or their first fault.
-fn link_heads<'a>(
-    alloc: Global,
-    heads: &'a [Head<'a>],
-    main: &str,
-) -> Result<Flat, LinkFault>
+fn link_heads<'a>(alloc: Global, heads: &'a [Head<'a>], main: &str) -> Result<Flat, LinkFault>
     ensures first { Finds (IsFirstFault (map program_of heads.now) main.now) result }
     ensures flat { IfOk result (λ f. IsFlatOf (map program_of heads.now) main.now (flat_of f)) }
 {
