@@ -1,8 +1,9 @@
 //! All checks of a library, in their order.
 ghost use Rattle.std.specs.Prelude.{◌≡◌, None, IfOk, IfErr, OnOk, map};
 ghost use Rattle.est_checks.specs.Duplicates.{first_duplicate};
-ghost use Rattle.est_checks.specs.FirstFaults.{ByNames, ByRuns, Finds, IsFirstFault};
+ghost use Rattle.est_checks.specs.FirstFaults.{Finds, IsFirstFault, IsFirstOf};
 ghost use Rattle.est_checks.specs.Inner.Recursion.{IsOrderFault};
+ghost use Rattle.est_checks.specs.Inner.Stages.{name_checks, run_checks};
 ghost use Rattle.est_modules.specs.Modules.{program_of};
 ghost use Rattle.est_modules.specs.ModuleOrders.{IsOrderOf, run_rows};
 ghost use Rattle.est_modules.specs.PlaceOrders.{NoneIsRecursive};
@@ -41,7 +42,7 @@ fn check_names<'a>(
 ) -> Result<(), LinkFault>
     requires order { IsOrderOf (map program_of heads.now) order.now }
     requires distinct { first_duplicate (map program_of heads.now) ≡ None }
-    ensures { Finds (ByNames (map program_of heads.now) main.now) result }
+    ensures { Finds (IsFirstOf (name_checks (map program_of heads.now) main.now)) result }
 {
     let names = numbered(alloc, &*heads)?;
     let table = emissions_along(alloc, &names, &*heads, order.places())?;
@@ -59,7 +60,7 @@ fn check_runs<'a>(
 ) -> Result<Order, LinkFault>
     requires { first_duplicate (map program_of heads.now) ≡ None }
     ensures order { IfOk result (λ order. IsOrderOf (map program_of heads.now) order) }
-    ensures found { Finds (ByRuns (map program_of heads.now) main.now) result }
+    ensures found { Finds (IsFirstOf (run_checks (map program_of heads.now) main.now)) result }
 {
     let order = order_of(alloc, &*heads)?;
     check_names(alloc, &*heads, &order, main)?;

@@ -5,10 +5,13 @@ use Rattle.std.proofs.lemmas.Bool.{false≢true}
 use Rattle.std.specs.List.{list_any, AllByRecursion}
 use Rattle.est_modules.specs.Derived as derived
 use Rattle.est_modules.specs.Derived.{Derived}
-use Rattle.est_link.specs.Bodies.{MayEmit, IsBody, IsSent, AllRuns, HasSoundNames}
+use Rattle.est_checks.specs.RecursiveRuns.{HasRun}
+use Rattle.est_link.specs.Bodies.{MayEmit, IsBody, IsSent, HasSoundNames}
+use Rattle.est_link.specs.Inner.AllRuns.{AllRuns}
 use Rattle.est_checks.specs.Emissions.{refused_at, is_refused, emits_by}
 use Rattle.est_link.specs.Inner.Tables.{AreMade, none, next, IsMade, has_body, bodies_of, body_linked}
-use Rattle.est_link.specs.Linking.{linked, bound, interface_bound, interface_run, locals_round, signal_at, emitted}
+use Rattle.est_link.specs.Linking.{linked, body_in_run, interface_bound, interface_run, locals_round, signal_at}
+use Rattle.est_link.specs.Linking.{emitted}
 use Rattle.est_modules.specs.Modules.{Program, program_named}
 use Rattle.est_modules.specs.Occurrences.{Binder, signals, a_trap, emits, runs, Occurrence, tested, occurrences}
 use Rattle.est_modules.specs.Occurrences.{first_of}
@@ -22,7 +25,7 @@ use Rattle.est_link.proofs.Made.{kept, new_last, last_body, old_or_last}
 use Rattle.est_link.proofs.Naming.{IsFine, test_at, traps_round, trap_within, sent_at, run_bindings}
 use Rattle.est_modules.proofs.Testing.{or_left, or_right, and_both, not_true, same_bytes, equal_bytes, or_none_parts}
 use Rattle.est_modules.proofs.Testing.{all_parts}
-use Rattle.est_link.proofs.RunModules.{more_runs}
+use Rattle.est_link.proofs.RunModules.{from_runs}
 use Rattle.est_reduce.specs.Bodies.{Body, nothing, pause, halt, emit, sustain, exit, await, present, suspend, abort}
 use Rattle.est_reduce.specs.Bodies.{weak_abort, repeat, repeat_each, every, trap, signal, seq, par}
 
@@ -102,15 +105,15 @@ run_bound : (ps : List Program) (em : List ℕ → List ℕ → Bool) (p : Progr
     (rs : List RenamingTree) (o : Option Program) (f : Body) → program_named ps m ≡ o
     → IsFine ps em p (record { act = runs m rs; around = bs }) → IsSound em o f
     → IsBody (length p.interface) (IsSent em p) (traps_round bs) (locals_round bs)
-    (bound (interface_bound p bs rs (interface_run o)) (locals_round bs) f)
+    (body_in_run (interface_bound p bs rs (interface_run o)) (locals_round bs) f)
 run_bound ps em p bs m rs None f found fine sound =
     subst (λ x. IsBody (length p.interface) (IsSent em p) (traps_round bs) (locals_round bs)
-    (bound (interface_bound p bs rs []) (locals_round bs) x)) (sym sound) tt
+    (body_in_run (interface_bound p bs rs []) (locals_round bs) x)) (sym sound) tt
 run_bound ps em p bs m rs (Some q) f found fine sound =
     let e : locals_round bs + 0 ≡ locals_round bs = omega arith in
     let none : 0 + traps_round bs ≡ traps_round bs = omega arith in
     subst (λ l. IsBody (length p.interface) (IsSent em p) (traps_round bs) l
-    (bound (interface_bound p bs rs q.interface) (locals_round bs) f)) e
+    (body_in_run (interface_bound p bs rs q.interface) (locals_round bs) f)) e
     (bound_body (length q.interface) (IsSent em q) (length p.interface) (IsSent em p) (locals_round bs)
     (interface_bound p bs rs q.interface) (run_bindings ps em p bs m rs q found fine) (traps_round bs) 0 f
     (subst (λ t. IsBody (length q.interface) (IsSent em q) t 0 f) none
@@ -197,8 +200,8 @@ last_sound ps em es e m names before absent is made =
     ∙ ap (λ n. body_linked ps (bodies_of es) (program_named ps n)) same in
     subst (IsSound em (program_named ps m)) (sym body)
     (sound_linked ps em (bodies_of es) m (program_named ps m) refl names
-    (λ p found. more_runs (λ n. has_body es n ≡ true) (λ n. IsSound em (program_named ps n) (bodies_of es n)) before
-    p.body (made.ready p (ap (program_named ps) same ∙ found))))
+    (λ p found. from_runs ps (λ n. IsSound em (program_named ps n) (bodies_of es n)) m p found
+    (λ n run. before n (made.ready n (subst (λ k. HasRun ps k n) (sym same) run)))))
 
 -- each name of each body of a table is bound
 pub made_sound : (ps : List Program) (em : List ℕ → List ℕ → Bool) (es : List Linked) → AreMade ps es

@@ -15,7 +15,7 @@ use Rattle.est_checks.proofs.Declaring.{more}
 use Rattle.est_checks.specs.Duplicates.{redeclared}
 use Rattle.est_link.proofs.Distinct.{new_signal}
 use Rattle.est_link.specs.Inner.SignalTables.{HasNamesAsKeys, IsTableOfSignals}
-use Rattle.est_link.specs.MainModule.{declaration_of, place_of}
+use Rattle.est_link.specs.MainModule.{declaration_of, member_place}
 use Rattle.est_modules.specs.declared.head.Declared.{Declared}
 use Rattle.est_modules.proofs.Positions.{position_cons}
 use Rattle.est_modules.proofs.Testing.{or_parts}
@@ -70,7 +70,7 @@ same_places (e ∷ es) n named =
 
 -- the place that a table tells
 pub place_told : (es : List Entry) (n : List ℕ) (o : Option ℕ) → HasNamesAsKeys es
-    → o ≡ position (λ (k : Bor (List ℕ)). bytes_eq n k.now) (keys_of es) → unwrap_or o 0 ≡ place_of (values_of es) n
+    → o ≡ position (λ (k : Bor (List ℕ)). bytes_eq n k.now) (keys_of es) → unwrap_or o 0 ≡ member_place (values_of es) n
 place_told es n o named is = ap (λ (p : Option ℕ). unwrap_or p 0) (is ∙ same_places es n named)
 
 -- a table without signals

@@ -11,7 +11,8 @@ ghost use Rattle.est_modules.specs.Derived.{unit_derived, branches_derived, sequ
 ghost use Rattle.est_modules.specs.Derived.{statement_derived};
 ghost use Rattle.est_modules.specs.Scopes.{binders_of};
 ghost use Rattle.est_modules.specs.Modules.{program_of, program_named};
-ghost use Rattle.est_link.specs.Linking.{linked, interface_bound, interface_run, bound, asked_at};
+ghost use Rattle.est_link.specs.Linking.{linked, interface_bound, interface_run, asked_at};
+ghost use Rattle.est_link.specs.Linking.{body_in_run};
 ghost use Rattle.est_link.specs.Linking.{emitted, locals_round, signal_at};
 ghost use Rattle.est_link.specs.Inner.Tables.{bodies_of};
 ghost use Rattle.est_link.specs.Inner.Joins.{joined_by};
@@ -76,8 +77,9 @@ fn run(
     name: &Identifier,
     renamings: &[Renaming],
 ) -> Result<Body, AllocError>
-    ensures { IfOk result (λ f. body_of f ≡ bound (interface_bound (program_of linker.now.home.now)
-        (binders_of scope.now) (map renaming_view renamings.now)
+    ensures { IfOk result (λ f. body_of f ≡ body_in_run
+        (interface_bound (program_of linker.now.home.now) (binders_of scope.now)
+        (map renaming_view renamings.now)
         (interface_run (program_named (map program_of linker.now.heads.now) name.now)))
         (locals_round (binders_of scope.now)) (bodies_of linker.now.bodies.now name.now)) }
 {

@@ -2,7 +2,7 @@
 //! first fault.
 ghost use Rattle.std.specs.Prelude.{◌≡◌, None, IfOk, map};
 ghost use Rattle.est_checks.specs.FirstFaults.{Finds, IsFirstFault};
-ghost use Rattle.est_link.specs.FlatModules.{IsFlatOf, IsLinkOf};
+ghost use Rattle.est_link.specs.FlatModules.{IsFlatOf, IsLinkOf, flat_of};
 ghost use Rattle.est_modules.specs.Modules.{program_of};
 ghost use Rattle.est_modules.specs.ModuleOrders.{IsOrderOf};
 ghost use Rattle.est_syntax.specs.Views.{library_view};
@@ -28,7 +28,7 @@ fn flat_module<'a>(
 ) -> Result<Flat, AllocError>
     requires order { IsOrderOf (map program_of heads.now) order.now }
     requires checked { IsFirstFault (map program_of heads.now) main.now None }
-    ensures { IfOk result (IsFlatOf (map program_of heads.now) main.now) }
+    ensures { IfOk result (λ f. IsFlatOf (map program_of heads.now) main.now (flat_of f)) }
 {
     let body = linked_body(alloc, &*heads, order, main)?;
     let Some(home) = head_named(&*heads, main) else {
@@ -40,7 +40,7 @@ fn flat_module<'a>(
 /// The flat main module of modules, or their first fault.
 fn link_heads<'a>(alloc: Global, heads: &'a [Head<'a>], main: &str) -> Result<Flat, LinkFault>
     ensures first { Finds (IsFirstFault (map program_of heads.now) main.now) result }
-    ensures flat { IfOk result (IsFlatOf (map program_of heads.now) main.now) }
+    ensures flat { IfOk result (λ f. IsFlatOf (map program_of heads.now) main.now (flat_of f)) }
 {
     let (main, order) = check_library(alloc, &*heads, main)?;
     Ok(flat_module(alloc, &*heads, &order, &main)?)

@@ -6,8 +6,8 @@ ghost use Rattle.est_reduce.specs.Views.{body_of};
 ghost use Rattle.est_syntax.specs.Views.{relation_view};
 ghost use Rattle.est_kernel.specs.declared.interface.TheConstants.{MOST_SIGNALS};
 ghost use Rattle.est_relations.specs.declared.relations.TheConstants.{MOST_RELATIONS};
-ghost use Rattle.est_link.specs.MainModule.{kernel_kind, declaration_of, declarations_of, place_of};
-ghost use Rattle.est_link.specs.MainModule.{IsRelation, AreRelations};
+ghost use Rattle.est_link.specs.MainModule.{kernel_kind, declaration_of, declarations_of};
+ghost use Rattle.est_link.specs.MainModule.{IsRelation, AreRelations, member_place};
 ghost use Rattle.est_checks.specs.LawlessRelations.{first_lawless};
 ghost use Rattle.est_modules.specs.Modules.{program_of};
 ghost use Rattle.est_checks.specs.Duplicates.{redeclared};
@@ -65,7 +65,7 @@ fn members(
     second: &Identifier,
     later: &[Identifier],
 ) -> Result<Members, AllocError>
-    ensures { IfOk result (λ m. m ≡ map (place_of signals.now) (first.now ∷ second.now ∷
+    ensures { IfOk result (λ m. m ≡ map (member_place signals.now) (first.now ∷ second.now ∷
         later.now)) }
 {
     let mut members = Members::new(alloc);

@@ -1,6 +1,7 @@
 //! Linked modules and their flat bodies.
 ghost use Rattle.std.specs.Prelude.{◌≡◌, ℕ, Bool, List, None, Some, IfOk, map};
-ghost use Rattle.est_link.specs.Bodies.{IsLinked, HasSoundNames};
+ghost use Rattle.est_link.specs.Bodies.{HasSoundNames};
+ghost use Rattle.est_link.specs.Linking.{IsLinked};
 ghost use Rattle.est_checks.specs.Duplicates.{first_duplicate};
 ghost use Rattle.est_link.specs.FlatModules.{IsLinkOf};
 ghost use Rattle.est_link.specs.MainModule.{declarations_of};
