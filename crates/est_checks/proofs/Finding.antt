@@ -103,8 +103,11 @@ runs_here ps main fault distinct (inl memory) = inl memory
 runs_here ps main fault distinct (inr r) =
     let within : r.place < length ps = omega (arith, r.first.there, length-map ps (places_run ps)) in
     let at = program_at ps r.place within in
-    inr (refuse fault (at.0.name, r.is ∙ ap RecursiveRun (sym (name_there ps r.place at.0 at.1)),
-    first_itself ps distinct r.place r.first at.0 at.1) refl)
+    inr (refuse fault (
+      at.0.name,
+      r.is ∙ ap RecursiveRun (sym (name_there ps r.place at.0 at.1)),
+      first_itself ps distinct r.place r.first at.0 at.1,
+    ) refl)
 
 -- no module is recursive, and names are asked
 pub runs_next : (ps : List Program) (main : List ℕ) → NoneIsRecursive (run_rows ps) → (found : Option LinkFault)
