@@ -1,6 +1,6 @@
 -- The modules that main runs, in an order.
 use Rattle.std.proofs.Common.{◌≡◌, ℕ, ◌+◌, ◌<◌, inl, inr, List, [], ◌∷◌, ◌++◌, length, take, get_or, slice_index}
-use Rattle.std.proofs.Common.{slice_index_or, true, false, if◌then◌else◌, Some, None, Contains, refl, ap, sym, ◌∙◌}
+use Rattle.std.proofs.Common.{slice_index_or, true, false, Some, None, Contains, refl, ap, sym, ◌∙◌}
 use Rattle.std.proofs.Common.{subst, arith}
 use Rattle.std.proofs.lemmas.Bool.{cases_lt}
 use Rattle.std.proofs.lemmas.Option.{slice_get_within, slice_get-get_or, get_or_from_slice_get}

@@ -1,6 +1,6 @@
 use Rattle.std.proofs.Common.{◌≡◌, ◌∙◌, List, IfOk, map, ap, sym, subst}
 use Rattle.std.proofs.lemmas.List.{take_all}
-use Rattle.est_kernel.specs.Term.{Query, Queries, Joint, joined}
+use Rattle.est_kernel.specs.Term.{Query, Joint, joined}
 use Rattle.est_kernel.specs.View.{queries_of}
 use Rattle.est_reduce.specs.Views.{bound_query as query_view}
 use Rattle.est_reduce.proofs.Tests.{operands_seen}
