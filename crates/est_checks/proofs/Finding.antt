@@ -136,7 +136,8 @@ first_here ps main fault e =
 
 -- the same, unless memory was refused
 pub first_found : (ps : List Program) (main : List ℕ) (fault : LinkFault)
-    → (fault ≡ Memory) ⊎ (Some fault ≡ fault_before_order ps main) → (fault ≡ Memory) ⊎ IsFirstFault ps main (Some fault)
+    → (fault ≡ Memory) ⊎ (Some fault ≡ fault_before_order ps main)
+    → (fault ≡ Memory) ⊎ IsFirstFault ps main (Some fault)
 first_found ps main fault (inl memory) = inl memory
 first_found ps main fault (inr e) = inr (first_here ps main fault e)
 

@@ -1,5 +1,5 @@
--- For each module that a module M runs: the interface names that M itself does not declare, `tick` aside (this project's
--- own form).
+-- For each module that a module M runs: the interface names that M itself does not declare, `tick` aside (this
+-- project's own form).
 use Rattle.std.specs.Prelude.{ℕ, List, [], Bool, not, ◌||◌, map, filter, Option, Some, None}
 use Rattle.est_modules.specs.Modules.{Program, program_named}
 use Rattle.est_modules.specs.Visible.{is_tick}

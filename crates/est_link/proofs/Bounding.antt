@@ -68,7 +68,8 @@ all_fine ps em p [] known accepted sent = tt
 all_fine ps em p (o ∷ os) known accepted sent =
     let unknown = or_none_parts (unknown_at ps p o) (first_of (unknown_at ps p) os) known in
     let refused = or_none_parts (refused_at ps em p o) (first_of (refused_at ps em p) os) accepted in
-    let later = λ (s : List ℕ). list_any (λ (o : Occurrence). not (is_local o.around s) && emits_by ps em s o.act) os in (
+    let later = λ (s : List ℕ). list_any (λ (o : Occurrence). not (is_local o.around s) && emits_by ps em s o.act) os
+    in (
       record {
         known = unknown.0;
         accepted = refused.0;

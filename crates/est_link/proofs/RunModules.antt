@@ -88,7 +88,8 @@ from_runs ps P m p found each = runs_among P [] p.body
 pub run_there : (ps : List Program) → first_in_bodies (missing_at ps) ps ≡ None → (m n : List ℕ) → HasRun ps m n
     → (q : Program) × (program_named ps n ≡ Some q)
 run_there ps there m n ran =
-    runs_are_there ps m ran.home there ran.there (record { act = runs n ran.renamings; around = ran.around }) ran.stands n
+    runs_are_there ps m ran.home there ran.there (record { act = runs n ran.renamings; around = ran.around }) ran.stands
+    n
     refl
 
 -- ---- what a statement is linked to

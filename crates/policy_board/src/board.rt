@@ -24,15 +24,15 @@ use std::sync::{Mutex, MutexGuard, Wait};
 /// The policy of a server, which many threads share, and the tally of its slot commands. Commands
 /// take turns under the admin lock; reads wait for nobody.
 pub struct Board<B: BoardName> {
-    desk: Mutex<LockedPolicy<B>>,
+    policy: Mutex<LockedPolicy<B>>,
     // The number of the last slot command that was counted.
     tally: Mutex<u64>,
 }
 
 impl<B: BoardName> Board<B> {
-    pub(crate) fn new(desk: LockedPolicy<B>) -> Board<B> {
+    pub(crate) fn new(policy: LockedPolicy<B>) -> Board<B> {
         Board {
-            desk: Mutex::new(desk),
+            policy: Mutex::new(policy),
             tally: Mutex::new(0),
         }
     }
@@ -58,9 +58,9 @@ impl<B: BoardName> Board<B> {
             × BoardStep before session command result after
             × SeatAfter seat.old result after seat.new }
     {
-        let mut desk = self.desk.lock(rt);
-        let answer = desk.admin(rt, seat, session, command);
-        MutexGuard::unlock(desk);
+        let mut policy = self.policy.lock(rt);
+        let answer = policy.admin(rt, seat, session, command);
+        MutexGuard::unlock(policy);
         answer
     }
 
@@ -98,16 +98,16 @@ impl<B: BoardName> Board<B> {
 
     /// Ends the board.
     pub fn close(self) -> Closed<B> {
-        let Board { desk, tally: _ } = self;
+        let Board { policy, tally: _ } = self;
         Closed {
-            desk: desk.into_inner(),
+            policy: policy.into_inner(),
         }
     }
 }
 
 /// A board that is closed. End it by `journal`.
 pub struct Closed<B: BoardName> {
-    desk: LockedPolicy<B>,
+    policy: LockedPolicy<B>,
 }
 
 impl<B: BoardName> Closed<B> {
@@ -118,19 +118,20 @@ impl<B: BoardName> Closed<B> {
     /// Count, where it saw more entries than the journal has.
     pub fn reader(&mut self, reader: SlotReader<B>) -> Result<(), Mismatch>
         ensures seen { MatchResult result
-            (λ _. Begins reader self.old.desk)
-            (λ mismatch. (mismatch ≡ Count POLICY_LIST) × (length self.old.desk < length reader)) }
-        ensures same { self.new.desk ≡ self.old.desk }
+            (λ _. Begins reader self.old.policy)
+            (λ mismatch. (mismatch ≡ Count POLICY_LIST)
+            × (length self.old.policy < length reader)) }
+        ensures same { self.new.policy ≡ self.old.policy }
     {
-        self.desk.compare(&reader)
+        self.policy.compare(&reader)
     }
 
     /// The policy journal. It waits for the readers, and ends the writer.
     pub fn journal<R: Wait>(self, rt: &R) -> PolicyJournal
-        ensures same { result ≡ self.desk }
+        ensures same { result ≡ self.policy }
         ensures list { IsPolicyList result }
     {
-        let Closed { desk } = self;
-        desk.into_journal(rt)
+        let Closed { policy } = self;
+        policy.into_journal(rt)
     }
 }

@@ -43,9 +43,9 @@ impl<B: BoardName> Model for Closing<B> {
 
     ghost Value = { ClosingState };
 
-    ghost view = { λ c. record { policy = c.board.desk; fault = c.fault } };
+    ghost view = { λ c. record { policy = c.board.policy; fault = c.fault } };
 
-    ghost invariant = { λ c. IfSome c.fault (λ mismatch. IsReadersFault c.board.desk mismatch) };
+    ghost invariant = { λ c. IfSome c.fault (λ mismatch. IsReadersFault c.board.policy mismatch) };
 }
 
 impl<B: BoardName> Closing<B> {

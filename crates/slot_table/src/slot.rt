@@ -151,10 +151,10 @@ impl<B: BoardName, const NUMBER: u8> LockedSlot<B, NUMBER> {
         ensures journal { result.0 ≡ self.journal }
         ensures seen { IsLegal self.list NUMBER self.journal }
         ensures handed { MatchResult result.1
-            (λ _. IsLegal board.old.desk NUMBER self.journal)
+            (λ _. IsLegal board.old.policy NUMBER self.journal)
             (λ mismatch. (mismatch ≡ Count POLICY_LIST)
-            × (length board.old.desk < length self.list)) }
-        ensures board { board.new.desk ≡ board.old.desk }
+            × (length board.old.policy < length self.list)) }
+        ensures board { board.new.policy ≡ board.old.policy }
     {
         let LockedSlot { core, reader } = self;
         let reader = reader.unwrap();

@@ -11,7 +11,7 @@ use Rattle.slot_table.proofs.closing.Closing.end.Goals as goal
 
 pub invariant_of-self : goal.invariant_of-self
 invariant_of-self g c =
-    let policy = c.self.inside.board.desk in
+    let policy = c.self.inside.board.policy in
     let locked = c.into_inner.result in
     let more =
     subst (λ (r : Result (Unit {0}) Mismatch). MatchResult r (λ _. IsLegal policy g.row.NUMBER locked.journal)
@@ -31,7 +31,7 @@ invariant_of-self g c =
 
 pub returns-in_default : goal.returns-in_default
 returns-in_default g c =
-    let policy = c.self.inside.board.desk in
+    let policy = c.self.inside.board.policy in
     let locked = c.into_inner.result in
     let legal =
     subst (λ (r : Result (Unit {0}) Mismatch). MatchResult r (λ _. IsLegal policy g.row.NUMBER locked.journal)

@@ -15,13 +15,14 @@ returns-clause-seen g c = subst (λ (s : LockedState). IsLegal s.list g.row.NUMB
 pub returns-clause-handed : goal.returns-clause-handed
 returns-clause-handed g c =
     let journal = c.self.inside.core.journal in
-    let desk = c.args.board.now.desk in
-    subst (λ (s : LockedState). MatchResult c.reader-handed.result (λ _. IsLegal desk g.row.NUMBER s.journal)
-    (λ mismatch. (mismatch ≡ Count POLICY_LIST) × (length desk < length s.list))) c.self.view_is
-    (subst (λ (held : Option (List Entry)). MatchResult c.reader-handed.result (λ _. IsLegal desk g.row.NUMBER journal)
-    (λ mismatch. (mismatch ≡ Count POLICY_LIST) × (length desk < length (unwrap_or held []))))
+    let policy = c.args.board.now.policy in
+    subst (λ (s : LockedState). MatchResult c.reader-handed.result (λ _. IsLegal policy g.row.NUMBER s.journal)
+    (λ mismatch. (mismatch ≡ Count POLICY_LIST) × (length policy < length s.list))) c.self.view_is
+    (subst (λ (held : Option (List Entry)). MatchResult c.reader-handed.result
+    (λ _. IsLegal policy g.row.NUMBER journal)
+    (λ mismatch. (mismatch ≡ Count POLICY_LIST) × (length policy < length (unwrap_or held []))))
     (sym c.unwrap-reader.ensures)
-    (handed_legal c.unwrap-reader.result desk g.row.NUMBER journal c.reader-handed.result
+    (handed_legal c.unwrap-reader.result policy g.row.NUMBER journal c.reader-handed.result
     (subst (λ (held : Option (List Entry)). IsLegal (unwrap_or held []) g.row.NUMBER journal) c.unwrap-reader.ensures
     c.self.invariant.2)
     c.reader-handed.ensures.seen))
