@@ -37,7 +37,7 @@ use Rattle.est_text.specs.declared.place.Place.{Place}
 use Rattle.reactor_core.specs.Faults.{refusal_of_lex, refusal_of_parse, refusal_of_link, refusal_of_reduce}
 use Rattle.reactor_core.specs.Loading.{IsCutOf, Spells, LinksTo, GivenModule, Gives, IsLoadFault, in_cutting}
 use Rattle.reactor_core.specs.Loading.{in_grammar, in_linking, in_reduction}
-use Rattle.reactor_core.proofs.OneLoad.{CutsAreOne, LinksAreOne, same_library, same_flat}
+use Rattle.reactor_core.proofs.OneLoad.{CutsAreOne, LinksAreOne, none_found, same_library, same_flat}
 
 -- a text has one first place where no piece stands, and none where it is cut into tokens (a law of est_text)
 pub record CutFaultsAreOne : Type 0 where
@@ -137,7 +137,7 @@ module _ (cuts : CutsAreOne) (faults : CutFaultsAreOne) (links : LinksAreOne) wh
       → (fault : LinkFault) → IsFirstFault (programs_of library) main (Some fault) → ⊥
   links_or_none main text flat link library spells fault h =
       none_fault fault
-      (one_first_fault (programs_of link.library) main None (Some fault) link.sound
+      (one_first_fault (programs_of link.library) main None (Some fault) (none_found link.library main link.sound)
       (first_here main text library link.library spells link.spells (Some fault) h))
 
   two_linkings : (main text : List ℕ) (k l : LibraryTree) → Spells text k → Spells text l → (a b : LinkFault)

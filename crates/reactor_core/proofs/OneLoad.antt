@@ -2,6 +2,8 @@
 use Rattle.std.proofs.Common.{◌≡◌, ◌∙◌, ℕ, List, ap, sym, subst}
 use Rattle.est_kernel.specs.Term.{Term}
 use Rattle.est_kernel.specs.declared.interface.Declaration.{Declaration}
+use Rattle.std.specs.Prelude.{None}
+use Rattle.est_checks.specs.FirstFaults.{IsFirstFault}
 use Rattle.est_link.specs.FlatModules.{FlatModule, IsFlatOf}
 use Rattle.est_modules.specs.Modules.{Program, programs_of}
 use Rattle.est_reduce.specs.Reductions.{kernel_term}
@@ -11,7 +13,7 @@ use Rattle.est_syntax.specs.Tree.{LibraryTree}
 use Rattle.est_syntax.proofs.Unique.{one_library}
 use Rattle.est_text.specs.Pieces.{AreTokens}
 use Rattle.est_text.specs.declared.token.Located.{Located}
-use Rattle.reactor_core.specs.Loading.{Spells, LinksTo, GivenModule, Gives}
+use Rattle.reactor_core.specs.Loading.{HasNoFault, Spells, LinksTo, GivenModule, Gives}
 
 -- a text is cut in one way (a law of est_text)
 abbrev pub CutsAreOne : Type 0
@@ -22,6 +24,17 @@ CutsAreOne = (text : List ℕ) (tokens others : List Located) → AreTokens text
 abbrev pub LinksAreOne : Type 0
 LinksAreOne = (ps : List Program) (main : List ℕ) → (a b : FlatModule) → IsFlatOf ps main a → IsFlatOf ps main b
     → a ≡ b
+
+-- no check has a fault
+pub no_fault : (library : LibraryTree) (main : List ℕ) → IsFirstFault (programs_of library) main None
+    → HasNoFault library main
+unfolding HasNoFault
+no_fault library main h = h
+
+pub none_found : (library : LibraryTree) (main : List ℕ) → HasNoFault library main
+    → IsFirstFault (programs_of library) main None
+unfolding HasNoFault
+none_found library main h = h
 
 -- modules of the same parts are the same
 same_parts : (m n : GivenModule) → m.interface ≡ n.interface → m.relations ≡ n.relations → m.term ≡ n.term → m ≡ n

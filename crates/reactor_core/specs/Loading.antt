@@ -37,11 +37,15 @@ pub record Spells (text : List ℕ) (library : LibraryTree) : Type 0 where
   pub spelt : tokens_of tokens.located ≡ spelling library
   pub shallow : library_depth library ≤ MOST_OPEN_UNITS
 
+-- no check of the library with this main module has a fault
+unfoldable pub HasNoFault : LibraryTree → (main : List ℕ) → Type 0
+HasNoFault library main = IsFirstFault (programs_of library) main None
+
 -- the text spells a library in which linking finds no fault, and this is its flat main module
 pub record LinksTo (main text : List ℕ) (flat : FlatModule) : Type 0 where
   pub library : LibraryTree
   pub spells : Spells text library
-  pub sound : IsFirstFault (programs_of library) main None
+  pub sound : HasNoFault library main
   pub is : IsFlatOf (programs_of library) main flat
 
 -- a module that runs: its interface and its relations, each in the order of the text, and its kernel term

@@ -6,6 +6,7 @@ use Rattle.est_modules.specs.Modules.{programs_of}
 use Rattle.est_text.specs.Identifiers.{is_identifier}
 use Rattle.est_text.specs.declared.lex.LexFault.TheVariants.{Memory}
 use Rattle.reactor_core.specs.Loading.{in_cutting}
+use Rattle.reactor_core.proofs.OneLoad.{none_found}
 use Rattle.reactor_core.proofs.reactor.read_load.Goals as goal
 
 pub returns-in_err-text-clause-fault : goal.returns-in_err-text-clause-fault
@@ -26,5 +27,6 @@ is_read false text named e = cc
 pub returns-in-None-clause-fault : goal.returns-in-None-clause-fault
 returns-in-None-clause-fault c =
     let gives = c.in_ok-loaded.ensures.given in
-    let named = main_identifier (programs_of gives.links.library) c.args.main.now gives.links.sound in
+    let sound = none_found gives.links.library c.args.main.now gives.links.sound in
+    let named = main_identifier (programs_of gives.links.library) c.args.main.now sound in
     absurd (is_read (is_identifier c.args.main.now) c.args.main.now named (sym c.in-None.is ∙ c.from_text.ensures))

@@ -17,6 +17,7 @@ use Rattle.est_text.specs.declared.lex.LexFault.TheVariants as lex
 use Rattle.reactor_core.specs.Faults.{refusal_of_link}
 use Rattle.reactor_core.specs.Loading.{IsCutOf, Spells, LinksTo, IsLoadFault, in_cutting, in_grammar, in_linking}
 use Rattle.reactor_core.specs.Loading.{in_reduction}
+use Rattle.reactor_core.proofs.OneLoad.{no_fault}
 use Rattle.reactor_core.proofs.reading.read_module.Goals as goal
 
 -- want of memory while linking is that of a load
@@ -63,7 +64,7 @@ returns-in_err-kernel-clause-fault c =
     let spells : Spells c.args.text.now library =
     record { tokens = c.in_ok-tokens.tokens; cut = cut; spelt = l.spelt; shallow = l.depth } in
     let links : LinksTo c.args.main.now c.args.text.now (flat_of c.in_ok-flat.flat) =
-    record { library = library; spells = spells; sound = f.first; is = f.flat } in
+    record { library = library; spells = spells; sound = no_fault library c.args.main.now f.first; is = f.flat } in
     rw (p.1, p.2) (in_reduction (flat_of c.in_ok-flat.flat) links c.in_err-kernel.field-0.0 c.in_err-kernel.ensures)
 
 pub returns-clause-given : goal.returns-clause-given
@@ -78,7 +79,12 @@ returns-clause-given c =
     record { tokens = c.in_ok-tokens.tokens; cut = cut; spelt = l.spelt; shallow = l.depth } in
     record {
       flat = flat_of c.in_ok-flat.flat;
-      links = record { library = library; spells = spells; sound = f.first; is = f.flat };
+      links = record {
+        library = library;
+        spells = spells;
+        sound = no_fault library c.args.main.now f.first;
+        is = f.flat;
+      };
       declares = k.declares;
       relates = refl;
       begins = k.term;
