@@ -2,6 +2,7 @@
 """Milliseconds that a load takes, of texts that a stranger may send in one line, and its answer.
 
 usage: loads.py PROGRAM [NAME..]
+       loads.py PROGRAM --fit [NAME..]
        loads.py PROGRAM --search COUNT [SEED]
        loads.py --text SEED
 
@@ -9,9 +10,15 @@ PROGRAM is the built `crates/load_bench/out/load_bench`, which makes the kernel 
 reduction. Each text has 64 KiB at most, as a line does. The time is processor time, user and system, of one load in a process of its own,
 the fastest of three. Each answer has to be the one that stands here; where a load takes longer than 50 ms, that is said.
 
+With --fit, each text is also made a half, a quarter and an eighth as long, with as many of its names, modules and statements fewer. What is
+printed is the exponent e of the family: the one with which c times bytes to the power of e comes nearest to its four times (least squares
+over logarithms). A time is that of one load among as many in one process as take a tenth of a second, so that the start of a process does
+not count. More than 1.15 is said. Texts made at random have no shorter ones.
+
 With --search, COUNT texts are made at random, from SEED on (0 if it is left out), which mix long interfaces, many runs, renamings, `signal`s,
 relations and depth. The ten that took longest are run twice more and printed, each with its seed: --text prints the text of a seed.
 """
+import math
 import random
 import re
 import resource
@@ -21,6 +28,9 @@ import tempfile
 
 MOST_BYTES = 65536
 MOST_SECONDS = 0.05
+MOST_EXPONENT = 1.15
+SHARES = (1, 0.5, 0.25, 0.125)
+TIMED_SECONDS = 0.1
 SLOWEST = 10
 
 # of the search from seed 0, what took longest on 25 November
@@ -95,17 +105,27 @@ def deepest(levels):
     return "".join(parts)
 
 
-def filled(head, part, end):
-    """A text with a part as often as a line holds."""
-    return head + part * ((MOST_BYTES - len(head) - len(end)) // len(part)) + end
+class Line:
+    """A line, or a share of one: how long its text may be, and of how many names, modules or statements a text of a whole line has how many."""
+
+    def __init__(self, share=1):
+        self.share = share
+        self.room = int(MOST_BYTES * share)
+
+    def of(self, count):
+        return max(1, int(count * self.share))
+
+    def filled(self, head, part, end):
+        """A text with a part as often as the line holds."""
+        return head + part * max(1, (self.room - len(head) - len(end)) // len(part)) + end
 
 
-def renamings():
+def renamings(line):
     """A module of 65 inputs, run with 64 renamings each time."""
     inputs = ",".join(f"A{n}" for n in range(65))
     mine = ",".join(f"B{n}" for n in range(63))
     run = "run N[signal " + ",".join(f"B{n % 63}/A{n}" for n in range(64)) + "];"
-    return filled(f"module N:input {inputs};nothing end module module M:input A64,{mine};", run, "nothing end module")
+    return line.filled(f"module N:input {inputs};nothing end module module M:input A64,{mine};", run, "nothing end module")
 
 
 def emitter(names):
@@ -113,45 +133,45 @@ def emitter(names):
     return f"module N:output {','.join(names)};{';'.join('emit ' + name for name in names)} end module"
 
 
-def emitting(names):
+def emitting(line, names):
     """A module that has the same outputs as another, which emits them, and runs it."""
-    return filled(f"module M:output {','.join(names)};", "run N;", f"halt end module {emitter(names)}")
+    return line.filled(f"module M:output {','.join(names)};", "run N;", f"halt end module {emitter(names)}")
 
 
-def emitting_renamed(names):
+def emitting_renamed(line, names):
     """The same, with a renaming of one name in each run."""
     part = f"run N[signal Z/{names[len(names) // 2]}];"
-    return filled(f"module M:output {','.join(names)},Z;", part, f"halt end module {emitter(names)}")
+    return line.filled(f"module M:output {','.join(names)},Z;", part, f"halt end module {emitter(names)}")
 
 
-def emitting_below_signals(names):
+def emitting_below_signals(line, names):
     """The same, with a `signal` of one name around each run."""
     part = f"signal {names[len(names) // 2]} in run N end;"
-    return filled(f"module M:output {','.join(names)};", part, f"halt end module {emitter(names)}")
+    return line.filled(f"module M:output {','.join(names)};", part, f"halt end module {emitter(names)}")
 
 
-def emitting_inside(names, local, head):
+def emitting_inside(line, names, local, head):
     """A module that runs another, which emits all its outputs, inside a `signal` that declares some of them."""
-    return filled(f"module M:{head}signal {','.join(local)} in ", "run N;", f"halt end end module {emitter(names)}")
+    return line.filled(f"module M:{head}signal {','.join(local)} in ", "run N;", f"halt end end module {emitter(names)}")
 
 
-def emitting_input(names):
+def emitting_input(line, names):
     """The same, where the `signal` declares an input of the module that runs the other."""
     middle = names[len(names) // 2]
     others = ",".join(name for name in names if name != middle)
-    return emitting_inside(names, [middle], f"input {middle};output {others};")
+    return emitting_inside(line, names, [middle], f"input {middle};output {others};")
 
 
-def emitting_half(names):
+def emitting_half(line, names):
     """The same, where the `signal` declares half of them."""
     middle = len(names) // 2
-    return emitting_inside(names, names[:middle], f"output {','.join(names[middle:])};")
+    return emitting_inside(line, names, names[:middle], f"output {','.join(names[middle:])};")
 
 
-def emitting_shuffled(names):
+def emitting_shuffled(line, names):
     """The same, where the `signal` declares half of them in another order."""
     middle = len(names) // 2
-    return emitting_inside(names, random.Random(1).sample(names[:middle], middle), f"output {','.join(names[middle:])};")
+    return emitting_inside(line, names, random.Random(1).sample(names[:middle], middle), f"output {','.join(names[middle:])};")
 
 
 def emitting_nested(names, depth):
@@ -161,17 +181,17 @@ def emitting_nested(names, depth):
     return f"module M:output {','.join(names)};{head}{'run N end;' * depth}halt end module {emitter(names)}"
 
 
-def signals_before_a_run(names):
+def signals_before_a_run(line, names):
     """Many `signal`s of one name, and then one of all the names of a module that is run inside it."""
     listed = ",".join(names)
     end = f"signal {listed} in run N end end module module N:output {listed};halt end module"
-    return filled("module M:", f"signal {names[0]} in nothing end;", end)
+    return line.filled("module M:", f"signal {names[0]} in nothing end;", end)
 
 
-def inside_signal(names):
+def inside_signal(line, names):
     """A module that runs another inside a `signal` that declares all its outputs."""
     listed = ",".join(names)
-    return filled(f"module M:signal {listed} in ", "run N;", f"halt end end module module N:output {listed};halt end module")
+    return line.filled(f"module M:signal {listed} in ", "run N;", f"halt end end module module N:output {listed};halt end module")
 
 
 def one_test(words):
@@ -179,66 +199,72 @@ def one_test(words):
     return f"module M:input S;present S{' and S' * words} then nothing end end module"
 
 
-def relations():
-    last = short_names(2000, MOST_BYTES)
+def relations(line):
+    last = short_names(line.of(2000), line.room)
     head = "module M:input " + ",".join(last) + ";relation A=>A"
-    return filled(head.replace("A=>A", f"{last[-1]}=>{last[-1]}"), f",{last[-1]}#{last[-1]}", ";nothing end module")
+    return line.filled(head.replace("A=>A", f"{last[-1]}=>{last[-1]}"), f",{last[-1]}#{last[-1]}", ";nothing end module")
 
 
-def texts():
-    every = ",".join(short_names(20000, MOST_BYTES - 60))
-    half = short_names(7000, MOST_BYTES)
-    some = ",".join(half[:2000])
-    few = ",".join(half[:500])
+def texts(line):
+    """The texts that a line holds, or one of which it is a share, each with its title and its answer where it is a whole line."""
+    every = ",".join(short_names(20000, line.room - 60))
+    half = short_names(line.of(7000), line.room)
+    names = {count: half[: line.of(count)] for count in (500, 1000, 2000, 2900, 5000, 5461)}
+    some = ",".join(names[2000])
+    few = ",".join(names[500])
     return (
-        ("228 modules of 128 nested brackets that run one another", chain(228, "[" * 128, "]" * 128, "pause"), "a kernel of 0 signals"),
-        ("1,600 modules in a chain", chain(1600, "", "", "pause"), "a kernel of 0 signals"),
-        ("modules that each run the next twice, a thousand deep", doubling(1000), "TooLarge(Statements)"),
-        ("2,047 statements as deep as modules nest them", deepest(2047), "a kernel of 1 signals"),
-        ("a module of 65 inputs, run with 64 renamings each time", renamings(), "a kernel of 64 signals"),
-        ("a ring of 1,600 modules", chain(1600, "", "", "run M"), "RecursiveRun M"),
-        ("a chain of 1,600 modules, the last runs itself", chain(1600, "", "", "run M1599"), "RecursiveRun M1599"),
+        ("228 modules of 128 nested brackets that run one another", chain(line.of(228), "[" * 128, "]" * 128, "pause"), "a kernel of 0 signals"),
+        ("1,600 modules in a chain", chain(line.of(1600), "", "", "pause"), "a kernel of 0 signals"),
+        ("modules that each run the next twice, a thousand deep", doubling(line.of(1000)), "TooLarge(Statements)"),
+        ("2,047 statements as deep as modules nest them", deepest(line.of(2047)), "a kernel of 1 signals"),
+        ("a module of 65 inputs, run with 64 renamings each time", renamings(line), "a kernel of 64 signals"),
+        ("a ring of 1,600 modules", chain(line.of(1600), "", "", "run M"), "RecursiveRun M"),
+        ("a chain of 1,600 modules, the last runs itself", chain(line.of(1600), "", "", f"run {name(line.of(1600) - 1)}"), "RecursiveRun M1599"),
         (
             "1,500 runs of one module, and one that is missing",
-            "module M:" + "run N;" * 1500 + "run Z end module module N:halt end module",
+            "module M:" + "run N;" * line.of(1500) + "run Z end module module N:halt end module",
             "UnknownModule Z",
         ),
         ("17,185 declared names", f"module M:input {every};nothing end module", "TooLarge(Signals)"),
         ("17,185 local names", f"module M:signal {every} in nothing end end module", "TooLarge(Statements)"),
-        ("7,000 outputs, and emissions of the last", filled("module M:output " + ",".join(half) + ";", f"emit {half[-1]};", "halt end module"), "TooLarge(Signals)"),
-        ("9,900 relations over 2,000 inputs", relations(), "TooLarge(Signals)"),
-        ("a test of 10,913 words", filled("module M:input S;present S", " and S", " then nothing end end module"), "TooLarge(Statements)"),
-        ("a test of 2,045 words", one_test(2045), "a kernel of 1 signals"),
-        ("as many tests of 20 words as a line holds", filled("module M:input S;", f"present S{' and S' * 20} then nothing end;", "halt end module"), "TooLarge(Statements)"),
+        ("7,000 outputs, and emissions of the last", line.filled("module M:output " + ",".join(half) + ";", f"emit {half[-1]};", "halt end module"), "TooLarge(Signals)"),
+        ("9,900 relations over 2,000 inputs", relations(line), "TooLarge(Signals)"),
+        ("a test of 10,913 words", line.filled("module M:input S;present S", " and S", " then nothing end end module"), "TooLarge(Statements)"),
+        ("a test of 2,045 words", one_test(line.of(2045)), "a kernel of 1 signals"),
+        ("as many tests of 20 words as a line holds", line.filled("module M:input S;", f"present S{' and S' * 20} then nothing end;", "halt end module"), "TooLarge(Statements)"),
         (
             "500 outputs of two modules, of which one runs the other as often as a line holds",
-            filled(f"module M:output {few};", "run N;", f"halt end module module N:output {few};halt end module"),
+            line.filled(f"module M:output {few};", "run N;", f"halt end module module N:output {few};halt end module"),
             "TooLarge(Signals)",
         ),
         (
             "2,000 outputs of two modules, of which one runs the other as often as a line holds",
-            filled(f"module M:output {some};", "run N;", f"halt end module module N:output {some};halt end module"),
+            line.filled(f"module M:output {some};", "run N;", f"halt end module module N:output {some};halt end module"),
             "TooLarge(Signals)",
         ),
-        ("500 names of a `signal`, and runs inside it of a module that has them as outputs", inside_signal(half[:500]), "TooLarge(Statements)"),
-        ("2,000 names of a `signal`, and runs inside it of a module that has them as outputs", inside_signal(half[:2000]), "TooLarge(Statements)"),
-        ("5,461 names of a `signal`, and runs inside it of a module that has them as outputs", inside_signal(half[:5461]), "TooLarge(Statements)"),
-        ("1,000 outputs that a module emits, run by another as often as a line holds", emitting(half[:1000]), "TooLarge(Signals)"),
-        ("1,000 names of a `signal`, and runs inside it of a module that emits them", emitting_inside(half[:1000], half[:1000], ""), "TooLarge(Statements)"),
-        ("1,000 outputs that a module emits, run by another with a renaming each time", emitting_renamed(half[:1000]), "TooLarge(Signals)"),
-        ("1,000 outputs that a module emits, run inside a `signal` that hides an input", emitting_input(half[:1000]), "TooLarge(Signals)"),
-        ("1,000 outputs that a module emits, run with a `signal` of one name around each run", emitting_below_signals(half[:1000]), "TooLarge(Signals)"),
-        ("1,000 outputs that a module emits, run inside a `signal` of half of them", emitting_half(half[:1000]), "TooLarge(Signals)"),
-        ("1,000 outputs that a module emits, run inside a `signal` of half of them in another order", emitting_shuffled(half[:1000]), "TooLarge(Signals)"),
-        ("2,900 outputs that a module emits, run in each of 120 `signal`s in one another", emitting_nested(half[:2900], 120), "TooLarge(Signals)"),
-        ("1,300 `signal`s of one name, and one of 5,000 names around a run", signals_before_a_run(half[:5000]), "TooLarge(Statements)"),
-        *((f"a text made at random, of seed {seed}", random_text(seed), answer) for seed, answer in KEPT),
+        ("500 names of a `signal`, and runs inside it of a module that has them as outputs", inside_signal(line, names[500]), "TooLarge(Statements)"),
+        ("2,000 names of a `signal`, and runs inside it of a module that has them as outputs", inside_signal(line, names[2000]), "TooLarge(Statements)"),
+        ("5,461 names of a `signal`, and runs inside it of a module that has them as outputs", inside_signal(line, names[5461]), "TooLarge(Statements)"),
+        ("1,000 outputs that a module emits, run by another as often as a line holds", emitting(line, names[1000]), "TooLarge(Signals)"),
+        ("1,000 names of a `signal`, and runs inside it of a module that emits them", emitting_inside(line, names[1000], names[1000], ""), "TooLarge(Statements)"),
+        ("1,000 outputs that a module emits, run by another with a renaming each time", emitting_renamed(line, names[1000]), "TooLarge(Signals)"),
+        ("1,000 outputs that a module emits, run inside a `signal` that hides an input", emitting_input(line, names[1000]), "TooLarge(Signals)"),
+        ("1,000 outputs that a module emits, run with a `signal` of one name around each run", emitting_below_signals(line, names[1000]), "TooLarge(Signals)"),
+        ("1,000 outputs that a module emits, run inside a `signal` of half of them", emitting_half(line, names[1000]), "TooLarge(Signals)"),
+        ("1,000 outputs that a module emits, run inside a `signal` of half of them in another order", emitting_shuffled(line, names[1000]), "TooLarge(Signals)"),
+        ("2,900 outputs that a module emits, run in each of 120 `signal`s in one another", emitting_nested(names[2900], 120), "TooLarge(Signals)"),
+        ("1,300 `signal`s of one name, and one of 5,000 names around a run", signals_before_a_run(line, names[5000]), "TooLarge(Statements)"),
     )
+
+
+def kept_texts():
+    """The texts made at random that are kept."""
+    return tuple((f"a text made at random, of seed {seed}", random_text(seed), answer) for seed, answer in KEPT)
 
 
 def told(answer):
     """The answer, with the name that is told in it."""
-    match = re.match(r"(\w+)\(Identifier \{ bytes: \[([0-9, ]+)\], count: (\d+) \}\)$", answer)
+    match = re.match(r"(\w+)\((?:Some\()?Identifier \{ bytes: \[([0-9, ]+)\], count: (\d+) \}\)+$", answer)
     if not match:
         return answer
     letters = [chr(int(byte)) for byte in match.group(2).split(",")]
@@ -368,10 +394,49 @@ def search(program, count, first):
     return all(not kind.startswith(("no", "status")) for kind in answers)
 
 
-def seconds_of(program, path):
+def exponent_of(points):
+    """The exponent of seconds over bytes that comes nearest to these points, by least squares over logarithms."""
+    logs = [(math.log(size), math.log(used)) for size, used in points]
+    middle = [sum(values) / len(logs) for values in zip(*logs)]
+    over = sum((x - middle[0]) * (y - middle[1]) for x, y in logs)
+    return over / sum((x - middle[0]) ** 2 for x, _ in logs)
+
+
+def seconds_each(program, text):
+    """Seconds of one load of a text, among as many in one process as take long enough to be timed; the fewer of two."""
+    with tempfile.NamedTemporaryFile("w", suffix=".txt") as file:
+        file.write(text)
+        file.flush()
+        once = min(seconds_of(program, file.name)[0] for _ in range(2))
+        more = 1
+        while True:
+            used = min(seconds_of(program, file.name, 1 + more)[0] for _ in range(2)) - once
+            if used >= TIMED_SECONDS:
+                return used / more
+            more = more * 2 if used * 4 < TIMED_SECONDS else int(more * TIMED_SECONDS / used) + more
+
+
+def fit(program, wanted):
+    """Prints the exponent of each family: whether none is too large."""
+    lines = [texts(Line(share)) for share in SHARES]
+    good = True
+    for rows in zip(*lines):
+        title = rows[0][0]
+        if wanted and not any(word in title for word in wanted):
+            continue
+        points = [(len(text), seconds_each(program, text)) for _, text, _ in rows]
+        exponent = exponent_of(points)
+        good = good and exponent <= MOST_EXPONENT
+        times = ", ".join(f"{1000 * used:.2f}" for _, used in points)
+        note = "" if exponent <= MOST_EXPONENT else f"  OVER {MOST_EXPONENT}"
+        print(f"{exponent:7.2f}  {title}: {times} ms{note}", flush=True)
+    return good
+
+
+def seconds_of(program, path, repetitions=1):
     before = resource.getrusage(resource.RUSAGE_CHILDREN)
     try:
-        done = subprocess.run([program, "1"], stdin=open(path), capture_output=True, text=True, timeout=TIMEOUT, check=False)
+        done = subprocess.run([program, str(repetitions)], stdin=open(path), capture_output=True, text=True, timeout=TIMEOUT, check=False)
     except subprocess.TimeoutExpired:
         return TIMEOUT, "no answer"
     after = resource.getrusage(resource.RUSAGE_CHILDREN)
@@ -388,9 +453,11 @@ def main():
     if sys.argv[2:3] == ["--search"]:
         words = [int(word) for word in sys.argv[3:5]]
         sys.exit(0 if search(sys.argv[1], *words, *[0] * (2 - len(words))) else 1)
+    if sys.argv[2:3] == ["--fit"]:
+        sys.exit(0 if fit(sys.argv[1], sys.argv[3:]) else 1)
     wanted = sys.argv[2:]
     wrong = 0
-    for title, text, answer in texts():
+    for title, text, answer in texts(Line()) + kept_texts():
         if wanted and not any(word in title for word in wanted):
             continue
         assert len(text.encode()) <= MOST_BYTES, title

@@ -5,7 +5,8 @@ The lists of docs/generated are those that scripts/reading_list.py and scripts/w
 body says why it is wrong; README.md has at most 100 lines; each crate stands in docs/ARCHITECTURE.md, and crates.txt
 has its storeys and its order; each function of the walk there stands in its file; each script of examples/scripts has
 its answers and its row in examples/README.md, and the opening one is the stored run; each test that docs/EXAMPLES.md
-names is written; each link to a file leads to one, and each quoted block stands in its file.
+names is written; each link leads to a file and a heading, and each quoted block stands in its file; and no line of code,
+definition or proof is too wide.
 Ends with status 1 after naming what differs.
 """
 
@@ -21,6 +22,7 @@ import wrong_bodies  # noqa: E402
 
 
 README_LINES = 100  # at most
+WIDTHS = {".rt": 100, ".antt": 120}  # characters of a line, at most
 
 
 def differing_tables():
@@ -97,8 +99,10 @@ def code_of_tests():
 
 def missing_tests():
     """A line for each test, table or file that docs/EXAMPLES.md names in a row, and that isn't there."""
-    table = (ROOT / "docs/EXAMPLES.md").read_text().partition("\n## ")[0]
+    table = (ROOT / "docs/EXAMPLES.md").read_text().partition("\n## Which test shows what\n")[2]
     rows = re.findall(r"^\| .* \| ([^|]+) \|$", table, re.MULTILINE)
+    if not rows:
+        return ["docs/EXAMPLES.md has no table of tests"]
     named = {name for row in rows for name in re.findall(r"`(\w+)`", row)}
     code = code_of_tests()
     defined = set(re.findall(r"\b(?:fn|const|def|class) (\w+)", code))
@@ -129,11 +133,48 @@ def broken_links(document):
     ]
 
 
+def anchors(document):
+    """The names by which links lead to the document's headings."""
+    headings = re.findall(r"^#+ (.+)$", document.read_text(), re.MULTILINE)
+    return {re.sub(r"[^\w\- ]", "", heading.lower()).replace(" ", "-") for heading in headings}
+
+
+def broken_anchors(document):
+    """A line for each link of the document that leads to no heading of a document."""
+    targets = re.findall(r"\]\(([^)#:\s]*)#([^)\s]+)\)", document.read_text())
+    files = [(document.parent / target if target else document, anchor) for target, anchor in targets]
+    return [
+        f"{document.relative_to(ROOT)}: no heading {anchor} in {file.name}"
+        for file, anchor in files
+        if file.suffix == ".md" and file.exists() and anchor not in anchors(file)
+    ]
+
+
+def is_attribute(line):
+    """Whether the line is an attribute, which may be of any width: `rt fmt` puts each on one line."""
+    return line.lstrip().startswith("#[") and line.endswith("]")
+
+
+def wide_lines():
+    """A line for each line of code, definition or proof that is wider than it may be."""
+    files = [*ROOT.glob("crates/*/src/**/*.rt"), *ROOT.glob("crates/*/[sp]*/**/*.antt")]
+    lines = [
+        (file.relative_to(ROOT), number, line)
+        for file in sorted(files)
+        for number, line in enumerate(file.read_text().split("\n"), 1)
+    ]
+    return [
+        f"{file}:{number}: {len(line)} characters, and at most {WIDTHS[file.suffix]} in {file.suffix}"
+        for file, number, line in lines
+        if len(line) > WIDTHS[file.suffix] and not is_attribute(line)
+    ]
+
+
 def main():
     faults = differing_tables() + missing_sentences() + missing_functions() + faulty_examples()
-    faults += long_readme() + missing_crates("docs/ARCHITECTURE.md") + shuffled_crates() + missing_tests()
+    faults += long_readme() + missing_crates("docs/ARCHITECTURE.md") + shuffled_crates() + missing_tests() + wide_lines()
     for document in [*ROOT.glob("*.md"), *ROOT.glob("docs/**/*.md"), *ROOT.glob("examples/*.md")]:
-        faults += broken_links(document) + stale_quotes(document)
+        faults += broken_links(document) + broken_anchors(document) + stale_quotes(document)
     print("\n".join(faults) if faults else "documents: in step with the repository")
     return 1 if faults else 0
 

@@ -79,7 +79,7 @@ HOST = LeftOut(
     "only pure signals come in and go out",
 )
 SENSOR = LeftOut("`sensor`", "declare an `input`")
-STOP = LeftOut("a full stop after a module", "leave it away")
+STOP = LeftOut("a full stop after a module", "leave it off")
 COPY = LeftOut("`copymodule`", "write `run`")
 EMITS = LeftOut("a list of emissions (`emit A, B`)", "write `emit A; emit B`")
 NUMBER = LeftOut("a number", "signals carry no values")

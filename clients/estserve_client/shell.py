@@ -250,7 +250,7 @@ class Shell(cmd.Cmd):
         self.set_prompt("")
 
     def do_dsd(self, line: str) -> None:
-        """dsd NAME COUNT ROLE..: makes a separation set: no session may have COUNT of the roles"""
+        """dsd NAME COUNT ROLE..: keeps roles apart: no session may have COUNT or more of them"""
         name, count, *roles = line.split() if len(line.split()) > 2 else ("", "0")
         if not roles:
             raise Usage("expected: NAME COUNT ROLE..")
@@ -321,12 +321,12 @@ class Shell(cmd.Cmd):
         print(self.instant_line(slot, self.client.instant(slot)))
 
     def do_audit(self, line: str) -> None:
-        """audit [SLOT]: tells how long the slot's journal is"""
+        """audit [SLOT]: tells how many entries its journal has, and how many instants there were"""
         answer = self.client.audit(keys_of("slot", line, self.slot)["slot"])
         print(f"{answer['entries']} entries, {answer['instants']} instants since the load")
 
     def do_look(self, line: str) -> None:
-        """look [SLOT] INSTANT: shows the signals of an instant that you may observe"""
+        """look [SLOT] INSTANT: shows the signals that you may observe; A=0: A was absent"""
         answer = self.client.look(**keys_of("slot instant", line, self.slot))
         told = [name + ("" if present else "=0") for name, present in answer["signals"]]
         print(" ".join(told) or "nothing that you may observe")

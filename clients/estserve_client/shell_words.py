@@ -67,7 +67,7 @@ PLAIN = {
     ),
     "disinherit": Plain(
         "senior junior",
-        "takes away that the senior stands right above the junior",
+        "takes away the edge by which the senior stands right above the junior",
         "{senior} no longer stands right above {junior}",
     ),
     "undsd": Plain("name", "deletes the separation set", "the separation set {name} is deleted"),

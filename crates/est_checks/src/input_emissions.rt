@@ -122,8 +122,8 @@ fn refused_of(
 ) -> Option<Identifier>
     requires named { program_named (map program_of check.now.heads.now) name.now
         ≡ Some (program_of run.now) }
-    requires open { IsOpen (λ t. AreKept t (barred_by (map program_of check.now.heads.now) (emitted_of
-        check.now.table.now) (is_input (program_of check.now.home.now).interface)))
+    requires open { IsOpen (λ t. AreKept t (barred_by (map program_of check.now.heads.now)
+        (emitted_of check.now.table.now) (is_input (program_of check.now.home.now).interface)))
         (binders_of scope.now) kept.now }
     ensures { result ≡ refused_in_run (emitted_of check.now.table.now)
         (program_of check.now.home.now) (binders_of scope.now) (map renaming_view renamings.now)

@@ -23,11 +23,14 @@ use Rattle.est_rounds.specs.Views.{env_of, set_of}
 use Rattle.est_rounds.specs.declared.acts.Judgement.{Judgement}
 use Rattle.est_rounds.specs.declared.signal_set.Env.{Env as Known}
 use Rattle.est_micro.specs.Sweeps.{swept_parts, swept, told}
+use Rattle.est_micro.specs.declared.direction.Direction.{Direction}
+use Rattle.est_micro.specs.declared.direction.Direction.TheVariants.{Forwards, Backwards}
 use Rattle.est_micro.specs.Views.{Changes, IsJudged, IsLeft, IsPaired, IsSwept, IsBegun}
 use Rattle.est_micro.specs.declared.cells.Found.{Found}
 use Rattle.est_micro.specs.declared.cells.Place.{Place}
 use Rattle.est_micro.proofs.Frames.{scoped, sheet_same, changes_then, learn_changes}
-use Rattle.est_micro.proofs.Nodes.{JudgedOf, Owned, one_swept, two_swept, node_is_swept, ends_found}
+use Rattle.est_micro.proofs.Nodes.{JudgedOf, Owned, one_swept, two_swept, two_swept_back, node_is_swept, ends_found}
+use Rattle.est_micro.proofs.Nodes.{is_backwards, is_forwards}
 
 pub widen : (lo lo' hi hi' : ℕ) (a b : List Status) → lo' ≤ lo → hi ≤ hi' → Changes lo hi a b → Changes lo' hi' a b
 widen lo lo' hi hi' a b k l x = record {
@@ -60,20 +63,30 @@ pub leaf_begun : (s : Statement) (at : Place) (gate : Status) (e : Known) (old m
     (r : Found)
     → sheet_size at.main s at.traps ≡ at.traps + 3
     → parts_in (cell_at m0) at.main s at.cell at.traps
-    ≡ swept_parts at.main s (env_of e) (cell_at m0 at.cell) (parts_in (cell_at old) at.main s at.cell at.traps)
+    ≡ swept_parts at.direction at.main s (env_of e) (cell_at m0 at.cell) (parts_in
+    (cell_at old) at.main s at.cell at.traps)
     → Owned at.main s (λ U. (gates at.main s gate (env_of e) U).cells)
     (sheet_in (cell_at m0) at.main s at.cell at.traps) own
     → Learns at.cell gate old m0 → IsLeft at.cell at.traps own (at.cell + at.traps + 3) m0 new r
     → IsBegun s at gate e old new r
 unfolding IsBegun
 leaf_begun s at gate e old m0 new own r size parts owned learns is_left =
-    node_is_swept at.main s at.cell at.traps (swept_parts at.main s (env_of e))
+    node_is_swept at.main s at.cell at.traps (swept_parts at.direction at.main s (env_of e))
     (λ U. (gates at.main s gate (env_of e) U).cells) gate
     old m0 m0 new own (at.cell + at.traps + 3) r learns parts (nothing_changes _ _ m0) owned is_left (omega arith)
 
 -- the place of a part
 abbrev pub part_at : Place → ℕ → Place
-part_at at d = record { main = at.main; cell = d; traps = at.traps }
+part_at at d = record { main = at.main; cell = d; traps = at.traps; direction = at.direction }
+
+-- the place of a trap's body
+abbrev pub trapped_at : Place → Place
+trapped_at at = record {
+  main = at.main;
+  cell = at.cell + at.traps + 3;
+  traps = at.traps + 1;
+  direction = at.direction;
+}
 
 pub present_begun : (at : Place) (t : _) (a : _) (p : Statement) (b : _) (q : Statement)
     (gate asked g1 g2 o go : Status) (e : Known)
@@ -87,10 +100,11 @@ unfolding IsBegun
 present_begun at t a p b q gate asked g1 g2 o go e old m0 m1 m2 new r1 r2 r own asks learns go_is g1_is o_is g2_is first
     second pair is_left =
     let main = at.main in
+    let way = at.direction in
     let d = at.cell + at.traps + 3 in
     let E = env_of e in
     let s0 = cell_at old in
-    let w = two_swept main main p q d at.traps (swept main p E g1) (swept main q E g2) old m0 m1 m2 r1 r2
+    let w = two_swept main main p q d at.traps (swept way main p E g1) (swept way main q E g2) old m0 m1 m2 r1 r2
     (λ i l u. learns.later i (omega arith)) first second in
     let k1 : g1 ≡ and_status (cell_at m0 at.cell) (status_of E (query_of t))
     = g1_is ∙ (ap (λ (z : Status). and_status z asked) go_is
@@ -98,10 +112,10 @@ present_begun at t a p b q gate asked g1 g2 o go e old m0 m1 m2 new r1 r2 r own 
     let k2 : g2 ≡ and_status (cell_at m0 at.cell) (opposite (status_of E (query_of t)))
     = g2_is ∙ (ap (λ (z : Status). and_status z o) go_is ∙ ap (λ (z : Status). and_status (cell_at m0 at.cell) z)
     (o_is ∙ ap opposite asks)) in
-    node_is_swept main (Present' t a p b q) at.cell at.traps (swept_parts main (Present' t a p b q) E)
+    node_is_swept main (Present' t a p b q) at.cell at.traps (swept_parts way main (Present' t a p b q) E)
     (λ U. (gates main (Present' t a p b q) gate E U).cells) gate old m0 m2 new own r2.past r learns
-    (two (w.first ∙ ap (λ (z : Status). swept main p E z (sheet_in s0 main p d at.traps)) k1)
-    (w.second ∙ ap (λ (z : Status). swept main q E z (sheet_in s0 main q (d + sheet_size main p at.traps) at.traps))
+    (two (w.first ∙ ap (λ (z : Status). swept way main p E z (sheet_in s0 main p d at.traps)) k1)
+    (w.second ∙ ap (λ (z : Status). swept way main q E z (sheet_in s0 main q (d + sheet_size main p at.traps) at.traps))
     k2))
     (widen _ _ _ _ m0 m2 (omega arith) (omega arith) w.changes)
     (paired either_code _ _ _ _ _ _ _ _ r1.judged r2.judged own w.first_found w.second_found pair) is_left
@@ -125,51 +139,90 @@ unfolding IsBegun
 seq_begun at a p b q gate later go e f old m0 m1 m2 new r1 r2 r own learns go_is later_is f_is first second pair
     is_left =
     let main = at.main in
+    let way = at.direction in
     let d = at.cell + at.traps + 3 in
     let E = env_of e in
     let s0 = cell_at old in
-    let w = two_swept main main p q d at.traps (swept main p E go) (swept main q (env_of f) later) old m0 m1 m2 r1 r2
+    let w = two_swept main main p q d at.traps (swept way main p E go) (swept way main q
+    (env_of f) later) old m0 m1 m2 r1 r2
     (λ i l u. learns.later i (omega arith)) first second in
-    let one = w.first ∙ ap (λ (z : Status). swept main p E z (sheet_in s0 main p d at.traps)) go_is in
+    let one = w.first ∙ ap (λ (z : Status). swept way main p E z (sheet_in s0 main p d at.traps)) go_is in
     let X = sheet_in s0 main p d at.traps in
     let Y = sheet_in s0 main q (d + sheet_size main p at.traps) at.traps in
-    let F = told E (emits is_sure main p (swept main p E (cell_at m0 at.cell) X)) in
+    let F = told E (emits is_sure main p (swept way main p E (cell_at m0 at.cell) X)) in
     let inside : env_of f ≡ F = inside_is main p E f _ _ r1.judged w.first_found one f_is in
-    let k : later ≡ ends (swept main p E (cell_at m0 at.cell) (sheet_in s0 main p d at.traps)).cells
+    let k : later ≡ ends (swept way main p E (cell_at m0 at.cell) (sheet_in s0 main p d at.traps)).cells
     = ends_found main p (sheet_in (cell_at m2) main p d at.traps) later r1.judged w.first_found later_is
     ∙ ap (λ (T : Sheet main p). ends T.cells) one in
-    node_is_swept main (Seq' a p b q) at.cell at.traps (swept_parts main (Seq' a p b q) E)
+    node_is_swept main (Seq' a p b q) at.cell at.traps (swept_parts way main (Seq' a p b q) E)
     (λ U. (gates main (Seq' a p b q) gate E U).cells) gate old m0 m2 new own r2.past r learns
     (two one
-    (w.second ∙ (ap (λ (z : Env). swept main q z later Y) inside ∙ ap (λ (z : Status). swept main q F z Y) k)))
+    (w.second ∙ (ap (λ (z : Env). swept way main q z later Y) inside ∙ ap (λ (z : Status). swept way main q F z Y) k)))
     (widen _ _ _ _ m0 m2 (omega arith) (omega arith) w.changes)
     (paired then_codes _ _ _ _ _ _ _ _ r1.judged r2.judged own w.first_found w.second_found pair) is_left
     (let x = w.past in omega arith)
 
 pub par_begun : (at : Place) (a : _) (p : Statement) (b : _) (q : Statement) (gate go : Status) (e f : Known)
     (old m0 m1 m2 new : List Status) (r1 r2 r : Found) (own : Judgement)
-    → Learns at.cell gate old m0 → go ≡ cell_at m0 at.cell
+    → at.direction ≡ Forwards → Learns at.cell gate old m0 → go ≡ cell_at m0 at.cell
     → env_of f ≡ told (env_of e) (set_of r1.judged.must.signals)
     → IsBegun p (part_at at (at.cell + at.traps + 3)) go e m0 m1 r1 → IsBegun q (part_at at r1.past) go f m1 m2 r2
     → IsPaired max_codes r1.judged r2.judged own → IsLeft at.cell at.traps own r2.past m2 new r
     → IsBegun (Par' a p b q) at gate e old new r
 unfolding IsBegun
-par_begun at a p b q gate go e f old m0 m1 m2 new r1 r2 r own learns go_is f_is first second pair is_left =
+par_begun at a p b q gate go e f old m0 m1 m2 new r1 r2 r own goes learns go_is f_is first second pair
+    is_left =
     let main = at.main in
+    let way = at.direction in
     let d = at.cell + at.traps + 3 in
     let E = env_of e in
     let s0 = cell_at old in
-    let w = two_swept main main p q d at.traps (swept main p E go) (swept main q (env_of f) go) old m0 m1 m2 r1 r2
+    let w = two_swept main main p q d at.traps (swept way main p E go) (swept way main q
+    (env_of f) go) old m0 m1 m2 r1 r2
     (λ i l u. learns.later i (omega arith)) first second in
     let X = sheet_in s0 main p d at.traps in
     let Y = sheet_in s0 main q (d + sheet_size main p at.traps) at.traps in
-    let one = w.first ∙ ap (λ (z : Status). swept main p E z X) go_is in
-    let F = told E (emits is_sure main p (swept main p E (cell_at m0 at.cell) X)) in
+    let one = w.first ∙ ap (λ (z : Status). swept way main p E z X) go_is in
+    let F = told E (emits is_sure main p (swept way main p E (cell_at m0 at.cell) X)) in
     let inside : env_of f ≡ F = inside_is main p E f _ _ r1.judged w.first_found one f_is in
-    node_is_swept main (Par' a p b q) at.cell at.traps (swept_parts main (Par' a p b q) E)
+    node_is_swept main (Par' a p b q) at.cell at.traps (swept_parts way main (Par' a p b q) E)
     (λ U. (gates main (Par' a p b q) gate E U).cells) gate old m0 m2 new own r2.past r learns
-    (two one
-    (w.second ∙ (ap (λ (z : Env). swept main q z go Y) inside ∙ ap (λ (z : Status). swept main q F z Y) go_is)))
+    (is_forwards way _ _ _ goes (two one
+    (w.second ∙ (ap (λ (z : Env). swept way main q z go Y) inside ∙ ap (λ
+    (z : Status). swept way main q F z Y) go_is))))
+    (widen _ _ _ _ m0 m2 (omega arith) (omega arith) w.changes)
+    (paired max_codes _ _ _ _ _ _ _ _ r1.judged r2.judged own w.first_found w.second_found pair) is_left
+    (let x = w.past in omega arith)
+
+pub par_begun_back : (at : Place) (a : _) (p : Statement) (b : _) (q : Statement) (gate go : Status) (k : ℕ)
+    (e f : Known)
+    (old m0 m1 m2 new : List Status) (r1 r2 r : Found) (own : Judgement)
+    → at.direction ≡ Backwards → Learns at.cell gate old m0 → go ≡ cell_at m0 at.cell
+    → k ≡ at.cell + at.traps + 3 + sheet_size at.main p at.traps
+    → env_of f ≡ told (env_of e) (set_of r2.judged.must.signals)
+    → IsBegun q (part_at at k) go e m0 m1 r2 → IsBegun p (part_at at (at.cell + at.traps + 3)) go f m1 m2 r1
+    → IsPaired max_codes r1.judged r2.judged own → IsLeft at.cell at.traps own r2.past m2 new r
+    → IsBegun (Par' a p b q) at gate e old new r
+unfolding IsBegun
+par_begun_back at a p b q gate go k e f old m0 m1 m2 new r1 r2 r own goes learns go_is k_is f_is second first pair
+    is_left =
+    let main = at.main in
+    let way = at.direction in
+    let d = at.cell + at.traps + 3 in
+    let E = env_of e in
+    let s0 = cell_at old in
+    let w = two_swept_back main main p q d at.traps k (swept way main p (env_of f) go) (swept way main q E go)
+    old m0 m1 m2 r1 r2 k_is (λ i l u. learns.later i (omega arith)) second first in
+    let X = sheet_in s0 main p d at.traps in
+    let Y = sheet_in s0 main q (d + sheet_size main p at.traps) at.traps in
+    let one = w.second ∙ ap (λ (z : Status). swept way main q E z Y) go_is in
+    let F = told E (emits is_sure main q (swept way main q E (cell_at m0 at.cell) Y)) in
+    let inside : env_of f ≡ F = inside_is main q E f _ _ r2.judged w.second_found one f_is in
+    node_is_swept main (Par' a p b q) at.cell at.traps (swept_parts way main (Par' a p b q) E)
+    (λ U. (gates main (Par' a p b q) gate E U).cells) gate old m0 m2 new own r2.past r learns
+    (is_backwards way _ _ _ goes (two
+    (w.first ∙ (ap (λ (z : Env). swept way main p z go X) inside ∙ ap (λ (z : Status). swept way main p F z X) go_is))
+    one))
     (widen _ _ _ _ m0 m2 (omega arith) (omega arith) w.changes)
     (paired max_codes _ _ _ _ _ _ _ _ r1.judged r2.judged own w.first_found w.second_found pair) is_left
     (let x = w.past in omega arith)
@@ -181,12 +234,14 @@ pub suspend_begun : (at : Place) (t : _) (a : _) (p : Statement) (gate go : Stat
 unfolding IsBegun
 suspend_begun at t a p gate go e old m0 m1 new r1 r learns go_is body is_left =
     let main = at.main in
+    let way = at.direction in
     let d = at.cell + at.traps + 3 in
     let E = env_of e in
-    let w = one_swept main p d at.traps (swept main p E go) old m0 m1 r1 (λ i l u. learns.later i (omega arith)) body in
-    node_is_swept main (Suspend' t a p) at.cell at.traps (swept_parts main (Suspend' t a p) E)
+    let w = one_swept main p d at.traps (swept way main p E go) old m0 m1 r1 (λ i l u. learns.later i
+    (omega arith)) body in
+    node_is_swept main (Suspend' t a p) at.cell at.traps (swept_parts way main (Suspend' t a p) E)
     (λ U. (gates main (Suspend' t a p) gate E U).cells) gate old m0 m1 new r1.judged r1.past r learns
-    (w.sheet ∙ ap (λ (z : Status). swept main p E z (sheet_in (cell_at old) main p d at.traps)) go_is)
+    (w.sheet ∙ ap (λ (z : Status). swept way main p E z (sheet_in (cell_at old) main p d at.traps)) go_is)
     (widen _ _ _ _ m0 m1 (omega arith) (omega arith) w.changes) w.found is_left (let x = w.past in omega arith)
 
 -- what is judged outside a trap; outside a binder
@@ -201,19 +256,20 @@ IsHidden s x j = IsJudged (codes_of x.must.codes) (codes_of x.can.codes) (withou
 pub trap_begun : (at : Place) (a : _) (p : Statement) (gate go : Status) (e : Known)
     (old m0 m1 new : List Status) (r1 r : Found) (own : Judgement) → Learns at.cell gate old m0
     → go ≡ cell_at m0 at.cell
-    → IsBegun p (record { main = at.main; cell = at.cell + at.traps + 3; traps = at.traps + 1 }) go e m0 m1 r1
+    → IsBegun p (trapped_at at) go e m0 m1 r1
     → IsTrapped r1.judged own → IsLeft at.cell at.traps own r1.past m1 new r
     → IsBegun (Trap' a p) at gate e old new r
 unfolding IsBegun
 trap_begun at a p gate go e old m0 m1 new r1 r own learns go_is body trapped is_left =
     let main = at.main in
+    let way = at.direction in
     let d = at.cell + at.traps + 3 in
     let t = at.traps + 1 in
     let E = env_of e in
-    let w = one_swept main p d t (swept main p E go) old m0 m1 r1 (λ i l u. learns.later i (omega arith)) body in
-    node_is_swept main (Trap' a p) at.cell at.traps (swept_parts main (Trap' a p) E)
+    let w = one_swept main p d t (swept way main p E go) old m0 m1 r1 (λ i l u. learns.later i (omega arith)) body in
+    node_is_swept main (Trap' a p) at.cell at.traps (swept_parts way main (Trap' a p) E)
     (λ U. (gates main (Trap' a p) gate E U).cells) gate old m0 m1 new own r1.past r learns
-    (w.sheet ∙ ap (λ (z : Status). swept main p E z (sheet_in (cell_at old) main p d t)) go_is)
+    (w.sheet ∙ ap (λ (z : Status). swept way main p E z (sheet_in (cell_at old) main p d t)) go_is)
     (widen _ _ _ _ m0 m1 (omega arith) (omega arith) w.changes)
     (record {
       must = trapped.must ∙ ap codes_out_of_trap w.found.must;
@@ -242,21 +298,21 @@ emitting_found a b c d s u v w x y j h k l = record {
 }
 
 -- a loop that was begun again has no restart of its own
-pub again_begun : (main : Bool) (c t : ℕ) (a : _) (p : Statement) (gate go : Status) (e : Known)
+pub again_begun : (way : Direction) (main : Bool) (c t : ℕ) (a : _) (p : Statement) (gate go : Status) (e : Known)
     (old m0 m1 new : List Status) (r1 r : Found) → main ≡ false → Learns c gate old m0 → go ≡ cell_at m0 c
-    → IsBegun p (record { main = main; cell = c + t + 3; traps = t }) go e m0 m1 r1
+    → IsBegun p (record { main = main; cell = c + t + 3; traps = t; direction = way }) go e m0 m1 r1
     → IsLeft c t r1.judged r1.past m1 new r
-    → IsBegun (Loop' a p) (record { main = main; cell = c; traps = t }) gate e old new r
+    → IsBegun (Loop' a p) (record { main = main; cell = c; traps = t; direction = way }) gate e old new r
 unfolding IsBegun
-again_begun true c t a p gate go e old m0 m1 new r1 r h learns go_is body is_left = let z : true ≡ false = h in cc
-again_begun false c t a p gate go e old m0 m1 new r1 r h learns go_is body is_left =
+again_begun way true c t a p gate go e old m0 m1 new r1 r h learns go_is body is_left = let z : true ≡ false = h in cc
+again_begun way false c t a p gate go e old m0 m1 new r1 r h learns go_is body is_left =
     let d = c + t + 3 in
     let E = env_of e in
-    let w = one_swept false p d t (swept false p E go) old m0 m1 r1 (λ i l u. learns.later i (omega arith)) body in
-    node_is_swept false (Loop' a p) c t (swept_parts false (Loop' a p) E)
+    let w = one_swept false p d t (swept way false p E go) old m0 m1 r1 (λ i l u. learns.later i (omega arith)) body in
+    node_is_swept false (Loop' a p) c t (swept_parts way false (Loop' a p) E)
     (λ U. (gates false (Loop' a p) gate E U).cells) gate
     old m0 m1 new r1.judged r1.past r learns
-    (two (w.sheet ∙ ap (λ (z : Status). swept false p E z (sheet_in (cell_at old) false p d t)) go_is) refl)
+    (two (w.sheet ∙ ap (λ (z : Status). swept way false p E z (sheet_in (cell_at old) false p d t)) go_is) refl)
     (widen _ _ _ _ m0 m1 (omega arith) (omega arith) w.changes)
     (record {
       must = w.found.must;
@@ -267,25 +323,25 @@ again_begun false c t a p gate go e old m0 m1 new r1 r h learns go_is body is_le
     is_left (let x = w.past in omega arith)
 
 -- a loop that can go on, with its body as the restart begins it
-pub loop_begun : (main : Bool) (c t : ℕ) (a : _) (p : Statement) (gate go : Status) (e : Known)
+pub loop_begun : (way : Direction) (main : Bool) (c t : ℕ) (a : _) (p : Statement) (gate go : Status) (e : Known)
     (old m0 m1 m2 new : List Status) (r1 r2 r : Found) (own : Judgement) → main ≡ true → Learns c gate old m0
     → go ≡ cell_at m0 c
-    → IsBegun p (record { main = main; cell = c + t + 3; traps = t }) go e m0 m1 r1
-    → IsBegun p (record { main = false; cell = r1.past; traps = t }) Absent e m1 m2 r2
+    → IsBegun p (record { main = main; cell = c + t + 3; traps = t; direction = way }) go e m0 m1 r1
+    → IsBegun p (record { main = false; cell = r1.past; traps = t; direction = way }) Absent e m1 m2 r2
     → IsEmitting r1.judged r2.judged own → IsLeft c t own r2.past m2 new r
-    → IsBegun (Loop' a p) (record { main = main; cell = c; traps = t }) gate e old new r
+    → IsBegun (Loop' a p) (record { main = main; cell = c; traps = t; direction = way }) gate e old new r
 unfolding IsBegun
-loop_begun false c t a p gate go e old m0 m1 m2 new r1 r2 r own h learns go_is body restart pair is_left =
+loop_begun way false c t a p gate go e old m0 m1 m2 new r1 r2 r own h learns go_is body restart pair is_left =
     let z : false ≡ true = h in cc
-loop_begun true c t a p gate go e old m0 m1 m2 new r1 r2 r own h learns go_is body restart pair is_left =
+loop_begun way true c t a p gate go e old m0 m1 m2 new r1 r2 r own h learns go_is body restart pair is_left =
     let d = c + t + 3 in
     let E = env_of e in
-    let w = two_swept true false p p d t (swept true p E go) (swept false p E Absent) old m0 m1 m2 r1 r2
+    let w = two_swept true false p p d t (swept way true p E go) (swept way false p E Absent) old m0 m1 m2 r1 r2
     (λ i l u. learns.later i (omega arith)) body restart in
-    node_is_swept true (Loop' a p) c t (swept_parts true (Loop' a p) E)
+    node_is_swept true (Loop' a p) c t (swept_parts way true (Loop' a p) E)
     (λ U. (gates true (Loop' a p) gate E U).cells) gate
     old m0 m2 new own r2.past r learns
-    (two (w.first ∙ ap (λ (z : Status). swept true p E z (sheet_in (cell_at old) true p d t)) go_is) w.second)
+    (two (w.first ∙ ap (λ (z : Status). swept way true p E z (sheet_in (cell_at old) true p d t)) go_is) w.second)
     (widen _ _ _ _ m0 m2 (omega arith) (omega arith) w.changes)
     (emitting_found _ _ _ _ _ _ _ _ r1.judged r2.judged own w.first_found w.second_found pair) is_left
     (let x = w.past in omega arith)
@@ -356,16 +412,18 @@ unfolding IsBegun
 local_begun at s a p gate go status e inside old m0 m1 m2 new r1 r own learns go_is inside_is body status_is tells
     hidden is_left =
     let main = at.main in
+    let way = at.direction in
     let c = at.cell in
     let t = at.traps in
     let E = env_of e in
-    let w = local_swept main s.index p c t (λ v. swept main p (with_local E s.index v) go) gate status old m0 m1 m2 r1
+    let w = local_swept main s.index p c t (λ v. swept way main p
+    (with_local E s.index v) go) gate status old m0 m1 m2 r1
     learns
-    (subst (λ (z : Env). IsSwept main p (c + t + 3 + 1) t (swept main p z go) m0 m1 r1) inside_is body) status_is
+    (subst (λ (z : Env). IsSwept main p (c + t + 3 + 1) t (swept way main p z go) m0 m1 r1) inside_is body) status_is
     tells in
     let f = with_local E s.index (cell_at old (c + t + 3)) in
-    let one = w.body ∙ ap (λ (z : Status). swept main p f z (sheet_in (cell_at old) main p (c + t + 4) t)) go_is in
-    node_is_swept main (Binder' s a p) c t (swept_parts main (Binder' s a p) E)
+    let one = w.body ∙ ap (λ (z : Status). swept way main p f z (sheet_in (cell_at old) main p (c + t + 4) t)) go_is in
+    node_is_swept main (Binder' s a p) c t (swept_parts way main (Binder' s a p) E)
     (λ U. (gates main (Binder' s a p) gate E U).cells) gate
     old m0 m2 new own r1.past r learns
     (scoped (w.status ∙ ap (λ (z : Sheet main p). learned (cell_at old (c + t + 3)) (emitted_status main p s.index z))
@@ -399,6 +457,10 @@ within_next old m0 m1 s at gate e r j b h m =
     let n = b.changes.size in
     let o = b.past in
     omega arith
+
+pub within_back : (k a n m : ℕ) (old m0 : List Status) → k ≡ a + n → a + n + m ≤ length old → length m0 ≡ length old
+    → k + m ≤ length m0
+within_back k a n m old m0 e h l = omega arith
 
 pub within_local : (a k : ℕ) (old m0 m1 : List Status) (s : Statement) (at : Place) (gate : Status) (e : Known)
     (r : Found)

@@ -15,9 +15,11 @@ use Rattle.est_cells.specs.Next.{stays}
 use Rattle.est_cells.specs.Tables.{sheet_size, is_sure}
 use Rattle.est_net.specs.Cells.{cell_at}
 use Rattle.est_net.specs.Layout.{output_count, sheet_in, sure_codes}
+use Rattle.est_micro.specs.declared.direction.Direction.{Direction}
 use Rattle.est_micro.specs.Pausing.{Collects, CollectsTwo}
 use Rattle.est_micro.specs.declared.cells.Place.{Place}
 use Rattle.est_micro.proofs.Telling.{nat_eq_same, nat_eq_other, same_or_not}
+use Rattle.est_micro.proofs.BegunNodes.{part_at, trapped_at}
 
 pub or_nothing : (x on : Bool) → x ≡ (x || (on && false))
 or_nothing true on = refl
@@ -86,11 +88,11 @@ pause_collected n at cells on gives is_in pauses old new e f h = record {
 pub two_collected : (at : Place) (p q : Statement) (cells : List Status) (on : Bool) (pauses old mid new : PauseSet)
     (past end : ℕ)
     → Collects p at cells on pauses old mid past
-    → Collects q (record { main = at.main; cell = past; traps = at.traps }) cells on pauses mid new end
+    → Collects q (part_at at past) cells on pauses mid new end
     → CollectsTwo at.main at.main p q at cells on pauses old new end
 two_collected at p q cells on pauses old mid new past end x y' =
     let y = subst
-    (λ (z : ℕ). Collects q (record { main = at.main; cell = z; traps = at.traps }) cells on pauses mid new end)
+    (λ (z : ℕ). Collects q (part_at at z) cells on pauses mid new end)
     x.past_is y' in
     let e = at.cell + sheet_size at.main p at.traps in
     let a = λ (i : ℕ). stays at.main p (pauses_of pauses) (sheet_in (cell_at cells) at.main p at.cell at.traps) i in
@@ -107,14 +109,14 @@ pub par_collected : (at : Place) (a : _) (p : Statement) (b : _) (q : Statement)
     (on gives is_in : Bool)
     (pauses old new : PauseSet) (end : ℕ) → gives ≡ sure_codes (cell_at cells) (at.cell + 1) (at.traps + 2) 1
     → is_in ≡ (on && gives)
-    → CollectsTwo at.main at.main p q (record { main = at.main; cell = at.cell + at.traps + 3; traps = at.traps }) cells
+    → CollectsTwo at.main at.main p q (part_at at (at.cell + at.traps + 3)) cells
     is_in
     pauses old new end
     → Collects (Par' a p b q) at cells on pauses old new end
 par_collected at a p b q cells on gives is_in pauses old new end e v z =
     let d = at.cell + at.traps + 3 in
     let h = subst
-    (λ (w : Bool). CollectsTwo at.main at.main p q (record { main = at.main; cell = d; traps = at.traps }) cells w
+    (λ (w : Bool). CollectsTwo at.main at.main p q (part_at at d) cells w
     pauses old new end) v z in
     let f = λ (i : ℕ). (stays at.main p (pauses_of pauses) (sheet_in (cell_at cells) at.main p d at.traps) i
     || stays at.main q (pauses_of pauses)
@@ -130,7 +132,7 @@ par_collected at a p b q cells on gives is_in pauses old new end e v z =
 pub present_collected : (at : Place) (t : _) (a : _) (p : Statement) (b : _) (q : Statement) (cells : List Status)
     (on : Bool)
     (pauses old new : PauseSet) (end : ℕ)
-    → CollectsTwo at.main at.main p q (record { main = at.main; cell = at.cell + at.traps + 3; traps = at.traps }) cells
+    → CollectsTwo at.main at.main p q (part_at at (at.cell + at.traps + 3)) cells
     on pauses old new
     end → Collects (Present' t a p b q) at cells on pauses old new end
 present_collected at t a p b q cells on pauses old new end h =
@@ -139,7 +141,7 @@ present_collected at t a p b q cells on pauses old new end h =
 
 pub seq_collected : (at : Place) (a : _) (p : Statement) (b : _) (q : Statement) (cells : List Status) (on : Bool)
     (pauses old new : PauseSet) (end : ℕ)
-    → CollectsTwo at.main at.main p q (record { main = at.main; cell = at.cell + at.traps + 3; traps = at.traps }) cells
+    → CollectsTwo at.main at.main p q (part_at at (at.cell + at.traps + 3)) cells
     on pauses old new
     end → Collects (Seq' a p b q) at cells on pauses old new end
 seq_collected at a p b q cells on pauses old new end h =
@@ -151,7 +153,7 @@ pub suspend_collected : (at : Place) (t : _) (a : _) (p : Statement) (cells : Li
     (pauses old mid new : PauseSet) (end : ℕ) → g ≡ sure_codes (cell_at cells) (at.cell + 1) (at.traps + 2) 1
     → h ≡ sure_codes (cell_at cells) (at.cell + at.traps + 3 + 1) (at.traps + 2) 1
     → held ≡ (g && not h) → is_in ≡ (on && held)
-    → Collects p (record { main = at.main; cell = at.cell + at.traps + 3; traps = at.traps }) cells on pauses old mid
+    → Collects p (part_at at (at.cell + at.traps + 3)) cells on pauses old mid
     end
     → ((i : ℕ) → pauses_of new i ≡ (pauses_of mid i || (is_in && (has_pause p i && pauses_of pauses i))))
     → Collects (Suspend' t a p) at cells on pauses old new end
@@ -174,18 +176,19 @@ suspend_collected at t a p cells on g h held is_in pauses old mid new end e f u 
     }
 
 -- a loop that can go on, and one that was begun again
-pub loop_collected : (main : Bool) (c n : ℕ) (a : _) (p : Statement) (cells : List Status) (on : Bool)
+pub loop_collected : (way : Direction) (main : Bool) (c n : ℕ) (a : _) (p : Statement) (cells : List Status) (on : Bool)
     (pauses old mid new : PauseSet)
     (past end : ℕ) → main ≡ true
-    → Collects p (record { main = main; cell = c + n + 3; traps = n }) cells on pauses old mid past
-    → Collects p (record { main = false; cell = past; traps = n }) cells on pauses mid new end
-    → Collects (Loop' a p) (record { main = main; cell = c; traps = n }) cells on pauses old new end
-loop_collected false c n a p cells on pauses old mid new past end h x y = let z : false ≡ true = h in cc
-loop_collected true c n a p cells on pauses old mid new past end h x y' =
+    → Collects p (record { main = main; cell = c + n + 3; traps = n; direction = way }) cells on pauses old mid past
+    → Collects p (record { main = false; cell = past; traps = n; direction = way }) cells on pauses mid new end
+    → Collects (Loop' a p) (record { main = main; cell = c; traps = n; direction = way }) cells on pauses old new end
+loop_collected way false c n a p cells on pauses old mid new past end h x y = let z : false ≡ true = h in cc
+loop_collected way true c n a p cells on pauses old mid new past end h x y' =
     let d = c + n + 3 in
     let e = d + sheet_size true p n in
-    let y : Collects p (record { main = false; cell = e; traps = n }) cells on pauses mid new end
-    = subst (λ (z : ℕ). Collects p (record { main = false; cell = z; traps = n }) cells on pauses mid new end) x.past_is
+    let y : Collects p (record { main = false; cell = e; traps = n; direction = way }) cells on pauses mid new end
+    = subst (λ (z : ℕ). Collects p (record { main = false; cell = z; traps = n; direction = way }) cells on pauses mid
+    new end) x.past_is
     y' in
     let f = λ (i : ℕ). stays true p (pauses_of pauses) (sheet_in (cell_at cells) true p d n) i in
     let g = λ (i : ℕ). stays false p (pauses_of pauses) (sheet_in (cell_at cells) false p e n) i in
@@ -197,13 +200,14 @@ loop_collected true c n a p cells on pauses old mid new past end h x y' =
       past_is = omega arith;
     }
 
-pub again_collected : (main : Bool) (c n : ℕ) (a : _) (p : Statement) (cells : List Status) (on : Bool)
+pub again_collected : (way : Direction) (main : Bool) (c n : ℕ) (a : _) (p : Statement) (cells : List Status)
+    (on : Bool)
     (pauses old new : PauseSet)
     (end : ℕ) → main ≡ false
-    → Collects p (record { main = main; cell = c + n + 3; traps = n }) cells on pauses old new end
-    → Collects (Loop' a p) (record { main = main; cell = c; traps = n }) cells on pauses old new end
-again_collected true c n a p cells on pauses old new end h x = let z : true ≡ false = h in cc
-again_collected false c n a p cells on pauses old new end h x =
+    → Collects p (record { main = main; cell = c + n + 3; traps = n; direction = way }) cells on pauses old new end
+    → Collects (Loop' a p) (record { main = main; cell = c; traps = n; direction = way }) cells on pauses old new end
+again_collected way true c n a p cells on pauses old new end h x = let z : true ≡ false = h in cc
+again_collected way false c n a p cells on pauses old new end h x =
     let u = x.past_is in
     record {
       put_in = λ i. x.put_in i
@@ -214,7 +218,7 @@ again_collected false c n a p cells on pauses old new end h x =
 
 pub trap_collected : (at : Place) (a : _) (p : Statement) (cells : List Status) (on : Bool) (pauses old new : PauseSet)
     (end : ℕ)
-    → Collects p (record { main = at.main; cell = at.cell + at.traps + 3; traps = at.traps + 1 }) cells on pauses old
+    → Collects p (trapped_at at) cells on pauses old
     new end
     → Collects (Trap' a p) at cells on pauses old new end
 trap_collected at a p cells on pauses old new end x =
@@ -223,7 +227,7 @@ trap_collected at a p cells on pauses old new end x =
 
 pub local_collected : (at : Place) (s : _) (a : _) (p : Statement) (cells : List Status) (on : Bool)
     (pauses old new : PauseSet) (end : ℕ)
-    → Collects p (record { main = at.main; cell = at.cell + at.traps + 4; traps = at.traps }) cells on pauses old new
+    → Collects p (part_at at (at.cell + at.traps + 4)) cells on pauses old new
     end
     → Collects (Binder' s a p) at cells on pauses old new end
 local_collected at s a p cells on pauses old new end x =
@@ -256,16 +260,19 @@ pub no_pause_put : (old : ℕ → Bool) (n : ℕ) (b : Bool) → b ≡ false →
 no_pause_put old n b e i = or_nothing (old i) true ∙ ap (λ (y : Bool). old i || (y && nat_eq n i)) (sym e)
 
 -- the pauses at which a whole kernel stands
-pub all_collected : (k : Kernel) (root : Statement) (outputs : ℕ) (cells : List Status) (from old new : PauseSet)
+pub all_collected : (way : Direction) (k : Kernel) (root : Statement) (outputs : ℕ) (cells : List Status)
+    (from old new : PauseSet)
     (end : ℕ)
     → root ≡ k.root → outputs ≡ output_count k.interface → ((i : ℕ) → pauses_of old i ≡ false)
-    → Collects root (record { main = true; cell = outputs; traps = 0 }) cells true from old new end
+    → Collects root (record { main = true; cell = outputs; traps = 0; direction = way }) cells true from old new end
     → (i : ℕ) → pauses_of new i
     ≡ stays true k.root (pauses_of from) (sheet_in (cell_at cells) true k.root (output_count k.interface) 0) i
-all_collected k root outputs cells from old new end a b none h i =
-    let x = subst (λ (n : ℕ). Collects k.root (record { main = true; cell = n; traps = 0 }) cells true from old new end)
+all_collected way k root outputs cells from old new end a b none h i =
+    let x = subst (λ (n : ℕ). Collects k.root (record { main = true; cell = n; traps = 0; direction = way }) cells
+    true from old new end)
     b
-    (subst (λ (z : Statement). Collects z (record { main = true; cell = outputs; traps = 0 }) cells true from old new
+    (subst (λ (z : Statement). Collects z (record { main = true; cell = outputs; traps = 0; direction = way }) cells
+    true from old new
     end) a h) in
     x.put_in i ∙ ap (λ (z : Bool). z || (true && stays true k.root (pauses_of from)
     (sheet_in (cell_at cells) true k.root (output_count k.interface) 0) i)) (none i)

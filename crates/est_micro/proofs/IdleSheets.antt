@@ -17,7 +17,8 @@ use Rattle.est_cells.proofs.Emitted.{again_none, run_none}
 use Rattle.est_cells.proofs.Reach.{code_none, max_none, none_then, trap_none, union_none, without_none}
 use Rattle.est_cells.proofs.ValuesAreMeant.{two}
 use Rattle.est_cells.specs.Gates.{ends, emitted_status, gates, then_codes}
-use Rattle.est_cells.specs.Tables.{Cells, Node, Sheet, emits, if_run, is_sure, is_possible, make_again, map_again}
+use Rattle.est_cells.specs.Tables.{Cells, Node, Parts, Sheet, emits, if_run}
+use Rattle.est_cells.specs.Tables.{is_sure, is_possible, make_again, map_again}
 use Rattle.est_cells.specs.Tables.{sheet_size}
 use Rattle.est_cells.specs.Values.{idle, idle_parts, rests}
 use Rattle.est_net.specs.Cells.{AreFalse, NoneTrue, cell_at, learned}
@@ -25,10 +26,12 @@ use Rattle.est_net.specs.Layout.{node_in, parts_in, possible_codes, sheet_in, su
 use Rattle.est_rounds.specs.Views.{env_of}
 use Rattle.est_rounds.specs.declared.signal_set.Env.{Env as Known}
 use Rattle.est_micro.specs.Sweeps.{entered, sure_told, may_told, sweep_by, swept, swept_parts}
+use Rattle.est_micro.specs.declared.direction.Direction.{Direction}
 use Rattle.est_micro.specs.Views.{IsBegun, IsIdle, IsJudged, IsSwept}
 use Rattle.est_micro.specs.declared.cells.Found.{Found}
 use Rattle.est_micro.specs.declared.cells.Place.{Place}
 use Rattle.est_micro.proofs.Frames.{same_node_of, scoped, sheet_same, size_least}
+use Rattle.est_micro.proofs.Told.{either_way}
 
 -- no cell from place lo on and before place hi is true
 abbrev pub Untrue : (lo hi : ℕ) (f : ℕ → Status) → Type 0
@@ -153,14 +156,14 @@ node_rests f c t h a b x y e d i j k =
     ∙ may_rests f (c + 1) (t + 2) u) in
     same_node_of h Absent _ _ _ _ x y e sure may k
 
-sweep_rests : (main : Bool) (s : Statement) (e : Env) (g : Status) (f : ℕ → Status) (c t : ℕ)
+sweep_rests : (way : Direction) (main : Bool) (s : Statement) (e : Env) (g : Status) (f : ℕ → Status) (c t : ℕ)
     → Untrue (c + 1) (c + t + 3) f → learned (f c) g ≡ Absent
-    → swept_parts main s e (learned (f c) g) (parts_in f main s c t) ≡ idle_parts main s
-    → swept main s e g (sheet_in f main s c t) ≡ idle main s
-sweep_rests main s e g f c t d a p =
+    → swept_parts way main s e (learned (f c) g) (parts_in f main s c t) ≡ idle_parts main s
+    → swept way main s e g (sheet_in f main s c t) ≡ idle main s
+sweep_rests way main s e g f c t d a p =
     let T = sheet_in f main s c t in
     let h = learned (f c) g in
-    let U = entered h T (swept_parts main s e h T.parts) in
+    let U = entered h T (swept_parts way main s e h T.parts) in
     let q = gates_rest main s g e U a p in
     node_rests f c t h _ _ _ _ a d q.must q.may p
 
@@ -168,114 +171,116 @@ restart_within : (b : Bool) (past m n : ℕ) → b ≡ true → past ≡ m + con
 restart_within true past m n w r = r
 restart_within false past m n w r = let z : false ≡ true = w in cc
 
-again_rests : (main : Bool) (p : Statement) (e : Env) (f : ℕ → Status) (c t : ℕ)
-    → (main ≡ true → swept false p e Absent (sheet_in f false p c t) ≡ idle false p)
-    → map_again main (sweep_by false p (swept_parts false p e) e Absent)
+again_rests : (way : Direction) (main : Bool) (p : Statement) (e : Env) (f : ℕ → Status) (c t : ℕ)
+    → (main ≡ true → swept way false p e Absent (sheet_in f false p c t) ≡ idle false p)
+    → map_again main (sweep_by false p (swept_parts way false p e) e Absent)
     (make_again main (node_in f c t (parts_in f false p c t)))
     ≡ make_again main (idle false p)
-again_rests true p e f c t h = h refl
-again_rests false p e f c t h = refl
+again_rests way true p e f c t h = h refl
+again_rests way false p e f c t h = refl
 
-parts_rest : (main : Bool) (s : Statement) (e : Env) (h : Status) (f : ℕ → Status) (c t : ℕ)
+parts_rest : (way : Direction) (main : Bool) (s : Statement) (e : Env) (h : Status) (f : ℕ → Status) (c t : ℕ)
     → Untrue (c + t + 3) (c + sheet_size main s t) f → h ≡ Absent
-    → swept_parts main s e h (parts_in f main s c t) ≡ idle_parts main s
-parts_rest main Nothing e h f c t d a = refl
-parts_rest main (Pause n) e h f c t d a = refl
-parts_rest main (Emit s) e h f c t d a = refl
-parts_rest main (Exit k) e h f c t d a = refl
-parts_rest main (Present' x y p z q) e h f c t d a =
+    → swept_parts way main s e h (parts_in f main s c t) ≡ idle_parts main s
+parts_rest way main Nothing e h f c t d a = refl
+parts_rest way main (Pause n) e h f c t d a = refl
+parts_rest way main (Emit s) e h f c t d a = refl
+parts_rest way main (Exit k) e h f c t d a = refl
+parts_rest way main (Present' x y p z q) e h f c t d a =
     let v = status_of e (query_of x) in
     let o = size_least main p t in
     let o2 = size_least main q t in
     let k = c + t + 3 in
     let m = k + sheet_size main p t in
     two
-    (sweep_rests main p e (and_status h v) f k t (λ i l u. d i (omega arith) (omega arith))
+    (sweep_rests way main p e (and_status h v) f k t (λ i l u. d i (omega arith) (omega arith))
     (told_false (f k) (and_status h v) (d k (omega arith) (omega arith)) (ap (λ w. and_status w v) a))
-    (parts_rest main p e _ f k t (λ i l u. d i (omega arith) (omega arith))
+    (parts_rest way main p e _ f k t (λ i l u. d i (omega arith) (omega arith))
     (told_false (f k) (and_status h v) (d k (omega arith) (omega arith)) (ap (λ w. and_status w v) a))))
-    (sweep_rests main q e (and_status h (opposite v)) f m t (λ i l u. d i (omega arith) (omega arith))
+    (sweep_rests way main q e (and_status h (opposite v)) f m t (λ i l u. d i (omega arith) (omega arith))
     (told_false (f m) _ (d m (omega arith) (omega arith)) (ap (λ w. and_status w (opposite v)) a))
-    (parts_rest main q e _ f m t (λ i l u. d i (omega arith) (omega arith))
+    (parts_rest way main q e _ f m t (λ i l u. d i (omega arith) (omega arith))
     (told_false (f m) _ (d m (omega arith) (omega arith)) (ap (λ w. and_status w (opposite v)) a))))
-parts_rest main (Suspend' x y p) e h f c t d a =
+parts_rest way main (Suspend' x y p) e h f c t d a =
     let o = size_least main p t in
     let k = c + t + 3 in
-    sweep_rests main p e h f k t (λ i l u. d i (omega arith) (omega arith))
+    sweep_rests way main p e h f k t (λ i l u. d i (omega arith) (omega arith))
     (told_false (f k) h (d k (omega arith) (omega arith)) a)
-    (parts_rest main p e _ f k t (λ i l u. d i (omega arith) (omega arith))
+    (parts_rest way main p e _ f k t (λ i l u. d i (omega arith) (omega arith))
     (told_false (f k) h (d k (omega arith) (omega arith)) a))
-parts_rest main (Seq' y p z q) e h f c t d a =
+parts_rest way main (Seq' y p z q) e h f c t d a =
     let o = size_least main p t in
     let o2 = size_least main q t in
     let k = c + t + 3 in
     let m = k + sheet_size main p t in
-    let one = sweep_rests main p e h f k t (λ i l u. d i (omega arith) (omega arith))
+    let one = sweep_rests way main p e h f k t (λ i l u. d i (omega arith) (omega arith))
     (told_false (f k) h (d k (omega arith) (omega arith)) a)
-    (parts_rest main p e _ f k t (λ i l u. d i (omega arith) (omega arith))
+    (parts_rest way main p e _ f k t (λ i l u. d i (omega arith) (omega arith))
     (told_false (f k) h (d k (omega arith) (omega arith)) a)) in
     let later = ap (λ (w : Sheet main p). ends w.cells) one ∙ ends_idle in
     two one
-    (sweep_rests main q _ _ f m t (λ i l u. d i (omega arith) (omega arith))
+    (sweep_rests way main q _ _ f m t (λ i l u. d i (omega arith) (omega arith))
     (told_false (f m) _ (d m (omega arith) (omega arith)) later)
-    (parts_rest main q _ _ f m t (λ i l u. d i (omega arith) (omega arith))
+    (parts_rest way main q _ _ f m t (λ i l u. d i (omega arith) (omega arith))
     (told_false (f m) _ (d m (omega arith) (omega arith)) later)))
-parts_rest main (Loop' y p) e h f c t d a =
+parts_rest way main (Loop' y p) e h f c t d a =
     let o = size_least main p t in
     let o2 = size_least false p t in
     let k = c + t + 3 in
     let m = k + sheet_size main p t in
     two
-    (sweep_rests main p e h f k t (λ i l u. d i (omega arith) (omega arith))
+    (sweep_rests way main p e h f k t (λ i l u. d i (omega arith) (omega arith))
     (told_false (f k) h (d k (omega arith) (omega arith)) a)
-    (parts_rest main p e _ f k t (λ i l u. d i (omega arith) (omega arith))
+    (parts_rest way main p e _ f k t (λ i l u. d i (omega arith) (omega arith))
     (told_false (f k) h (d k (omega arith) (omega arith)) a)))
-    (again_rests main p e f m t (λ w.
+    (again_rests way main p e f m t (λ w.
     let r = restart_within main (c + sheet_size main (Loop' y p) t) m (sheet_size false p t) w
     (let z : c + sheet_size main (Loop' y p) t ≡ m + cond main (sheet_size false p t) 0 = omega arith in z) in
-    sweep_rests false p e Absent f m t (λ i l u. d i (omega arith) (omega arith))
+    sweep_rests way false p e Absent f m t (λ i l u. d i (omega arith) (omega arith))
     (told_false (f m) Absent (d m (omega arith) (omega arith)) refl)
-    (parts_rest false p e _ f m t (λ i l u. d i (omega arith) (omega arith))
+    (parts_rest way false p e _ f m t (λ i l u. d i (omega arith) (omega arith))
     (told_false (f m) Absent (d m (omega arith) (omega arith)) refl))))
-parts_rest main (Par' y p z q) e h f c t d a =
+parts_rest way main (Par' y p z q) e h f c t d a =
     let o = size_least main p t in
     let o2 = size_least main q t in
     let k = c + t + 3 in
     let m = k + sheet_size main p t in
-    two
-    (sweep_rests main p e h f k t (λ i l u. d i (omega arith) (omega arith))
+    let s = Par' y p z q in
+    let first = λ (n : Env). sweep_rests way main p n h f k t (λ i l u. d i (omega arith) (omega arith))
     (told_false (f k) h (d k (omega arith) (omega arith)) a)
-    (parts_rest main p e _ f k t (λ i l u. d i (omega arith) (omega arith))
-    (told_false (f k) h (d k (omega arith) (omega arith)) a)))
-    (sweep_rests main q _ h f m t (λ i l u. d i (omega arith) (omega arith))
+    (parts_rest way main p n _ f k t (λ i l u. d i (omega arith) (omega arith))
+    (told_false (f k) h (d k (omega arith) (omega arith)) a)) in
+    let second = λ (n : Env). sweep_rests way main q n h f m t (λ i l u. d i (omega arith) (omega arith))
     (told_false (f m) h (d m (omega arith) (omega arith)) a)
-    (parts_rest main q _ _ f m t (λ i l u. d i (omega arith) (omega arith))
-    (told_false (f m) h (d m (omega arith) (omega arith)) a)))
-parts_rest main (Trap' y p) e h f c t d a =
+    (parts_rest way main q n _ f m t (λ i l u. d i (omega arith) (omega arith))
+    (told_false (f m) h (d m (omega arith) (omega arith)) a)) in
+    either_way (λ (x : Parts main s). x ≡ idle_parts main s) way _ _ (two (first e) (second _))
+    (two (first _) (second e))
+parts_rest way main (Trap' y p) e h f c t d a =
     let o = size_least main p (t + 1) in
     let k = c + t + 3 in
-    sweep_rests main p e h f k (t + 1) (λ i l u. d i (omega arith) (omega arith))
+    sweep_rests way main p e h f k (t + 1) (λ i l u. d i (omega arith) (omega arith))
     (told_false (f k) h (d k (omega arith) (omega arith)) a)
-    (parts_rest main p e _ f k (t + 1) (λ i l u. d i (omega arith) (omega arith))
+    (parts_rest way main p e _ f k (t + 1) (λ i l u. d i (omega arith) (omega arith))
     (told_false (f k) h (d k (omega arith) (omega arith)) a))
-parts_rest main (Binder' s y p) e h f c t d a =
+parts_rest way main (Binder' s y p) e h f c t d a =
     let o = size_least main p t in
     let k = c + t + 4 in
     let g = with_local e s.index (f (c + t + 3)) in
-    let body = sweep_rests main p g h f k t (λ i l u. d i (omega arith) (omega arith))
+    let body = sweep_rests way main p g h f k t (λ i l u. d i (omega arith) (omega arith))
     (told_false (f k) h (d k (omega arith) (omega arith)) a)
-    (parts_rest main p g _ f k t (λ i l u. d i (omega arith) (omega arith))
+    (parts_rest way main p g _ f k t (λ i l u. d i (omega arith) (omega arith))
     (told_false (f k) h (d k (omega arith) (omega arith)) a)) in
     scoped (told_false (f (c + t + 3)) _ (d (c + t + 3) (omega arith) (omega arith))
     (status_rests main p s.index _ body)) body
 
-swept_rests : (main : Bool) (s : Statement) (e : Env) (g : Status) (f : ℕ → Status) (c t : ℕ)
+swept_rests : (way : Direction) (main : Bool) (s : Statement) (e : Env) (g : Status) (f : ℕ → Status) (c t : ℕ)
     → Untrue c (c + sheet_size main s t) f → learned (f c) g ≡ Absent
-    → swept main s e g (sheet_in f main s c t) ≡ idle main s
-swept_rests main s e g f c t d a =
+    → swept way main s e g (sheet_in f main s c t) ≡ idle main s
+swept_rests way main s e g f c t d a =
     let o = size_least main s t in
-    sweep_rests main s e g f c t (λ i l u. d i (omega arith) (omega arith)) a
-    (parts_rest main s e _ f c t (λ i l u. d i (omega arith) u) a)
+    sweep_rests way main s e g f c t (λ i l u. d i (omega arith) (omega arith)) a
+    (parts_rest way main s e _ f c t (λ i l u. d i (omega arith) u) a)
 
 -- cells that are false stand for the idle sheet
 abbrev pub all_false : ℕ → Status
@@ -320,17 +325,18 @@ parts_false main (Trap' a p) c t = false_node _ (t + 1) _ _ (parts_false main p 
 parts_false main (Binder' s a p) c t = scoped refl (false_node _ t _ _ (parts_false main p _ t))
 
 -- a statement that is not begun, and whose cells were all made false, is swept
-false_swept : (main : Bool) (s : Statement) (e : Env) (g : Status) (c t : ℕ) (old new : List Status) (r : Found)
+false_swept : (way : Direction) (main : Bool) (s : Statement) (e : Env) (g : Status) (c t : ℕ)
+    (old new : List Status) (r : Found)
     → NoneTrue c (c + sheet_size main s t) old → learned (cell_at old c) g ≡ Absent
     → AreFalse c (c + sheet_size main s t) old new
     → IsJudged no_codes no_codes no_signals no_signals r.judged → r.past ≡ c + sheet_size main s t
-    → IsSwept main s c t (swept main s e g) old new r
-false_swept main s e g c t old new r none a h j past =
+    → IsSwept main s c t (swept way main s e g) old new r
+false_swept way main s e g c t old new r none a h j past =
     let is_idle : sheet_in (cell_at new) main s c t ≡ idle main s
     = sheet_same (cell_at new) all_false main s c t h.false_now ∙ false_node c t _ _ (parts_false main s c t) in
     record {
       sheet = is_idle
-          ∙ sym (swept_rests main s e g (cell_at old) c t (untrue c (c + sheet_size main s t) old none) a);
+          ∙ sym (swept_rests way main s e g (cell_at old) c t (untrue c (c + sheet_size main s t) old none) a);
       changes = record { before = h.before; after = h.after; size = h.size; more = h.more; quiet = h.quiet };
       found = record {
         must = j.must ∙ sym (ap (λ (z : Sheet main s). z.cells.must) is_idle);
@@ -348,6 +354,6 @@ pub idle_begun : (s : Statement) (at : Place) (gate : Status) (e : Known) (old n
 unfolding IsBegun
 idle_begun s at gate e old new past r h k j p =
     let q = h.past_is in
-    false_swept at.main s (env_of e) gate at.cell at.traps old new r
+    false_swept at.direction at.main s (env_of e) gate at.cell at.traps old new r
     (subst (λ (z : ℕ). NoneTrue at.cell z old) q h.none) h.off
     (subst (λ (z : ℕ). AreFalse at.cell z old new) q k) j (p ∙ q)

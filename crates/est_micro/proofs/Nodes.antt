@@ -13,7 +13,9 @@ use Rattle.est_cells.specs.Tables.{Cells, Parts, Sheet, sheet_size, emits, is_su
 use Rattle.est_net.specs.Cells.{cell_at, learned, Learns}
 use Rattle.est_net.specs.Layout.{sure_codes, possible_codes, parts_in, sheet_in}
 use Rattle.est_rounds.specs.declared.acts.Judgement.{Judgement}
-use Rattle.est_micro.specs.Sweeps.{entered, left, sure_told, may_told}
+use Rattle.est_micro.specs.Sweeps.{entered, left, one_way, sure_told, may_told}
+use Rattle.est_micro.specs.declared.direction.Direction.{Direction}
+use Rattle.est_micro.specs.declared.direction.Direction.TheVariants.{Forwards, Backwards}
 use Rattle.est_micro.specs.Views.{Changes, IsJudged, IsLeft, IsSwept, node_swept}
 use Rattle.est_micro.specs.declared.cells.Found.{Found}
 use Rattle.est_micro.proofs.Frames.{Same, size_least, sure_same, possible_same, same_node_of, parts_same, sheet_same}
@@ -149,6 +151,39 @@ two_swept mp mq p q d t F H old m0 m1 m2 r1 r2 h x y' =
           (omega arith) (omega arith) (omega arith) (omega arith) x.changes y.changes;
       past = y.past;
     }
+
+-- two parts, the second swept before the first
+pub two_swept_back : (mp mq : Bool) (p q : Statement) (d t k : ℕ) (F : Sheet mp p → Sheet mp p)
+    (H : Sheet mq q → Sheet mq q) (old m0 m1 m2 : List Status) (r1 r2 : Found)
+    → k ≡ d + sheet_size mp p t
+    → Same d (d + sheet_size mp p t + sheet_size mq q t) (cell_at m0) (cell_at old)
+    → IsSwept mq q k t H m0 m1 r2 → IsSwept mp p d t F m1 m2 r1 → TwoSwept mp mq p q d t F H old m0 m2 r1 r2
+two_swept_back mp mq p q d t k F H old m0 m1 m2 r1 r2 k_is h x' y =
+    let e = d + sheet_size mp p t in
+    let x : IsSwept mq q e t H m0 m1 r2 = subst (λ (z : ℕ). IsSwept mq q z t H m0 m1 r2) k_is x' in
+    let second : sheet_in (cell_at m2) mq q e t ≡ sheet_in (cell_at m1) mq q e t
+    = sheet_same (cell_at m2) (cell_at m1) mq q e t (λ i l u. y.changes.after i l) in
+    let first : sheet_in (cell_at m1) mp p d t ≡ sheet_in (cell_at old) mp p d t
+    = sheet_same (cell_at m1) (cell_at old) mp p d t (λ i l u. x.changes.before i u ∙ h i l (omega arith)) in
+    record {
+      first = y.sheet ∙ ap F first;
+      second = second
+          ∙ (x.sheet ∙ ap H (sheet_same (cell_at m0) (cell_at old) mq q e t (λ i l u. h i (omega arith) u)));
+      first_found = y.found;
+      second_found = subst (λ (z : Sheet mq q). JudgedOf mq q z r2.judged) (sym second) x.found;
+      changes = changes_then e (e + sheet_size mq q t) d e d (e + sheet_size mq q t) m0 m1 m2
+          (omega arith) (omega arith) (omega arith) (omega arith) x.changes y.changes;
+      past = x.past;
+    }
+
+-- what comes of a sweep that goes this way
+pub is_forwards : {A : Type 0} (way : Direction) (x y z : A) → way ≡ Forwards → z ≡ x → z ≡ one_way way x y
+is_forwards Forwards x y z h e = e
+is_forwards Backwards x y z h e = let c : Backwards ≡ Forwards = h in cc
+
+pub is_backwards : {A : Type 0} (way : Direction) (x y z : A) → way ≡ Backwards → z ≡ y → z ≡ one_way way x y
+is_backwards Backwards x y z h e = e
+is_backwards Forwards x y z h e = let c : Forwards ≡ Backwards = h in cc
 
 -- whether a part ends, by what is judged of it
 pub ends_found : (main : Bool) (p : Statement) (T : Sheet main p) (v : Status) (j : Judgement) → JudgedOf main p T j

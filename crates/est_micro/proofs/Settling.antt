@@ -25,6 +25,7 @@ use Rattle.est_net.specs.Cells.{cell_at, decided, learned}
 use Rattle.est_net.specs.Layout.{cell_count, output_count, rank, sheet_in}
 use Rattle.est_rounds.specs.Views.{env_of}
 use Rattle.est_rounds.specs.declared.signal_set.Env.{Env as Known}
+use Rattle.est_micro.specs.declared.direction.Direction.{Direction}
 use Rattle.est_micro.specs.Runs.{AreOfferedTrue, output_cells, output_gate, IsExchanged, IsRound, IsSettled, table_of}
 use Rattle.est_micro.specs.declared.cells.Found.{Found}
 use Rattle.est_micro.specs.declared.run.Settled.{Settled}
@@ -64,21 +65,23 @@ told_offered : (inputs sure possible : ℕ → Bool) (n : ℕ) → inputs n ≡ 
     → learned Unknown (output_gate inputs sure possible n) ≡ Present
 told_offered inputs sure possible n h = rw h refl
 
-stay_true : (i : List Declaration) (inputs : ℕ → Bool) (s : Statement) (x : State) (e f : Known) (old new : List Status)
-    (r : Found) → IsRound i inputs s x e f old new r → AreOfferedTrue i inputs old → AreOfferedTrue i inputs new
-stay_true i inputs s x e f old new r h was n l o p =
+stay_true : (way : Direction) (i : List Declaration) (inputs : ℕ
+    → Bool) (s : Statement) (x : State) (e f : Known) (old new : List Status)
+    (r : Found) → IsRound way i inputs s x e f old new r → AreOfferedTrue i inputs old → AreOfferedTrue i inputs new
+stay_true way i inputs s x e f old new r h was n l o p =
     let a = bits r.judged.must.signals.interface in
     let b = bits r.judged.can.signals.interface in
     h.exchange.told n l o
     ∙ ap (λ (v : Status). learned v (output_gate inputs a b n))
-    (before_round i inputs s x e f old new r h n (rank_within (emittable i) (length i) n l o) ∙ was n l o p)
+    (before_round way i inputs s x e f old new r h n (rank_within (emittable i) (length i) n l o) ∙ was n l o p)
 
-pub round_made : (k : Kernel) (x : State) (inputs : ℕ → Bool) (e f : Known) (old new : List Status) (r : Found)
+pub round_made : (way : Direction) (k : Kernel) (x : State) (inputs : ℕ
+    → Bool) (e f : Known) (old new : List Status) (r : Found)
     (before now : ℕ)
-    → Ready k x inputs old e → IsRound k.interface inputs k.root x e f old new r → before ≤ decided old
+    → Ready k x inputs old e → IsRound way k.interface inputs k.root x e f old new r → before ≤ decided old
     → now ≡ decided new
     → Settling k x inputs before now new r f
-round_made k x inputs e f old new r before now ready h before_is now_is =
+round_made way k x inputs e f old new r before now ready h before_is now_is =
     let j = judged_signals k.interface inputs in
     let w = within_places k.interface inputs in
     let sweep = h.sweep.changes in
@@ -88,21 +91,21 @@ round_made k x inputs e f old new r before now ready h before_is now_is =
     record {
       ready = record {
         size = exchange.size ∙ (sweep.size ∙ ready.size);
-        sound = round_sound k.interface inputs k.root x e f old new r w ready.knows h ready.sound;
+        sound = round_sound way k.interface inputs k.root x e f old new r w ready.knows h ready.sound;
         knows = h.exchange.knows;
-        offered = stay_true k.interface inputs k.root x e f old new r h ready.offered;
+        offered = stay_true way k.interface inputs k.root x e f old new r h ready.offered;
       };
       counted = now_is;
       rising = omega arith;
       says = subst (λ (z : Sheet true k.root). JudgedOf true k.root z r.judged)
-          (sym (round_sheet k.interface inputs k.root x e f old new r h)) h.sweep.found;
+          (sym (round_sheet way k.interface inputs k.root x e f old new r h)) h.sweep.found;
       rest = λ same.
           let m : h.mid ≡ old = sweep.quiet (omega arith) in
           let n : new ≡ h.mid = exchange.quiet (omega arith) in
           subst (λ (z : List Status). TableBelow j k.root
           (table_gates j inputs k.root x (table_of k.interface k.root z))
           (table_of k.interface k.root z)) (sym (n ∙ m))
-          (round_quiet k.interface inputs k.root x e f old new r w ready.knows h ready.sound m (n ∙ m));
+          (round_quiet way k.interface inputs k.root x e f old new r w ready.knows h ready.sound m (n ∙ m));
     }
 
 pub settled : (k : Kernel) (x : State) (inputs : ℕ → Bool) (before now : ℕ) (cells : List Status) (r : Settled)

@@ -21,9 +21,10 @@ use Rattle.est_net.specs.Cells.{learned}
 use Rattle.est_micro.specs.Laws.{Heard}
 use Rattle.est_micro.specs.Sweeps.{entered, sweep_by, swept_parts, swept, live_sweep_by, live_swept_parts, live_swept}
 use Rattle.est_micro.specs.Sweeps.{told}
+use Rattle.est_micro.specs.declared.direction.Direction.{Direction}
 use Rattle.est_micro.proofs.Hearing.{heard_left, heard_right, heard_in, heard_local, idle_heard, told_heard, told_less}
 use Rattle.est_micro.proofs.Hearing.{begun_local, resumed_local}
-use Rattle.est_micro.proofs.Told.{learned_below, told_below}
+use Rattle.est_micro.proofs.Told.{either_way, learned_below, told_below}
 
 -- what a sweep of the parts has to keep
 abbrev PartsSound : (main : Bool) (s : Statement) → (Status → Parts main s → Parts main s) → Parts main s → Status → Env
@@ -57,36 +58,38 @@ again_swept true R b f y c h = h y c
 again_swept false R b f y c h = tt
 
 -- the parts of a statement that is begun, if at all
-pub parts_sound : (main : Bool) (s : Statement) (r h : Status) (e l : Env) (x : Parts main s) → IsBelow h r
+pub parts_sound : (way : Direction) (main : Bool) (s : Statement) (r h : Status) (e l : Env) (x : Parts main s)
+    → IsBelow h r
     → KnowsLess l e → Heard (emits is_sure main s (begun main s r e)) e l
-    → PartsBelow main s x (begun_parts main s r e) → PartsBelow main s (swept_parts main s l h x)
+    → PartsBelow main s x (begun_parts main s r e) → PartsBelow main s (swept_parts way main s l h x)
     (begun_parts main s r e)
-parts_sound main Nothing r h e l x b k u c = tt
-parts_sound main (Pause n) r h e l x b k u c = tt
-parts_sound main (Emit s) r h e l x b k u c = tt
-parts_sound main (Exit n) r h e l x b k u c = tt
-parts_sound main (Present' t a p z q) r h e l x b k u c =
+parts_sound way main Nothing r h e l x b k u c = tt
+parts_sound way main (Pause n) r h e l x b k u c = tt
+parts_sound way main (Emit s) r h e l x b k u c = tt
+parts_sound way main (Exit n) r h e l x b k u c = tt
+parts_sound way main (Present' t a p z q) r h e l x b k u c =
     let v = status_of e (query_of t) in
     let w = status_of l (query_of t) in
     let i : IsBelow w v = query_below l e (query_of t) k in
     let left = heard_left _ _ e l u in
     let right = heard_right _ _ e l u in
     record {
-      first = sweep_sound main p (swept_parts main p l) (and_status r v) (and_status h w) e l x.first
+      first = sweep_sound main p (swept_parts way main p l) (and_status r v) (and_status h w) e l x.first
           (and_below h r w v b i) k c.first
-          (λ g d. parts_sound main p (and_status r v) g e l x.first.parts d k left c.first.parts);
-      second = sweep_sound main q (swept_parts main q l) (and_status r (opposite v))
+          (λ g d. parts_sound way main p (and_status r v) g e l x.first.parts d k left c.first.parts);
+      second = sweep_sound main q (swept_parts way main q l) (and_status r (opposite v))
           (and_status h (opposite w)) e l x.second
           (and_below h r (opposite w) (opposite v) b (opposite_below w v i)) k c.second
-          (λ g d. parts_sound main q (and_status r (opposite v)) g e l x.second.parts d k right c.second.parts);
+          (λ g d. parts_sound way main q (and_status r (opposite v)) g e l x.second.parts d k right c.second.parts);
     }
-parts_sound main (Suspend' t a p) r h e l x b k u c =
-    sweep_sound main p (swept_parts main p l) r h e l x b k c (λ g d. parts_sound main p r g e l x.parts d k u c.parts)
-parts_sound main (Seq' a p z q) r h e l x b k u c =
+parts_sound way main (Suspend' t a p) r h e l x b k u c =
+    sweep_sound main p (swept_parts way main p l) r h e l x b k c
+    (λ g d. parts_sound way main p r g e l x.parts d k u c.parts)
+parts_sound way main (Seq' a p z q) r h e l x b k u c =
     let left = heard_left _ _ e l u in
-    let first = sweep_sound main p (swept_parts main p l) r h e l x.first b k c.first
-    (λ g d. parts_sound main p r g e l x.first.parts d k left c.first.parts) in
-    let y = sweep_by main p (swept_parts main p l) l h x.first in
+    let first = sweep_sound main p (swept_parts way main p l) r h e l x.first b k c.first
+    (λ g d. parts_sound way main p r g e l x.first.parts d k left c.first.parts) in
+    let y = sweep_by main p (swept_parts way main p l) l h x.first in
     let later = ends (cells_at r r (term_of p) e) in
     let f = told l (emits is_sure main p y) in
     let m = told_less e l (emits is_sure main p y) k
@@ -94,42 +97,58 @@ parts_sound main (Seq' a p z q) r h e l x b k u c =
     let right = told_heard e l (emits is_sure main p y) _ (heard_right _ _ e l u) in
     record {
       first = first;
-      second = sweep_sound main q (swept_parts main q f) later (ends y.cells) e f x.second
+      second = sweep_sound main q (swept_parts way main q f) later (ends y.cells) e f x.second
           (ends_below _ _ first.cells) m c.second
-          (λ g d. parts_sound main q later g e f x.second.parts d m right c.second.parts);
+          (λ g d. parts_sound way main q later g e f x.second.parts d m right c.second.parts);
     }
-parts_sound main (Loop' a p) r h e l x b k u c = record {
-  first = sweep_sound main p (swept_parts main p l) r h e l x.first b k c.first
-      (λ g d. parts_sound main p r g e l x.first.parts d k (heard_left _ _ e l u) c.first.parts);
+parts_sound way main (Loop' a p) r h e l x b k u c = record {
+  first = sweep_sound main p (swept_parts way main p l) r h e l x.first b k c.first
+      (λ g d. parts_sound way main p r g e l x.first.parts d k (heard_left _ _ e l u) c.first.parts);
   second = again_swept main (Below false p) (begun false p Absent e)
-      (sweep_by false p (swept_parts false p l) l Absent) x.second
-      c.second (λ y i. sweep_sound false p (swept_parts false p l) Absent Absent e l y (inr refl) k i
-      (λ g d. parts_sound false p Absent g e l y.parts d k (idle_heard false p e e l) i.parts));
+      (sweep_by false p (swept_parts way false p l) l Absent) x.second
+      c.second (λ y i. sweep_sound false p (swept_parts way false p l) Absent Absent e l y (inr refl) k i
+      (λ g d. parts_sound way false p Absent g e l y.parts d k (idle_heard false p e e l) i.parts));
 }
-parts_sound main (Par' a p z q) r h e l x b k u c =
+parts_sound way main (Par' a p z q) r h e l x b k u c =
     let left = heard_left _ _ e l u in
-    let first = sweep_sound main p (swept_parts main p l) r h e l x.first b k c.first
-    (λ g d. parts_sound main p r g e l x.first.parts d k left c.first.parts) in
-    let y = sweep_by main p (swept_parts main p l) l h x.first in
+    let right = heard_right _ _ e l u in
+    let s = Par' a p z q in
+    let first = sweep_sound main p (swept_parts way main p l) r h e l x.first b k c.first
+    (λ g d. parts_sound way main p r g e l x.first.parts d k left c.first.parts) in
+    let y = sweep_by main p (swept_parts way main p l) l h x.first in
     let f = told l (emits is_sure main p y) in
     let m = told_less e l (emits is_sure main p y) k
     (heard_in _ _ e l (emits_up main p y (begun main p r e) first) left) in
-    let right = told_heard e l (emits is_sure main p y) _ (heard_right _ _ e l u) in
-    record {
+    let after = told_heard e l (emits is_sure main p y) _ right in
+    let second = sweep_sound main q (swept_parts way main q l) r h e l x.second b k c.second
+    (λ g d. parts_sound way main q r g e l x.second.parts d k right c.second.parts) in
+    let v = sweep_by main q (swept_parts way main q l) l h x.second in
+    let n = told l (emits is_sure main q v) in
+    let w = told_less e l (emits is_sure main q v) k
+    (heard_in _ _ e l (emits_up main q v (begun main q r e) second) right) in
+    let before = told_heard e l (emits is_sure main q v) _ left in
+    either_way (λ (o : Parts main s). PartsBelow main s o (begun_parts main s r e)) way _ _
+    (record {
       first = first;
-      second = sweep_sound main q (swept_parts main q f) r h e f x.second b m c.second
-          (λ g d. parts_sound main q r g e f x.second.parts d m right c.second.parts);
-    }
-parts_sound main (Trap' a p) r h e l x b k u c =
-    sweep_sound main p (swept_parts main p l) r h e l x b k c (λ g d. parts_sound main p r g e l x.parts d k u c.parts)
-parts_sound main (Binder' s a p) r h e l x b k u c =
+      second = sweep_sound main q (swept_parts way main q f) r h e f x.second b m c.second
+          (λ g d. parts_sound way main q r g e f x.second.parts d m after c.second.parts);
+    })
+    (record {
+      first = sweep_sound main p (swept_parts way main p n) r h e n x.first b w c.first
+          (λ g d. parts_sound way main p r g e n x.first.parts d w before c.first.parts);
+      second = second;
+    })
+parts_sound way main (Trap' a p) r h e l x b k u c =
+    sweep_sound main p (swept_parts way main p l) r h e l x b k c
+    (λ g d. parts_sound way main p r g e l x.parts d k u c.parts)
+parts_sound way main (Binder' s a p) r h e l x b k u c =
     let v = status_at r s.index (term_of p) e in
     let f = with_local l s.index x.status in
-    let y = sweep_by main p (swept_parts main p f) f h x.body in
+    let y = sweep_by main p (swept_parts way main p f) f h x.body in
     let m = local_below l e s.index x.status v k c.status in
     let inside = heard_local s.index v x.status e l _ (begun_local main p s.index r e) u in
-    let body = sweep_sound main p (swept_parts main p f) r h (with_local e s.index v) f x.body b m c.body
-    (λ g d. parts_sound main p r g (with_local e s.index v) f x.body.parts d m inside c.body.parts) in
+    let body = sweep_sound main p (swept_parts way main p f) r h (with_local e s.index v) f x.body b m c.body
+    (λ g d. parts_sound way main p r g (with_local e s.index v) f x.body.parts d m inside c.body.parts) in
     record {
       status = learned_below x.status (emitted_status main p s.index y) v c.status
           (local_sound main p s.index r e y body);
@@ -137,11 +156,13 @@ parts_sound main (Binder' s a p) r h e l x b k u c =
     }
 
 -- a statement that is begun, if at all
-pub swept_sound : (main : Bool) (s : Statement) (r g : Status) (e l : Env) (T : Sheet main s) → IsBelow g r
+pub swept_sound : (way : Direction) (main : Bool) (s : Statement) (r g : Status) (e l : Env) (T : Sheet main s)
+    → IsBelow g r
     → KnowsLess l e → Heard (emits is_sure main s (begun main s r e)) e l
-    → Below main s T (begun main s r e) → Below main s (swept main s l g T) (begun main s r e)
-swept_sound main s r g e l T b k u c =
-    sweep_sound main s (swept_parts main s l) r g e l T b k c (λ h d. parts_sound main s r h e l T.parts d k u c.parts)
+    → Below main s T (begun main s r e) → Below main s (swept way main s l g T) (begun main s r e)
+swept_sound way main s r g e l T b k u c =
+    sweep_sound main s (swept_parts way main s l) r g e l T b k c
+    (λ h d. parts_sound way main s r h e l T.parts d k u c.parts)
 
 live_sweep_sound : (s : Statement) (f : Status → Parts true s → Parts true s) (bits : ℕ → Bool) (r g : Status)
     (e l : Env)
@@ -175,7 +196,8 @@ chosen true p G H X Y T e l f g u c = f u c
 chosen false p G H X Y T e l f g u c = g u c
 
 -- of a second part that is begun where a first that is live ends
-seq_second : (d : Bool) (p q : Statement) (bits : ℕ → Bool) (r : Status) (e l : Env) (G H : Sheet true p)
+seq_second : (way : Direction) (d : Bool) (p q : Statement) (bits : ℕ
+    → Bool) (r : Status) (e l : Env) (G H : Sheet true p)
     (W T : Sheet true q)
     → KnowsLess l e
     → (Heard (emits is_sure true q (resumed q bits r e)) e l → Below true q T (resumed q bits r e)
@@ -184,109 +206,131 @@ seq_second : (d : Bool) (p q : Statement) (bits : ℕ → Bool) (r : Status) (e 
     → Heard (emits is_sure true q
     (cond d (begun true q (ends (cells_at Absent r (term_at p bits) e)) e) (resumed q bits r e))) e l
     → Below true q T (cond d (begun true q (ends (cells_at Absent r (term_at p bits) e)) e) (resumed q bits r e))
-    → Below true q (cond d (swept true q l (ends (cond d G H).cells) T) W)
+    → Below true q (cond d (swept way true q l (ends (cond d G H).cells) T) W)
     (cond d (begun true q (ends (cells_at Absent r (term_at p bits) e)) e) (resumed q bits r e))
-seq_second true p q bits r e l G H W T k f y u c =
-    swept_sound true q (ends (cells_at Absent r (term_at p bits) e)) (ends G.cells) e l T (ends_below _ _ y.cells) k u c
-seq_second false p q bits r e l G H W T k f y u c = f u c
+seq_second way true p q bits r e l G H W T k f y u c =
+    swept_sound way true q (ends (cells_at Absent r (term_at p bits) e)) (ends G.cells) e l T
+    (ends_below _ _ y.cells) k u c
+seq_second way false p q bits r e l G H W T k f y u c = f u c
 
 -- the parts of a statement that goes on from its pauses
-pub live_parts_sound : (s : Statement) (bits : ℕ → Bool) (r g h : Status) (e l : Env) (x : Parts true s) → IsBelow g r
+pub live_parts_sound : (way : Direction) (s : Statement) (bits : ℕ
+    → Bool) (r g h : Status) (e l : Env) (x : Parts true s) → IsBelow g r
     → IsBelow h Absent → KnowsLess l e → Heard (emits is_sure true s (resumed s bits r e)) e l
     → PartsBelow true s x (resumed_parts s bits r e)
-    → PartsBelow true s (live_swept_parts s bits g l h x) (resumed_parts s bits r e)
-live_parts_sound Nothing bits r g h e l x b o k u c = tt
-live_parts_sound (Pause n) bits r g h e l x b o k u c = tt
-live_parts_sound (Emit s) bits r g h e l x b o k u c = tt
-live_parts_sound (Exit n) bits r g h e l x b o k u c = tt
-live_parts_sound (Present' t a p z q) bits r g h e l x b o k u c =
+    → PartsBelow true s (live_swept_parts way s bits g l h x) (resumed_parts s bits r e)
+live_parts_sound way Nothing bits r g h e l x b o k u c = tt
+live_parts_sound way (Pause n) bits r g h e l x b o k u c = tt
+live_parts_sound way (Emit s) bits r g h e l x b o k u c = tt
+live_parts_sound way (Exit n) bits r g h e l x b o k u c = tt
+live_parts_sound way (Present' t a p z q) bits r g h e l x b o k u c =
     let v = status_of e (query_of t) in
     let w = status_of l (query_of t) in
     let i : IsBelow w v = query_below l e (query_of t) k in
     record {
       first = chosen (is_live p bits) p _ _ (resumed p bits r e) (begun true p Absent e) x.first e l
-          (λ f d. live_sweep_sound p (live_swept_parts p bits g l) bits r g e l x.first b k d
-          (λ j m. live_parts_sound p bits r g j e l x.first.parts b m k f d.parts))
-          (λ f d. swept_sound true p Absent (and_status h w) e l x.first (and_below h Absent w v o i) k f d)
+          (λ f d. live_sweep_sound p (live_swept_parts way p bits g l) bits r g e l x.first b k d
+          (λ j m. live_parts_sound way p bits r g j e l x.first.parts b m k f d.parts))
+          (λ f d. swept_sound way true p Absent (and_status h w) e l x.first (and_below h Absent w v o i) k f d)
           (heard_left _ _ e l u) c.first;
       second = chosen (is_live p bits) q _ _ (begun true q Absent e) (resumed q bits r e) x.second e l
-          (λ f d. swept_sound true q Absent (and_status h (opposite w)) e l x.second
+          (λ f d. swept_sound way true q Absent (and_status h (opposite w)) e l x.second
           (and_below h Absent (opposite w) (opposite v) o (opposite_below w v i)) k f d)
-          (λ f d. live_sweep_sound q (live_swept_parts q bits g l) bits r g e l x.second b k d
-          (λ j m. live_parts_sound q bits r g j e l x.second.parts b m k f d.parts))
+          (λ f d. live_sweep_sound q (live_swept_parts way q bits g l) bits r g e l x.second b k d
+          (λ j m. live_parts_sound way q bits r g j e l x.second.parts b m k f d.parts))
           (heard_right _ _ e l u) c.second;
     }
-live_parts_sound (Suspend' t a p) bits r g h e l x b o k u c =
+live_parts_sound way (Suspend' t a p) bits r g h e l x b o k u c =
     let v = status_of e (query_of t) in
     let w = status_of l (query_of t) in
     let i = and_below g r (opposite w) (opposite v) b (opposite_below w v (query_below l e (query_of t) k)) in
-    live_sweep_sound p (live_swept_parts p bits (and_status g (opposite w)) l) bits (and_status r (opposite v))
+    live_sweep_sound p (live_swept_parts way p bits (and_status g (opposite w)) l) bits (and_status r (opposite v))
     (and_status g (opposite w)) e l x i k c
-    (λ j m. live_parts_sound p bits (and_status r (opposite v)) (and_status g (opposite w)) j e l x.parts i m k u
+    (λ j m. live_parts_sound way p bits (and_status r (opposite v)) (and_status g (opposite w)) j e l x.parts i m k u
     c.parts)
-live_parts_sound (Seq' a p z q) bits r g h e l x b o k u c =
+live_parts_sound way (Seq' a p z q) bits r g h e l x b o k u c =
     let left = heard_left _ _ e l u in
     let first = chosen (is_live p bits) p _ _ (resumed p bits r e) (begun true p Absent e) x.first e l
-    (λ f d. live_sweep_sound p (live_swept_parts p bits g l) bits r g e l x.first b k d
-    (λ j m. live_parts_sound p bits r g j e l x.first.parts b m k f d.parts))
-    (λ f d. swept_sound true p Absent h e l x.first o k f d) left c.first in
-    let y = cond (is_live p bits) (live_sweep_by p (live_swept_parts p bits g l) bits g l x.first)
-    (sweep_by true p (swept_parts true p l) l h x.first) in
+    (λ f d. live_sweep_sound p (live_swept_parts way p bits g l) bits r g e l x.first b k d
+    (λ j m. live_parts_sound way p bits r g j e l x.first.parts b m k f d.parts))
+    (λ f d. swept_sound way true p Absent h e l x.first o k f d) left c.first in
+    let y = cond (is_live p bits) (live_sweep_by p (live_swept_parts way p bits g l) bits g l x.first)
+    (sweep_by true p (swept_parts way true p l) l h x.first) in
     let n = told l (emits is_sure true p y) in
     let w = told_less e l (emits is_sure true p y) k (heard_in _ _ e l (emits_up true p y _ first) left) in
     let right = told_heard e l (emits is_sure true p y) _ (heard_right _ _ e l u) in
     record {
       first = first;
-      second = seq_second (is_live p bits) p q bits r e n
-          (live_sweep_by p (live_swept_parts p bits g l) bits g l x.first)
-          (sweep_by true p (swept_parts true p l) l h x.first)
-          (live_sweep_by q (live_swept_parts q bits g n) bits g n x.second) x.second w
-          (λ f d. live_sweep_sound q (live_swept_parts q bits g n) bits r g e n x.second b w d
-          (λ j m. live_parts_sound q bits r g j e n x.second.parts b m w f d.parts)) first right c.second;
+      second = seq_second way (is_live p bits) p q bits r e n
+          (live_sweep_by p (live_swept_parts way p bits g l) bits g l x.first)
+          (sweep_by true p (swept_parts way true p l) l h x.first)
+          (live_sweep_by q (live_swept_parts way q bits g n) bits g n x.second) x.second w
+          (λ f d. live_sweep_sound q (live_swept_parts way q bits g n) bits r g e n x.second b w d
+          (λ j m. live_parts_sound way q bits r g j e n x.second.parts b m w f d.parts)) first right c.second;
     }
-live_parts_sound (Loop' a p) bits r g h e l x b o k u c =
+live_parts_sound way (Loop' a p) bits r g h e l x b o k u c =
     let left = heard_left _ _ e l u in
-    let first = live_sweep_sound p (live_swept_parts p bits g l) bits r g e l x.first b k c.first
-    (λ j m. live_parts_sound p bits r g j e l x.first.parts b m k left c.first.parts) in
-    let y = live_sweep_by p (live_swept_parts p bits g l) bits g l x.first in
+    let first = live_sweep_sound p (live_swept_parts way p bits g l) bits r g e l x.first b k c.first
+    (λ j m. live_parts_sound way p bits r g j e l x.first.parts b m k left c.first.parts) in
+    let y = live_sweep_by p (live_swept_parts way p bits g l) bits g l x.first in
     let n = told l (emits is_sure true p y) in
     let w = told_less e l (emits is_sure true p y) k
     (heard_in _ _ e l (emits_up true p y (resumed p bits r e) first) left) in
     let right = told_heard e l (emits is_sure true p y) _ (heard_right _ _ e l u) in
     record {
       first = first;
-      second = swept_sound false p (ends (cells_at Absent r (term_at p bits) e)) (ends y.cells) e n x.second
+      second = swept_sound way false p (ends (cells_at Absent r (term_at p bits) e)) (ends y.cells) e n x.second
           (ends_below _ _ first.cells) w right c.second;
     }
-live_parts_sound (Par' a p z q) bits r g h e l x b o k u c =
+live_parts_sound way (Par' a p z q) bits r g h e l x b o k u c =
     let left = heard_left _ _ e l u in
+    let right = heard_right _ _ e l u in
+    let s = Par' a p z q in
     let first = chosen (is_live p bits) p _ _ (resumed p bits r e) (begun true p Absent e) x.first e l
-    (λ f d. live_sweep_sound p (live_swept_parts p bits g l) bits r g e l x.first b k d
-    (λ j m. live_parts_sound p bits r g j e l x.first.parts b m k f d.parts))
-    (λ f d. swept_sound true p Absent h e l x.first o k f d) left c.first in
-    let y = cond (is_live p bits) (live_sweep_by p (live_swept_parts p bits g l) bits g l x.first)
-    (sweep_by true p (swept_parts true p l) l h x.first) in
+    (λ f d. live_sweep_sound p (live_swept_parts way p bits g l) bits r g e l x.first b k d
+    (λ j m. live_parts_sound way p bits r g j e l x.first.parts b m k f d.parts))
+    (λ f d. swept_sound way true p Absent h e l x.first o k f d) left c.first in
+    let y = cond (is_live p bits) (live_sweep_by p (live_swept_parts way p bits g l) bits g l x.first)
+    (sweep_by true p (swept_parts way true p l) l h x.first) in
     let n = told l (emits is_sure true p y) in
     let w = told_less e l (emits is_sure true p y) k (heard_in _ _ e l (emits_up true p y _ first) left) in
-    let right = told_heard e l (emits is_sure true p y) _ (heard_right _ _ e l u) in
-    record {
+    let after = told_heard e l (emits is_sure true p y) _ right in
+    let second = chosen (is_live q bits) q _ _ (resumed q bits r e) (begun true q Absent e) x.second e l
+    (λ f d. live_sweep_sound q (live_swept_parts way q bits g l) bits r g e l x.second b k d
+    (λ j m. live_parts_sound way q bits r g j e l x.second.parts b m k f d.parts))
+    (λ f d. swept_sound way true q Absent h e l x.second o k f d) right c.second in
+    let v = cond (is_live q bits) (live_sweep_by q (live_swept_parts way q bits g l) bits g l x.second)
+    (sweep_by true q (swept_parts way true q l) l h x.second) in
+    let i = told l (emits is_sure true q v) in
+    let t = told_less e l (emits is_sure true q v) k (heard_in _ _ e l (emits_up true q v _ second) right) in
+    let before = told_heard e l (emits is_sure true q v) _ left in
+    either_way (λ (y : Parts true s). PartsBelow true s y (resumed_parts s bits r e)) way _ _
+    (record {
       first = first;
       second = chosen (is_live q bits) q _ _ (resumed q bits r e) (begun true q Absent e) x.second e n
-          (λ f d. live_sweep_sound q (live_swept_parts q bits g n) bits r g e n x.second b w d
-          (λ j m. live_parts_sound q bits r g j e n x.second.parts b m w f d.parts))
-          (λ f d. swept_sound true q Absent h e n x.second o w f d) right c.second;
-    }
-live_parts_sound (Trap' a p) bits r g h e l x b o k u c =
-    live_sweep_sound p (live_swept_parts p bits g l) bits r g e l x b k c
-    (λ j m. live_parts_sound p bits r g j e l x.parts b m k u c.parts)
-live_parts_sound (Binder' s a p) bits r g h e l x b o k u c =
+          (λ f d. live_sweep_sound q (live_swept_parts way q bits g n) bits r g e n x.second b w d
+          (λ j m. live_parts_sound way q bits r g j e n x.second.parts b m w f d.parts))
+          (λ f d. swept_sound way true q Absent h e n x.second o w f d) after c.second;
+    })
+    (record {
+      first = chosen (is_live p bits) p _ _ (resumed p bits r e) (begun true p Absent e) x.first e i
+          (λ f d. live_sweep_sound p (live_swept_parts way p bits g i) bits r g e i x.first b t d
+          (λ j m. live_parts_sound way p bits r g j e i x.first.parts b m t f d.parts))
+          (λ f d. swept_sound way true p Absent h e i x.first o t f d) before c.first;
+      second = second;
+    })
+live_parts_sound way (Trap' a p) bits r g h e l x b o k u c =
+    live_sweep_sound p (live_swept_parts way p bits g l) bits r g e l x b k c
+    (λ j m. live_parts_sound way p bits r g j e l x.parts b m k u c.parts)
+live_parts_sound way (Binder' s a p) bits r g h e l x b o k u c =
     let v = status_at r s.index (term_at p bits) e in
     let f = with_local l s.index x.status in
-    let y = live_sweep_by p (live_swept_parts p bits g f) bits g f x.body in
+    let y = live_sweep_by p (live_swept_parts way p bits g f) bits g f x.body in
     let n = local_below l e s.index x.status v k c.status in
     let inside = heard_local s.index v x.status e l _ (resumed_local p bits s.index r e) u in
-    let body = live_sweep_sound p (live_swept_parts p bits g f) bits r g (with_local e s.index v) f x.body b n c.body
-    (λ j m. live_parts_sound p bits r g j (with_local e s.index v) f x.body.parts b m n inside c.body.parts) in
+    let body = live_sweep_sound p (live_swept_parts way p bits g f) bits r g
+    (with_local e s.index v) f x.body b n c.body
+    (λ j m. live_parts_sound way p bits r g j (with_local e s.index v) f x.body.parts b m n inside c.body.parts) in
     record {
       status = learned_below x.status (emitted_status true p s.index y) v c.status
           (live_local_sound p bits s.index r e y body);
@@ -294,9 +338,10 @@ live_parts_sound (Binder' s a p) bits r g h e l x b o k u c =
     }
 
 -- a statement that goes on from its pauses
-pub live_swept_sound : (s : Statement) (bits : ℕ → Bool) (r g : Status) (e l : Env) (T : Sheet true s) → IsBelow g r
+pub live_swept_sound : (way : Direction) (s : Statement) (bits : ℕ
+    → Bool) (r g : Status) (e l : Env) (T : Sheet true s) → IsBelow g r
     → KnowsLess l e → Heard (emits is_sure true s (resumed s bits r e)) e l
-    → Below true s T (resumed s bits r e) → Below true s (live_swept s bits g l T) (resumed s bits r e)
-live_swept_sound s bits r g e l T b k u c =
-    live_sweep_sound s (live_swept_parts s bits g l) bits r g e l T b k c
-    (λ h d. live_parts_sound s bits r g h e l T.parts b d k u c.parts)
+    → Below true s T (resumed s bits r e) → Below true s (live_swept way s bits g l T) (resumed s bits r e)
+live_swept_sound way s bits r g e l T b k u c =
+    live_sweep_sound s (live_swept_parts way s bits g l) bits r g e l T b k c
+    (λ h d. live_parts_sound way s bits r g h e l T.parts b d k u c.parts)

@@ -7,7 +7,9 @@ use Rattle.est_meaning.specs.declared.status.Status.{Status}
 use Rattle.est_meaning.specs.declared.status.Status.TheVariants.{Present, Absent, Unknown}
 use Rattle.est_cells.specs.Tables.{Cells, Node, CellsBelow, is_sure, is_possible}
 use Rattle.est_net.specs.Cells.{learned}
-use Rattle.est_micro.specs.Sweeps.{sure_told, may_told, entered}
+use Rattle.est_micro.specs.Sweeps.{sure_told, may_told, entered, one_way}
+use Rattle.est_micro.specs.declared.direction.Direction.{Direction}
+use Rattle.est_micro.specs.declared.direction.Direction.TheVariants.{Forwards, Backwards}
 
 never : {A : Type 0} → false ≡ true → A
 never h = cc
@@ -85,3 +87,8 @@ told_quiet x y z b e f c d = record {
 
 pub same_node : {P : Type 0} (T : Node P) (h : Status) (x : P) → h ≡ T.cells.go → x ≡ T.parts → entered h T x ≡ T
 same_node T h x e f = ap (λ (z : Status). entered z T x) e ∙ ap (λ z. entered T.cells.go T z) f
+
+-- what holds of a sweep forwards and of one that goes backwards
+pub either_way : {A : Type 0} (R : A → Type 0) (d : Direction) (x y : A) → R x → R y → R (one_way d x y)
+either_way R Forwards x y h k = h
+either_way R Backwards x y h k = k

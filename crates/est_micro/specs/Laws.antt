@@ -11,6 +11,7 @@ use Rattle.est_cells.specs.Gates.{gates, live_gates}
 use Rattle.est_cells.specs.Meaning.{begun, resumed}
 use Rattle.est_cells.specs.Tables.{Sheet, Below, emits, is_sure}
 use Rattle.est_micro.specs.Sweeps.{swept, live_swept}
+use Rattle.est_micro.specs.declared.direction.Direction.{Direction}
 
 -- what is surely emitted is known to be present where it was in doubt
 abbrev pub Heard : Signals → Env → Env → Type 0
@@ -20,24 +21,26 @@ Heard x e l = (n : Name) → x n ≡ true → l n ≡ Unknown → e n ≡ Presen
 abbrev pub Seen : Signals → Env → Type 0
 Seen x l = (n : Name) → x n ≡ true → l n ≢ Unknown
 
--- what a sweep decides, where all that is decided is as the meaning says, and the environment knows what the meaning
--- surely emits, the meaning decides so
+-- what a sweep decides, either way, where all that is decided is as the meaning says, and the environment knows what
+-- the meaning surely emits, the meaning decides so
 pub record SweepsAreSound : Type 0 where
-  pub begun : (main : Bool) (s : Statement) (r g : Status) (e l : Env) (T : Sheet main s) → IsBelow g r → KnowsLess l e
+  pub begun : (d : Direction) (main : Bool) (s : Statement) (r g : Status) (e l : Env) (T : Sheet main s) → IsBelow g r
+      → KnowsLess l e
       → Heard (emits is_sure main s (begun main s r e)) e l
-      → Below main s T (begun main s r e) → Below main s (swept main s l g T) (begun main s r e)
-  pub resumed : (s : Statement) (bits : ℕ → Bool) (r g : Status) (e l : Env) (T : Sheet true s) → IsBelow g r
-      → KnowsLess l e
+      → Below main s T (begun main s r e) → Below main s (swept d main s l g T) (begun main s r e)
+  pub resumed : (d : Direction) (s : Statement) (bits : ℕ → Bool) (r g : Status) (e l : Env) (T : Sheet true s)
+      → IsBelow g r → KnowsLess l e
       → Heard (emits is_sure true s (resumed s bits r e)) e l
-      → Below true s T (resumed s bits r e) → Below true s (live_swept s bits g l T) (resumed s bits r e)
+      → Below true s T (resumed s bits r e) → Below true s (live_swept d s bits g l T) (resumed s bits r e)
 
--- where a sweep changes nothing, all that is decided is as the meaning says, and what is surely emitted is in no doubt,
--- the gates decide nothing more
+-- where a sweep changes nothing, either way, all that is decided is as the meaning says, and what is surely emitted is
+-- in no doubt, the gates decide nothing more
 pub record SweepsComeToRest : Type 0 where
-  pub begun : (main : Bool) (s : Statement) (r g : Status) (e l : Env) (T : Sheet main s) → IsBelow g r → KnowsLess l e
-      → Seen (emits is_sure main s T) l
-      → Below main s T (begun main s r e) → swept main s l g T ≡ T → Below main s (gates main s g l T) T
-  pub resumed : (s : Statement) (bits : ℕ → Bool) (r g : Status) (e l : Env) (T : Sheet true s) → IsBelow g r
+  pub begun : (d : Direction) (main : Bool) (s : Statement) (r g : Status) (e l : Env) (T : Sheet main s) → IsBelow g r
       → KnowsLess l e
+      → Seen (emits is_sure main s T) l
+      → Below main s T (begun main s r e) → swept d main s l g T ≡ T → Below main s (gates main s g l T) T
+  pub resumed : (d : Direction) (s : Statement) (bits : ℕ → Bool) (r g : Status) (e l : Env) (T : Sheet true s)
+      → IsBelow g r → KnowsLess l e
       → Seen (emits is_sure true s T) l
-      → Below true s T (resumed s bits r e) → live_swept s bits g l T ≡ T → Below true s (live_gates s bits g l T) T
+      → Below true s T (resumed s bits r e) → live_swept d s bits g l T ≡ T → Below true s (live_gates s bits g l T) T

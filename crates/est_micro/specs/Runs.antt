@@ -20,15 +20,16 @@ use Rattle.est_net.specs.Layout.{cell_count, output_count, rank, sheet_in, table
 use Rattle.est_rounds.specs.Views.{env_of}
 use Rattle.est_rounds.specs.declared.signal_set.Env.{Env as Known}
 use Rattle.est_micro.specs.Sweeps.{swept, live_swept}
+use Rattle.est_micro.specs.declared.direction.Direction.{Direction}
 use Rattle.est_micro.specs.Views.{Changes, IsJudged, IsSwept}
 use Rattle.est_micro.specs.declared.cells.Found.{Found}
 use Rattle.est_micro.specs.declared.run.Settled.{Settled}
 
 -- the sheet of a kernel's statement after a sweep, by its state
-abbrev pub sheet_swept : (s : Statement) → State → Env → Sheet true s → Sheet true s
-sheet_swept s Fresh e T = swept true s e Present T
-sheet_swept s Done e T = swept true s e Absent T
-sheet_swept s (Paused p) e T = live_swept s (pauses_of p) Present e T
+abbrev pub sheet_swept : Direction → (s : Statement) → State → Env → Sheet true s → Sheet true s
+sheet_swept d s Fresh e T = swept d true s e Present T
+sheet_swept d s Done e T = swept d true s e Absent T
+sheet_swept d s (Paused p) e T = live_swept d s (pauses_of p) Present e T
 
 -- the statuses of the signals that may be emitted, by the cells
 abbrev pub output_cells : List Declaration → List Status → ℕ → Status
@@ -48,11 +49,11 @@ pub record IsExchanged (i : List Declaration) (inputs sure possible : ℕ → Bo
   pub knows : env_of e ≡ known (judged_signals i inputs) inputs (output_cells i new)
 
 -- one round: a sweep by what is known, and then the cells of the signals
-pub record IsRound (i : List Declaration) (inputs : ℕ → Bool) (s : Statement) (x : State) (e f : Known)
-    (old new : List Status)
+pub record IsRound (d : Direction) (i : List Declaration) (inputs : ℕ → Bool) (s : Statement) (x : State)
+    (e f : Known) (old new : List Status)
     (r : Found) : Type 0 where
   pub mid : List Status
-  pub sweep : IsSwept true s (output_count i) 0 (sheet_swept s x (env_of e)) old mid r
+  pub sweep : IsSwept true s (output_count i) 0 (sheet_swept d s x (env_of e)) old mid r
   pub exchange : IsExchanged i inputs (bits r.judged.must.signals.interface)
       (bits r.judged.can.signals.interface) mid new f
 

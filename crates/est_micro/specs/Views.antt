@@ -79,14 +79,14 @@ node_swept main s P G gate T =
 unfoldable pub IsBegun : Statement → Place → Status → Known → List Status → List Status → Found → Type 0
 IsBegun s at gate e old new r =
     IsSwept at.main s at.cell at.traps
-    (node_swept at.main s (swept_parts at.main s (env_of e)) (λ U. (gates at.main s gate (env_of e) U).cells) gate) old
-    new r
+    (node_swept at.main s (swept_parts at.direction at.main s (env_of e))
+    (λ U. (gates at.main s gate (env_of e) U).cells) gate) old new r
 
 -- the cells of a statement that goes on, if it is run, are swept
 unfoldable pub IsResumed : Statement → Place → PauseSet → Status → Known → List Status → List Status → Found → Type 0
 IsResumed s at pauses run e old new r =
     IsSwept true s at.cell at.traps
-    (node_swept true s (live_swept_parts s (pauses_of pauses) run (env_of e))
+    (node_swept true s (live_swept_parts at.direction s (pauses_of pauses) run (env_of e))
     (λ U. (live_gates s (pauses_of pauses) run (env_of e) U).cells)
     Absent) old new r
 
@@ -95,7 +95,8 @@ abbrev pub IsChosen : Statement → Place → PauseSet → Bool → Status → S
     → Type 0
 IsChosen p at pauses is_on gate run e old new r =
     IsSwept true p at.cell at.traps
-    (λ T. cond is_on (live_swept p (pauses_of pauses) run (env_of e) T) (swept true p (env_of e) gate T)) old new r
+    (λ T. cond is_on (live_swept at.direction p (pauses_of pauses) run (env_of e) T)
+    (swept at.direction true p (env_of e) gate T)) old new r
 
 -- a statement is not begun, by its go cell and the gate, none of its cells is true, and this is the first place after
 -- them

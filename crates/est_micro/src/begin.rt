@@ -17,9 +17,11 @@ ghost use Rattle.est_meaning.specs.Status.{status_of};
 ghost use Rattle.est_cells.specs.Tables.{sheet_size};
 ghost use Rattle.est_rounds.specs.Views.{env_of};
 ghost use Rattle.est_micro.specs.Views.{IsBegun};
+ghost use Rattle.est_micro.specs.declared.direction.Direction.TheVariants.{Forwards, Backwards};
 
 use crate::cells::{self, Found, Place};
-use crate::idle::past_idle;
+use crate::direction::Direction;
+use crate::idle::{past, past_idle};
 use est_kernel::completion::Completion;
 use est_kernel::statement::{LocalSignal, Signal, Statement};
 use est_meaning::status::Status;
@@ -80,15 +82,13 @@ fn begin_present(
 {
     let go = table.learn(at.cell, gate);
     let place = Place {
-        main: at.main,
         cell: at.cell + at.traps + 3,
-        traps: at.traps,
+        ..at
     };
     let first = begin(table, place, p, go.and(asked), env);
     let place = Place {
-        main: at.main,
         cell: first.past,
-        traps: at.traps,
+        ..at
     };
     let second = begin(table, place, q, go.and(asked.opposite()), env);
     let own = cells::either(&first.judged, &second.judged);
@@ -108,9 +108,8 @@ fn begin_suspend(table: &mut Table, at: Place, p: &Statement, gate: Status, env:
 {
     let go = table.learn(at.cell, gate);
     let place = Place {
-        main: at.main,
         cell: at.cell + at.traps + 3,
-        traps: at.traps,
+        ..at
     };
     let body = begin(table, place, p, go, env);
     cells::leave(table, at, &body.judged, body.past)
@@ -138,17 +137,15 @@ fn begin_seq(
 {
     let go = table.learn(at.cell, gate);
     let place = Place {
-        main: at.main,
         cell: at.cell + at.traps + 3,
-        traps: at.traps,
+        ..at
     };
     let first = begin(table, place, p, go, env);
     let inside = cells::told(env, first.judged.must.signals);
     let later = cells::ends(&first.judged);
     let place = Place {
-        main: at.main,
         cell: first.past,
-        traps: at.traps,
+        ..at
     };
     let second = begin(table, place, q, later, &inside);
     let own = cells::followed(&first.judged, &second.judged);
@@ -170,15 +167,14 @@ fn begin_loop(table: &mut Table, at: Place, p: &Statement, gate: Status, env: &E
 {
     let go = table.learn(at.cell, gate);
     let place = Place {
-        main: at.main,
         cell: at.cell + at.traps + 3,
-        traps: at.traps,
+        ..at
     };
     let first = begin(table, place, p, go, env);
     let place = Place {
         main: false,
         cell: first.past,
-        traps: at.traps,
+        ..at
     };
     let again = begin(table, place, p, Status::Absent, env);
     let own = cells::emitting(&first.judged, &again.judged);
@@ -199,15 +195,14 @@ fn begin_again(table: &mut Table, at: Place, p: &Statement, gate: Status, env: &
 {
     let go = table.learn(at.cell, gate);
     let place = Place {
-        main: at.main,
         cell: at.cell + at.traps + 3,
-        traps: at.traps,
+        ..at
     };
     let body = begin(table, place, p, go, env);
     cells::leave(table, at, &body.judged, body.past)
 }
 
-/// Sweeps a `||`.
+/// Sweeps a `||`, the first side before the second.
 #[cycle(begin)]
 fn begin_par(
     table: &mut Table,
@@ -217,6 +212,7 @@ fn begin_par(
     gate: Status,
     env: &Env,
 ) -> Found
+    requires direction { at.direction ≡ Forwards }
     requires fits { FitsMasks p.now × FitsMasks q.now }
     requires within { at.cell + at.traps + 3 + sheet_size at.main p.now at.traps
         + sheet_size at.main q.now at.traps
@@ -229,18 +225,53 @@ fn begin_par(
 {
     let go = table.learn(at.cell, gate);
     let place = Place {
-        main: at.main,
         cell: at.cell + at.traps + 3,
-        traps: at.traps,
+        ..at
     };
     let first = begin(table, place, p, go, env);
     let inside = cells::told(env, first.judged.must.signals);
     let place = Place {
-        main: at.main,
         cell: first.past,
-        traps: at.traps,
+        ..at
     };
     let second = begin(table, place, q, go, &inside);
+    let own = cells::beside(&first.judged, &second.judged);
+    cells::leave(table, at, &own, second.past)
+}
+
+/// Sweeps a `||`, the second side before the first.
+#[cycle(begin)]
+fn begin_par_back(
+    table: &mut Table,
+    at: Place,
+    p: &Statement,
+    q: &Statement,
+    gate: Status,
+    env: &Env,
+) -> Found
+    requires direction { at.direction ≡ Backwards }
+    requires fits { FitsMasks p.now × FitsMasks q.now }
+    requires within { at.cell + at.traps + 3 + sheet_size at.main p.now at.traps
+        + sheet_size at.main q.now at.traps
+        ≤ length table.old.cells.items }
+    requires first_traps { at.traps + trap_depth (term_of p.now) ≤ 62 }
+    requires second_traps { at.traps + trap_depth (term_of q.now) ≤ 62 }
+    ensures { (a b : _)
+        → IsBegun (Par' a p.now b q.now) at gate env.now table.old.cells.items table.new.cells.items
+        result }
+{
+    let go = table.learn(at.cell, gate);
+    let place = Place {
+        cell: at.cell + at.traps + 3,
+        ..at
+    };
+    let later = Place {
+        cell: past(place.cell, at.main, p, at.traps),
+        ..at
+    };
+    let second = begin(table, later, q, go, env);
+    let inside = cells::told(env, second.judged.must.signals);
+    let first = begin(table, place, p, go, &inside);
     let own = cells::beside(&first.judged, &second.judged);
     cells::leave(table, at, &own, second.past)
 }
@@ -258,9 +289,9 @@ fn begin_trap(table: &mut Table, at: Place, p: &Statement, gate: Status, env: &E
 {
     let go = table.learn(at.cell, gate);
     let place = Place {
-        main: at.main,
         cell: at.cell + at.traps + 3,
         traps: at.traps + 1,
+        ..at
     };
     let body = begin(table, place, p, go, env);
     let own = cells::out_of_trap(&body.judged);
@@ -290,9 +321,8 @@ fn begin_local(
     let cell = at.cell + at.traps + 3;
     let inside = signal_set::set_local(env, s, table.status(cell));
     let place = Place {
-        main: at.main,
         cell: cell + 1,
-        traps: at.traps,
+        ..at
     };
     let body = begin(table, place, p, go, &inside);
     table.learn(cell, cells::status_of(&body.judged, s));
@@ -326,7 +356,10 @@ fn begin_each(table: &mut Table, at: Place, s: &Statement, gate: Status, env: &E
                 begin_again(table, at, p, gate, env)
             }
         }
-        Statement::Par(p, q) => begin_par(table, at, p, q, gate, env),
+        Statement::Par(p, q) => match at.direction {
+            Direction::Forwards => begin_par(table, at, p, q, gate, env),
+            Direction::Backwards => begin_par_back(table, at, p, q, gate, env),
+        },
         Statement::Trap(p) => begin_trap(table, at, p, gate, env),
         Statement::Local(s, p) => begin_local(table, at, *s, p, gate, env),
     }

@@ -17,6 +17,7 @@ ghost use Rattle.est_rounds.specs.Views.{env_of, set_of};
 ghost use Rattle.est_micro.specs.Sweeps.{told};
 ghost use Rattle.est_micro.specs.Views.{AreTold, IsJudged, IsLeft, IsPaired};
 
+use crate::direction::Direction;
 use est_kernel::code_set::CodeSet;
 use est_kernel::completion::Completion;
 use est_kernel::mask;
@@ -26,7 +27,7 @@ use est_net::table::Table;
 use est_rounds::acts::{Acts, Judgement};
 use est_rounds::signal_set::{self, Env, SignalSet};
 
-/// Where the cells of a statement stand.
+/// Where the cells of a statement stand, and which way a sweep goes over them.
 #[derive(Clone, Copy)]
 pub struct Place {
     /// Whether they are those of the incarnation that can go on from its pauses.
@@ -35,6 +36,8 @@ pub struct Place {
     pub cell: usize,
     /// How many traps are around it.
     pub traps: usize,
+    /// Which side of a `||` is visited first.
+    pub direction: Direction,
 }
 
 /// What the cells of a statement say after a sweep.

@@ -13,7 +13,7 @@ use est_net::table::Table;
 
 /// The first place after the cells of a statement whose first cell stands at this one. Recursion is
 /// as deep as the statement is.
-fn past(cell: usize, main: bool, s: &Statement, traps: usize) -> usize
+pub fn past(cell: usize, main: bool, s: &Statement, traps: usize) -> usize
     requires { cell + sheet_size main s.now traps ≤ 18446744073709551615 }
     ensures { result ≡ cell + sheet_size main s.now traps }
 {

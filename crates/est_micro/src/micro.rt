@@ -12,6 +12,7 @@ ghost use Rattle.est_micro.specs.Engine.{GoesOnFrom, HasValues, IsNetOf};
 ghost use Rattle.est_micro.specs.Runs.{IsSettled};
 
 use crate::cells::Place;
+use crate::direction::Direction;
 use crate::next::collect;
 use crate::run::{Settled, settle};
 use est_kernel::completion::Completion;
@@ -27,6 +28,8 @@ use est_rounds::engine::Engine;
 #[derive(Drop)]
 pub struct Micro {
     net: Net,
+    /// Which way the next run sweeps first: as the last one swept last.
+    direction: Direction,
 }
 
 /// The outcome of a kernel that has not ended, where nothing more can be decided: its pauses are
@@ -58,6 +61,7 @@ fn outcome(
             main: true,
             cell: outputs,
             traps: 0,
+            direction: Direction::Forwards,
         };
         collect(table, place, kernel.root(), true, from, &mut next);
         return Ok(Outcome {
@@ -84,7 +88,10 @@ impl Micro {
     pub fn new(net: Net) -> Micro
         ensures { result.net ≡ net }
     {
-        Micro { net }
+        Micro {
+            net,
+            direction: Direction::Forwards,
+        }
     }
 
     /// The table, as the last run left it.
@@ -115,7 +122,15 @@ impl Micro {
         ensures stuck { IfErr result (λ s. HasNoReaction kernel.now state.now inputs.now s) }
     {
         let outputs = self.net.outputs;
-        let settled = settle(&mut self.net.table, kernel, outputs, state, inputs.signals);
+        let settled = settle(
+            &mut self.net.table,
+            kernel,
+            outputs,
+            state,
+            inputs.signals,
+            self.direction,
+        );
+        self.direction = settled.direction;
         match state {
             State::Done => Ok(Outcome {
                 outputs: settled.found.judged.must.signals.interface,

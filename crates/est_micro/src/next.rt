@@ -94,11 +94,7 @@ fn collect_two(
         next.old next.new result }
 {
     let past = collect(table, at, p, on, pauses, next);
-    let place = Place {
-        main: at.main,
-        cell: past,
-        traps: at.traps,
-    };
+    let place = Place { cell: past, ..at };
     collect(table, place, q, on, pauses, next)
 }
 
@@ -120,11 +116,7 @@ fn collect_suspend(
         result }
 {
     let inside = at.cell + at.traps + 3;
-    let place = Place {
-        main: at.main,
-        cell: inside,
-        traps: at.traps,
-    };
+    let place = Place { cell: inside, ..at };
     let past = collect(table, place, p, on, pauses, next);
     let pauses_itself = gives_pause(table, at.cell, at.traps);
     let body_pauses = gives_pause(table, inside, at.traps);
@@ -151,15 +143,14 @@ fn collect_loop(
         → Collects (Loop' a p.now) at table.now.cells.items on pauses.now next.old next.new result }
 {
     let place = Place {
-        main: at.main,
         cell: at.cell + at.traps + 3,
-        traps: at.traps,
+        ..at
     };
     let past = collect(table, place, p, on, pauses, next);
     let place = Place {
         main: false,
         cell: past,
-        traps: at.traps,
+        ..at
     };
     collect(table, place, p, on, pauses, next)
 }
@@ -195,9 +186,8 @@ fn collect_par(
 {
     let gives = gives_pause(table, at.cell, at.traps);
     let place = Place {
-        main: at.main,
         cell: at.cell + at.traps + 3,
-        traps: at.traps,
+        ..at
     };
     collect_two(table, place, p, q, both(on, gives), pauses, next)
 }
@@ -218,9 +208,9 @@ fn collect_trap(
         → Collects (Trap' a p.now) at table.now.cells.items on pauses.now next.old next.new result }
 {
     let place = Place {
-        main: at.main,
         cell: at.cell + at.traps + 3,
         traps: at.traps + 1,
+        ..at
     };
     collect(table, place, p, on, pauses, next)
 }
@@ -242,9 +232,8 @@ fn collect_local(
         result }
 {
     let place = Place {
-        main: at.main,
         cell: at.cell + at.traps + 4,
-        traps: at.traps,
+        ..at
     };
     collect(table, place, p, on, pauses, next)
 }
@@ -264,9 +253,8 @@ pub fn collect(
     ensures { Collects s.now at table.now.cells.items on pauses.now next.old next.new result }
 {
     let parts = Place {
-        main: at.main,
         cell: at.cell + at.traps + 3,
-        traps: at.traps,
+        ..at
     };
     match s {
         Statement::Nothing => parts.cell,

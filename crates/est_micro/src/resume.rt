@@ -19,9 +19,12 @@ ghost use Rattle.est_cells.specs.Gates.{sure_code, may_code};
 ghost use Rattle.est_cells.specs.Tables.{sheet_size};
 ghost use Rattle.est_rounds.specs.Views.{env_of, set_of};
 ghost use Rattle.est_micro.specs.Views.{IsChosen, IsJudged, IsResumed};
+ghost use Rattle.est_micro.specs.declared.direction.Direction.TheVariants.{Forwards, Backwards};
 
 use crate::begin::begin;
 use crate::cells::{self, Found, Place};
+use crate::direction::Direction;
+use crate::idle::past;
 use est_kernel::completion::Completion;
 use est_kernel::pause_set::PauseSet;
 use est_kernel::statement::{LocalSignal, Statement};
@@ -100,15 +103,13 @@ fn resume_present(
     let go = table.learn(at.cell, Status::Absent);
     let is_on = has_live(p, pauses);
     let place = Place {
-        main: at.main,
         cell: at.cell + at.traps + 3,
-        traps: at.traps,
+        ..at
     };
     let first = part(table, place, p, pauses, is_on, go.and(asked), run, env);
     let place = Place {
-        main: at.main,
         cell: first.past,
-        traps: at.traps,
+        ..at
     };
     let second = part(
         table,
@@ -147,9 +148,8 @@ fn resume_suspend(
 {
     table.learn(at.cell, Status::Absent);
     let place = Place {
-        main: at.main,
         cell: at.cell + at.traps + 3,
-        traps: at.traps,
+        ..at
     };
     let body = resume(table, place, p, pauses, run.and(asked.opposite()), env);
     let held = cells::leaf(run.and(asked), Completion::Pause);
@@ -184,17 +184,15 @@ fn resume_seq(
     let go = table.learn(at.cell, Status::Absent);
     let is_on = has_live(p, pauses);
     let place = Place {
-        main: at.main,
         cell: at.cell + at.traps + 3,
-        traps: at.traps,
+        ..at
     };
     let first = part(table, place, p, pauses, is_on, go, run, env);
     let inside = cells::told(env, first.judged.must.signals);
     let later = cells::ends(&first.judged);
     let place = Place {
-        main: at.main,
         cell: first.past,
-        traps: at.traps,
+        ..at
     };
     let second = part(table, place, q, pauses, !is_on, later, run, &inside);
     let own = cells::followed(&first.judged, &second.judged);
@@ -224,9 +222,8 @@ fn resume_loop(
 {
     table.learn(at.cell, Status::Absent);
     let place = Place {
-        main: at.main,
         cell: at.cell + at.traps + 3,
-        traps: at.traps,
+        ..at
     };
     let first = resume(table, place, p, pauses, run, env);
     let inside = cells::told(env, first.judged.must.signals);
@@ -234,7 +231,7 @@ fn resume_loop(
     let place = Place {
         main: false,
         cell: first.past,
-        traps: at.traps,
+        ..at
     };
     let again = begin(table, place, p, later, &inside);
     let own = cells::followed(&first.judged, &again.judged);
@@ -255,7 +252,7 @@ fn side(is_on: bool, found: &Found, run: Status) -> Judgement
     }
 }
 
-/// Sweeps a `||`.
+/// Sweeps a `||`, the first side before the second.
 #[cycle(resume)]
 fn resume_par(
     table: &mut Table,
@@ -267,6 +264,7 @@ fn resume_par(
     env: &Env,
 ) -> Found
     requires main { at.main ≡ true }
+    requires direction { at.direction ≡ Forwards }
     requires fits { FitsMasks p.now × FitsMasks q.now }
     requires within { at.cell + at.traps + 3 + sheet_size true p.now at.traps
         + sheet_size true q.now at.traps
@@ -281,18 +279,59 @@ fn resume_par(
     let first_on = has_live(p, pauses);
     let second_on = has_live(q, pauses);
     let place = Place {
-        main: at.main,
         cell: at.cell + at.traps + 3,
-        traps: at.traps,
+        ..at
     };
     let first = part(table, place, p, pauses, first_on, go, run, env);
     let inside = cells::told(env, first.judged.must.signals);
     let place = Place {
-        main: at.main,
         cell: first.past,
-        traps: at.traps,
+        ..at
     };
     let second = part(table, place, q, pauses, second_on, go, run, &inside);
+    let left = side(first_on, &first, run);
+    let right = side(second_on, &second, run);
+    let own = cells::beside(&left, &right);
+    cells::leave(table, at, &own, second.past)
+}
+
+/// Sweeps a `||`, the second side before the first.
+#[cycle(resume)]
+fn resume_par_back(
+    table: &mut Table,
+    at: Place,
+    p: &Statement,
+    q: &Statement,
+    pauses: &PauseSet,
+    run: Status,
+    env: &Env,
+) -> Found
+    requires main { at.main ≡ true }
+    requires direction { at.direction ≡ Backwards }
+    requires fits { FitsMasks p.now × FitsMasks q.now }
+    requires within { at.cell + at.traps + 3 + sheet_size true p.now at.traps
+        + sheet_size true q.now at.traps
+        ≤ length table.old.cells.items }
+    requires first_traps { at.traps + trap_depth (term_of p.now) ≤ 62 }
+    requires second_traps { at.traps + trap_depth (term_of q.now) ≤ 62 }
+    ensures { (a b : _)
+        → IsResumed (Par' a p.now b q.now) at pauses.now run env.now table.old.cells.items
+        table.new.cells.items result }
+{
+    let go = table.learn(at.cell, Status::Absent);
+    let first_on = has_live(p, pauses);
+    let second_on = has_live(q, pauses);
+    let place = Place {
+        cell: at.cell + at.traps + 3,
+        ..at
+    };
+    let later = Place {
+        cell: past(place.cell, true, p, at.traps),
+        ..at
+    };
+    let second = part(table, later, q, pauses, second_on, go, run, env);
+    let inside = cells::told(env, second.judged.must.signals);
+    let first = part(table, place, p, pauses, first_on, go, run, &inside);
     let left = side(first_on, &first, run);
     let right = side(second_on, &second, run);
     let own = cells::beside(&left, &right);
@@ -321,9 +360,9 @@ fn resume_trap(
 {
     table.learn(at.cell, Status::Absent);
     let place = Place {
-        main: at.main,
         cell: at.cell + at.traps + 3,
         traps: at.traps + 1,
+        ..at
     };
     let body = resume(table, place, p, pauses, run, env);
     let own = cells::out_of_trap(&body.judged);
@@ -356,9 +395,8 @@ fn resume_local(
     let cell = at.cell + at.traps + 3;
     let inside = signal_set::set_local(env, s, table.status(cell));
     let place = Place {
-        main: at.main,
         cell: cell + 1,
-        traps: at.traps,
+        ..at
     };
     let body = resume(table, place, p, pauses, run, &inside);
     table.learn(cell, cells::status_of(&body.judged, s));
@@ -395,7 +433,10 @@ pub fn resume(
         }
         Statement::Seq(p, q) => resume_seq(table, at, p, q, pauses, run, env),
         Statement::Loop(p) => resume_loop(table, at, p, pauses, run, env),
-        Statement::Par(p, q) => resume_par(table, at, p, q, pauses, run, env),
+        Statement::Par(p, q) => match at.direction {
+            Direction::Forwards => resume_par(table, at, p, q, pauses, run, env),
+            Direction::Backwards => resume_par_back(table, at, p, q, pauses, run, env),
+        },
         Statement::Trap(p) => resume_trap(table, at, p, pauses, run, env),
         Statement::Local(s, p) => resume_local(table, at, *s, p, pauses, run, env),
         Statement::Pause(_) => resume_pause(table, at, run),

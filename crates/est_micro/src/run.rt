@@ -14,6 +14,7 @@ ghost use Rattle.est_micro.specs.Views.{IsSwept};
 
 use crate::begin::begin;
 use crate::cells::{Found, Place};
+use crate::direction::Direction;
 use crate::outputs::{exchange, in_doubt};
 use crate::resume::resume;
 use est_kernel::kernel::Kernel;
@@ -24,12 +25,20 @@ use est_net::table::Table;
 use est_rounds::signal_set::Env;
 
 /// Sweeps the cells of a kernel's statement from this state.
-fn sweep(table: &mut Table, root: &Statement, outputs: usize, state: &State, env: &Env) -> Found
+fn sweep(
+    table: &mut Table,
+    root: &Statement,
+    outputs: usize,
+    state: &State,
+    env: &Env,
+    direction: Direction,
+) -> Found
     requires state { IsState root.now state.now }
     requires fits { FitsMasks root.now }
     requires traps { 0 + trap_depth (term_of root.now) ≤ 62 }
     requires within { outputs + sheet_size true root.now 0 ≤ length table.old.cells.items }
-    ensures { IsSwept true root.now outputs 0 (sheet_swept root.now state.now (env_of env.now))
+    ensures { IsSwept true root.now outputs 0
+        (sheet_swept direction root.now state.now (env_of env.now))
         table.old.cells.items
         table.new.cells.items result }
 {
@@ -37,6 +46,7 @@ fn sweep(table: &mut Table, root: &Statement, outputs: usize, state: &State, env
         main: true,
         cell: outputs,
         traps: 0,
+        direction,
     };
     match state {
         State::Fresh => begin(table, place, root, Status::Present, env),
@@ -53,14 +63,16 @@ fn round(
     state: &State,
     inputs: u64,
     env: &mut Env,
+    direction: Direction,
 ) -> Found
     requires state { IsState kernel.now.root state.now }
     requires outputs { outputs ≡ output_count kernel.now.interface }
     requires size { length table.old.cells.items ≡ cell_count kernel.now }
-    ensures { IsRound kernel.now.interface (bits inputs) kernel.now.root state.now env.old env.new
+    ensures { IsRound direction kernel.now.interface
+        (bits inputs) kernel.now.root state.now env.old env.new
         table.old.cells.items table.new.cells.items result }
 {
-    let found = sweep(table, kernel.root(), outputs, state, env);
+    let found = sweep(table, kernel.root(), outputs, state, env, direction);
     *env = exchange(table, kernel, inputs, &found.judged);
     found
 }
@@ -72,6 +84,8 @@ pub struct Settled {
     pub found: Found,
     /// What is known of the signals of the interface.
     pub env: Env,
+    /// Which way the last sweep went.
+    pub direction: Direction,
 }
 
 /// Whether more may be decided: the last round has decided something, and there is an open cell.
@@ -82,13 +96,25 @@ fn goes_on(now: usize, before: usize, cells: usize) -> bool
     now != before && now != cells
 }
 
-/// Opens the table, and makes rounds until nothing more can be decided.
+/// Which way to sweep next: a sweep that decided less than an eighth of the open cells is followed
+/// by one the other way.
+fn next_direction(direction: Direction, now: usize, before: usize, cells: usize) -> Direction {
+    if now.saturating_sub(before) < cells.saturating_sub(before) / 8 {
+        direction.turned()
+    } else {
+        direction
+    }
+}
+
+/// Opens the table, and makes rounds until nothing more can be decided. The first sweep goes this
+/// way.
 pub fn settle(
     table: &mut Table,
     kernel: &Kernel,
     outputs: usize,
     state: &State,
     inputs: u64,
+    first: Direction,
 ) -> Settled
     requires state { IsState kernel.now.root state.now }
     requires outputs { outputs ≡ output_count kernel.now.interface }
@@ -100,12 +126,18 @@ pub fn settle(
     let doubt = in_doubt(kernel);
     let mut env = exchange(table, kernel, inputs, &doubt);
     let mut before = 0;
-    let mut found = round(table, kernel, outputs, state, inputs, &mut env);
+    let mut direction = first;
+    let mut found = round(table, kernel, outputs, state, inputs, &mut env, direction);
     let mut now = table.decided();
     while goes_on(now, before, cells) {
+        direction = next_direction(direction, now, before, cells);
         before = now;
-        found = round(table, kernel, outputs, state, inputs, &mut env);
+        found = round(table, kernel, outputs, state, inputs, &mut env, direction);
         now = table.decided();
     }
-    Settled { found, env }
+    Settled {
+        found,
+        env,
+        direction,
+    }
 }

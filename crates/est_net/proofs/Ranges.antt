@@ -1,5 +1,5 @@
 -- Ranges of cells, looked at and decided one after another.
-use Rattle.std.specs.Prelude.{◌≡◌, ◌≢◌, ◌<◌, ◌≤◌, ◌+◌, ◌⊎◌, ℕ, zero, suc, true, false, List}
+use Rattle.std.specs.Prelude.{◌≡◌, ◌≢◌, ◌<◌, ◌≤◌, ◌+◌, ◌⊎◌, ◌&&◌, ℕ, zero, suc, Bool, true, false, not, List}
 use Rattle.std.proofs.Common.{refl, ap, sym, ◌∙◌, arith, inl, inr, subst}
 use Rattle.est_meaning.specs.declared.status.Status.{Status}
 use Rattle.est_meaning.specs.declared.status.Status.TheVariants.{Present, Absent, Unknown}
@@ -30,6 +30,12 @@ one_more lo n cells h d i l u = elim (last_or_before i n u) [
   | inl e ↦ λ z. d (ap (cell_at cells) (sym e) ∙ z)
   | inr k ↦ h i l k
 ]
+
+pub none_more : (lo n : ℕ) (cells : List Status) (was is_true now : Bool) → (was ≡ true → NoneTrue lo n cells)
+    → is_true ≡ is_sure (cell_at cells n) → now ≡ (was && not is_true) → now ≡ true → NoneTrue lo (n + 1) cells
+none_more lo n cells false b now h e f g = let z : false ≡ true = sym f ∙ g in cc
+none_more lo n cells true true now h e f g = let z : false ≡ true = sym f ∙ g in cc
+none_more lo n cells true false now h e f g = one_more lo n cells (h refl) (not_true (cell_at cells n) (sym e))
 
 -- no cell of an empty range has changed; one cell more is told that it is false
 pub none_false : (lo : ℕ) (cells : List Status) → AreFalse lo lo cells cells

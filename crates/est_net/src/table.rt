@@ -1,10 +1,10 @@
 //! Cells, each open or decided.
 
-ghost use Rattle.std.specs.Prelude.{◌≡◌, ◌<◌, ◌≤◌, ◌+◌, true, length, set, slice_get, Some};
-ghost use Rattle.std.specs.Prelude.{option_map, replicate};
+ghost use Rattle.std.specs.Prelude.{◌≡◌, ◌<◌, ◌≤◌, ◌+◌, ◌&&◌, true, length, set, slice_get, Some};
+ghost use Rattle.std.specs.Prelude.{option_map, replicate, take};
 ghost use Rattle.est_cells.specs.Tables.{is_sure};
 ghost use Rattle.est_net.specs.Cells.{AreFalse, Learns, NoneTrue, cell_at, decided, known_as};
-ghost use Rattle.est_net.specs.Cells.{value_of};
+ghost use Rattle.est_net.specs.Cells.{steps_of, value_of};
 ghost use Rattle.est_meaning.specs.declared.status.Status.TheVariants.{Unknown};
 
 use est_meaning::status::Status;
@@ -77,18 +77,26 @@ fn is_true(status: Status) -> bool
     }
 }
 
-/// Whether no cell of a range is true.
+/// Whether both hold.
+#[inline(always)]
+fn both(a: bool, b: bool) -> bool
+    ensures { result ≡ (a && b) }
+{
+    a && b
+}
+
+/// Whether no cell of a range is true. It looks at all of them, since without a way out of the
+/// loop the compiler looks at many at once.
 fn has_no_true(cells: &[Status], from: usize, past: usize) -> bool
     requires range { from ≤ past }
     requires within { past ≤ length cells.now }
     ensures { result ≡ true → NoneTrue from past cells.now }
 {
+    let mut none = true;
     for cell in from..past {
-        if is_true(read(cells, cell)) {
-            return false;
-        }
+        none = both(none, !is_true(read(cells, cell)));
     }
-    true
+    none
 }
 
 /// Decides the open cells of a range, in which none is true, to be false.
@@ -103,15 +111,58 @@ fn make_false(cells: &mut [Status], from: usize, past: usize)
     }
 }
 
+/// How many steps a cell has taken: 1 where it is decided.
+#[inline(always)]
+fn steps(status: Status) -> u8
+    ensures same { result ≡ steps_of status }
+    ensures few { result ≤ 1 }
+{
+    match status {
+        Status::Present | Status::Absent => 1,
+        Status::Unknown => 0,
+    }
+}
+
+/// How many cells of a range are decided. It is so short that a byte counts them, and so the
+/// compiler looks at many at once.
+fn count_few(cells: &[Status], from: usize, past: usize) -> u8
+    requires range { from ≤ past }
+    requires few { past ≤ from + 255 }
+    requires within { past ≤ length cells.now }
+    ensures count { decided (take from cells.now) + result ≡ decided (take past cells.now) }
+    ensures bound { from + result ≤ past }
+{
+    let mut count = 0;
+    for cell in from..past {
+        count += steps(read(cells, cell));
+    }
+    count
+}
+
+/// Where a short range ends that begins at this place.
+fn end_of_few(from: usize, cells: usize) -> usize
+    requires { from < cells }
+    ensures more { from < result }
+    ensures few { result ≤ from + 255 }
+    ensures within { result ≤ cells }
+{
+    if cells - from < 255 {
+        cells
+    } else {
+        from + 255
+    }
+}
+
 /// How many cells are decided.
 fn count_decided(cells: &[Status]) -> usize
     ensures { result ≡ decided cells.now }
 {
     let mut count = 0;
-    for cell in cells {
-        if *cell != Status::Unknown {
-            count += 1;
-        }
+    let mut from = 0;
+    while from < cells.len() {
+        let past = end_of_few(from, cells.len());
+        count += count_few(cells, from, past) as usize;
+        from = past;
     }
     count
 }

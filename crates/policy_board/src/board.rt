@@ -119,7 +119,8 @@ impl<B: BoardName> Closed<B> {
     pub fn reader(&mut self, reader: SlotReader<B>) -> Result<(), Mismatch>
         ensures seen { MatchResult result
             (λ _. Begins reader self.old.policy)
-            (λ mismatch. (mismatch ≡ Count POLICY_LIST) × (length self.old.policy < length reader)) }
+            (λ mismatch. (mismatch ≡ Count POLICY_LIST)
+            × (length self.old.policy < length reader)) }
         ensures same { self.new.policy ≡ self.old.policy }
     {
         self.policy.compare(&reader)

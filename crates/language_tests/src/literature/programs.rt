@@ -266,7 +266,22 @@ const LEAVING: [Program; 6] = [
 
 /// Loops whose body is left and begun again in one instant, circuits in a ring, and instants that
 /// are undecided: after Berry, *The Constructive Semantics of Pure Esterel*.
-const CIRCUITS: [Program; 7] = [
+const CIRCUITS: [Program; 8] = [
+    // links against the order of the text: with the input all are present, without it none is
+    Program {
+        text: "module M: input I; output L0, L1, L2, L3, L4, L5, L6, L7, L8, L9, L10, L11, L12; \
+            loop [present L11 then emit L12 end || present L10 then emit L11 end || present L9 \
+            then emit L10 end || present L8 then emit L9 end || present L7 then emit L8 end || \
+            present L6 then emit L7 end || present L5 then emit L6 end || present L4 then emit L5 \
+            end || present L3 then emit L4 end || present L2 then emit L3 end || present L1 then \
+            emit L2 end || present L0 then emit L1 end || present I then emit L0 end]; pause end \
+            end module",
+        instants: &[
+            ("", Ok("")),
+            ("I", Ok("L0 L1 L2 L3 L4 L5 L6 L7 L8 L9 L10 L11 L12")),
+            ("", Ok("")),
+        ],
+    },
     // a signal that is left is not the one that is declared anew
     Program {
         text: "module M: output O, P; \

@@ -12,9 +12,9 @@ use est_rounds::rounds::Rounds;
 use std::alloc::{AllocError, Global};
 
 /// How deep local signals are nested in what the plain engine runs. For each further one it takes
-/// twice as long. Under two both engines take about as long (docs/BENCH.md, "Two engines"), and
-/// under three the microstep engine takes half to two thirds of the plain engine's instructions.
-const PLAIN_LOCALS: u16 = 2;
+/// twice as long. Under one it takes fewer instructions than the microstep engine, and under two
+/// more (docs/BENCH.md, "Two engines").
+const PLAIN_LOCALS: u16 = 1;
 
 /// The engine of a module. Both engines keep the one promise of engines, so which of them a module
 /// has is a matter of time alone.

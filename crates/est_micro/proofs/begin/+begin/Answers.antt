@@ -3,9 +3,10 @@ use Rattle.est_kernel.specs.declared.statement.Statement.TheFolds.{the_lemmas}
 use Rattle.est_meaning.specs.Status.{with_local}
 use Rattle.est_meaning.specs.declared.status.Status.{Status}
 use Rattle.est_rounds.specs.Views.{env_of}
-use Rattle.est_micro.proofs.BegunNodes.{present_begun, seq_begun, par_begun, suspend_begun, trap_begun, again_begun}
+use Rattle.est_micro.proofs.BegunNodes.{present_begun, seq_begun, par_begun, par_begun_back}
+use Rattle.est_micro.proofs.BegunNodes.{suspend_begun, trap_begun, again_begun}
 use Rattle.est_micro.proofs.BegunNodes.{loop_begun, local_begun, within_one, within_two, within_next, within_local}
-use Rattle.est_micro.proofs.BegunNodes.{within_told}
+use Rattle.est_micro.proofs.BegunNodes.{within_back, within_told}
 use Rattle.est_micro.proofs.IdleSheets.{idle_begun}
 use Rattle.est_micro.proofs.begin.+begin.Goals as goal
 
@@ -32,8 +33,17 @@ begin_seq-returns t c = λ a b.
 pub begin_par-returns : goal.begin_par-returns
 begin_par-returns t c = λ a b.
     par_begun c.args.at a c.args.p.now b c.args.q.now c.args.gate _ c.args.env.now _ _ _ _ _ _ _ _ _ _
-    c.learn-go.ensures.learns c.learn-go.ensures.known c.told-inside.ensures c.begin-first.ensures
+    c.requires.direction c.learn-go.ensures.learns c.learn-go.ensures.known c.told-inside.ensures
+    c.begin-first.ensures
     c.begin-second.ensures
+    c.beside-own.ensures c.leave.ensures
+
+pub begin_par_back-returns : goal.begin_par_back-returns
+begin_par_back-returns t c = λ a b.
+    par_begun_back c.args.at a c.args.p.now b c.args.q.now c.args.gate _ _ c.args.env.now _ _ _ _ _ _ _ _ _ _
+    c.requires.direction c.learn-go.ensures.learns c.learn-go.ensures.known c.past.ensures c.told-inside.ensures
+    c.begin-second.ensures
+    c.begin-first.ensures
     c.beside-own.ensures c.leave.ensures
 
 pub begin_trap-returns : goal.begin_trap-returns
@@ -43,12 +53,14 @@ begin_trap-returns t c = λ a.
 
 pub begin_again-returns : goal.begin_again-returns
 begin_again-returns t c = λ a.
-    again_begun c.args.at.main c.args.at.cell c.args.at.traps a c.args.p.now c.args.gate _ c.args.env.now _ _ _ _ _ _
+    again_begun c.args.at.direction c.args.at.main c.args.at.cell c.args.at.traps a c.args.p.now c.args.gate _
+    c.args.env.now _ _ _ _ _ _
     c.requires.main c.learn-go.ensures.learns c.learn-go.ensures.known c.begin-body.ensures c.leave.ensures
 
 pub begin_loop-returns : goal.begin_loop-returns
 begin_loop-returns t c = λ a.
-    loop_begun c.args.at.main c.args.at.cell c.args.at.traps a c.args.p.now c.args.gate _ c.args.env.now _ _ _ _ _ _ _ _
+    loop_begun c.args.at.direction c.args.at.main c.args.at.cell c.args.at.traps a c.args.p.now c.args.gate _
+    c.args.env.now _ _ _ _ _ _ _ _
     _
     c.requires.main c.learn-go.ensures.learns c.learn-go.ensures.known c.begin-first.ensures c.begin-again.ensures
     c.emitting-own.ensures c.leave.ensures
@@ -117,6 +129,38 @@ begin_par-begin-second-requires t c = (
       within_next c.args.table.now.cells.items _ _ _ _ _ _ _ _ c.begin-first.ensures c.requires.within
           c.learn-go.ensures.learns.size,
       c.requires.second_traps,
+    ),
+  ),
+)
+
+pub begin_par_back-leave-requires-clause-within : goal.begin_par_back-leave-requires-clause-within
+begin_par_back-leave-requires-clause-within t c =
+    within_two _ _ _ c.args.table.now.cells.items _ _ _ _ _ _ _ _ _ _ _ _ _ c.requires.within
+    c.learn-go.ensures.learns.size c.begin-second.ensures
+    c.begin-first.ensures
+
+pub begin_par_back-begin-second-requires : goal.begin_par_back-begin-second-requires
+begin_par_back-begin-second-requires t c = (
+  search (rules, the_lemmas),
+  (
+    c.requires.fits.1,
+    (
+      within_back _ _ _ _ c.args.table.now.cells.items _ c.past.ensures c.requires.within
+          c.learn-go.ensures.learns.size,
+      c.requires.second_traps,
+    ),
+  ),
+)
+
+pub begin_par_back-begin-first-requires : goal.begin_par_back-begin-first-requires
+begin_par_back-begin-first-requires t c = (
+  search (rules, the_lemmas),
+  (
+    c.requires.fits.0,
+    (
+      within_one _ _ c.args.table.now.cells.items _ _ _ _ _ _ _ c.requires.within c.learn-go.ensures.learns.size
+          c.begin-second.ensures,
+      c.requires.first_traps,
     ),
   ),
 )

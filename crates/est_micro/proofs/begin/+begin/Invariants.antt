@@ -23,6 +23,9 @@ decreases-begin_again l = 3 * the_size l.p.now + 2
 abbrev pub decreases-begin_par : goal.decreases-begin_par
 decreases-begin_par l = 3 * max (the_size l.p.now) (the_size l.q.now) + 2
 
+abbrev pub decreases-begin_par_back : goal.decreases-begin_par_back
+decreases-begin_par_back l = 3 * max (the_size l.p.now) (the_size l.q.now) + 2
+
 abbrev pub decreases-begin_trap : goal.decreases-begin_trap
 decreases-begin_trap l = 3 * the_size l.p.now + 2
 

@@ -24,7 +24,8 @@ collect_suspend-returns t c = λ q a.
 
 pub collect_loop-returns : goal.collect_loop-returns
 collect_loop-returns t c = λ a.
-    loop_collected c.args.at.main c.args.at.cell c.args.at.traps a c.args.p.now _ c.args.on c.args.pauses.now _ _ _ _ _
+    loop_collected c.args.at.direction c.args.at.main c.args.at.cell c.args.at.traps a c.args.p.now _ c.args.on
+    c.args.pauses.now _ _ _ _ _
     c.requires.main
     c.collect-past.ensures c.collect.ensures
 

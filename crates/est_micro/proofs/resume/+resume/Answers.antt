@@ -2,7 +2,8 @@ use Rattle.std.proofs.Common.{ap, ◌∙◌, ◌+◌}
 use Rattle.est_meaning.specs.Status.{with_local}
 use Rattle.est_meaning.specs.declared.status.Status.{Status}
 use Rattle.est_rounds.specs.Views.{env_of}
-use Rattle.est_micro.proofs.ResumedNodes.{present_resumed, seq_resumed, par_resumed, suspend_resumed, trap_resumed}
+use Rattle.est_micro.proofs.ResumedNodes.{present_resumed, seq_resumed, par_resumed, par_resumed_back}
+use Rattle.est_micro.proofs.ResumedNodes.{suspend_resumed, trap_resumed}
 use Rattle.est_micro.proofs.ResumedNodes.{loop_resumed, local_resumed, begun_chosen, resumed_chosen, resumed_one}
 use Rattle.est_micro.proofs.ResumedNodes.{resumed_two, resumed_next, resumed_local, resumed_told}
 use Rattle.est_micro.proofs.resume.+resume.Goals as goal
@@ -15,7 +16,8 @@ part-returns-then-is_on t c =
 
 pub part-returns-else-is_on : goal.part-returns-else-is_on
 part-returns-else-is_on t c =
-    begun_chosen c.args.at.main c.args.at.cell c.args.at.traps c.args.p.now c.args.pauses.now c.args.is_on c.args.gate
+    begun_chosen c.args.at.direction c.args.at.main c.args.at.cell c.args.at.traps c.args.p.now c.args.pauses.now
+    c.args.is_on c.args.gate
     c.args.run
     c.args.env.now _ _ _ c.requires.main c.if-is_on.false c.begin.ensures
 
@@ -36,8 +38,19 @@ resume_seq-returns t c = λ a b.
 pub resume_par-returns : goal.resume_par-returns
 resume_par-returns t c = λ a b.
     par_resumed c.args.at a c.args.p.now b c.args.q.now c.args.pauses.now c.args.run _ _ _ c.args.env.now
-    _ _ _ _ _ _ _ _ _ _ _ _ c.has_live-first_on.ensures c.has_live-second_on.ensures c.learn-go.ensures.learns
+    _ _ _ _ _ _ _ _ _ _ _ _ c.requires.direction c.has_live-first_on.ensures c.has_live-second_on.ensures
+    c.learn-go.ensures.learns
     c.learn-go.ensures.known c.part-first.ensures c.told-inside.ensures c.part-second.ensures c.side-left.ensures
+    c.side-right.ensures
+    c.beside-own.ensures c.leave.ensures
+
+pub resume_par_back-returns : goal.resume_par_back-returns
+resume_par_back-returns t c = λ a b.
+    par_resumed_back c.args.at a c.args.p.now b c.args.q.now c.args.pauses.now c.args.run _ _ _ _ c.args.env.now
+    _ _ _ _ _ _ _ _ _ _ _ _ c.requires.direction c.has_live-first_on.ensures c.has_live-second_on.ensures
+    c.learn-go.ensures.learns
+    c.learn-go.ensures.known c.past.ensures c.part-second.ensures c.told-inside.ensures c.part-first.ensures
+    c.side-left.ensures
     c.side-right.ensures
     c.beside-own.ensures c.leave.ensures
 

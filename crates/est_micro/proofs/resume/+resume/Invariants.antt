@@ -23,6 +23,9 @@ decreases-resume_loop l = 3 * the_size l.p.now + 2
 abbrev pub decreases-resume_par : goal.decreases-resume_par
 decreases-resume_par l = 3 * max (the_size l.p.now) (the_size l.q.now) + 2
 
+abbrev pub decreases-resume_par_back : goal.decreases-resume_par_back
+decreases-resume_par_back l = 3 * max (the_size l.p.now) (the_size l.q.now) + 2
+
 abbrev pub decreases-resume_trap : goal.decreases-resume_trap
 decreases-resume_trap l = 3 * the_size l.p.now + 2
 

@@ -1,7 +1,13 @@
-use Rattle.std.proofs.Common.{◌≡◌, ◌≤◌, take}
+use Rattle.std.proofs.Common.{◌≡◌, ◌≤◌, ◌-◌, length, take}
 use Rattle.est_net.specs.Cells.{decided}
 use Rattle.est_net.proofs.table.count_decided.Given as goal
 
-abbrev pub invariant-loop-cell : goal.invariant-loop-cell
-invariant-loop-cell l =
-    record { so_far : l.count ≡ decided (take l.cell-index l.cells); bounded : l.count ≤ l.cell-index }
+abbrev pub invariant-loop-from : goal.invariant-loop-from
+invariant-loop-from l = record {
+  so_far : l.count ≡ decided (take l.from l.cells);
+  bounded : l.count ≤ l.from;
+  within : l.from ≤ length l.cells;
+}
+
+abbrev pub decreases-loop-from : goal.decreases-loop-from
+decreases-loop-from l = length l.cells - l.from

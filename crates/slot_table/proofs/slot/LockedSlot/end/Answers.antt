@@ -18,7 +18,8 @@ returns-clause-handed g c =
     let policy = c.args.board.now.policy in
     subst (λ (s : LockedState). MatchResult c.reader-handed.result (λ _. IsLegal policy g.row.NUMBER s.journal)
     (λ mismatch. (mismatch ≡ Count POLICY_LIST) × (length policy < length s.list))) c.self.view_is
-    (subst (λ (held : Option (List Entry)). MatchResult c.reader-handed.result (λ _. IsLegal policy g.row.NUMBER journal)
+    (subst (λ (held : Option (List Entry)). MatchResult c.reader-handed.result
+    (λ _. IsLegal policy g.row.NUMBER journal)
     (λ mismatch. (mismatch ≡ Count POLICY_LIST) × (length policy < length (unwrap_or held []))))
     (sym c.unwrap-reader.ensures)
     (handed_legal c.unwrap-reader.result policy g.row.NUMBER journal c.reader-handed.result

@@ -1,0 +1,198 @@
+// What bench/port.py puts before the files of the microstep engine: a reader of its cases, and the types that are made elsewhere.
+#![allow(dead_code, unused_imports)]
+
+mod by_hand {
+    pub mod interface {
+        pub struct Interface {
+            pub emittable: u64,
+            pub offerable: u64,
+            pub len: usize,
+        }
+
+        impl Interface {
+            pub fn emittable(&self) -> u64 {
+                self.emittable
+            }
+            pub fn offerable(&self) -> u64 {
+                self.offerable
+            }
+            pub fn len(&self) -> usize {
+                self.len
+            }
+        }
+    }
+
+    pub mod kernel {
+        use super::interface::Interface;
+        use crate::est_kernel::statement::Statement;
+
+        pub struct Kernel {
+            pub interface: Interface,
+            pub root: Statement,
+        }
+
+        impl Kernel {
+            pub fn interface(&self) -> &Interface {
+                &self.interface
+            }
+            pub fn root(&self) -> &Statement {
+                &self.root
+            }
+        }
+    }
+
+    pub mod state {
+        use crate::est_kernel::pause_set::PauseSet;
+
+        #[derive(Clone, Copy)]
+        pub enum State {
+            Fresh,
+            Done,
+            Paused(PauseSet),
+        }
+
+        pub struct Inputs {
+            pub signals: u64,
+        }
+
+        pub struct Outcome {
+            pub outputs: u64,
+            pub next: State,
+        }
+
+        pub struct Stuck {
+            pub undecided: u64,
+        }
+    }
+
+    pub mod net {
+        use crate::est_net::table::Table;
+
+        pub struct Net {
+            pub table: Table,
+            pub outputs: usize,
+        }
+    }
+}
+
+use by_hand::interface::Interface;
+use by_hand::kernel::Kernel;
+use by_hand::net::Net;
+use by_hand::state::{Inputs, State};
+use est_kernel::statement::{InterfaceSignal, LocalSignal, PauseIndex, Signal, Statement, Test, TrapIndex};
+use est_meaning::status::Status;
+use est_micro::micro::Micro;
+use est_net::table::Table;
+
+/// The words of a statement, and the names that are in scope.
+struct Reader<'a> {
+    words: std::str::SplitWhitespace<'a>,
+    signals: Vec<&'a str>,
+    locals: Vec<&'a str>,
+    traps: Vec<&'a str>,
+    pauses: u16,
+}
+
+impl<'a> Reader<'a> {
+    fn word(&mut self) -> &'a str {
+        self.words.next().expect("the statement ends too early")
+    }
+
+    fn signal(&mut self) -> Signal {
+        let name = self.word();
+        if let Some(index) = self.locals.iter().rposition(|each| *each == name) {
+            return Signal::Local(LocalSignal { index: index as u16 });
+        }
+        let index = self.signals.iter().position(|each| *each == name).expect("no signal");
+        Signal::Interface(InterfaceSignal { index: index as u8 })
+    }
+
+    fn part(&mut self) -> Box<Statement> {
+        Box::new(self.statement())
+    }
+
+    fn statement(&mut self) -> Statement {
+        match self.word() {
+            "nothing" => Statement::Nothing,
+            "pause" => {
+                self.pauses += 1;
+                Statement::Pause(PauseIndex { index: self.pauses - 1 })
+            }
+            "emit" => Statement::Emit(self.signal()),
+            "present" => Statement::Present(Test::Status(self.signal()), self.part(), self.part()),
+            "suspend" => Statement::Suspend(Test::Status(self.signal()), self.part()),
+            "seq" => Statement::Seq(self.part(), self.part()),
+            "par" => Statement::Par(self.part(), self.part()),
+            "loop" => Statement::Loop(self.part()),
+            "trap" => {
+                let name = self.word();
+                self.traps.push(name);
+                let body = self.part();
+                self.traps.pop();
+                Statement::Trap(body)
+            }
+            "exit" => {
+                let name = self.word();
+                let index = self.traps.iter().rev().position(|each| *each == name).expect("no trap");
+                Statement::Exit(TrapIndex { index: index as u16 })
+            }
+            "local" => {
+                let name = self.word();
+                self.locals.push(name);
+                let body = self.part();
+                self.locals.pop();
+                Statement::Local(LocalSignal { index: self.locals.len() as u16 }, body)
+            }
+            word => panic!("{word} begins no statement"),
+        }
+    }
+}
+
+/// How many cells a statement has.
+fn size(main: bool, s: &Statement, traps: usize) -> usize {
+    let own = traps + 3;
+    match s {
+        Statement::Nothing | Statement::Pause(_) | Statement::Emit(_) | Statement::Exit(_) => own,
+        Statement::Present(_, p, q) | Statement::Seq(p, q) | Statement::Par(p, q) => {
+            own + size(main, p, traps) + size(main, q, traps)
+        }
+        Statement::Suspend(_, p) => own + size(main, p, traps),
+        Statement::Loop(p) => own + size(main, p, traps) + if main { size(false, p, traps) } else { 0 },
+        Statement::Trap(p) => own + size(main, p, traps + 1),
+        Statement::Local(_, p) => own + 1 + size(main, p, traps),
+    }
+}
+
+/// The mask of as many signals.
+fn first(count: usize) -> u64 {
+    if count == 64 { u64::MAX } else { (1 << count) - 1 }
+}
+
+fn main() {
+    let words: Vec<String> = std::env::args().collect();
+    let text = std::fs::read_to_string(&words[1]).expect("no case");
+    let instants: usize = words[2].parse().expect("no number of instants");
+    let lines: Vec<&str> = text.lines().collect();
+    let masks: Vec<u64> = lines[0].split_whitespace().map(|mask| u64::from_str_radix(mask, 16).expect("no mask")).collect();
+    let inputs = lines[1].split_whitespace().count();
+    let signals: Vec<&str> = lines[1].split_whitespace().chain(lines[2].split_whitespace()).collect();
+    let len = signals.len();
+    let mut reader = Reader { words: lines[3].split_whitespace(), signals, locals: vec![], traps: vec![], pauses: 0 };
+    let root = reader.statement();
+    let cells = len - inputs + size(true, &root, 0);
+    let interface = Interface { emittable: first(len) & !first(inputs), offerable: first(inputs), len };
+    let kernel = Kernel { interface, root };
+    let mut engine = Micro::new(Net { table: Table::new(vec![Status::Unknown; cells]), outputs: len - inputs });
+    let (mut state, mut sum) = (State::Fresh, 0u64);
+    for n in 0..instants {
+        let Ok(outcome) = engine.run(&kernel, &state, &Inputs { signals: masks[n % masks.len()] & first(inputs) }) else {
+            panic!("instant {n} is stuck");
+        };
+        sum = sum.wrapping_mul(31).wrapping_add(outcome.outputs);
+        state = match outcome.next {
+            State::Paused(pauses) => State::Paused(pauses),
+            State::Fresh | State::Done => State::Fresh,
+        };
+    }
+    println!("{cells} {} {sum:016x}", engine.steps());
+}
