@@ -50,7 +50,7 @@ bad_offer journal name = record {
       × FirstRefuses (all_converted refusal_of_pending (pending_rules (pending_of r) name)) given;
   passes =
       (r : Running) × RunsAfter journal r
-          × AllPass (all_converted refusal_of_pending (pending_rules (pending_of r) name));
+      × AllPass (all_converted refusal_of_pending (pending_rules (pending_of r) name));
 }
 
 -- the rules of what a command asks of its slot, for a session that lives; memory apart

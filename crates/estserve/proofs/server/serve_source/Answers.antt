@@ -17,7 +17,7 @@ close-requires-in-Ok-served g c =
     = search rules in
     let few : length c.in-Ok-served.back.seats.items ≤ SEATS
     = rw (as_many ServesNext (quota_of c.args.connections) all c.args.workers new_seat c.in-Ok-served.back.seats.items
-        back)
+    back)
     (subst (λ n. n ≤ SEATS) c.count.ensures.count c.count.ensures.few) in
     search (rules, few)
 
