@@ -1,8 +1,6 @@
 //! Texts and their first faults, as a load of the module M answers them.
-use crate::access::reactors::{Held, Line, STAMP, Told, call, parse_answer};
-use est_text::place::Place;
+use crate::access::reactors::{Held, Line, Told, call, parse_answer};
 use reactor_core::journal::Journal;
-use reactor_core::reactor::Reactor;
 use reactor_core::refusal::{ModuleRefusal, Refusal};
 use std::alloc::Global;
 use std::process::Abort;
@@ -192,29 +190,6 @@ fn sizes_are_limited(rt: HostRuntime) {
             parse_answer(&rt, alloc, fault),
             "{before}{middle}{count}"
         );
-    }
-}
-
-/// No module has a name that is no identifier: a load of it is refused, and the journal is handed
-/// back as it was. A fault of the text's tokens or of its grammar comes first.
-#[test]
-fn a_name_that_is_no_identifier_is_unknown(rt: HostRuntime) {
-    let alloc = rt.alloc();
-    let unknown = Refusal::Module(ModuleRefusal::UnknownModule(None));
-    let ends_early = Refusal::Module(ModuleRefusal::Syntax(Place { line: 1, column: 9 }));
-    for main in ["", "1", "M ", "M-N"] {
-        for (text, expected) in [
-            ("module M: pause end module", unknown),
-            ("module M", ends_early),
-        ] {
-            match Reactor::load(alloc, Journal::new(alloc), STAMP, main, text) {
-                Ok(_reactor) => assert!(rt; false, "{main:?} is loaded"),
-                Err((refusal, journal)) => {
-                    assert_eq!(rt; refusal, expected);
-                    assert_eq!(rt; journal.len(), 0);
-                }
-            }
-        }
     }
 }
 
