@@ -1,5 +1,4 @@
 pub mod Barring
-pub mod Chains
 pub mod Deciding
 pub mod Declaring
 pub mod Emitting

@@ -1,4 +1,3 @@
-pub mod AllRuns
 pub mod Binds
 pub mod Checked
 pub mod Joins

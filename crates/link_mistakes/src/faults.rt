@@ -168,7 +168,7 @@ fn lawless_number(alloc: Global, main: Option<&Head<'_>>) -> Result<Option<usize
 pub fn fault_before_order<'a>(
     alloc: Global,
     heads: &'a [Head<'a>],
-    main: &str,
+    main: &Identifier,
 ) -> Result<Option<LinkFault>, AllocError>
     ensures { IfOk result (λ fault. fault ≡ fault_before_order (map program_of heads.now)
         main.now) }
@@ -176,11 +176,8 @@ pub fn fault_before_order<'a>(
     if let Some(name) = first_duplicate(alloc, &*heads)? {
         return Ok(Some(LinkFault::DuplicateName(name)));
     }
-    let Some(main) = Identifier::from_text(main) else {
-        return Ok(Some(LinkFault::UnknownModule(None)));
-    };
-    match first_missing(alloc, &*heads, &main)? {
-        Some(name) => Ok(Some(LinkFault::UnknownModule(Some(name)))),
+    match first_missing(alloc, &*heads, main)? {
+        Some(name) => Ok(Some(LinkFault::UnknownModule(name))),
         None => Ok(None),
     }
 }
