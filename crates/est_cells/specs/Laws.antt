@@ -6,7 +6,7 @@ use Rattle.est_kernel.specs.View.{term_of}
 use Rattle.est_meaning.specs.declared.status.Status.{Status}
 use Rattle.est_meaning.specs.Knowledge.{IsBelow, KnowsLess}
 use Rattle.est_meaning.specs.States.{is_live, IsExclusive, term_at, IsState, state_term}
-use Rattle.est_meaning.specs.Status.{Env}
+use Rattle.est_meaning.specs.Environments.{Env}
 use Rattle.est_kernel.specs.declared.state.State.{State}
 use Rattle.est_meaning.specs.Laws.{IsWithinPlaces}
 use Rattle.est_meaning.specs.Rounds.{JudgedSignals, last_env}

@@ -9,7 +9,7 @@ use Rattle.est_kernel.specs.Codes.{codes_out_of_trap, code_out_of_trap}
 use Rattle.est_meaning.specs.Signals.{Signals, no_signals, only, union, without}
 use Rattle.est_meaning.specs.declared.status.Status.{Status}
 use Rattle.est_meaning.specs.declared.status.Status.TheVariants.{Present, Absent, Unknown}
-use Rattle.est_meaning.specs.Status.{Env, status_of, with_local, verdict, by_status}
+use Rattle.est_meaning.specs.Environments.{Env, status_of, with_local, verdict, by_status}
 use Rattle.est_meaning.specs.MustCan.{Acts, no_acts, just_code, must_then, sure, must, can, status_within, env_within}
 use Rattle.est_kernel.specs.StartCodes.{start_codes, IsLoopSafe}
 use Rattle.est_meaning.specs.Rules.{Gives, HasNoRule, rest_of, takes_first, takes_second, is_held, is_resumed, goes_on}

@@ -14,7 +14,7 @@ use Rattle.est_meaning.specs.Reaction.{Reacts}
 use Rattle.est_meaning.specs.Rounds.{JudgedSignals, judged_signals, first_env, round, env_after, how_many, last_env}
 use Rattle.est_meaning.specs.Rules.{Gives}
 use Rattle.est_meaning.specs.Signals.{Signals}
-use Rattle.est_meaning.specs.Status.{Env, with_local, verdict}
+use Rattle.est_meaning.specs.Environments.{Env, with_local, verdict}
 use Rattle.est_meaning.proofs.RoundsComeToRest.{settles, judged_within}
 use Rattle.est_meaning.proofs.KnowledgeIsMonotone.{monotone, local_below, less_same}
 use Rattle.est_meaning.proofs.DecidedByMust.{gives_must, gives_can}

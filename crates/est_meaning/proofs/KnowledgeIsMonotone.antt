@@ -11,8 +11,8 @@ use Rattle.est_kernel.specs.declared.statement.Connective.TheVariants.{And, Or}
 use Rattle.est_meaning.specs.Signals.{Signals, no_signals, union, without, same_name}
 use Rattle.est_meaning.specs.declared.status.Status.{Status}
 use Rattle.est_meaning.specs.declared.status.Status.TheVariants.{Present, Absent, Unknown}
-use Rattle.est_meaning.specs.Status.{Env, opposite, and_status, or_status, joint_status, status_of, status_of_all}
-use Rattle.est_meaning.specs.Status.{with_local, verdict, by_status}
+use Rattle.est_meaning.specs.Environments.{Env, opposite, and_status, or_status, joint_status, status_of, status_of_all}
+use Rattle.est_meaning.specs.Environments.{with_local, verdict, by_status}
 use Rattle.est_meaning.specs.MustCan.{Acts, no_acts, just_code, either, together, acts_out_of_trap, hide, may_stay}
 use Rattle.est_meaning.specs.MustCan.{must_then, can_then, Mode, sure, maybe, next_mode, must, can, env_within}
 use Rattle.est_meaning.specs.Knowledge.{IsBelow, KnowsLess, IsIn, IsWithin}

@@ -7,7 +7,7 @@ use Rattle.est_kernel.specs.Term.{signal}
 use Rattle.est_meaning.specs.Signals.{Signals, union, without}
 use Rattle.est_meaning.specs.declared.status.Status.{Status}
 use Rattle.est_meaning.specs.declared.status.Status.TheVariants.{Present, Absent}
-use Rattle.est_meaning.specs.Status.{Env, status_of}
+use Rattle.est_meaning.specs.Environments.{Env, status_of}
 use Rattle.est_meaning.specs.MustCan.{sure, env_within}
 use Rattle.est_meaning.specs.Rules.{Gives, Behaviour, rest_of, IsJust, Inside, takes_first, takes_second, is_held}
 use Rattle.est_meaning.specs.Rules.{is_resumed, goes_on, ends_then}

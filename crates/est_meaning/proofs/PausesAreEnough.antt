@@ -12,7 +12,7 @@ use Rattle.est_kernel.specs.declared.statement.Statement.TheVariants.{Loop', Par
 use Rattle.est_kernel.specs.declared.statement.LocalSignal.{LocalSignal}
 use Rattle.est_meaning.specs.Signals.{Signals, no_signals, union, without}
 use Rattle.est_meaning.specs.declared.status.Status.TheVariants.{Unknown}
-use Rattle.est_meaning.specs.Status.{Env}
+use Rattle.est_meaning.specs.Environments.{Env}
 use Rattle.est_meaning.specs.MustCan.{sure, status_within, env_within}
 use Rattle.est_meaning.specs.Rules.{Gives, rest_of, takes_first, takes_second, is_held, is_resumed, goes_on, ends_then}
 use Rattle.est_meaning.specs.Steps.{StepsTo}

@@ -9,7 +9,7 @@ use Rattle.est_kernel.specs.Term.{outer, inner, Term}
 use Rattle.est_kernel.specs.declared.interface.Declaration.{Declaration}
 use Rattle.est_meaning.specs.declared.status.Status.{Status}
 use Rattle.est_meaning.specs.declared.status.Status.TheVariants.{Present, Absent, Unknown}
-use Rattle.est_meaning.specs.Status.{Env, verdict, is_unknown}
+use Rattle.est_meaning.specs.Environments.{Env, verdict, is_unknown}
 use Rattle.est_meaning.specs.MustCan.{sure, must, can}
 use Rattle.est_meaning.specs.Knowledge.{IsBelow, KnowsLess}
 use Rattle.est_meaning.specs.Rounds.{JudgedSignals, judged_signals, first_env, round, env_after, how_many, last_env}

@@ -16,7 +16,7 @@ use Rattle.est_meaning.specs.MustCan.{sure, env_within}
 use Rattle.est_meaning.specs.Rules.{Gives, rest_of, takes_first, takes_second, is_held, is_resumed, goes_on, ends_then}
 use Rattle.est_meaning.specs.Signals.{Signals}
 use Rattle.est_meaning.specs.States.{term_at, is_live, state_term}
-use Rattle.est_meaning.specs.Status.{Env}
+use Rattle.est_meaning.specs.Environments.{Env}
 
 safe_rest : (k : ℕ) (u v : Term) → v ≡ rest_of k u → IsLoopSafe u → IsLoopSafe v
 safe_rest zero u v e h = rw e tt

@@ -1,7 +1,7 @@
 -- After a round that changes nothing, no round changes anything.
 use Rattle.std.proofs.Common.{◌≡◌, ◌≤◌, ℕ, zero, suc, ◌+◌, ◌-◌, ap, sym, ◌∙◌, arith}
 use Rattle.est_kernel.specs.Term.{Term}
-use Rattle.est_meaning.specs.Status.{Env}
+use Rattle.est_meaning.specs.Environments.{Env}
 use Rattle.est_meaning.specs.Rounds.{JudgedSignals, round, env_after}
 
 stays : (k n : ℕ) (j : JudgedSignals) (t : Term) (e : Env) → round j t (env_after n j t e) ≡ env_after n j t e

@@ -9,7 +9,7 @@ use Rattle.est_kernel.specs.declared.statement.Statement.{Statement}
 use Rattle.est_kernel.specs.declared.statement.Statement.TheVariants.{Present', Suspend', Seq', Loop', Par'}
 use Rattle.est_meaning.specs.Signals.{Signals, no_signals, union}
 use Rattle.est_meaning.specs.declared.status.Status.TheVariants.{Present, Absent}
-use Rattle.est_meaning.specs.Status.{Env, status_of}
+use Rattle.est_meaning.specs.Environments.{Env, status_of}
 use Rattle.est_meaning.specs.Rules.{Gives, HasNoRule, rest_of, takes_first, takes_second, is_held, goes_on, ends_then}
 use Rattle.est_meaning.proofs.OneReactionAtMost.{unique}
 use Rattle.std.proofs.lemmas.Bool.{cases_eq, ne_eqb, or_parts}

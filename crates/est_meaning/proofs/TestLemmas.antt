@@ -11,8 +11,8 @@ use Rattle.est_kernel.specs.declared.statement.Test.TheViews.{out-Operands}
 use Rattle.est_kernel.proofs.Tests.{operands_seen}
 use Rattle.est_meaning.specs.declared.status.Status.{Status}
 use Rattle.est_meaning.specs.declared.status.Status.TheVariants.{Present, Absent, Unknown}
-use Rattle.est_meaning.specs.Status.{Env, and_status, or_status, joint_status, status_of, status_of_all}
-use Rattle.est_meaning.specs.Status.{status_of_joint}
+use Rattle.est_meaning.specs.Environments.{Env, and_status, or_status, joint_status, status_of, status_of_all}
+use Rattle.est_meaning.specs.Environments.{status_of_joint}
 
 and_in_turn : (u v w : Status) → and_status (and_status u v) w ≡ and_status u (and_status v w)
 and_in_turn Present v w = refl

@@ -19,7 +19,7 @@ use Rattle.est_meaning.specs.Rounds.{JudgedSignals, judged_signals, first_env, e
 use Rattle.est_meaning.specs.Rules.{Gives, HasNoRule}
 use Rattle.est_meaning.specs.Signals.{Signals, without}
 use Rattle.est_meaning.specs.States.{IsState, state_term}
-use Rattle.est_meaning.specs.Status.{Env}
+use Rattle.est_meaning.specs.Environments.{Env}
 use Rattle.est_meaning.specs.declared.status.Status.{Status}
 use Rattle.est_meaning.specs.declared.status.Status.TheVariants.{Present, Absent, Unknown}
 

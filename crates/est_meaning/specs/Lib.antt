@@ -1,5 +1,5 @@
 pub mod Signals
-pub mod Status
+pub mod Environments
 pub mod MustCan
 pub mod Rules
 pub mod Rounds

@@ -6,7 +6,7 @@ use Rattle.est_kernel.specs.Codes.{Codes, no_codes, code, either_code, but_zero,
 use Rattle.est_meaning.specs.Signals.{Signals, no_signals, only, union, without}
 use Rattle.est_meaning.specs.declared.status.Status.{Status}
 use Rattle.est_meaning.specs.declared.status.Status.TheVariants.{Unknown}
-use Rattle.est_meaning.specs.Status.{Env, status_of, with_local, verdict, by_status}
+use Rattle.est_meaning.specs.Environments.{Env, status_of, with_local, verdict, by_status}
 
 -- signals that are emitted, and codes that are given
 pub record Acts : Type 0 where

@@ -3,7 +3,7 @@
 use Rattle.std.specs.Prelude.{◌≡◌, ℕ, Bool, ◌&&◌}
 use Rattle.est_kernel.specs.Term.{outer, Term}
 use Rattle.est_meaning.specs.Signals.{Signals}
-use Rattle.est_meaning.specs.Status.{is_unknown}
+use Rattle.est_meaning.specs.Environments.{is_unknown}
 use Rattle.est_meaning.specs.Rules.{Gives, HasNoRule}
 use Rattle.est_meaning.specs.Rounds.{JudgedSignals, last_env}
 

@@ -4,7 +4,7 @@ use Rattle.est_kernel.specs.Interfaces.{emittable}
 use Rattle.est_kernel.specs.Term.{outer, inner, Term}
 use Rattle.est_kernel.specs.declared.interface.Declaration.{Declaration}
 use Rattle.est_meaning.specs.declared.status.Status.TheVariants.{Absent, Unknown}
-use Rattle.est_meaning.specs.Status.{Env, verdict}
+use Rattle.est_meaning.specs.Environments.{Env, verdict}
 use Rattle.est_meaning.specs.MustCan.{must, can, sure}
 
 -- the interface signals that the rounds judge: those below `places` for which the test holds

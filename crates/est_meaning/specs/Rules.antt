@@ -7,7 +7,7 @@ use Rattle.est_kernel.specs.Term.{signal}
 use Rattle.est_meaning.specs.Signals.{Signals, no_signals, only, union, without}
 use Rattle.est_meaning.specs.declared.status.Status.{Status}
 use Rattle.est_meaning.specs.declared.status.Status.TheVariants.{Present, Absent, Unknown}
-use Rattle.est_meaning.specs.Status.{Env, status_of}
+use Rattle.est_meaning.specs.Environments.{Env, status_of}
 use Rattle.est_meaning.specs.MustCan.{sure, status_within, env_within}
 
 -- what is left where a code is given: only code 1 leaves something to go on with

@@ -4,7 +4,7 @@ use Rattle.est_kernel.specs.Term.{Term}
 use Rattle.est_meaning.specs.States.{is_live, term_at, IsExclusive}
 use Rattle.est_kernel.specs.declared.statement.Statement.{Statement}
 use Rattle.est_meaning.specs.Signals.{Signals}
-use Rattle.est_meaning.specs.Status.{Env}
+use Rattle.est_meaning.specs.Environments.{Env}
 use Rattle.est_meaning.specs.Rules.{Gives, rest_of}
 
 -- by the rules t gives o and k, and the set pauses of s stand for what is left of it

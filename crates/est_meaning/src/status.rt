@@ -1,7 +1,7 @@
 //! What is known of a signal and of a test in an instant.
 
 ghost use Rattle.std.specs.Prelude.{◌≡◌};
-ghost use Rattle.est_meaning.specs.Status.{opposite, and_status, or_status, joint_status};
+ghost use Rattle.est_meaning.specs.Environments.{opposite, and_status, or_status, joint_status};
 
 use est_kernel::statement::Connective;
 

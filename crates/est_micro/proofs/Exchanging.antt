@@ -10,7 +10,7 @@ use Rattle.est_kernel.specs.Interfaces.{emittable}
 use Rattle.est_kernel.specs.declared.interface.Declaration.{Declaration}
 use Rattle.est_kernel.specs.Term.{outer, inner}
 use Rattle.est_meaning.specs.Rounds.{how_many}
-use Rattle.est_meaning.specs.Status.{verdict}
+use Rattle.est_meaning.specs.Environments.{verdict}
 use Rattle.est_meaning.specs.declared.status.Status.{Status}
 use Rattle.est_meaning.specs.declared.status.Status.TheVariants.{Present, Absent, Unknown}
 use Rattle.est_cells.specs.Tables.{is_sure, is_possible}

@@ -10,7 +10,7 @@ use Rattle.est_kernel.specs.declared.statement.Statement.{Statement}
 use Rattle.est_meaning.specs.Knowledge.{IsBelow, IsIn, KnowsLess}
 use Rattle.est_meaning.specs.Signals.{Signals, no_signals, union, without, same_name}
 use Rattle.est_meaning.specs.States.{term_at}
-use Rattle.est_meaning.specs.Status.{Env, verdict, with_local}
+use Rattle.est_meaning.specs.Environments.{Env, verdict, with_local}
 use Rattle.est_meaning.specs.declared.status.Status.{Status}
 use Rattle.est_meaning.specs.declared.status.Status.TheVariants.{Present, Absent, Unknown}
 use Rattle.est_cells.proofs.Emitted.{sure_begun, sure_resumed}

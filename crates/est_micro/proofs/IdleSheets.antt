@@ -10,7 +10,7 @@ use Rattle.est_kernel.specs.declared.statement.Statement.{Statement}
 use Rattle.est_kernel.specs.declared.statement.Statement.TheVariants.{Nothing, Pause, Emit, Present', Suspend', Seq'}
 use Rattle.est_kernel.specs.declared.statement.Statement.TheVariants.{Loop', Par', Trap', Exit, Local' as Binder'}
 use Rattle.est_meaning.specs.Signals.{Signals, no_signals, union, without}
-use Rattle.est_meaning.specs.Status.{Env, and_status, opposite, status_of, verdict, with_local}
+use Rattle.est_meaning.specs.Environments.{Env, and_status, opposite, status_of, verdict, with_local}
 use Rattle.est_meaning.specs.declared.status.Status.{Status}
 use Rattle.est_meaning.specs.declared.status.Status.TheVariants.{Present, Absent, Unknown}
 use Rattle.est_cells.proofs.Emitted.{again_none, run_none}

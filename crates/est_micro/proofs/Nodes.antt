@@ -6,7 +6,7 @@ use Rattle.est_kernel.specs.CodeViews.{codes_of}
 use Rattle.est_kernel.specs.declared.statement.Statement.{Statement}
 use Rattle.est_kernel.specs.declared.statement.Statement.TheVariants.{Nothing, Pause, Emit, Present', Suspend', Seq'}
 use Rattle.est_kernel.specs.declared.statement.Statement.TheVariants.{Loop', Par', Trap', Exit, Local' as Binder'}
-use Rattle.est_meaning.specs.Status.{verdict}
+use Rattle.est_meaning.specs.Environments.{verdict}
 use Rattle.est_meaning.specs.declared.status.Status.{Status}
 use Rattle.est_cells.specs.Gates.{ends}
 use Rattle.est_cells.specs.Tables.{Cells, Parts, Sheet, sheet_size, emits, is_sure, is_possible}

@@ -29,7 +29,7 @@ use Rattle.est_meaning.specs.Rounds.{judged_signals, last_env}
 use Rattle.est_meaning.specs.Rules.{Gives}
 use Rattle.est_meaning.specs.Signals.{Signals, no_signals}
 use Rattle.est_meaning.specs.States.{IsState, state_term, term_at}
-use Rattle.est_meaning.specs.Status.{Env, verdict, is_unknown}
+use Rattle.est_meaning.specs.Environments.{Env, verdict, is_unknown}
 use Rattle.est_meaning.specs.Steps.{StepsTo}
 use Rattle.est_meaning.specs.declared.status.Status.{Status}
 use Rattle.est_meaning.specs.declared.status.Status.TheVariants.{Unknown}

@@ -13,7 +13,7 @@ use Rattle.est_kernel.specs.declared.statement.Statement.TheVariants.{Pause, Pre
 use Rattle.est_kernel.specs.declared.statement.Statement.TheVariants.{Loop', Par', Trap', Local' as Binder'}
 use Rattle.est_meaning.specs.Signals.{Signals, no_signals}
 use Rattle.est_meaning.specs.States.{is_live}
-use Rattle.est_meaning.specs.Status.{Env, and_status, opposite, status_of, verdict, with_local}
+use Rattle.est_meaning.specs.Environments.{Env, and_status, opposite, status_of, verdict, with_local}
 use Rattle.est_meaning.specs.declared.status.Status.{Status}
 use Rattle.est_meaning.specs.declared.status.Status.TheVariants.{Absent}
 use Rattle.est_cells.proofs.ValuesAreMeant.{two}

@@ -15,7 +15,7 @@ use Rattle.est_meaning.specs.MustCan.{must, can, sure}
 use Rattle.est_meaning.specs.Rounds.{JudgedSignals, judged_signals, first_env, round, env_after, last_env, how_many}
 use Rattle.est_meaning.specs.Signals.{Signals}
 use Rattle.est_meaning.specs.States.{state_term}
-use Rattle.est_meaning.specs.Status.{Env, verdict}
+use Rattle.est_meaning.specs.Environments.{Env, verdict}
 use Rattle.est_meaning.specs.declared.status.Status.{Status}
 use Rattle.est_meaning.specs.declared.status.Status.TheVariants.{Present, Absent, Unknown}
 use Rattle.est_cells.proofs.WholeTable.{at_rest, judged_round, sheet_sure, table_sound}

@@ -14,7 +14,7 @@ use Rattle.est_kernel.specs.declared.statement.Statement.{Statement}
 use Rattle.est_meaning.specs.Laws.{IsWithinPlaces}
 use Rattle.est_meaning.specs.Rounds.{judged_signals, last_env}
 use Rattle.est_meaning.specs.States.{state_term}
-use Rattle.est_meaning.specs.Status.{Env, verdict}
+use Rattle.est_meaning.specs.Environments.{Env, verdict}
 use Rattle.est_meaning.specs.declared.status.Status.{Status}
 use Rattle.est_meaning.specs.declared.status.Status.TheVariants.{Present, Absent, Unknown}
 use Rattle.est_cells.proofs.OpenTable.{opened_begun, opened_resumed}

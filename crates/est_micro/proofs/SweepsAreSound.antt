@@ -8,7 +8,7 @@ use Rattle.est_kernel.specs.declared.statement.Statement.TheVariants.{Loop', Par
 use Rattle.est_meaning.proofs.KnowledgeIsMonotone.{and_below, opposite_below, query_below, local_below}
 use Rattle.est_meaning.specs.Knowledge.{IsBelow, KnowsLess}
 use Rattle.est_meaning.specs.States.{is_live, term_at}
-use Rattle.est_meaning.specs.Status.{Env, opposite, and_status, status_of, with_local}
+use Rattle.est_meaning.specs.Environments.{Env, opposite, and_status, status_of, with_local}
 use Rattle.est_meaning.specs.declared.status.Status.{Status}
 use Rattle.est_meaning.specs.declared.status.Status.TheVariants.{Absent}
 use Rattle.est_cells.proofs.Order.{emits_up, ends_below}

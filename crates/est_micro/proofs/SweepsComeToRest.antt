@@ -9,7 +9,7 @@ use Rattle.est_meaning.proofs.KnowledgeIsMonotone.{and_below, opposite_below, qu
 use Rattle.est_meaning.specs.Knowledge.{IsBelow, KnowsLess}
 use Rattle.est_meaning.specs.Signals.{Signals, no_signals}
 use Rattle.est_meaning.specs.States.{is_live, term_at}
-use Rattle.est_meaning.specs.Status.{Env, opposite, and_status, status_of, with_local}
+use Rattle.est_meaning.specs.Environments.{Env, opposite, and_status, status_of, with_local}
 use Rattle.est_meaning.specs.declared.status.Status.{Status}
 use Rattle.est_meaning.specs.declared.status.Status.TheVariants.{Absent}
 use Rattle.est_cells.proofs.Order.{ends_below}

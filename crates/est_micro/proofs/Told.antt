@@ -2,7 +2,7 @@
 use Rattle.std.specs.Prelude.{◌≡◌, Bool, true, false}
 use Rattle.std.proofs.Common.{refl, sym, inl, inr, subst, ap, ◌∙◌}
 use Rattle.est_meaning.specs.Knowledge.{IsBelow}
-use Rattle.est_meaning.specs.Status.{verdict}
+use Rattle.est_meaning.specs.Environments.{verdict}
 use Rattle.est_meaning.specs.declared.status.Status.{Status}
 use Rattle.est_meaning.specs.declared.status.Status.TheVariants.{Present, Absent, Unknown}
 use Rattle.est_cells.specs.Tables.{Cells, Node, CellsBelow, is_sure, is_possible}

@@ -10,7 +10,7 @@ use Rattle.est_kernel.specs.declared.state.State.{State}
 use Rattle.est_kernel.specs.declared.state.State.TheVariants.{Fresh, Done, Paused}
 use Rattle.est_kernel.specs.declared.statement.Statement.{Statement}
 use Rattle.est_meaning.specs.Rounds.{judged_signals}
-use Rattle.est_meaning.specs.Status.{Env, verdict}
+use Rattle.est_meaning.specs.Environments.{Env, verdict}
 use Rattle.est_meaning.specs.declared.status.Status.{Status}
 use Rattle.est_meaning.specs.declared.status.Status.TheVariants.{Present, Absent}
 use Rattle.est_cells.specs.Tables.{Sheet, emits, is_sure, is_possible}

@@ -9,7 +9,7 @@ use Rattle.est_kernel.specs.declared.statement.Statement.TheVariants.{Nothing, P
 use Rattle.est_kernel.specs.declared.statement.Statement.TheVariants.{Loop', Par', Trap', Exit, Local' as Binder'}
 use Rattle.est_meaning.specs.States.{is_live}
 use Rattle.est_meaning.specs.Signals.{Signals}
-use Rattle.est_meaning.specs.Status.{Env, opposite, and_status, status_of, with_local, verdict}
+use Rattle.est_meaning.specs.Environments.{Env, opposite, and_status, status_of, with_local, verdict}
 use Rattle.est_meaning.specs.declared.status.Status.{Status}
 use Rattle.est_meaning.specs.declared.status.Status.TheVariants.{Present, Absent}
 use Rattle.est_cells.specs.Gates.{ends, emitted_status, gates, live_gates}

@@ -13,7 +13,7 @@ ghost use Rattle.est_kernel.specs.declared.statement.Statement.TheVariants.{Pres
 ghost use Rattle.est_kernel.specs.declared.statement.Statement.TheVariants.{Seq', Loop', Par'};
 ghost use Rattle.est_kernel.specs.declared.statement.Statement.TheVariants.{Trap', Exit};
 ghost use Rattle.est_kernel.specs.declared.statement.Statement.TheVariants.{Local' as Binder'};
-ghost use Rattle.est_meaning.specs.Status.{status_of};
+ghost use Rattle.est_meaning.specs.Environments.{status_of};
 ghost use Rattle.est_cells.specs.Tables.{sheet_size};
 ghost use Rattle.est_rounds.specs.Views.{env_of};
 ghost use Rattle.est_micro.specs.Views.{IsBegun};

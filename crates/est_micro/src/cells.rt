@@ -8,7 +8,7 @@ ghost use Rattle.est_kernel.specs.View.{name_of};
 ghost use Rattle.est_kernel.specs.Codes.{either_code, max_codes, codes_out_of_trap, no_codes};
 ghost use Rattle.est_kernel.specs.Term.{inner};
 ghost use Rattle.est_meaning.specs.Signals.{no_signals, union, without};
-ghost use Rattle.est_meaning.specs.Status.{verdict};
+ghost use Rattle.est_meaning.specs.Environments.{verdict};
 ghost use Rattle.est_cells.specs.Gates.{sure_code, may_code, then_codes};
 ghost use Rattle.est_cells.specs.Tables.{if_run, is_sure, is_possible};
 ghost use Rattle.est_net.specs.Cells.{cell_at};

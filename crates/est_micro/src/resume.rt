@@ -14,7 +14,7 @@ ghost use Rattle.est_kernel.specs.declared.statement.Statement.TheVariants.{Susp
 ghost use Rattle.est_kernel.specs.declared.statement.Statement.TheVariants.{Par', Trap'};
 ghost use Rattle.est_kernel.specs.declared.statement.Statement.TheVariants.{Local' as Binder'};
 ghost use Rattle.est_meaning.specs.States.{is_live};
-ghost use Rattle.est_meaning.specs.Status.{status_of};
+ghost use Rattle.est_meaning.specs.Environments.{status_of};
 ghost use Rattle.est_cells.specs.Gates.{sure_code, may_code};
 ghost use Rattle.est_cells.specs.Tables.{sheet_size};
 ghost use Rattle.est_rounds.specs.Views.{env_of, set_of};

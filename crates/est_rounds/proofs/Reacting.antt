@@ -7,7 +7,7 @@ use Rattle.est_kernel.specs.PauseNumbers.{has_pause}
 use Rattle.est_kernel.specs.declared.statement.Statement.{Statement}
 use Rattle.est_kernel.specs.declared.pause_set.PauseSet.{PauseSet}
 use Rattle.est_kernel.specs.declared.state.State.TheVariants.{Paused}
-use Rattle.est_meaning.specs.Status.{Env}
+use Rattle.est_meaning.specs.Environments.{Env}
 use Rattle.est_meaning.specs.Signals.{Signals}
 use Rattle.est_meaning.specs.Rules.{Gives, rest_of}
 use Rattle.est_meaning.specs.Rounds.{JudgedSignals, last_env}

@@ -10,7 +10,7 @@ use Rattle.est_kernel.specs.declared.statement.Statement.{Statement}
 use Rattle.est_kernel.specs.declared.statement.Statement.TheVariants.{Present', Suspend', Seq', Loop', Par'}
 use Rattle.est_meaning.specs.Signals.{Signals, no_signals, union}
 use Rattle.est_meaning.specs.declared.status.Status.TheVariants.{Present}
-use Rattle.est_meaning.specs.Status.{Env, status_of}
+use Rattle.est_meaning.specs.Environments.{Env, status_of}
 use Rattle.est_meaning.specs.Rules.{HasNoRule}
 use Rattle.est_meaning.specs.Steps.{StepsTo}
 use Rattle.est_meaning.proofs.AgreementLemmas.{apart_left}

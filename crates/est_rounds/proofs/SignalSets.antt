@@ -4,7 +4,7 @@ use Rattle.std.proofs.lemmas.Bool.{eq-eqb, ne_eqb, cases_eq}
 use mathlib.Core.Path.{fun_ext}
 use Rattle.est_kernel.specs.Term.{outer, inner}
 use Rattle.est_meaning.specs.Signals.{Signals, no_signals, only, without, same_name}
-use Rattle.est_meaning.specs.Status.{verdict, with_local}
+use Rattle.est_meaning.specs.Environments.{verdict, with_local}
 use Rattle.est_kernel.specs.Bits.{bits}
 use Rattle.est_rounds.specs.Views.{set_of, env_of, with_member}
 use Rattle.est_kernel.proofs.Masks.{bits_zero}

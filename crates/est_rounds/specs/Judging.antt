@@ -6,7 +6,7 @@ use Rattle.est_kernel.specs.View.{term_of}
 use Rattle.est_meaning.specs.MustCan as meaning
 use Rattle.est_meaning.specs.MustCan.{must, can, sure, maybe, next_mode, must_then, can_then}
 use Rattle.est_meaning.specs.States.{is_live, term_at}
-use Rattle.est_meaning.specs.Status.{Env}
+use Rattle.est_meaning.specs.Environments.{Env}
 use Rattle.est_kernel.specs.Pauses.{pauses_of}
 use Rattle.est_kernel.specs.declared.pause_set.PauseSet.{PauseSet}
 use Rattle.est_kernel.specs.declared.statement.Statement.{Statement}

@@ -9,7 +9,7 @@ use Rattle.est_kernel.specs.View.{term_of}
 use Rattle.est_meaning.specs.Signals.{Signals}
 use Rattle.est_meaning.specs.States.{is_live, term_at, IsExclusive}
 use Rattle.est_kernel.specs.declared.statement.Statement.{Statement}
-use Rattle.est_meaning.specs.Status.{Env}
+use Rattle.est_meaning.specs.Environments.{Env}
 use Rattle.est_meaning.specs.Rules.{HasNoRule}
 use Rattle.est_meaning.specs.Steps.{StepsTo}
 use Rattle.est_rounds.specs.Views.{set_of, env_of}

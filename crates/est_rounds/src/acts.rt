@@ -6,7 +6,7 @@ ghost use Rattle.est_kernel.specs.Term.{inner};
 ghost use Rattle.est_meaning.specs.MustCan.{just_code, no_acts, either, together, acts_out_of_trap};
 ghost use Rattle.est_meaning.specs.MustCan.{hide, local_status, may_stay, must_then, can_then};
 ghost use Rattle.est_meaning.specs.MustCan.{sure};
-ghost use Rattle.est_meaning.specs.Status.{verdict};
+ghost use Rattle.est_meaning.specs.Environments.{verdict};
 ghost use Rattle.est_rounds.specs.Views.{acts_of, set_of};
 
 use crate::signal_set::{self, SignalSet};

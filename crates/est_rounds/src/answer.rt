@@ -5,7 +5,7 @@
 
 ghost use Rattle.std.specs.Prelude.{◌≡◌};
 ghost use Rattle.est_kernel.specs.View.{joint_of, query_of};
-ghost use Rattle.est_meaning.specs.Status.{opposite, status_of, status_of_joint};
+ghost use Rattle.est_meaning.specs.Environments.{opposite, status_of, status_of_joint};
 ghost use Rattle.est_rounds.specs.Views.{env_of};
 
 use crate::signal_set::{Env, status_of_signal};

@@ -6,7 +6,7 @@ ghost use Rattle.est_kernel.specs.Masks.{HasSignalBit};
 ghost use Rattle.est_kernel.specs.Term.{inner};
 ghost use Rattle.est_kernel.specs.View.{name_of};
 ghost use Rattle.est_meaning.specs.Signals.{no_signals, only, union, without};
-ghost use Rattle.est_meaning.specs.Status.{verdict, with_local};
+ghost use Rattle.est_meaning.specs.Environments.{verdict, with_local};
 ghost use Rattle.est_rounds.specs.Views.{set_of, env_of, with_member};
 
 use est_kernel::mask;

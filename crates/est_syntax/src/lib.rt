@@ -18,6 +18,6 @@ pub mod laws;
 mod modules;
 mod names;
 pub mod parse;
-mod parser;
+mod statements;
 pub mod tree;
 mod units;

@@ -9,7 +9,7 @@ use crate::cursor::Cursor;
 use crate::declarations::declarations;
 use crate::fault::Fault;
 use crate::parse::MOST_OPEN_UNITS;
-use crate::parser::statement;
+use crate::statements::statement;
 use crate::tree::{Library, Module};
 use est_text::keyword::Keyword;
 use est_text::token::Symbol;

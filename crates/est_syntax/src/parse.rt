@@ -13,7 +13,7 @@ use crate::fault::Fault;
 use crate::modules::library;
 use crate::tree::Library;
 use est_text::place::Place;
-use est_text::tokens::Tokens;
+use est_text::token_list::Tokens;
 use std::alloc::Global;
 
 /// The most units that may be open at once. Each unit that holds a statement counts: a test, a

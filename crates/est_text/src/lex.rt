@@ -9,7 +9,7 @@ ghost use Rattle.est_text.specs.Lexing.{IsLexFault};
 use crate::piece::{Piece, first_piece};
 use crate::place::{Place, Span, place_after};
 use crate::token::Located;
-use crate::tokens::{Tokens, front};
+use crate::token_list::{Tokens, front};
 use std::alloc::{AllocError, Global};
 
 /// Why a text has no tokens.

@@ -15,4 +15,4 @@ pub mod piece;
 pub mod place;
 mod scan;
 pub mod token;
-pub mod tokens;
+pub mod token_list;

@@ -1,6 +1,6 @@
 //! The connections of a socket, served side by side over one policy and one table of slots.
 ghost use Rattle.std.specs.Prelude.{◌≡◌, ◌≤◌, Err, true, vec_len};
-ghost use Rattle.seat_receipts.specs.declared.receipts.TheConstants.{SEATS};
+ghost use Rattle.seat_receipts.specs.declared.receipt_list.TheConstants.{SEATS};
 ghost use Rattle.line_reader.specs.Meters.{has_failed};
 ghost use Rattle.estserve.specs.declared.fault.Fault.TheVariants as fault;
 ghost use Rattle.estserve.specs.Serving.{ClosesSo, ServesSocket};

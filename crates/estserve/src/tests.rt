@@ -1,8 +1,8 @@
 //! Runs of the program over streams of a test's own, which cut anywhere or fail.
 ghost use Rattle.std.specs.Prelude.{◌≤◌, length};
 
+mod listening;
 mod rows;
-mod sockets;
 
 use crate::fault::{taking_fault, tell};
 use crate::run::run;

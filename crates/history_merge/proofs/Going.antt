@@ -11,7 +11,7 @@ use Rattle.seat_receipts.specs.declared.receipt.SlotReceipt.{SlotReceipt}
 use Rattle.seat_receipts.specs.declared.receipt.Kept.{Kept}
 use Rattle.seat_receipts.specs.declared.receipt.Kept.TheVariants.{Admin, Slot}
 use Rattle.rbac_policy.specs.declared.objects.TheConstants.{SLOTS}
-use Rattle.seat_receipts.specs.declared.receipts.TheConstants.{SEATS}
+use Rattle.seat_receipts.specs.declared.receipt_list.TheConstants.{SEATS}
 use Rattle.rbac_policy.specs.declared.sizes.TheConstants.{OPENING_ENTRIES}
 use Rattle.history_merge.specs.declared.order.Rank.{Rank}
 use Rattle.history_merge.specs.declared.order.Rank.TheVariants as rank

@@ -4,7 +4,7 @@ ghost use Rattle.history_merge.specs.OneList.{AreOfOneList};
 ghost use Rattle.history_merge.specs.Order.{part_at, Rises};
 ghost use Rattle.history_merge.specs.Mismatches.{mismatch_of, IsMismatch};
 ghost use Rattle.history_merge.specs.Inner.Taking.{IsBroken, AreCounted, CountsDiffer};
-ghost use Rattle.seat_receipts.specs.declared.receipts.TheConstants.{SEATS};
+ghost use Rattle.seat_receipts.specs.declared.receipt_list.TheConstants.{SEATS};
 
 use crate::merge::{Taken, next, take};
 use crate::order::first_break;
@@ -13,7 +13,7 @@ use rbac_policy::objects::SLOTS;
 use reactor_core::journal::Journal;
 use seat_receipts::mismatch::{Mismatch, POLICY_LIST};
 use seat_receipts::receipt::Kept;
-use seat_receipts::receipts::Receipts;
+use seat_receipts::receipt_list::Receipts;
 
 /// The mismatch of a receipt that this seat keeps.
 fn name_mismatch(seat: usize, kept: &Kept) -> Mismatch

@@ -4,7 +4,7 @@ use est_text::identifier::Identifier;
 use est_text::lex::{LexFault, lex};
 use est_text::place::Place;
 use est_text::token::{Located, Token};
-use est_text::tokens::Tokens;
+use est_text::token_list::Tokens;
 use std::alloc::Global;
 use std::process::Abort;
 

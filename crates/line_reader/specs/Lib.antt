@@ -2,6 +2,6 @@ pub mod Lines
 pub mod Meters
 pub mod Readers
 pub mod Serving
-pub mod Waiting
+pub mod Replies
 pub mod Writing
 pub mod Inner

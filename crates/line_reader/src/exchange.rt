@@ -5,7 +5,7 @@ ghost use Rattle.line_reader.specs.Lines.{Gives, HasNoEnd};
 ghost use Rattle.line_reader.specs.Meters.{IsStopped, has_failed};
 ghost use Rattle.line_reader.specs.Readers.{held_bytes, last_line, answer_after, Leaves, weight};
 ghost use Rattle.line_reader.specs.Readers.{IsReady};
-ghost use Rattle.line_reader.specs.Waiting.{waiting_bytes};
+ghost use Rattle.line_reader.specs.Replies.{waiting_bytes};
 ghost use Rattle.line_reader.specs.Writing.{WritesUpTo, WritesFront};
 ghost use Rattle.line_reader.specs.declared.lines.Line.TheVariants as line;
 ghost use Rattle.line_reader.specs.declared.lines.LineFault.TheVariants as fault;

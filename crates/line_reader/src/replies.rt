@@ -58,7 +58,7 @@ pub struct Replies {
 }
 
 impl Replies {
-    ghost use Rattle.line_reader.specs.Waiting.{waiting_bytes};
+    ghost use Rattle.line_reader.specs.Replies.{waiting_bytes};
 
     /// No reply waits. This takes all the memory that is ever needed.
     pub fn new(memory: &mut MeteredMemory) -> Result<Replies, AllocError>

@@ -8,7 +8,7 @@ ghost use Rattle.line_reader.specs.Readers.{held_bytes, last_line, weight};
 ghost use Rattle.line_reader.specs.Inner.Turns.{IsSound, Turns, IsNextOf};
 ghost use Rattle.line_reader.specs.Serving.{BetweenLines, between, Exchange, Runs, KnownCuts};
 ghost use Rattle.line_reader.specs.Serving.{Serves};
-ghost use Rattle.line_reader.specs.Waiting.{waiting_bytes};
+ghost use Rattle.line_reader.specs.Replies.{waiting_bytes};
 ghost use Rattle.line_reader.specs.Writing.{WritesUpTo, WritesFront};
 ghost use Rattle.line_reader.specs.declared.serving.Why.TheVariants as why;
 ghost use Rattle.line_reader.specs.declared.lines.Line.TheVariants as line;

@@ -16,7 +16,7 @@ use crate::refusal::Refusal;
 use rbac_policy::commands::{Entry, SessionId};
 use rbac_policy::objects::{Object, Operation};
 use seat_receipts::receipt::Kept;
-use seat_receipts::receipts::Receipts;
+use seat_receipts::receipt_list::Receipts;
 use std::alloc::Global;
 use std::marker::Model;
 

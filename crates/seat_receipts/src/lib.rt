@@ -7,4 +7,4 @@
 
 pub mod mismatch;
 pub mod receipt;
-pub mod receipts;
+pub mod receipt_list;

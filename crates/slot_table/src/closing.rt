@@ -3,7 +3,7 @@ ghost use Rattle.std.specs.Prelude.{◌≡◌, ◌<◌, ◌≤◌, [], None, tak
 ghost use Rattle.std.specs.Prelude.{IfErr};
 ghost use Rattle.rbac_admin.specs.PolicyLists.{IsPolicyList};
 ghost use Rattle.rbac_policy.specs.declared.objects.TheConstants.{SLOTS};
-ghost use Rattle.seat_receipts.specs.declared.receipts.TheConstants.{SEATS};
+ghost use Rattle.seat_receipts.specs.declared.receipt_list.TheConstants.{SEATS};
 ghost use Rattle.history_merge.specs.OneList.{AreOfOneList};
 ghost use Rattle.history_merge.specs.Mismatches.{IsMismatch};
 ghost use Rattle.slot_table.specs.Closing.{AllRise, IsReadersFault, kept_of};
@@ -18,7 +18,7 @@ use rbac_policy::journal::PolicyJournal;
 use rbac_policy::objects::SLOTS;
 use reactor_core::journal::Journal;
 use seat_receipts::mismatch::Mismatch;
-use seat_receipts::receipts::{Receipts, SEATS};
+use seat_receipts::receipt_list::{Receipts, SEATS};
 use std::alloc::Global;
 use std::array;
 use std::marker::Model;

@@ -2,7 +2,7 @@
 ghost use Rattle.std.specs.Prelude.{◌≡◌, ◌⊎◌, ◌<◌, ◌≤◌, ◌+◌, vec_len, OnOk, IfOk, IfErr};
 ghost use Rattle.rbac_policy.specs.declared.objects.TheConstants.{SLOTS};
 ghost use Rattle.rbac_admin.specs.PolicyLists.{IsPolicyList};
-ghost use Rattle.seat_receipts.specs.declared.receipts.TheConstants.{SEATS};
+ghost use Rattle.seat_receipts.specs.declared.receipt_list.TheConstants.{SEATS};
 ghost use Rattle.history_laws.specs.CallsInTurn.{AreOfOneRun};
 ghost use Rattle.history_merge.specs.OneList.{AreOfOneList};
 ghost use Rattle.slot_table.specs.Closing.{AllRise, AreLegal, IsJustified, kept_of};
@@ -25,7 +25,7 @@ use rbac_policy::commands::SessionId;
 use rbac_policy::objects::SLOTS;
 use reactor_core::journal::Journal;
 use seat_receipts::mismatch::Mismatch;
-use seat_receipts::receipts::SEATS;
+use seat_receipts::receipt_list::SEATS;
 use std::alloc::Global;
 use std::sync::{Mutex, MutexGuard, Wait};
 

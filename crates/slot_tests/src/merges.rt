@@ -9,7 +9,7 @@ use reactor_core::entry::{Action, PastInstant, SlotEntry, Stamp};
 use reactor_core::journal::Journal;
 use seat_receipts::mismatch::{Mismatch, POLICY_LIST};
 use seat_receipts::receipt::{Asked, Kept, SlotReceipt};
-use seat_receipts::receipts::Receipts;
+use seat_receipts::receipt_list::Receipts;
 use std::alloc::{AllocError, Global};
 use std::process::Abort;
 use std::test::Fail;

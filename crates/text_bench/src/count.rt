@@ -4,7 +4,7 @@ ghost use Rattle.est_text.specs.Lexing.{IsLexFault};
 ghost use Rattle.text_bench.specs.Counts.{ends_of, CountsTokensOf};
 
 use est_text::lex::{LexFault, lex};
-use est_text::tokens::Tokens;
+use est_text::token_list::Tokens;
 use std::alloc::Global;
 
 /// How many tokens there are, and the sum of the places where they end, in 64 bits.

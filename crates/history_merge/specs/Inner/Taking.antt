@@ -10,7 +10,7 @@ use Rattle.seat_receipts.specs.declared.mismatch.Mismatch.TheVariants.{Count}
 use Rattle.seat_receipts.specs.declared.receipt.SlotReceipt.{SlotReceipt}
 use Rattle.seat_receipts.specs.declared.receipt.Kept.{Kept}
 use Rattle.seat_receipts.specs.declared.receipt.Kept.TheVariants.{Admin, Slot}
-use Rattle.seat_receipts.specs.declared.receipts.TheConstants.{SEATS}
+use Rattle.seat_receipts.specs.declared.receipt_list.TheConstants.{SEATS}
 use Rattle.rbac_policy.specs.declared.sizes.TheConstants.{OPENING_ENTRIES}
 use Rattle.history_merge.specs.declared.merge.Taken.{Taken}
 use Rattle.history_merge.specs.declared.order.Rank.{Rank}

@@ -4,7 +4,7 @@ use super::{KEYWORDS, expect_answer};
 use est_text::keyword::Keyword;
 use est_text::lex::lex;
 use est_text::token::{Located, Token};
-use est_text::tokens::Tokens;
+use est_text::token_list::Tokens;
 use std::process::Abort;
 
 /// A module with each declaration and each statement, with and without the words that may be left

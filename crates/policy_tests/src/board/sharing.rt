@@ -12,7 +12,7 @@ use rbac_policy::commands::{AdminCommand, SessionId};
 use rbac_policy::journal::PolicyJournal;
 use rbac_policy::names::{Name, RoleNames};
 use rbac_policy::objects::{Object, Operation};
-use seat_receipts::receipts::SEATS;
+use seat_receipts::receipt_list::SEATS;
 use std::alloc::{AllocError, Global};
 use std::marker::Brand;
 use std::process::Abort;

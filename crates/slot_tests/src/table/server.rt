@@ -1,6 +1,6 @@
 //! A board with its seats, and its slots.
 ghost use Rattle.std.specs.Prelude.{◌≡◌, ◌≤◌};
-ghost use Rattle.seat_receipts.specs.declared.receipts.TheConstants.{SEATS};
+ghost use Rattle.seat_receipts.specs.declared.receipt_list.TheConstants.{SEATS};
 
 use access_core::command::SlotCommand;
 use access_core::reply::Reply;
@@ -13,7 +13,7 @@ use rbac_policy::commands::{AdminCommand, SessionId};
 use rbac_policy::names::{Name, RoleNames};
 use rbac_policy::objects::{Object, Operation, SlotNumber};
 use reactor_core::text::Text;
-use seat_receipts::receipts::SEATS;
+use seat_receipts::receipt_list::SEATS;
 use slot_table::table::SlotTable;
 use std::alloc::{AllocError, Global};
 use std::process::Abort;

@@ -1,6 +1,6 @@
 use Rattle.std.proofs.Common.{ap, ◌∙◌, ◌+◌, rules}
 use Rattle.est_kernel.specs.declared.statement.Statement.TheFolds.{the_lemmas}
-use Rattle.est_meaning.specs.Status.{with_local}
+use Rattle.est_meaning.specs.Environments.{with_local}
 use Rattle.est_meaning.specs.declared.status.Status.{Status}
 use Rattle.est_rounds.specs.Views.{env_of}
 use Rattle.est_micro.proofs.BegunNodes.{present_begun, seq_begun, par_begun, par_begun_back}

@@ -1,5 +1,5 @@
 use Rattle.std.proofs.Common.{ap, ◌∙◌, ◌+◌}
-use Rattle.est_meaning.specs.Status.{with_local}
+use Rattle.est_meaning.specs.Environments.{with_local}
 use Rattle.est_meaning.specs.declared.status.Status.{Status}
 use Rattle.est_rounds.specs.Views.{env_of}
 use Rattle.est_micro.proofs.ResumedNodes.{present_resumed, seq_resumed, par_resumed, par_resumed_back}

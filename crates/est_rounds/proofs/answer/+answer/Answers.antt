@@ -3,7 +3,7 @@ use Rattle.std.specs.List.{fold}
 use Rattle.std.proofs.lemmas.List.{take_all}
 use Rattle.est_kernel.specs.View.{query_of}
 use Rattle.est_kernel.specs.declared.statement.Test.TheViews.{out-Operands}
-use Rattle.est_meaning.specs.Status.{joint_status, status_of}
+use Rattle.est_meaning.specs.Environments.{joint_status, status_of}
 use Rattle.est_meaning.proofs.TestLemmas.{joined_with, operands_status}
 use Rattle.est_rounds.specs.Views.{env_of}
 use Rattle.est_rounds.proofs.answer.+answer.Goals as goal

@@ -1,5 +1,5 @@
 use Rattle.std.proofs.Common.{◌≡◌, ◌∙◌, ◌++◌, string_bytes}
-use Rattle.line_reader.specs.Waiting.{waiting_bytes}
+use Rattle.line_reader.specs.Replies.{waiting_bytes}
 use Rattle.estserve.proofs.Reporting.{rest_written, rest_begun}
 use Rattle.estserve.proofs.reports.write_report.Goals as goal
 

@@ -1,6 +1,6 @@
 use Rattle.std.proofs.Common.{rules, ◌≡◌, ◌≤◌, inl, inr, length, refl, replicate, subst}
 use Rattle.std.proofs.KnownBytes.{Keeps-refl}
-use Rattle.seat_receipts.specs.declared.receipts.TheConstants.{SEATS}
+use Rattle.seat_receipts.specs.declared.receipt_list.TheConstants.{SEATS}
 use Rattle.policy_board.specs.SeatState.{new_seat}
 use Rattle.worker_threads.specs.Turns.{AreBack}
 use Rattle.client_loop.specs.Workers.{ServesNext}

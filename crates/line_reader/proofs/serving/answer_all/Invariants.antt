@@ -2,7 +2,7 @@ use Rattle.std.proofs.Common.{◌≡◌}
 use Rattle.std.specs.Io.KnownBytes.{prepend_known}
 use Rattle.line_reader.specs.Readers.{held_bytes, weight}
 use Rattle.line_reader.specs.Inner.Turns.{IsSound}
-use Rattle.line_reader.specs.Waiting.{waiting_bytes}
+use Rattle.line_reader.specs.Replies.{waiting_bytes}
 use Rattle.line_reader.proofs.Running.{Reaches}
 use Rattle.line_reader.proofs.serving.answer_all.Given as goal
 

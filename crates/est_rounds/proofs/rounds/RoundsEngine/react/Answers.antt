@@ -2,7 +2,7 @@ use Rattle.std.proofs.Common.{◌&&◌, ap, subst, ◌∙◌}
 use Rattle.est_kernel.specs.Bits.{bits}
 use Rattle.est_kernel.specs.CodeViews.{code_of}
 use Rattle.est_kernel.specs.Term.{outer}
-use Rattle.est_meaning.specs.Status.{Env, is_unknown}
+use Rattle.est_meaning.specs.Environments.{Env, is_unknown}
 use Rattle.est_meaning.specs.Rules.{HasNoRule}
 use Rattle.est_meaning.specs.Rounds.{JudgedSignals, last_env}
 use Rattle.est_meaning.specs.States.{state_term}

@@ -1,7 +1,7 @@
 use Rattle.std.proofs.Common.{◌+◌, ◌*◌, length, map}
 use Rattle.est_syntax.specs.Views.{unit_view, sequence_view, units_of, sequences_of}
 use Rattle.est_syntax.proofs.Parts.{UnitsSoFar, SequencesSoFar}
-use Rattle.est_syntax.proofs.parser.+parse.Given as goal
+use Rattle.est_syntax.proofs.statements.+parse.Given as goal
 
 abbrev pub decreases-unit : goal.decreases-unit
 decreases-unit l = 8 * l.room

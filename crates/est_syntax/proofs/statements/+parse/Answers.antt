@@ -22,7 +22,7 @@ use Rattle.est_syntax.specs.declared.parse.TheConstants.{MOST_OPEN_UNITS}
 use Rattle.est_syntax.proofs.Runs.{sequence_is, statement_is}
 use Rattle.est_syntax.proofs.Opening.{in_in, round_tail, round_side, round_any, round_open, round_branches}
 use Rattle.est_syntax.proofs.Parts as part
-use Rattle.est_syntax.proofs.parser.+parse.Goals as goal
+use Rattle.est_syntax.proofs.statements.+parse.Goals as goal
 
 -- ---- a sequence
 

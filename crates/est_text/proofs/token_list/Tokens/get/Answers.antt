@@ -2,7 +2,7 @@ use Rattle.std.proofs.Common.{◌∙◌, List, ap}
 use Rattle.std.specs.Prelude.{slice_get}
 use Rattle.est_text.specs.declared.token.Located.{Located}
 use Rattle.est_text.proofs.Spans.{token_if_there}
-use Rattle.est_text.proofs.tokens.Tokens.get.Goals as goal
+use Rattle.est_text.proofs.token_list.Tokens.get.Goals as goal
 
 pub returns-clause-stands : goal.returns-clause-stands
 returns-clause-stands c =
