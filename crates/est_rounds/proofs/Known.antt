@@ -6,7 +6,7 @@ use Rattle.est_kernel.specs.Interfaces.{emittable}
 use Rattle.est_kernel.specs.declared.interface.Declaration.{Declaration}
 use Rattle.est_kernel.specs.Term.{outer, inner, Term}
 use Rattle.est_kernel.proofs.Masks.{bits_zero}
-use Rattle.est_meaning.specs.Status as meaning
+use Rattle.est_meaning.specs.Environments as meaning
 use Rattle.est_meaning.specs.declared.status.Status.TheVariants.{Unknown}
 use Rattle.est_meaning.specs.MustCan.{must, can, sure}
 use Rattle.est_meaning.specs.Rounds.{first_env, round}

@@ -4,7 +4,7 @@ use Rattle.est_kernel.specs.Bits.{bits}
 use Rattle.est_kernel.specs.CodeViews.{codes_of}
 use Rattle.est_kernel.specs.Term.{outer, inner}
 use Rattle.est_meaning.specs.Signals.{Signals, same_name}
-use Rattle.est_meaning.specs.Status as meaning
+use Rattle.est_meaning.specs.Environments as meaning
 use Rattle.est_meaning.specs.MustCan as must_can
 use Rattle.est_rounds.specs.declared.signal_set.SignalSet.{SignalSet}
 use Rattle.est_rounds.specs.declared.signal_set.Env.{Env}

@@ -2,7 +2,7 @@
 //! of events are those of a run of exactly those calls, one at a time.
 //!
 //! So whatever order the threads of a server ran in, what stands in its journals and what its seats
-//! were told is what clients that take turns could have done and been told.
+//! keep receipts of is what clients that take turns could have done.
 #![tactic(auto)]
 
 pub mod laws;
