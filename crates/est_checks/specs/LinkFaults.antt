@@ -3,7 +3,7 @@ use Rattle.std.specs.Prelude.{ℕ, List, Bool, Option, Some, None, option_map}
 use Rattle.std.specs.Option.{option_or}
 use Rattle.est_modules.specs.Modules.{Program, program_named, first_in_bodies}
 use Rattle.est_checks.specs.Duplicates.{first_duplicate}
-use Rattle.est_checks.specs.MissingModules.{first_missing}
+use Rattle.est_checks.specs.MissingModules.{unknown_module}
 use Rattle.est_checks.specs.BadRenamings.{bad_renaming_at}
 use Rattle.est_checks.specs.UnknownNames.{unknown_at}
 use Rattle.est_checks.specs.Emissions.{first_refused}
@@ -15,14 +15,14 @@ use Rattle.est_checks.specs.declared.fault.LinkFault.TheVariants.{EmitInput, Sem
 -- the first of the checks that come before the order of the modules: names declared twice, modules that aren't there
 abbrev pub fault_before_order : List Program → List ℕ → Option LinkFault
 fault_before_order ps main = option_or (option_map DuplicateName (first_duplicate ps))
-    (option_map UnknownModule (first_missing ps main))
+    (option_map UnknownModule (unknown_module ps main))
 
 -- the number of the first lawless relation of the main module
 abbrev pub lawless_number : Option Program → Option ℕ
 lawless_number None = None
 lawless_number (Some p) = first_lawless p
 
--- the first of the checks that come behind it: renamings, names, emissions, relations of the main module
+-- the first of the checks that come after it: renamings, names, emissions, relations of the main module
 abbrev pub fault_behind_order : List Program → List ℕ → (List ℕ → List ℕ → Bool) → Option LinkFault
 fault_behind_order ps main emitted =
     option_or (option_map BadRename (first_in_bodies (bad_renaming_at ps) ps))

@@ -21,6 +21,7 @@ pub mod module_emissions;
 pub mod place_check;
 pub mod round_order;
 pub mod run_emissions;
+mod run_names;
 pub mod statement_count;
 pub mod unknown_names;
 pub mod unseen_names;

@@ -177,13 +177,13 @@ renamed_accepted em p bs rs m s h sent = and_other (em m s) (is_refused p bs (re
 
 -- what is known of an occurrence without faults
 pub record IsFine (ps : List Program) (em : List ℕ → List ℕ → Bool) (p : Program) (o : Occurrence) : Type 0 where
-  pub known : unknown_act ps p o.round o.act ≡ None
-  pub accepted : refused_act ps em p o.round o.act ≡ None
-  pub sent : (s : List ℕ) → is_local o.round s ≡ false → emits_by ps em s o.act ≡ true → em p.name s ≡ true
+  pub known : unknown_act ps p o.around o.act ≡ None
+  pub accepted : refused_act ps em p o.around o.act ≡ None
+  pub sent : (s : List ℕ) → is_local o.around s ≡ false → emits_by ps em s o.act ≡ true → em p.name s ≡ true
 
 run_sent : (ps : List Program) (em : List ℕ → List ℕ → Bool) (p : Program) (bs : List Binder) (m : List ℕ)
     (rs : List RenamingTree) (q : Program) → program_named ps m ≡ Some q
-    → IsFine ps em p (record { act = runs m rs; round = bs }) → (i : ℕ) (d : Declared)
+    → IsFine ps em p (record { act = runs m rs; around = bs }) → (i : ℕ) (d : Declared)
     → slice_get q.interface i ≡ Some d → em q.name d.name ≡ true
     → MayEmit (length p.interface) (IsSent em p) (locals_round bs) (emitted (signal_at p bs (renamed rs d.name)))
 run_sent ps em p bs m rs q found fine i d there sent =
@@ -211,7 +211,7 @@ bound_at p bs rs ds i lt = get_or-map (λ (d : Declared). signal_at p bs (rename
 -- what the interface of the module that is run stands for
 pub run_bindings : (ps : List Program) (em : List ℕ → List ℕ → Bool) (p : Program) (bs : List Binder) (m : List ℕ)
     (rs : List RenamingTree) (q : Program) → program_named ps m ≡ Some q
-    → IsFine ps em p (record { act = runs m rs; round = bs })
+    → IsFine ps em p (record { act = runs m rs; around = bs })
     → AreBindings (length q.interface) (IsSent em q) (length p.interface) (IsSent em p) (locals_round bs)
     (interface_bound p bs rs q.interface)
 run_bindings ps em p bs m rs q found fine =

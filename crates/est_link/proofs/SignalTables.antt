@@ -1,6 +1,6 @@
 -- Tables of signals by their names.
-use Rattle.std.proofs.Common.{◌≡◌, ℕ, zero, suc, ◌<◌, List, [], ◌∷◌, ◌++◌, length, map, take, get_or, Bool}
-use Rattle.std.proofs.Common.{true, false, cond, ◌||◌, if◌then◌else◌, Option, Some, None, option_map, Bor}
+use Rattle.std.proofs.Common.{◌≡◌, ℕ, ◌<◌, List, [], ◌∷◌, ◌++◌, length, map, take, get_or, Bool}
+use Rattle.std.proofs.Common.{false, cond, if◌then◌else◌, Option, Some, None, option_map, Bor}
 use Rattle.std.proofs.Common.{◌≤◌, ◌+◌, unwrap_or, refl, ap, sym, subst, ◌∙◌, arith}
 use Rattle.std.proofs.lemmas.List.{length-append, length-map, length-take-le}
 use Rattle.std.specs.Cmp.Lexicographic.{nat_list_eq_equiv}
@@ -15,7 +15,7 @@ use Rattle.est_checks.proofs.Declaring.{more}
 use Rattle.est_checks.specs.Duplicates.{redeclared}
 use Rattle.est_link.proofs.Distinct.{new_signal}
 use Rattle.est_link.specs.Inner.SignalTables.{HasNamesAsKeys, IsTableOfSignals}
-use Rattle.est_link.specs.MainModule.{declaration_of, place_of}
+use Rattle.est_link.specs.MainModule.{declaration_of, member_place}
 use Rattle.est_modules.specs.declared.head.Declared.{Declared}
 use Rattle.est_modules.proofs.Positions.{position_cons}
 use Rattle.est_modules.proofs.Testing.{or_parts}
@@ -70,7 +70,7 @@ same_places (e ∷ es) n named =
 
 -- the place that a table tells
 pub place_told : (es : List Entry) (n : List ℕ) (o : Option ℕ) → HasNamesAsKeys es
-    → o ≡ position (λ (k : Bor (List ℕ)). bytes_eq n k.now) (keys_of es) → unwrap_or o 0 ≡ place_of (values_of es) n
+    → o ≡ position (λ (k : Bor (List ℕ)). bytes_eq n k.now) (keys_of es) → unwrap_or o 0 ≡ member_place (values_of es) n
 place_told es n o named is = ap (λ (p : Option ℕ). unwrap_or p 0) (is ∙ same_places es n named)
 
 -- a table without signals

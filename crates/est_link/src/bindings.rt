@@ -24,7 +24,7 @@ pub struct Binding<'a> {
     pub alloc: Global,
     /// The module in whose body the `run` stands.
     pub home: &'a Head<'a>,
-    /// The binders round it.
+    /// The binders around it.
     pub scope: &'a Scope<'a>,
     /// How many local signals they are.
     pub locals: u32,
@@ -102,8 +102,8 @@ fn interface_signal(interface: &[Declared], name: &Identifier) -> Result<BoundTe
     }
 }
 
-/// How many local signals lie round a place. It calls itself once for each binder round the place,
-/// of which there are at most 128.
+/// How many local signals lie around a place. It calls itself once for each binder around the
+/// place, of which there are at most 128.
 pub fn locals_round(scope: &Scope<'_>) -> Result<u32, AllocError>
     ensures { IfOk result (λ n. n ≡ locals_round (binders_of scope.now)) }
 {
@@ -114,8 +114,8 @@ pub fn locals_round(scope: &Scope<'_>) -> Result<u32, AllocError>
     }
 }
 
-/// The signal that a name means. It calls itself once for each binder round the place, of
-/// which there are at most 128.
+/// The signal that a name means. It calls itself once for each binder around the place, of which
+/// there are at most 128.
 pub fn signal_at(
     home: &Head<'_>,
     scope: &Scope<'_>,
@@ -137,8 +137,8 @@ pub fn signal_at(
     }
 }
 
-/// How many traps lie between an exit and its trap. It calls itself once for each binder round the
-/// place, of which there are at most 128.
+/// How many traps lie between an exit and its trap. It calls itself once for each binder around
+/// the place, of which there are at most 128.
 pub fn trap_at(scope: &Scope<'_>, name: &Identifier) -> Result<u32, AllocError>
     ensures { IfOk result (λ k. k ≡ trap_at (binders_of scope.now) name.now) }
 {

@@ -1,10 +1,10 @@
 //! The signals of the main module by their names, in the order of declaration.
 ghost use Rattle.std.specs.Prelude.{◌≡◌, ◌≤◌, [], None, IfOk, length, map};
 ghost use Rattle.est_kernel.specs.declared.interface.TheConstants.{MOST_SIGNALS};
-ghost use Rattle.est_link.specs.MainModule.{declaration_of, place_of};
+ghost use Rattle.est_link.specs.MainModule.{declaration_of, member_place};
 ghost use Rattle.est_checks.specs.Duplicates.{redeclared};
 
-use crate::main_module::kernel_kind;
+use crate::main_module::declaration_of;
 use est_kernel::interface::Declaration;
 use est_kernel::statement::InterfaceSignal;
 use est_modules::head::Declared;
@@ -43,11 +43,7 @@ impl<'a> SignalTable<'a> {
     {
         let mut signals = IndexMap::new(alloc);
         for signal in declared {
-            let kind = kernel_kind(signal.kind);
-            let declaration = Declaration {
-                name: signal.name,
-                kind,
-            };
+            let declaration = declaration_of(signal);
             let name: &'a [u8] = signal.name.as_bytes();
             match signals.insert(name, declaration) {
                 Ok(_none) => {}
@@ -59,7 +55,7 @@ impl<'a> SignalTable<'a> {
 
     /// The signal of a name, which is the first where the name isn't there.
     pub fn find(&self, name: &Identifier) -> InterfaceSignal
-        ensures { result.index ≡ place_of self.now name.now }
+        ensures { result.index ≡ member_place self.now name.now }
     {
         match self.signals.get_index_of(name.as_bytes()) {
             Some(place) => InterfaceSignal { index: place as u8 },

@@ -1,8 +1,8 @@
 //! The walk over the body of a module, in the order of the text.
 //!
-//! The functions call each other once for each unit that is open round a place, and the reader lets
-//! at most 128 be open at once (`est_syntax`, `MOST_OPEN_UNITS`), so that they are at most four
-//! times as deep. A run is no call.
+//! The functions call each other at most four times for each unit that is open around a place, and
+//! the reader lets at most 128 be open at once (`est_syntax`, `MOST_OPEN_UNITS`). A `run` is no
+//! call: the module that it runs is walked by itself.
 ghost use Rattle.std.specs.Prelude.{◌≡◌, [], OnOk};
 ghost use Rattle.std.specs.List.{fold};
 ghost use Rattle.est_syntax.specs.Views.{test_view, unit_view, branches_view};
@@ -95,7 +95,7 @@ fn walk_watched<V: Visitor>(
     walk_test(visitor, seen, kept, scope, test)
 }
 
-/// Visits the test behind which a body begins, and then the places of the body.
+/// Visits the test after which a body begins, and then the places of the body.
 #[cycle(walk)]
 fn walk_behind<V: Visitor>(
     visitor: &V,

@@ -168,7 +168,7 @@ fn lawless_number(alloc: Global, main: Option<&Head<'_>>) -> Result<Option<usize
 pub fn fault_before_order<'a>(
     alloc: Global,
     heads: &'a [Head<'a>],
-    main: &Identifier,
+    main: &str,
 ) -> Result<Option<LinkFault>, AllocError>
     ensures { IfOk result (λ fault. fault ≡ fault_before_order (map program_of heads.now)
         main.now) }
@@ -176,8 +176,11 @@ pub fn fault_before_order<'a>(
     if let Some(name) = first_duplicate(alloc, &*heads)? {
         return Ok(Some(LinkFault::DuplicateName(name)));
     }
-    match first_missing(alloc, &*heads, main)? {
-        Some(name) => Ok(Some(LinkFault::UnknownModule(name))),
+    let Some(main) = Identifier::from_text(main) else {
+        return Ok(Some(LinkFault::UnknownModule(None)));
+    };
+    match first_missing(alloc, &*heads, &main)? {
+        Some(name) => Ok(Some(LinkFault::UnknownModule(Some(name)))),
         None => Ok(None),
     }
 }

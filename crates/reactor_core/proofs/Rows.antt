@@ -1,5 +1,5 @@
 -- The table of a module's refusals, read backwards.
-use Rattle.std.proofs.Common.{◌≡◌, ℕ, List, refl, ap}
+use Rattle.std.proofs.Common.{◌≡◌, ℕ, List, [], ◌∷◌, refl, ap}
 use Rattle.std.specs.Prelude.{◌==◌, codes, Option, Some, None, if◌then◌else◌}
 use Rattle.std.specs.Str.{bytes_eq}
 use Rattle.refusal_tables.specs.Rows.{Fields, TellsApart}
@@ -40,6 +40,10 @@ limit_is Locals = refl
 abbrev place_back : Fields → Place
 place_back fields = record { line = number_in (second fields); column = number_in (first fields) }
 
+abbrev name_back : Fields → Option (List ℕ)
+name_back [] = None
+name_back (field ∷ fields) = Some (text_in (first (field ∷ fields)))
+
 -- the refusal of this number and these fields
 abbrev pub module_back : ℕ → Fields → Option ModuleRefusal
 module_back code fields =
@@ -51,7 +55,7 @@ module_back code fields =
     else (if code == 66 then Some NoInstant
     else (if code == 70 then Some (Lexical (place_back fields))
     else (if code == 71 then Some (Syntax (place_back fields))
-    else (if code == 72 then Some (UnknownModule (text_in (first fields)))
+    else (if code == 72 then Some (UnknownModule (name_back fields))
     else (if code == 73 then Some (RecursiveRun (text_in (first fields)))
     else (if code == 74 then Some (UnknownName (text_in (first fields)))
     else (if code == 75 then Some (DuplicateName (text_in (first fields)))
@@ -65,6 +69,8 @@ module_back code fields =
 -- each row reads back as its refusal
 pub module_is : (given : ModuleRefusal) → module_back (row_of given).code (row_of given).fields ≡ Some given
 module_is (TooLarge limit) = ap (λ (l : Limit). Some (TooLarge l)) (limit_is limit)
+module_is (UnknownModule None) = refl
+module_is (UnknownModule (Some name)) = refl
 module_is (Pending (Excluded relation signal)) = refl
 module_is (Pending (Implied relation missing)) = refl
 module_is (Pending UnknownSignal) = refl

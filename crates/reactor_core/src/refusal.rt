@@ -88,8 +88,9 @@ pub enum ModuleRefusal {
     Lexical(Place),
     /// The first token with which the tokens so far begin no library.
     Syntax(Place),
-    /// The main module, or one that is run, isn't there.
-    UnknownModule(Identifier),
+    /// The main module, or one that is run, isn't there. `None` is a main module whose name is no
+    /// identifier.
+    UnknownModule(Option<Identifier>),
     /// A chain of runs leads from this module back to it.
     RecursiveRun(Identifier),
     /// No signal, or no trap, of this name is visible.

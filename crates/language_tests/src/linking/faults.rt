@@ -257,11 +257,12 @@ fn table() -> Option<[Emission; 1]> {
 fn told(fault: LinkFault) -> Option<(Kind, Identifier)> {
     match fault {
         LinkFault::DuplicateName(name) => Some((Kind::Duplicate, name)),
-        LinkFault::UnknownModule(name) => Some((Kind::Missing, name)),
+        LinkFault::UnknownModule(Some(name)) => Some((Kind::Missing, name)),
         LinkFault::BadRename(name) => Some((Kind::Rename, name)),
         LinkFault::UnknownName(name) => Some((Kind::Unknown, name)),
         LinkFault::EmitInput(name) => Some((Kind::Emit, name)),
-        LinkFault::RecursiveRun(_)
+        LinkFault::UnknownModule(None)
+        | LinkFault::RecursiveRun(_)
         | LinkFault::Semantics(_)
         | LinkFault::TooLarge(_)
         | LinkFault::Memory => None,
@@ -280,7 +281,7 @@ fn faults_of(alloc: Global, text: &str) -> Result<(Option<LinkFault>, Option<Lin
     let Some(emissions) = table() else {
         return Err(Fail::from("no name"));
     };
-    let before = fault_before_order(alloc, &heads, &main)?;
+    let before = fault_before_order(alloc, &heads, "M")?;
     let behind = fault_behind_order(alloc, &heads, &main, &emissions)?;
     Ok((before, behind))
 }
@@ -348,7 +349,8 @@ fn libraries_without_a_fault_pass(rt: HostRuntime) -> Result<(), Fail> {
     Ok(())
 }
 
-/// Fails where a module emits other names, in whatever order.
+/// Fails where a module emits other names, or in another order: first those of its statements and
+/// those that its runs rename, as they are met, and then the others of its runs, by their numbers.
 fn expect_emissions(
     alloc: Global,
     heads: &[Head<'_>],
@@ -358,9 +360,10 @@ fn expect_emissions(
 ) -> Result<(), Fail> {
     let found = emissions_of(alloc, &*heads, &*table, home)?;
     if found.len() != names.len()
-        || !names
+        || !found
             .iter()
-            .all(|name| found.iter().any(|one| one.as_str() == *name))
+            .zip(names.iter())
+            .all(|(one, name)| one.as_str() == *name)
     {
         return Err(Fail::from(format!(in alloc; "{found:?} in place of {names:?}")?));
     }
@@ -375,7 +378,7 @@ const EMITTED: [(&str, &[&str], &[&str]); 2] = [
         "module N: output A, B, P; emit A; sustain P || present B then emit A end end module \
         module M: output A, B, O, P; signal P in run N end; run N [signal O/A, A/P] end module",
         &["A", "P"],
-        &["A", "O"],
+        &["O", "A"],
     ),
     // by a run after the end of the `signal` that hides it
     (

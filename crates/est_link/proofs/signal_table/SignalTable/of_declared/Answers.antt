@@ -14,6 +14,6 @@ loop-signal-preserved c =
     let grown = one_more c.args.declared.now c.loop-signal.signal-index c.signal-item.result
     c.loop-signal.signals.entries c.insert.new.self.entries c.as_bytes-name.result c.requires.distinct c.requires.room
     c.loop-signal-test.true c.signal-item.is kept.signals kept.table c.as_bytes-name.ensures
-    (c.in-Ok.ensures.entries ∙ ap (λ k. insert_entry same_key c.loop-signal.signals.entries c.as_bytes-name.result
-    (record { name = c.signal-item.result.name; kind = k })) c.kernel_kind-kind.ensures) in
+    (c.in-Ok.ensures.entries ∙ ap (insert_entry same_key c.loop-signal.signals.entries c.as_bytes-name.result)
+    c.declaration_of-declaration.ensures) in
     record { signals = grown.0; table = grown.1 }
