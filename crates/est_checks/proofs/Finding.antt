@@ -1,12 +1,14 @@
 -- Faults that checks find, one check after another.
-use Rattle.std.proofs.Common.{◌≡◌, ℕ, ◌<◌, ◌⊎◌, inl, inr, List, [], length, map, get_or, Bool, Option, Some, None}
-use Rattle.std.proofs.Common.{option_map, Result, Ok, Err, refl, ap, sym, ◌∙◌, arith}
+use Rattle.std.proofs.Common.{◌≡◌, ℕ, ◌<◌, ◌⊎◌, inl, inr, List, [], length, map, get_or, Bool, true, false, if◌then◌else◌}
+use Rattle.std.proofs.Common.{Option, Some, None, option_map, Result, Ok, Err, refl, ap, sym, ◌∙◌, arith}
 use Rattle.std.proofs.lemmas.List.{get_or-map, length-map}
 use Rattle.std.proofs.lemmas.Option.{none-some, slice_get_within, get_or_from_slice_get}
 use Rattle.std.specs.List.{slice_get}
 use Rattle.std.specs.Option.{option_or}
-use Rattle.refusal_rules.specs.Rules.{AllPass, Refuses, Passes}
+use Rattle.std.specs.Prelude.{IsTrue}
+use Rattle.refusal_rules.specs.Rules.{AllPass, Unless, Refuses, Passes}
 use Rattle.refusal_rules.proofs.RuleLemmas.{refuse, pass, all_passed}
+use Rattle.est_text.specs.Identifiers.{is_identifier}
 use Rattle.est_checks.specs.BadRenamings.{bad_renaming_at}
 use Rattle.est_checks.specs.Duplicates.{first_duplicate}
 use Rattle.est_checks.specs.Emissions.{AreEmissions, first_refused}
@@ -15,13 +17,15 @@ use Rattle.est_checks.specs.FirstFaults.{IsLimitPassed, checks, limit_passed_by}
 use Rattle.est_checks.specs.Inner.Recursion.{IsOrderFault}
 use Rattle.est_checks.specs.Inner.Stages.{IsLimitFault, limit_checks, name_checks, run_checks}
 use Rattle.est_checks.specs.LinkFaults.{fault_before_order, fault_behind_order, lawless_number}
+use Rattle.est_checks.specs.LinkFaults.{misnamed_main}
 use Rattle.est_modules.specs.Modules.{Program, program_named, first_in_bodies}
 use Rattle.est_modules.specs.ModuleOrders.{places_run, run_rows}
-use Rattle.est_checks.specs.MissingModules.{unknown_module}
+use Rattle.est_checks.specs.MissingModules.{first_missing}
 use Rattle.est_checks.specs.UnknownNames.{unknown_at}
 use Rattle.est_checks.specs.declared.fault.LinkFault.{LinkFault}
-use Rattle.est_checks.specs.declared.fault.LinkFault.TheVariants.{DuplicateName, UnknownModule, RecursiveRun, BadRename}
-use Rattle.est_checks.specs.declared.fault.LinkFault.TheVariants.{UnknownName, EmitInput, Semantics, TooLarge, Memory}
+use Rattle.est_checks.specs.declared.fault.LinkFault.TheVariants.{DuplicateName, MisnamedMain, UnknownModule}
+use Rattle.est_checks.specs.declared.fault.LinkFault.TheVariants.{RecursiveRun, BadRename, UnknownName, EmitInput}
+use Rattle.est_checks.specs.declared.fault.LinkFault.TheVariants.{Semantics, TooLarge, Memory}
 use Rattle.est_checks.proofs.Chains.{first_itself, none_itself}
 use Rattle.est_modules.proofs.Standing.{program_at}
 use Rattle.est_modules.proofs.Testing.{map_none, or_none_parts}
@@ -58,6 +62,15 @@ last : {Found : Type 0} (fault : Found → LinkFault) (Is : Option Found → Typ
     → Refuses (Check fault Is) (λ f. found ≡ Some f) ⊎ Passes (Check fault Is) Next
 last fault Is None is r found e told next = pass is (next (sym e))
 last fault Is (Some x) is r found e told next = refuse (fault x) (x, refl, is) (told (fault x) (sym e))
+
+-- the name of the main module is no identifier, or what is found by those after it
+named : (identifier : Bool) {Next : Type 0} (more r found : Option LinkFault)
+    → option_or (if identifier then None else Some MisnamedMain) more ≡ r
+    → ((f : LinkFault) → r ≡ Some f → found ≡ Some f) → (more ≡ r → Next)
+    → Refuses (Unless (IsTrue identifier) MisnamedMain) (λ f. found ≡ Some f)
+    ⊎ Passes (Unless (IsTrue identifier) MisnamedMain) Next
+named true more r found e told next = pass refl (next e)
+named false more r found e told next = refuse MisnamedMain (refl, λ never. cc) (told MisnamedMain (sym e))
 
 -- ---- the stages
 
@@ -126,7 +139,8 @@ first : (ps : List Program) (main : List ℕ) (r found : Option LinkFault) → f
     → IsFirstFault ps main found
 first ps main r found e told next =
     step DuplicateName (λ name. first_duplicate ps ≡ name) (first_duplicate ps) refl _ r found e told
-    (λ e. last UnknownModule (λ name. unknown_module ps main ≡ name) (unknown_module ps main) refl r found e told next)
+    (λ e. named (is_identifier main) _ r found e told
+    (λ e. last UnknownModule (λ name. first_missing ps main ≡ name) (first_missing ps main) refl r found e told next))
 
 -- the checks before the order find a fault
 pub first_here : (ps : List Program) (main : List ℕ) (fault : LinkFault) → Some fault ≡ fault_before_order ps main
@@ -157,5 +171,5 @@ all_pass ps main h =
 -- no name is declared twice
 pub none_twice : (ps : List Program) (main : List ℕ) → None ≡ fault_before_order ps main → first_duplicate ps ≡ None
 none_twice ps main e = map_none DuplicateName (first_duplicate ps)
-    (or_none_parts (option_map DuplicateName (first_duplicate ps)) (option_map UnknownModule (unknown_module ps main))
-    (sym e)).0
+    (or_none_parts (option_map DuplicateName (first_duplicate ps))
+    (option_or (misnamed_main main) (option_map UnknownModule (first_missing ps main))) (sym e)).0

@@ -1,13 +1,13 @@
 -- A library has one first fault, or none.
 use mathlib.Core.Path.{fun_ext}
-use Rattle.std.proofs.Common.{◌≡◌, ℕ, ◌⊎◌, inl, inr, List, [], Bool, true, false, ◌&&◌, if◌then◌else◌, Option, Some}
+use Rattle.std.proofs.Common.{◌≡◌, ℕ, ◌⊎◌, inl, inr, List, [], Bool, true, ◌&&◌, Option, Some}
 use Rattle.std.proofs.Common.{None, option_map}
 use Rattle.std.proofs.Common.{Contains, refl, ap, sym, ◌∙◌, subst, arith}
 use Rattle.std.proofs.lemmas.Bool.{cases_lt}
 use Rattle.std.proofs.lemmas.Option.{none-some, slice_get-get_or}
 use Rattle.std.specs.List.{find, slice_get}
 use Rattle.std.specs.Str.{bytes_eq}
-use Rattle.refusal_rules.specs.Rules.{Refuses, Passes}
+use Rattle.refusal_rules.specs.Rules.{Unless, Refuses, Passes}
 use Rattle.est_syntax.specs.Tree.{RenamingTree}
 use Rattle.est_text.specs.Identifiers.{is_identifier}
 use Rattle.est_checks.specs.BadRenamings.{bad_renaming_at}
@@ -22,7 +22,7 @@ use Rattle.est_modules.specs.Occurrences.{Binder, Act, emits, tests, exits, bind
 use Rattle.est_modules.specs.Occurrences.{first_of}
 use Rattle.est_modules.specs.ModuleOrders.{run_rows}
 use Rattle.est_modules.specs.Renamings.{renamed}
-use Rattle.est_checks.specs.MissingModules.{first_missing, missing_at, unknown_module}
+use Rattle.est_checks.specs.MissingModules.{first_missing, missing_at}
 use Rattle.est_checks.specs.LinkFaults.{lawless_number}
 use Rattle.est_checks.specs.UnknownNames.{unknown_at}
 use Rattle.est_checks.specs.RecursiveRuns.{IsFirstRecursion, RunsItself}
@@ -40,7 +40,7 @@ use Rattle.est_checks.proofs.RunsThere.{run_is_there}
 use Rattle.est_modules.proofs.Ordering.{IsRunOf}
 use Rattle.est_checks.proofs.Sending.{same_any, same_here}
 use Rattle.est_checks.proofs.RunsThere.{none_missing}
-use Rattle.est_modules.proofs.Testing.{map_none, some_same, same_bytes, found_passes}
+use Rattle.est_modules.proofs.Testing.{some_same, same_bytes, found_passes}
 use Rattle.est_modules.specs.PlaceOrders.{NoneIsRecursive}
 
 -- ---- recursion
@@ -176,39 +176,38 @@ one_test : {Found : Type 0} (fault : Found → LinkFault) (o : Option Found) {Ne
     → a ≡ b
 one_test fault o a b next = one_check fault (λ found. o ≡ found) (λ x y h k. sym h ∙ k) a b next
 
--- ---- the name of main
-
-told_none : (named : Bool) (o : Option (List ℕ))
-    → (if named then option_map Some o else Some None) ≡ None → (named ≡ true) × (o ≡ None)
-told_none true o e = (refl, map_none Some o e)
-told_none false o e = cc
-
--- where none is told, the name of main is an identifier, and no module is missing
-pub none_unknown : (ps : List Program) (main : List ℕ) → unknown_module ps main ≡ None
-    → (is_identifier main ≡ true) × (first_missing ps main ≡ None)
-none_unknown ps main h = told_none (is_identifier main) (first_missing ps main) h
-
--- where no check has a fault, the name of main is an identifier
-pub main_identifier : (ps : List Program) (main : List ℕ) → IsFirstFault ps main None → is_identifier main ≡ true
-main_identifier ps main h = (none_unknown ps main (all_pass ps main h).1.0).0
-
--- and each module that is run is there
-pub all_there : (ps : List Program) (main : List ℕ) → IsFirstFault ps main None → first_missing ps main ≡ None
-all_there ps main h = (none_unknown ps main (all_pass ps main h).1.0).1
+-- the same of a check that asks for a fact
+one_fact : {fault : LinkFault} {Fact : Type 0} {Next After : Type 0} (a b : Option LinkFault)
+    → (Next → After → a ≡ b)
+    → Refuses (Unless Fact fault) (λ f. a ≡ Some f) ⊎ Passes (Unless Fact fault) Next
+    → Refuses (Unless Fact fault) (λ f. b ≡ Some f) ⊎ Passes (Unless Fact fault) After → a ≡ b
+one_fact a b next (inl x) (inl y) = x.answered ∙ ap Some (x.given.0 ∙ sym y.given.0) ∙ sym y.answered
+one_fact a b next (inl x) (inr y) = absurd (x.given.1 y.passed)
+one_fact a b next (inr x) (inl y) = absurd (y.given.1 x.passed)
+one_fact a b next (inr x) (inr y) = next x.next y.next
 
 -- ---- all checks
+
+-- where no check has a fault, the name of the main module is an identifier
+pub main_identifier : (ps : List Program) (main : List ℕ) → IsFirstFault ps main None → is_identifier main ≡ true
+main_identifier ps main h = (all_pass ps main h).1.0
+
+-- and the main module and each that is run are there
+pub all_there : (ps : List Program) (main : List ℕ) → IsFirstFault ps main None → first_missing ps main ≡ None
+all_there ps main h = (all_pass ps main h).1.1.0
 
 -- a library has one first fault, or none
 pub one_first_fault : (ps : List Program) (main : List ℕ) → (a b : Option LinkFault) → IsFirstFault ps main a
     → IsFirstFault ps main b → a ≡ b
 one_first_fault ps main a b =
     one_test DuplicateName (first_duplicate ps) a b
-    (λ distinct. one_test UnknownModule (unknown_module ps main) a b
+    (λ distinct. one_fact a b
+    (one_test UnknownModule (first_missing ps main) a b
     (λ there. one_check RecursiveRun (IsFirstRecursion ps) (one_recursion ps) a b
     (λ none. one_test BadRename (first_in_bodies (bad_renaming_at ps) ps) a b
     (λ renamed. one_test UnknownName (first_in_bodies (unknown_at ps) ps) a b
     (λ known. one_check EmitInput (IsFirstRefused ps) (one_refused ps (none_placed ps distinct none)) a b
     (λ accepted. one_test Semantics (lawless_number (program_named ps main)) a b
     (λ lawful. one_check TooLarge (IsLimitPassed ps main)
-    (one_limit ps main (none_placed ps distinct none) (none_unknown ps main there).1) a b
-    (λ within h k. h ∙ sym k))))))))
+    (one_limit ps main (none_placed ps distinct none) there) a b
+    (λ within h k. h ∙ sym k)))))))))

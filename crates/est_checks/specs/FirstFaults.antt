@@ -1,13 +1,14 @@
 -- The first fault of a library: its checks in their order, and the answer by them (this project's own form).
 use Rattle.std.specs.Prelude.{◌≡◌, ℕ, nat_lt, Bool, List, length, if◌then◌else◌, Option, Some, None, Result}
-use Rattle.std.specs.Prelude.{Ok, Err, ◌⊎◌}
-use Rattle.refusal_rules.specs.Rules.{Rule, Rules, accept, ◌▸◌, Answers}
+use Rattle.std.specs.Prelude.{Ok, Err, ◌⊎◌, IsTrue}
+use Rattle.refusal_rules.specs.Rules.{Rule, Rules, Unless, accept, ◌▸◌, Answers}
+use Rattle.est_text.specs.Identifiers.{is_identifier}
 use Rattle.est_checks.specs.BadRenamings.{bad_renaming_at}
 use Rattle.est_checks.specs.Counting.{AreCounts}
 use Rattle.est_checks.specs.Duplicates.{first_duplicate}
 use Rattle.est_checks.specs.Emissions.{AreEmissions, first_refused}
 use Rattle.est_checks.specs.LinkFaults.{lawless_number}
-use Rattle.est_checks.specs.MissingModules.{unknown_module}
+use Rattle.est_checks.specs.MissingModules.{first_missing}
 use Rattle.est_checks.specs.RecursiveRuns.{IsFirstRecursion}
 use Rattle.est_checks.specs.UnknownNames.{unknown_at}
 use Rattle.est_modules.specs.Modules.{Program, program_named, first_in_bodies}
@@ -15,8 +16,9 @@ use Rattle.est_kernel.specs.declared.limits.TheConstants.{MOST_STATEMENTS}
 use Rattle.est_checks.specs.declared.fault.Limit.{Limit}
 use Rattle.est_checks.specs.declared.fault.Limit.TheVariants.{Signals, Relations, Statements}
 use Rattle.est_checks.specs.declared.fault.LinkFault.{LinkFault}
-use Rattle.est_checks.specs.declared.fault.LinkFault.TheVariants.{DuplicateName, UnknownModule, RecursiveRun, BadRename}
-use Rattle.est_checks.specs.declared.fault.LinkFault.TheVariants.{UnknownName, EmitInput, Semantics, TooLarge, Memory}
+use Rattle.est_checks.specs.declared.fault.LinkFault.TheVariants.{DuplicateName, MisnamedMain, UnknownModule}
+use Rattle.est_checks.specs.declared.fault.LinkFault.TheVariants.{RecursiveRun, BadRename, UnknownName, EmitInput}
+use Rattle.est_checks.specs.declared.fault.LinkFault.TheVariants.{Semantics, TooLarge, Memory}
 use Rattle.est_kernel.specs.declared.interface.TheConstants.{MOST_SIGNALS}
 use Rattle.est_relations.specs.declared.relations.TheConstants.{MOST_RELATIONS}
 
@@ -59,7 +61,8 @@ Check {Found = Found} fault Finding = record {
 abbrev pub checks : List Program → (main : List ℕ) → Rules LinkFault
 checks ps main =
     Check DuplicateName (λ name. first_duplicate ps ≡ name)
-    ▸ Check UnknownModule (λ name. unknown_module ps main ≡ name)
+    ▸ Unless (IsTrue (is_identifier main)) MisnamedMain
+    ▸ Check UnknownModule (λ name. first_missing ps main ≡ name)
     ▸ Check RecursiveRun (IsFirstRecursion ps)
     ▸ Check BadRename (λ name. first_in_bodies (bad_renaming_at ps) ps ≡ name)
     ▸ Check UnknownName (λ name. first_in_bodies (unknown_at ps) ps ≡ name)

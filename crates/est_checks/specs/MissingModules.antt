@@ -1,6 +1,5 @@
 -- Modules that are run (The Esterel v5 Language Primer, `run`).
-use Rattle.std.specs.Prelude.{ℕ, List, if◌then◌else◌, Option, Some, None, option_map}
-use Rattle.est_text.specs.Identifiers.{is_identifier}
+use Rattle.std.specs.Prelude.{ℕ, List, Option, Some, None}
 use Rattle.est_modules.specs.Occurrences.{Act, emits, tests, exits, binds, runs, Occurrence}
 use Rattle.est_modules.specs.Modules.{Program, program_named, first_in_bodies}
 
@@ -29,7 +28,3 @@ missing_from ps main (Some q) = first_in_bodies (missing_at ps) ps
 -- the first module that is asked for and isn't there
 abbrev pub first_missing : List Program → List ℕ → Option (List ℕ)
 first_missing ps main = missing_from ps main (program_named ps main)
-
--- what is told of it: its name; or no name, where that of the main module is no identifier, which no module has
-abbrev pub unknown_module : List Program → List ℕ → Option (Option (List ℕ))
-unknown_module ps main = if is_identifier main then option_map Some (first_missing ps main) else Some None

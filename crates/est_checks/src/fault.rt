@@ -19,9 +19,10 @@ pub enum LinkFault {
     /// A module of a name that another has before it; a signal that is declared a second time, or
     /// is `tick`.
     DuplicateName(Identifier),
-    /// The main module, or one that is run, isn't there. `None` is a main module whose name is no
-    /// identifier, as no module has such a name.
-    UnknownModule(Option<Identifier>),
+    /// The name of the main module is no identifier, so no module has it.
+    MisnamedMain,
+    /// The main module, or one that is run, isn't there.
+    UnknownModule(Identifier),
     /// A chain of runs leads from this module back to it.
     RecursiveRun(Identifier),
     /// A renaming names no interface signal of the module that is run, or one that another of its

@@ -40,10 +40,10 @@ pub fn check_before_order<'a>(
         return Err(LinkFault::DuplicateName(name));
     }
     let Some(main) = Identifier::from_text(main) else {
-        return Err(LinkFault::UnknownModule(None));
+        return Err(LinkFault::MisnamedMain);
     };
     match first_missing(alloc, &*heads, &main)? {
-        Some(name) => Err(LinkFault::UnknownModule(Some(name))),
+        Some(name) => Err(LinkFault::UnknownModule(name)),
         None => Ok(main),
     }
 }

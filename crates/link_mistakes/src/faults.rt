@@ -177,10 +177,10 @@ pub fn fault_before_order<'a>(
         return Ok(Some(LinkFault::DuplicateName(name)));
     }
     let Some(main) = Identifier::from_text(main) else {
-        return Ok(Some(LinkFault::UnknownModule(None)));
+        return Ok(Some(LinkFault::MisnamedMain));
     };
     match first_missing(alloc, &*heads, &main)? {
-        Some(name) => Ok(Some(LinkFault::UnknownModule(Some(name)))),
+        Some(name) => Ok(Some(LinkFault::UnknownModule(name))),
         None => Ok(None),
     }
 }

@@ -12,8 +12,8 @@ use Rattle.reactor_core.specs.declared.refusal.Limit.TheVariants.{Nesting, Signa
 use Rattle.reactor_core.specs.declared.refusal.Limit.TheVariants.{Locals}
 use Rattle.reactor_core.specs.declared.refusal.ModuleRefusal.{ModuleRefusal}
 use Rattle.reactor_core.specs.declared.refusal.ModuleRefusal.TheVariants.{Pending, NoInstant, Lexical, Syntax}
-use Rattle.reactor_core.specs.declared.refusal.ModuleRefusal.TheVariants.{UnknownModule, RecursiveRun, UnknownName}
-use Rattle.reactor_core.specs.declared.refusal.ModuleRefusal.TheVariants.{DuplicateName, EmitInput, BadRename}
+use Rattle.reactor_core.specs.declared.refusal.ModuleRefusal.TheVariants.{MisnamedMain, UnknownModule, RecursiveRun}
+use Rattle.reactor_core.specs.declared.refusal.ModuleRefusal.TheVariants.{UnknownName, DuplicateName, EmitInput, BadRename}
 use Rattle.reactor_core.specs.declared.refusal.ModuleRefusal.TheVariants.{InstantLoop, TooLarge, Semantics}
 use Rattle.reactor_core.specs.Refusals.{row_of, limit_text}
 
@@ -40,9 +40,9 @@ limit_is Locals = refl
 abbrev place_back : Fields → Place
 place_back fields = record { line = number_in (second fields); column = number_in (first fields) }
 
-abbrev name_back : Fields → Option (List ℕ)
-name_back [] = None
-name_back (field ∷ fields) = Some (text_in (first (field ∷ fields)))
+abbrev unknown_back : Fields → ModuleRefusal
+unknown_back [] = MisnamedMain
+unknown_back (field ∷ fields) = UnknownModule (text_in (first (field ∷ fields)))
 
 -- the refusal of this number and these fields
 abbrev pub module_back : ℕ → Fields → Option ModuleRefusal
@@ -55,7 +55,7 @@ module_back code fields =
     else (if code == 66 then Some NoInstant
     else (if code == 70 then Some (Lexical (place_back fields))
     else (if code == 71 then Some (Syntax (place_back fields))
-    else (if code == 72 then Some (UnknownModule (name_back fields))
+    else (if code == 72 then Some (unknown_back fields)
     else (if code == 73 then Some (RecursiveRun (text_in (first fields)))
     else (if code == 74 then Some (UnknownName (text_in (first fields)))
     else (if code == 75 then Some (DuplicateName (text_in (first fields)))
@@ -69,8 +69,6 @@ module_back code fields =
 -- each row reads back as its refusal
 pub module_is : (given : ModuleRefusal) → module_back (row_of given).code (row_of given).fields ≡ Some given
 module_is (TooLarge limit) = ap (λ (l : Limit). Some (TooLarge l)) (limit_is limit)
-module_is (UnknownModule None) = refl
-module_is (UnknownModule (Some name)) = refl
 module_is (Pending (Excluded relation signal)) = refl
 module_is (Pending (Implied relation missing)) = refl
 module_is (Pending UnknownSignal) = refl

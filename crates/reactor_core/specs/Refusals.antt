@@ -1,6 +1,6 @@
 -- The refusals of a module: what each tells (this project's own table).
-use Rattle.std.specs.Prelude.{ℕ, List, [], ◌∷◌, codes, Option, Some, None}
-use Rattle.refusal_tables.specs.Rows.{Row, Fields, tells, Number, Text}
+use Rattle.std.specs.Prelude.{ℕ, List, [], ◌∷◌, codes}
+use Rattle.refusal_tables.specs.Rows.{Row, tells, Number, Text}
 use Rattle.est_relations.specs.declared.refusal.Refusal.TheVariants.{UnknownSignal, NotInput, AlreadyOffered, Excluded}
 use Rattle.est_relations.specs.declared.refusal.Refusal.TheVariants.{Implied}
 use Rattle.reactor_core.specs.declared.refusal.Limit.{Limit}
@@ -8,8 +8,8 @@ use Rattle.reactor_core.specs.declared.refusal.Limit.TheVariants.{Nesting, Signa
 use Rattle.reactor_core.specs.declared.refusal.Limit.TheVariants.{Locals}
 use Rattle.reactor_core.specs.declared.refusal.ModuleRefusal.{ModuleRefusal}
 use Rattle.reactor_core.specs.declared.refusal.ModuleRefusal.TheVariants.{Pending, NoInstant, Lexical, Syntax}
-use Rattle.reactor_core.specs.declared.refusal.ModuleRefusal.TheVariants.{UnknownModule, RecursiveRun, UnknownName}
-use Rattle.reactor_core.specs.declared.refusal.ModuleRefusal.TheVariants.{DuplicateName, EmitInput, BadRename}
+use Rattle.reactor_core.specs.declared.refusal.ModuleRefusal.TheVariants.{MisnamedMain, UnknownModule, RecursiveRun}
+use Rattle.reactor_core.specs.declared.refusal.ModuleRefusal.TheVariants.{UnknownName, DuplicateName, EmitInput, BadRename}
 use Rattle.reactor_core.specs.declared.refusal.ModuleRefusal.TheVariants.{InstantLoop, TooLarge, Semantics}
 
 -- the word for a limit of a module's size
@@ -21,11 +21,6 @@ limit_text Statements = codes "statements"
 limit_text Loops = codes "loops"
 limit_text Traps = codes "traps"
 limit_text Locals = codes "locals"
-
--- a name, where there is one
-abbrev pub name_fields : Option (List ℕ) → Fields
-name_fields None = []
-name_fields (Some name) = (codes "name", Text name) ∷ []
 
 -- the number, the name and the fields of a refusal
 abbrev pub row_of : ModuleRefusal → Row
@@ -41,7 +36,8 @@ row_of (Lexical place) =
     tells 70 (codes "Lexical") ((codes "column", Number place.column) ∷ (codes "line", Number place.line) ∷ [])
 row_of (Syntax place) =
     tells 71 (codes "Syntax") ((codes "column", Number place.column) ∷ (codes "line", Number place.line) ∷ [])
-row_of (UnknownModule name) = tells 72 (codes "UnknownModule") (name_fields name)
+row_of MisnamedMain = tells 72 (codes "UnknownModule") []
+row_of (UnknownModule name) = tells 72 (codes "UnknownModule") ((codes "name", Text name) ∷ [])
 row_of (RecursiveRun name) = tells 73 (codes "RecursiveRun") ((codes "name", Text name) ∷ [])
 row_of (UnknownName name) = tells 74 (codes "UnknownName") ((codes "name", Text name) ∷ [])
 row_of (DuplicateName name) = tells 75 (codes "DuplicateName") ((codes "name", Text name) ∷ [])

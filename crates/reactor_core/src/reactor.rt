@@ -91,7 +91,7 @@ fn read_load(alloc: Global, main: &str, text: &str) -> Result<(Load, Module, Mod
     let engine = ModuleEngine::for_kernel(alloc, &loaded.kernel)?;
     match Identifier::from_text(main) {
         Some(main) => Ok((Load { main, text }, loaded, engine)),
-        None => Err(Refusal::Module(ModuleRefusal::UnknownModule(None))),
+        None => Err(Refusal::Module(ModuleRefusal::MisnamedMain)),
     }
 }
 

@@ -127,7 +127,7 @@ fn write_module_refusal(line: &mut LineWriter, refusal: &ModuleRefusal) -> Resul
             line.text("missing", missing.as_str())?;
             line.number("relation", u64::from(*relation))
         }
-        ModuleRefusal::UnknownModule(Some(name))
+        ModuleRefusal::UnknownModule(name)
         | ModuleRefusal::RecursiveRun(name)
         | ModuleRefusal::UnknownName(name)
         | ModuleRefusal::DuplicateName(name)
@@ -148,7 +148,7 @@ fn write_module_refusal(line: &mut LineWriter, refusal: &ModuleRefusal) -> Resul
         | ModuleRefusal::Pending(PendingRefusal::NotInput)
         | ModuleRefusal::Pending(PendingRefusal::AlreadyOffered)
         | ModuleRefusal::NoInstant
-        | ModuleRefusal::UnknownModule(None)
+        | ModuleRefusal::MisnamedMain
         | ModuleRefusal::InstantLoop => line.label(code, fault),
     }
 }

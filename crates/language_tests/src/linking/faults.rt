@@ -257,11 +257,11 @@ fn table() -> Option<[Emission; 1]> {
 fn told(fault: LinkFault) -> Option<(Kind, Identifier)> {
     match fault {
         LinkFault::DuplicateName(name) => Some((Kind::Duplicate, name)),
-        LinkFault::UnknownModule(Some(name)) => Some((Kind::Missing, name)),
+        LinkFault::UnknownModule(name) => Some((Kind::Missing, name)),
         LinkFault::BadRename(name) => Some((Kind::Rename, name)),
         LinkFault::UnknownName(name) => Some((Kind::Unknown, name)),
         LinkFault::EmitInput(name) => Some((Kind::Emit, name)),
-        LinkFault::UnknownModule(None)
+        LinkFault::MisnamedMain
         | LinkFault::RecursiveRun(_)
         | LinkFault::Semantics(_)
         | LinkFault::TooLarge(_)

@@ -194,12 +194,12 @@ const LINKED: [(&str, usize, usize); 5] = [
 fn told(fault: LinkFault) -> Option<(Kind, Identifier)> {
     match fault {
         LinkFault::DuplicateName(name) => Some((Kind::Duplicate, name)),
-        LinkFault::UnknownModule(Some(name)) => Some((Kind::Missing, name)),
+        LinkFault::UnknownModule(name) => Some((Kind::Missing, name)),
         LinkFault::RecursiveRun(name) => Some((Kind::Recursive, name)),
         LinkFault::BadRename(name) => Some((Kind::Rename, name)),
         LinkFault::UnknownName(name) => Some((Kind::Unknown, name)),
         LinkFault::EmitInput(name) => Some((Kind::Emit, name)),
-        LinkFault::UnknownModule(None)
+        LinkFault::MisnamedMain
         | LinkFault::Semantics(_)
         | LinkFault::TooLarge(_)
         | LinkFault::Memory => None,
@@ -259,7 +259,7 @@ const NO_IDENTIFIERS: [&str; 4] = ["", "1", "M ", "M-N"];
 fn a_name_that_is_no_identifier_is_unknown(rt: HostRuntime) -> Result<(), Fail> {
     for main in NO_IDENTIFIERS {
         let alone = link_named(rt.alloc(), "module M: run X end module", main)?;
-        if alone.err() != Some(LinkFault::UnknownModule(None)) {
+        if alone.err() != Some(LinkFault::MisnamedMain) {
             return Err(Fail::from(format!(in rt.alloc(); "{main:?} is not unknown")?));
         }
         let twice = link_named(rt.alloc(), "module M: input A, A; nothing end module", main)?;

@@ -63,7 +63,7 @@ fn fault_of_text(rt: &impl Abort, words: &[&str]) -> Option<ModuleRefusal> {
             line: number(rt, line),
             column: number(rt, column),
         }),
-        ["UnknownModule", name] => ModuleRefusal::UnknownModule(Some(identifier(rt, name))),
+        ["UnknownModule", name] => ModuleRefusal::UnknownModule(identifier(rt, name)),
         ["RecursiveRun", name] => ModuleRefusal::RecursiveRun(identifier(rt, name)),
         ["UnknownName", name] => ModuleRefusal::UnknownName(identifier(rt, name)),
         ["DuplicateName", name] => ModuleRefusal::DuplicateName(identifier(rt, name)),
