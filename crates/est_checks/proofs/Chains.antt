@@ -62,8 +62,8 @@ given_by_one : {X A : Type 0} (f : X → List A) (xs : List X) (y : A) → Conta
 given_by_one f [] y h = absurd (omega (arith, h.1))
 given_by_one f (x ∷ xs) y h = elim (Contains-append_cases (f x) (flat_map f xs) y h) [
   | inl here ↦ (x, (0, omega arith, refl), here)
-  | inr behind ↦
-      let later = given_by_one f xs y behind in
+  | inr there ↦
+      let later = given_by_one f xs y there in
       (later.0, Contains-append_right (x ∷ []) xs later.0 later.1, later.2)
 ]
 

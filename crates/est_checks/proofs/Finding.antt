@@ -1,6 +1,6 @@
 -- Faults that checks find, one check after another.
-use Rattle.std.proofs.Common.{◌≡◌, ℕ, ◌<◌, ◌⊎◌, inl, inr, List, [], length, map, get_or, Bool, true, false, if◌then◌else◌}
-use Rattle.std.proofs.Common.{Option, Some, None, option_map, Result, Ok, Err, refl, ap, sym, ◌∙◌, arith}
+use Rattle.std.proofs.Common.{◌≡◌, ℕ, ◌<◌, ◌⊎◌, inl, inr, List, [], length, map, get_or, Bool, true, false}
+use Rattle.std.proofs.Common.{if◌then◌else◌, Option, Some, None, option_map, Result, Ok, Err, refl, ap, sym, ◌∙◌, arith}
 use Rattle.std.proofs.lemmas.List.{get_or-map, length-map}
 use Rattle.std.proofs.lemmas.Option.{none-some, slice_get_within, get_or_from_slice_get}
 use Rattle.std.specs.List.{slice_get}
@@ -16,7 +16,7 @@ use Rattle.est_checks.specs.FirstFaults.{Check, Finds, IsFirstFault, IsFirstOf, 
 use Rattle.est_checks.specs.FirstFaults.{IsLimitPassed, checks, limit_passed_by}
 use Rattle.est_checks.specs.Inner.Recursion.{IsOrderFault}
 use Rattle.est_checks.specs.Inner.Stages.{IsLimitFault, limit_checks, name_checks, run_checks}
-use Rattle.est_checks.specs.LinkFaults.{fault_before_order, fault_behind_order, lawless_number}
+use Rattle.est_checks.specs.LinkFaults.{fault_before_order, fault_after_order, lawless_number}
 use Rattle.est_checks.specs.LinkFaults.{misnamed_main}
 use Rattle.est_modules.specs.Modules.{Program, program_named, first_in_bodies}
 use Rattle.est_modules.specs.ModuleOrders.{places_run, run_rows}
@@ -82,7 +82,7 @@ limits ps main found h =
     (record { counts = h.counts; are = h.are; is = refl }) found found (sym h.is) (λ f e. e) (λ e. e)
 
 names : (ps : List Program) (main : List ℕ) (em : List ℕ → List ℕ → Bool) → AreEmissions ps em
-    → (r found : Option LinkFault) → fault_behind_order ps main em ≡ r
+    → (r found : Option LinkFault) → fault_after_order ps main em ≡ r
     → ((f : LinkFault) → r ≡ Some f → found ≡ Some f) → (r ≡ None → IsFirstOf (limit_checks ps main) found)
     → IsFirstOf (name_checks ps main) found
 names ps main em are r found e told next =
@@ -95,16 +95,16 @@ names ps main em are r found e told next =
     (λ e. last Semantics (λ number. lawless_number (program_named ps main) ≡ number)
     (lawless_number (program_named ps main)) refl r found e told next)))
 
--- the checks behind the order find a fault
+-- the checks after the order find a fault
 pub names_here : (ps : List Program) (main : List ℕ) (em : List ℕ → List ℕ → Bool) (fault : LinkFault)
-    → AreEmissions ps em → Some fault ≡ fault_behind_order ps main em → IsFirstOf (name_checks ps main) (Some fault)
+    → AreEmissions ps em → Some fault ≡ fault_after_order ps main em → IsFirstOf (name_checks ps main) (Some fault)
 names_here ps main em fault are e =
     names ps main em are (Some fault) (Some fault) (sym e) (λ f same. same)
     (λ none. absurd (none-some fault (sym none)))
 
 -- they find none, and the limits are asked
 pub names_next : (ps : List Program) (main : List ℕ) (em : List ℕ → List ℕ → Bool) → AreEmissions ps em
-    → None ≡ fault_behind_order ps main em → (found : Option LinkFault) → IsLimitFault ps main found
+    → None ≡ fault_after_order ps main em → (found : Option LinkFault) → IsLimitFault ps main found
     → IsFirstOf (name_checks ps main) found
 names_next ps main em are e found h =
     names ps main em are None found (sym e) (λ f some. absurd (none-some f some)) (λ none. limits ps main found h)

@@ -51,10 +51,10 @@ one_recursion ps None (Some n) h k = absurd (h n k.recursive)
 one_recursion ps (Some m) None h k = absurd (k m h.recursive)
 one_recursion ps (Some m) (Some n) h k = elim (cases_lt h.place k.place) [
   | inl before ↦ absurd (k.first h.place h.home before h.there (subst (RunsItself ps) (sym h.name) h.recursive))
-  | inr behind ↦ (elim (cases_lt k.place h.place) [
+  | inr past ↦ (elim (cases_lt k.place h.place) [
     | inl later ↦ absurd (h.first k.place k.home later k.there (subst (RunsItself ps) (sym k.name) k.recursive))
     | inr there ↦
-        let place : h.place ≡ k.place = omega (arith, behind, there) in
+        let place : h.place ≡ k.place = omega (arith, past, there) in
         let home : h.home ≡ k.home = some_same h.home k.home (sym h.there ∙ ap (slice_get ps) place ∙ k.there) in
         ap Some (sym h.name ∙ ap (λ (p : Program). p.name) home ∙ k.name)
   ])

@@ -31,8 +31,8 @@ lawless_number None = None
 lawless_number (Some p) = first_lawless p
 
 -- the first of the checks that come after it: renamings, names, emissions, relations of the main module
-abbrev pub fault_behind_order : List Program → List ℕ → (List ℕ → List ℕ → Bool) → Option LinkFault
-fault_behind_order ps main emitted =
+abbrev pub fault_after_order : List Program → List ℕ → (List ℕ → List ℕ → Bool) → Option LinkFault
+fault_after_order ps main emitted =
     option_or (option_map BadRename (first_in_bodies (bad_renaming_at ps) ps))
     (option_or (option_map UnknownName (first_in_bodies (unknown_at ps) ps))
     (option_or (option_map EmitInput (first_refused ps emitted))

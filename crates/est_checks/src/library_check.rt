@@ -8,10 +8,10 @@ ghost use Rattle.est_modules.specs.Modules.{program_of};
 ghost use Rattle.est_modules.specs.ModuleOrders.{IsOrderOf, run_rows};
 ghost use Rattle.est_modules.specs.PlaceOrders.{NoneIsRecursive};
 
+use crate::around_order::{check_before_order, fault_after_order};
 use crate::fault::LinkFault;
 use crate::limits::check_limits;
 use crate::module_emissions::emissions_along;
-use crate::round_order::{check_before_order, fault_behind_order};
 use est_modules::head::Head;
 use est_modules::module_order::{name_at, order_heads};
 use est_modules::name_table::numbered;
@@ -46,7 +46,7 @@ fn check_names<'a>(
 {
     let names = numbered(alloc, &*heads)?;
     let table = emissions_along(alloc, &names, &*heads, order.places())?;
-    match fault_behind_order(alloc, &names, &*heads, main, &table)? {
+    match fault_after_order(alloc, &names, &*heads, main, &table)? {
         Some(fault) => Err(fault),
         None => check_limits(alloc, heads, order, main),
     }

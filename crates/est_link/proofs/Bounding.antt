@@ -10,7 +10,7 @@ use Rattle.est_link.specs.Bodies.{MayEmit, IsBody, IsSent, HasSoundNames}
 use Rattle.est_link.specs.Inner.AllRuns.{AllRuns}
 use Rattle.est_checks.specs.Emissions.{refused_at, is_refused, emits_by}
 use Rattle.est_link.specs.Inner.Tables.{AreMade, none, next, IsMade, has_body, bodies_of, body_linked}
-use Rattle.est_link.specs.Linking.{linked, body_in_run, interface_bound, interface_run, locals_round, signal_at}
+use Rattle.est_link.specs.Linking.{linked, body_in_run, interface_bound, interface_run, locals_around, signal_at}
 use Rattle.est_link.specs.Linking.{emitted}
 use Rattle.est_modules.specs.Modules.{Program, program_named}
 use Rattle.est_modules.specs.Occurrences.{Binder, signals, a_trap, emits, runs, Occurrence, tested, occurrences}
@@ -22,7 +22,7 @@ use Rattle.std.specs.Str.{bytes_eq}
 use Rattle.est_syntax.specs.Tree.{RenamingTree}
 use Rattle.est_link.proofs.Binding.{bound_body}
 use Rattle.est_link.proofs.Made.{kept, new_last, last_body, old_or_last}
-use Rattle.est_link.proofs.Naming.{IsFine, test_at, traps_round, trap_within, sent_at, run_bindings}
+use Rattle.est_link.proofs.Naming.{IsFine, test_at, traps_around, trap_within, sent_at, run_bindings}
 use Rattle.est_modules.proofs.Testing.{or_left, or_right, and_both, not_true, same_bytes, equal_bytes, or_none_parts}
 use Rattle.est_modules.proofs.Testing.{all_parts}
 use Rattle.est_link.proofs.RunModules.{from_runs}
@@ -92,7 +92,7 @@ accepted_name false s h = refl
 
 fine_emission : (ps : List Program) (em : List ℕ → List ℕ → Bool) (p : Program) (bs : List Binder) (s : List ℕ)
     → IsFine ps em p (record { act = emits s; around = bs })
-    → MayEmit (length p.interface) (IsSent em p) (locals_round bs) (emitted (signal_at p bs s))
+    → MayEmit (length p.interface) (IsSent em p) (locals_around bs) (emitted (signal_at p bs s))
 fine_emission ps em p bs s fine = sent_at em p bs s (known_name (is_visible p bs s) s fine.known)
     (accepted_name (is_refused p bs s) s fine.accepted) (λ h. fine.sent s h (equal_bytes s))
 
@@ -104,25 +104,25 @@ IsSound em (Some q) f = IsBody (length q.interface) (IsSent em q) 0 0 f
 run_bound : (ps : List Program) (em : List ℕ → List ℕ → Bool) (p : Program) (bs : List Binder) (m : List ℕ)
     (rs : List RenamingTree) (o : Option Program) (f : Body) → program_named ps m ≡ o
     → IsFine ps em p (record { act = runs m rs; around = bs }) → IsSound em o f
-    → IsBody (length p.interface) (IsSent em p) (traps_round bs) (locals_round bs)
-    (body_in_run (interface_bound p bs rs (interface_run o)) (locals_round bs) f)
+    → IsBody (length p.interface) (IsSent em p) (traps_around bs) (locals_around bs)
+    (body_in_run (interface_bound p bs rs (interface_run o)) (locals_around bs) f)
 run_bound ps em p bs m rs None f found fine sound =
-    subst (λ x. IsBody (length p.interface) (IsSent em p) (traps_round bs) (locals_round bs)
-    (body_in_run (interface_bound p bs rs []) (locals_round bs) x)) (sym sound) tt
+    subst (λ x. IsBody (length p.interface) (IsSent em p) (traps_around bs) (locals_around bs)
+    (body_in_run (interface_bound p bs rs []) (locals_around bs) x)) (sym sound) tt
 run_bound ps em p bs m rs (Some q) f found fine sound =
-    let e : locals_round bs + 0 ≡ locals_round bs = omega arith in
-    let none : 0 + traps_round bs ≡ traps_round bs = omega arith in
-    subst (λ l. IsBody (length p.interface) (IsSent em p) (traps_round bs) l
-    (body_in_run (interface_bound p bs rs q.interface) (locals_round bs) f)) e
-    (bound_body (length q.interface) (IsSent em q) (length p.interface) (IsSent em p) (locals_round bs)
-    (interface_bound p bs rs q.interface) (run_bindings ps em p bs m rs q found fine) (traps_round bs) 0 f
+    let e : locals_around bs + 0 ≡ locals_around bs = omega arith in
+    let none : 0 + traps_around bs ≡ traps_around bs = omega arith in
+    subst (λ l. IsBody (length p.interface) (IsSent em p) (traps_around bs) l
+    (body_in_run (interface_bound p bs rs q.interface) (locals_around bs) f)) e
+    (bound_body (length q.interface) (IsSent em q) (length p.interface) (IsSent em p) (locals_around bs)
+    (interface_bound p bs rs q.interface) (run_bindings ps em p bs m rs q found fine) (traps_around bs) 0 f
     (subst (λ t. IsBody (length q.interface) (IsSent em q) t 0 f) none
-    (more_traps (length q.interface) (IsSent em q) (traps_round bs) 0 0 f sound)))
+    (more_traps (length q.interface) (IsSent em q) (traps_around bs) 0 0 f sound)))
 
 pub linked_bound : (ps : List Program) (em : List ℕ → List ℕ → Bool) (p : Program) (b : List ℕ → Body)
     (bs : List Binder) (d : Derived) → AllByRecursion (IsFine ps em p) (occurrences bs d)
     → AllRuns (λ m. IsSound em (program_named ps m) (b m)) d
-    → IsBody (length p.interface) (IsSent em p) (traps_round bs) (locals_round bs) (linked ps b p bs d)
+    → IsBody (length p.interface) (IsSent em p) (traps_around bs) (locals_around bs) (linked ps b p bs d)
 linked_bound ps em p b bs derived.missing h r = tt
 linked_bound ps em p b bs derived.nothing h r = tt
 linked_bound ps em p b bs derived.pause h r = tt
@@ -132,8 +132,8 @@ linked_bound ps em p b bs (derived.sustain s) h r = fine_emission ps em p bs s h
 linked_bound ps em p b bs (derived.exit t) h r = trap_within bs t (known_name (is_trap bs t) t h.0.known)
 linked_bound ps em p b bs (derived.await d) h r = test_at p bs d.test
 linked_bound ps em p b bs (derived.present s q e) h r =
-    let behind = all_parts (IsFine ps em p) (tested bs s) (occurrences bs q ++ occurrences bs e) h in
-    let parts = all_parts (IsFine ps em p) (occurrences bs q) (occurrences bs e) behind.1 in
+    let rest = all_parts (IsFine ps em p) (tested bs s) (occurrences bs q ++ occurrences bs e) h in
+    let parts = all_parts (IsFine ps em p) (occurrences bs q) (occurrences bs e) rest.1 in
     (test_at p bs s, linked_bound ps em p b bs q parts.0 r.0, linked_bound ps em p b bs e parts.1 r.1)
 linked_bound ps em p b bs (derived.suspend q d) h r = (
   test_at p bs d.test,

@@ -119,8 +119,8 @@ bottom_up_more ps names m up ready i lt n run = elim (cases_lt i (length names))
   | inl before ↦
       ap (λ ns. is_listed ns n) (take-append-le i names (m ∷ []) (omega (arith, before)))
       ∙ up i before n (subst (λ k. HasRun ps k n) (get_or_append_left names (m ∷ []) [] i before) run)
-  | inr behind ↦
-      let last : i ≡ length names = omega (arith, behind, lt, length-append names (m ∷ [])) in
+  | inr past ↦
+      let last : i ≡ length names = omega (arith, past, lt, length-append names (m ∷ [])) in
       let name : get_or (names ++ m ∷ []) i [] ≡ m = ap (λ j. get_or (names ++ m ∷ []) j []) last
       ∙ get_or-append_seam names m [] [] in
       let front : take i (names ++ m ∷ []) ≡ names = ap (λ j. take j (names ++ m ∷ [])) last
@@ -144,8 +144,8 @@ pub next_front : (ps : List Program) (order set : List ℕ) (names : List (List 
 next_front ps order set names k p front at i lt has q here = elim (cases_lt i k) [
   | inl before ↦ list_any-append (λ n. bytes_eq n q.name) names (p.name ∷ [])
       ∙ or_left (is_listed names q.name) _ (front i before has q here)
-  | inr behind ↦
-      let last : k ≡ i = omega (arith, behind, lt) in
+  | inr past ↦
+      let last : k ≡ i = omega (arith, past, lt) in
       let same : p ≡ q = some_same p q (sym at ∙ ap (λ j. slice_get ps (slice_index order j)) last ∙ here) in
       list_any-append (λ n. bytes_eq n q.name) names (p.name ∷ [])
       ∙ or_right (is_listed names q.name) _
@@ -157,7 +157,7 @@ pub front_past : (ps : List Program) (order set : List ℕ) (names : List (List 
     → HasFront ps set order k names → (Contains set (slice_index order k) → ⊥) → HasFront ps set order (k + 1) names
 front_past ps order set names k front absent i lt has q here = elim (cases_lt i k) [
   | inl before ↦ front i before has q here
-  | inr behind ↦
-      let last : i ≡ k = omega (arith, behind, lt) in
+  | inr past ↦
+      let last : i ≡ k = omega (arith, past, lt) in
       absurd (absent (subst (λ j. Contains set (slice_index order j)) last has))
 ]

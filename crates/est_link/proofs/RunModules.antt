@@ -9,7 +9,7 @@ use Rattle.est_modules.specs.Occurrences.{occurrences, tested}
 use Rattle.est_modules.specs.Modules.{Program, program_named, first_in_bodies}
 use Rattle.est_checks.specs.MissingModules.{missing_at}
 use Rattle.est_checks.specs.RecursiveRuns.{HasRun}
-use Rattle.est_link.specs.Linking.{linked, asked_at, interface_bound, interface_run, body_in_run, locals_round}
+use Rattle.est_link.specs.Linking.{linked, asked_at, interface_bound, interface_run, body_in_run, locals_around}
 use Rattle.est_link.specs.Inner.AllRuns.{AllRuns}
 use Rattle.est_reduce.specs.Bodies as flat
 use Rattle.est_reduce.specs.Bodies.{Body}
@@ -123,7 +123,7 @@ same_linked ps b c p bs (trap t q) h = ap flat.trap (same_linked ps b c p (a_tra
 same_linked ps b c p bs (signal ns q) h = ap (λ x. flat.signal (length (ns.first ∷ ns.later)) x)
     (same_linked ps b c p (signals ns ∷ bs) q h)
 same_linked ps b c p bs (run m rs) h =
-    ap (body_in_run (interface_bound p bs rs (interface_run (program_named ps m))) (locals_round bs)) h
+    ap (body_in_run (interface_bound p bs rs (interface_run (program_named ps m))) (locals_around bs)) h
 same_linked ps b c p bs (seq q r) h =
     ap (λ x. flat.seq x (linked ps b p bs r)) (same_linked ps b c p bs q h.0)
     ∙ ap (λ x. flat.seq (linked ps c p bs q) x) (same_linked ps b c p bs r h.1)

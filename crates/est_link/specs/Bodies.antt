@@ -12,24 +12,24 @@ use Rattle.est_modules.specs.declared.head.Declared.{Declared}
 use Rattle.est_reduce.specs.Bodies.{Body, nothing, pause, halt, emit, sustain, exit, await, present, suspend, abort}
 use Rattle.est_reduce.specs.Bodies.{weak_abort, repeat, repeat_each, every, trap, signal, seq, par}
 
--- what may be emitted in a module of n interface signals, inside so many local signals: of the interface those of a
--- set, and the local signals
-abbrev pub MayEmit : (n : ℕ) → (may : ℕ → Type 0) → (locals : ℕ) → Name → Type 0
+-- what may be emitted in a module of n interface signals, inside l local signals: of the interface those of a set, and
+-- the local signals
+abbrev pub MayEmit : (n : ℕ) → (may : ℕ → Type 0) → (l : ℕ) → Name → Type 0
 MayEmit n may l (outer i) = (i < n) × may i
 MayEmit n may l (inner k) = k < l
 
 -- a signal that is there
-abbrev pub IsThere : (n : ℕ) → (locals : ℕ) → Name → Type 0
+abbrev pub IsThere : (n l : ℕ) → Name → Type 0
 IsThere n l (outer i) = i < n
 IsThere n l (inner k) = k < l
 
 -- what may be asked there: a test of signals that are there
-abbrev pub MayAsk : (n : ℕ) → (locals : ℕ) → Query → Type 0
+abbrev pub MayAsk : (n l : ℕ) → Query → Type 0
 MayAsk n l q = EachSignal (IsThere n l) q
 
--- each name is bound in a module of n interface signals, of which those of the set may be emitted, with so many traps
--- and so many local signals round the whole
-abbrev pub IsBody : (n : ℕ) → (may : ℕ → Type 0) → (traps locals : ℕ) → Body → Type 0
+-- each name is bound in a module of n interface signals, of which those of the set may be emitted, with t traps and l
+-- local signals around the whole
+abbrev pub IsBody : (n : ℕ) → (may : ℕ → Type 0) → (t l : ℕ) → Body → Type 0
 IsBody n may t l nothing = Unit {0}
 IsBody n may t l pause = Unit {0}
 IsBody n may t l halt = Unit {0}

@@ -19,18 +19,19 @@ use Rattle.est_reduce.specs.Bodies.{weak_abort, repeat, repeat_each, every, trap
 
 -- ---- what names mean at a place
 
--- how many local signals lie round a place
-abbrev pub locals_round : List Binder → ℕ
-locals_round [] = 0
-locals_round (signals ns ∷ bs) = locals_round bs + length (ns.first ∷ ns.later)
-locals_round (a_trap t ∷ bs) = locals_round bs
+-- how many local signals lie around a place
+abbrev pub locals_around : List Binder → ℕ
+locals_around [] = 0
+locals_around (signals ns ∷ bs) = locals_around bs + length (ns.first ∷ ns.later)
+locals_around (a_trap t ∷ bs) = locals_around bs
 
 -- the interface signal at a place of the interface; a name that has none means `tick`
 abbrev pub of_interface : Option ℕ → Query
 of_interface None = tick
 of_interface (Some i) = of (outer i)
 
--- the local signal at a place of a list round which l others lie; a name that has none means what it does further out
+-- the local signal at a place of a list around which l others lie; a name that has none means what it does further
+-- out
 abbrev pub of_list : Option ℕ → ℕ → Query → Query
 of_list None l further = further
 of_list (Some i) l further = of (inner (l + i))
@@ -39,7 +40,7 @@ of_list (Some i) l further = of (inner (l + i))
 abbrev pub signal_at : Program → List Binder → List ℕ → Query
 signal_at p [] s = of_interface (position (λ (d : Declared). bytes_eq d.name s) p.interface)
 signal_at p (signals ns ∷ bs) s =
-    of_list (position (λ n. bytes_eq n s) (ns.first ∷ ns.later)) (locals_round bs) (signal_at p bs s)
+    of_list (position (λ n. bytes_eq n s) (ns.first ∷ ns.later)) (locals_around bs) (signal_at p bs s)
 signal_at p (a_trap t ∷ bs) s = signal_at p bs s
 
 -- how many traps lie between an exit and the innermost trap of its name
@@ -135,7 +136,7 @@ linked ps bodies p bs (derived.trap t q) = trap (linked ps bodies p (a_trap t �
 linked ps bodies p bs (derived.signal ns q) =
     signal (length (ns.first ∷ ns.later)) (linked ps bodies p (signals ns ∷ bs) q)
 linked ps bodies p bs (derived.run m rs) =
-    body_in_run (interface_bound p bs rs (interface_run (program_named ps m))) (locals_round bs) (bodies m)
+    body_in_run (interface_bound p bs rs (interface_run (program_named ps m))) (locals_around bs) (bodies m)
 linked ps bodies p bs (derived.seq q r) = seq (linked ps bodies p bs q) (linked ps bodies p bs r)
 linked ps bodies p bs (derived.par q r) = par (linked ps bodies p bs q) (linked ps bodies p bs r)
 

@@ -6,7 +6,7 @@ ghost use Rattle.est_kernel.specs.Term.{tick};
 ghost use Rattle.est_modules.specs.Scopes.{binders_of};
 ghost use Rattle.est_modules.specs.Modules.{program_of};
 ghost use Rattle.est_reduce.specs.Views.{bound_query as query_view};
-ghost use Rattle.est_link.specs.Linking.{locals_round, signal_at, trap_at, of_interface};
+ghost use Rattle.est_link.specs.Linking.{locals_around, signal_at, trap_at, of_interface};
 ghost use Rattle.est_link.specs.Inner.Binds.{binding_of};
 
 use est_modules::head::{Declared, Head};
@@ -104,13 +104,13 @@ fn interface_signal(interface: &[Declared], name: &Identifier) -> Result<BoundTe
 
 /// How many local signals lie around a place. It calls itself once for each binder around the
 /// place, of which there are at most 128.
-pub fn locals_round(scope: &Scope<'_>) -> Result<u32, AllocError>
-    ensures { IfOk result (λ n. n ≡ locals_round (binders_of scope.now)) }
+pub fn locals_around(scope: &Scope<'_>) -> Result<u32, AllocError>
+    ensures { IfOk result (λ n. n ≡ locals_around (binders_of scope.now)) }
 {
     match scope {
         Scope::Module => Ok(0),
-        Scope::Signals(names, outer) => sum(locals_round(outer)?, count(names)?),
-        Scope::Trap(_, outer) => locals_round(outer),
+        Scope::Signals(names, outer) => sum(locals_around(outer)?, count(names)?),
+        Scope::Trap(_, outer) => locals_around(outer),
     }
 }
 
@@ -128,7 +128,7 @@ pub fn signal_at(
         Scope::Module => interface_signal(&home.interface, name),
         Scope::Signals(names, outer) => match place_of(names, name)? {
             Some(place) => {
-                let level = sum(locals_round(outer)?, place)?;
+                let level = sum(locals_around(outer)?, place)?;
                 Ok(BoundTest::Of(BoundSignal::Inner(level)))
             }
             None => signal_at(home, outer, name),

@@ -13,14 +13,14 @@ ghost use Rattle.est_modules.specs.Scopes.{binders_of};
 ghost use Rattle.est_modules.specs.Modules.{program_of, program_named};
 ghost use Rattle.est_link.specs.Linking.{linked, interface_bound, interface_run, asked_at};
 ghost use Rattle.est_link.specs.Linking.{body_in_run};
-ghost use Rattle.est_link.specs.Linking.{emitted, locals_round, signal_at};
+ghost use Rattle.est_link.specs.Linking.{emitted, locals_around, signal_at};
 ghost use Rattle.est_link.specs.Inner.Tables.{bodies_of};
 ghost use Rattle.est_link.specs.Inner.Joins.{joined_by};
 ghost use Rattle.est_reduce.specs.Bodies.{seq, par};
 ghost use Rattle.est_reduce.specs.Views.{body_of, bound_name as name_view};
 ghost use Rattle.est_reduce.specs.Views.{bound_query as query_view};
 
-use crate::bindings::{Binding, count, locals_round, signal_at, trap_at};
+use crate::bindings::{Binding, count, locals_around, signal_at, trap_at};
 use crate::bound_bodies::{bind_body, emitted};
 use crate::found_tests::find_test;
 use est_modules::head::{Declared, Head, head_named};
@@ -81,14 +81,14 @@ fn run(
         (interface_bound (program_of linker.now.home.now) (binders_of scope.now)
         (map renaming_view renamings.now)
         (interface_run (program_named (map program_of linker.now.heads.now) name.now)))
-        (locals_round (binders_of scope.now)) (bodies_of linker.now.bodies.now name.now)) }
+        (locals_around (binders_of scope.now)) (bodies_of linker.now.bodies.now name.now)) }
 {
     let interface = interface_run(linker.heads, name);
     let binding = Binding {
         alloc: linker.alloc,
         home: &*linker.home,
         scope: &*scope,
-        locals: locals_round(scope)?,
+        locals: locals_around(scope)?,
         renamings: &*renamings,
         interface,
     };

@@ -1,11 +1,11 @@
-//! The checks of a library in their order.
+//! The checks of a library that come before the order of its modules, and those that come after it.
 ghost use Rattle.std.specs.Prelude.{◌≡◌, map, option_map, IfOk};
 ghost use Rattle.est_modules.specs.Modules.{program_of};
 ghost use Rattle.est_modules.specs.NameTables.{IsTable};
 ghost use Rattle.est_checks.specs.Emissions.{emitted_of};
 ghost use Rattle.est_checks.specs.FirstFaults.{Finds};
 ghost use Rattle.est_checks.specs.LinkFaults.{lawless_number, fault_before_order};
-ghost use Rattle.est_checks.specs.LinkFaults.{fault_behind_order};
+ghost use Rattle.est_checks.specs.LinkFaults.{fault_after_order};
 
 use crate::bad_renamings::BadRename;
 use crate::duplicates::first_duplicate;
@@ -66,7 +66,7 @@ fn lawless_number(alloc: Global, main: Option<&Head<'_>>) -> Result<Option<usize
 /// # Errors
 ///
 /// `AllocError` where memory is refused for the list of the relations.
-pub fn fault_behind_order<'a>(
+pub fn fault_after_order<'a>(
     alloc: Global,
     names: &NameTable<'_>,
     heads: &'a [Head<'a>],
@@ -74,7 +74,7 @@ pub fn fault_behind_order<'a>(
     table: &'a [Emission],
 ) -> Result<Option<LinkFault>, AllocError>
     requires { IsTable names.now }
-    ensures { IfOk result (λ fault. fault ≡ fault_behind_order (map program_of heads.now) main.now
+    ensures { IfOk result (λ fault. fault ≡ fault_after_order (map program_of heads.now) main.now
         (emitted_of table.now)) }
 {
     let none = NameTable::new(alloc);
