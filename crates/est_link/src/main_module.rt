@@ -35,7 +35,7 @@ fn kernel_kind(kind: Kind) -> KernelKind
 }
 
 /// A signal of an interface, as the kernel has it.
-pub fn declaration_of(signal: &Declared) -> Declaration
+fn declaration_of(signal: &Declared) -> Declaration
     ensures { result ≡ declaration_of signal.now }
 {
     Declaration {
@@ -95,19 +95,20 @@ fn kernel_relation(
     }
 }
 
-/// The relations that are written.
+/// The relations that are written, over the signals of an interface.
 fn kernel_relations(
     alloc: Global,
-    signals: &SignalTable<'_>,
+    interface: &Interface,
     relations: &[&tree::Relation],
 ) -> Result<Relations, AllocError>
     requires { length relations.now ≤ MOST_RELATIONS }
-    ensures { IfOk result (λ rs. AreRelations signals.now (map (λ r. relation_view r.now)
+    ensures { IfOk result (λ rs. AreRelations interface.now (map (λ r. relation_view r.now)
         relations.now) rs) }
 {
+    let signals = SignalTable::of_interface(alloc, interface)?;
     let mut made = Relations::new(alloc);
     for relation in relations {
-        made.push(kernel_relation(alloc, signals, relation)?)?;
+        made.push(kernel_relation(alloc, &signals, relation)?)?;
     }
     Ok(made)
 }
@@ -129,9 +130,8 @@ pub fn main_module(alloc: Global, home: &Head<'_>, body: Body) -> Result<Flat, A
     ensures body { IfOk result (λ f. body_of f.body ≡ body_of body) }
 {
     let interface = kernel_interface(alloc, &home.interface)?;
-    let signals = SignalTable::of_declared(alloc, &home.interface)?;
     let listed = relations_of(alloc, home.declarations)?;
-    let relations = kernel_relations(alloc, &signals, &listed)?;
+    let relations = kernel_relations(alloc, &interface, &listed)?;
     Ok(Flat {
         interface,
         relations,

@@ -54,7 +54,7 @@ fn walk_unit<V: Visitor>(
         }
         Unit::Loop(body, _) | Unit::Group(body) => walk_statement(visitor, seen, kept, scope, body),
         Unit::LoopEach(body, test) => walk_watched(visitor, seen, kept, scope, body, test),
-        Unit::Every(delay, body, _) => walk_behind(visitor, seen, kept, scope, &delay.test, body),
+        Unit::Every(delay, body, _) => walk_delayed(visitor, seen, kept, scope, &delay.test, body),
         Unit::Trap(trap, body, _) => {
             let inside = Scope::Trap(*trap, &*scope);
             walk_statement(visitor, seen, kept, &inside, body)
@@ -97,7 +97,7 @@ fn walk_watched<V: Visitor>(
 
 /// Visits the test after which a body begins, and then the places of the body.
 #[cycle(walk)]
-fn walk_behind<V: Visitor>(
+fn walk_delayed<V: Visitor>(
     visitor: &V,
     seen: &mut V::Seen,
     kept: &OpenNames<'_, '_>,
